@@ -5,17 +5,17 @@ use Rattle.std.specs.Option.{unwrap_or}
 use Rattle.std.proofs.lemmas.List.{length-map}
 use Rattle.std.proofs.lemmas.Bool.{cases_lt, lt-ltb}
 use Rattle.imago_storage.specs.State.{Shape, StorageState}
-use Rattle.imago_storage.specs.Passing.{Passes}
+use Rattle.imago_storage.specs.Passing.{UnrefusedCrashImages}
 use Rattle.imago_storage.specs.Disk.{Value, byte}
-use Rattle.imago_storage.specs.Calls.{Mixed, Spliced, IsFaultless}
-use Rattle.imago_storage.specs.Through.{Through, Stops, StopsAsLong, WrittenThrough, NotWrittenThrough, NotRead}
+use Rattle.imago_storage.specs.Calls.{OldOrNewBytes, Spliced, IsFaultless}
+use Rattle.imago_storage.specs.Through.{PaddedWrite, EachCrashImage, CrashImagesNoShorter, WriteSucceeded, WriteFailed, NotRead}
 use Rattle.imago_storage.specs.Steps.{IsOut}
 use Rattle.imago_storage.proofs.Rounding.{le_round_up}
 use Rattle.imago_storage.specs.declared.fault.Fault.{Fault}
 use Rattle.imago_storage.specs.declared.fault.Fault.TheVariants.{Memory, Storage, RangeOverflow}
 use Rattle.imago_storage.proofs.Composing.{stops_and, stops_weaker}
 use Rattle.imago_access.specs.Layer.{Layer, Cell, own}
-use Rattle.imago_access.specs.Files.{IsMild, ImageCause}
+use Rattle.imago_access.specs.Files.{IsNotResourceError, ImageCause}
 use Rattle.imago_access.specs.Stops.{Left, GivesSettled}
 use Rattle.imago_formats.proofs.RawSteps.{same_faultless, written_step, mixed_place}
 use Rattle.access_cases.specs.declared.clusters.Content.{Content}
@@ -31,10 +31,10 @@ failed_on Memory failed is = refl
 failed_on Storage failed is = refl
 failed_on _ failed is = is
 
-pub mild_failed : (e : Fault) (failed : Bool) → IsMild e → failed_by e failed ≡ failed
-mild_failed Memory failed mild = absurd mild
-mild_failed Storage failed mild = absurd mild
-mild_failed _ failed mild = refl
+pub mild_failed : (e : Fault) (failed : Bool) → IsNotResourceError e → failed_by e failed ≡ failed
+mild_failed Memory failed not_resource_error = absurd not_resource_error
+mild_failed Storage failed not_resource_error = absurd not_resource_error
+mild_failed _ failed not_resource_error = refl
 
 pub marked_or_same : (e : Fault) (failed : Bool) → IsTrue (failed_by e failed) ⊎ (failed_by e failed ≡ failed)
 marked_or_same Memory failed = inl refl
@@ -49,7 +49,7 @@ same_layer old new d failed shape bytes marked = λ i. record {
   size = d.size;
   failed = marked i;
   cell = says d.content (blank_of d.backed) (bytes i);
-  home = home_of d.content (if d.writable then d.size else 0);
+  writable_location = home_of d.content (if d.writable then d.size else 0);
   held = held_of d.content d.size;
   unspent = unspent_of d.content;
 }
@@ -62,32 +62,32 @@ pub spliced_out : (old : List ℕ) (at : ℕ) (bytes new : List ℕ) (p : ℕ) �
 spliced_out old at bytes new p done out = ⊎_elim (λ before. done.before p before) (λ after. done.after p after) out
 
 -- a file that was written holds at least the bytes
-pub reaches_end : (unit : ℕ) (old new : StorageState) (bytes : List ℕ) → 0 < unit → Through unit old new 0 bytes → length bytes ≤ length new.bytes
+pub reaches_end : (unit : ℕ) (old new : StorageState) (bytes : List ℕ) → 0 < unit → PaddedWrite unit old new 0 bytes → length bytes ≤ length new.bytes
 reaches_end unit old new bytes positive done = elim (cases_lt 0 (length bytes)) [
   | inl some ↦ omega (arith, done.size some, le_round_up unit (0 + length bytes) positive)
   | inr none ↦ omega (arith, none)
 ]
 
 -- a read that was refused for another cause than want of memory and a fault has asked nothing
-pub unread_faultless : (old new : StorageState) (at n : ℕ) (e : Fault) → NotRead old new at n e → IsMild e → IsFaultless old new
-unread_faultless old new at n RangeOverflow refused mild = same_faultless old new refused.1
-unread_faultless old new at n Memory refused mild = absurd mild
-unread_faultless old new at n Storage refused mild = absurd mild
-unread_faultless old new at n _ refused mild = absurd refused
+pub unread_faultless : (old new : StorageState) (at n : ℕ) (e : Fault) → NotRead old new at n e → IsNotResourceError e → IsFaultless old new
+unread_faultless old new at n RangeOverflow refused not_resource_error = same_faultless old new refused.1
+unread_faultless old new at n Memory refused not_resource_error = absurd not_resource_error
+unread_faultless old new at n Storage refused not_resource_error = absurd not_resource_error
+unread_faultless old new at n _ refused not_resource_error = absurd refused
 
 -- what a commit is refused with is a storage's fault only where one has failed
-pub spent_cause : (old new : StorageState) (at : ℕ) (bytes : List ℕ) (cause e : Fault) → NotWrittenThrough old new at bytes cause → (IsMild e → ⊥) → (e ≡ Storage → cause ≡ Storage) → ImageCause (old ∷ []) (new ∷ []) e
+pub spent_cause : (old new : StorageState) (at : ℕ) (bytes : List ℕ) (cause e : Fault) → WriteFailed old new at bytes cause → (IsNotResourceError e → ⊥) → (e ≡ Storage → cause ≡ Storage) → ImageCause (old ∷ []) (new ∷ []) e
 spent_cause old new at bytes cause Memory refused strong storage = tt
 spent_cause old new at bytes cause Storage refused strong storage = let h = rw (storage refl) at refused in inl h.cause
 spent_cause old new at bytes cause _ refused strong storage = absurd (strong tt)
 
 -- each file that a stop in a write may leave is mixed of old and new bytes, and no shorter
-pub write_passes : {T : Type 0} (result : Result T Fault) (old new : StorageState) (at : ℕ) (bytes : List ℕ) (P : List ℕ → Type 0) → OnOk result (WrittenThrough old new at bytes) → IfErr result (NotWrittenThrough old new at bytes)
-    → Stops (Mixed old.bytes at bytes) old new → StopsAsLong old new → ((f : List ℕ) → Mixed old.bytes at bytes f → length old.bytes ≤ length f → P f) → Passes P old new
-write_passes result old new at bytes P ok err stops long each calm = (
-  written_step result old new at bytes ok err calm,
-  stops_weaker (λ f. Mixed old.bytes at bytes f × (length old.bytes ≤ length f)) P old new (λ keeps f both. each f both.0 both.1)
-      (stops_and (Mixed old.bytes at bytes) (λ f. length old.bytes ≤ length f) old new stops long),
+pub write_passes : {T : Type 0} (result : Result T Fault) (old new : StorageState) (at : ℕ) (bytes : List ℕ) (P : List ℕ → Type 0) → OnOk result (WriteSucceeded old new at bytes) → IfErr result (WriteFailed old new at bytes)
+    → EachCrashImage (OldOrNewBytes old.bytes at bytes) old new → CrashImagesNoShorter old new → ((f : List ℕ) → OldOrNewBytes old.bytes at bytes f → length old.bytes ≤ length f → P f) → UnrefusedCrashImages P old new
+write_passes result old new at bytes P ok err stops long each no_change_refused = (
+  written_step result old new at bytes ok err no_change_refused,
+  stops_weaker (λ f. OldOrNewBytes old.bytes at bytes f × (length old.bytes ≤ length f)) P old new (λ keeps f both. each f both.0 both.1)
+      (stops_and (OldOrNewBytes old.bytes at bytes) (λ f. length old.bytes ≤ length f) old new stops long),
 )
 
 -- what a file means to an image that is mapped
@@ -115,7 +115,7 @@ pub settled_fixed : {S : Type 0} (old new : Shape) (d : OneCluster S) (run : Pre
 settled_fixed old new d run prepared shape = rw (prepared, shape) refl
 
 -- the file is then as long as the disk
-pub settled_fits : (unit size : ℕ) (old new : StorageState) (written : List (Option ℕ)) (bytes : List ℕ) → 0 < unit → length written ≡ size → bytes ≡ map (λ w. unwrap_or w 0) written → Through unit old new 0 bytes
+pub settled_fits : (unit size : ℕ) (old new : StorageState) (written : List (Option ℕ)) (bytes : List ℕ) → 0 < unit → length written ≡ size → bytes ≡ map (λ w. unwrap_or w 0) written → PaddedWrite unit old new 0 bytes
     → size ≤ length new.bytes
 settled_fits unit size old new written bytes positive all settled done =
     let as_many : length bytes ≡ length written = rw settled (length-map written (λ (w : Option ℕ). unwrap_or w 0)) in
@@ -131,7 +131,7 @@ prepared_means content backed run f p is alone = rw (is, alone) (zero_means f p)
 
 -- a file that a commit leaves: each byte is 0 or what the run gives
 pub settled_left : {S : Type 0} (below : List Layer) (state : StorageState) (d : OneCluster S) (run : PreparedRun) (bytes f : List ℕ) → d.content ≡ Prepared run → state.bytes ≡ []
-    → IsRunOf d.size d.backed run.start run.end run.written.items → bytes ≡ map (λ w. unwrap_or w 0) run.written.items → Mixed state.bytes 0 bytes f
+    → IsRunOf d.size d.backed run.start run.end run.written.items → bytes ≡ map (λ w. unwrap_or w 0) run.written.items → OldOrNewBytes state.bytes 0 bytes f
     → Left below (cluster_layer state d) state.bytes (λ kind file. ⊤) d.size d.size (GivesSettled below (cluster_layer state d)) f
 settled_left below state d run bytes f prepared empty is_run settled mixed = record {
   is_sound = tt;

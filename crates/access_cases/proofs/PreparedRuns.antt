@@ -11,7 +11,7 @@ use Rattle.std.specs.Option.{unwrap_or}
 use Rattle.imago_storage.specs.Disk.{Value, byte}
 use Rattle.imago_access.specs.Layer.{Layer, Cell, own, through, loose, beside, inside}
 use Rattle.imago_access.specs.Room.{IsApart}
-use Rattle.imago_access.specs.Changes.{IsHolding, TakesByte, asking, run_at, Prepared, Settles}
+use Rattle.imago_access.specs.Changes.{IsHolding, TakesByte, asking, run_at, Prepared, CommitsPlace}
 use Rattle.access_cases.specs.declared.clusters.Content.{Content}
 use Rattle.access_cases.specs.declared.clusters.Content.TheVariants as variant
 use Rattle.access_cases.specs.declared.clusters.PreparedRun.{PreparedRun}
@@ -37,13 +37,13 @@ home_outside start end p out = rw out refl
 
 -- a place beside the run holds the 0 that it has
 beside_holds : (below : ℕ → Value) (layer : Layer) (start n size p : ℕ) (overwrite : Bool) → (leb start p && ltb p (start + n)) ≡ false
-    → layer.cell p ≡ own (byte 0) → layer.home p ≡ None → IsHolding below layer start n overwrite p (beside_in size p)
+    → layer.cell p ≡ own (byte 0) → layer.writable_location p ≡ None → IsHolding below layer start n overwrite p (beside_in size p)
 beside_holds below layer start n size p overwrite out blank home = from (ltb p size) where
   from : (b : Bool) → IsHolding below layer start n overwrite p (if b then beside 0 else loose)
   from true = ((λ there. absurd (cc (sym (is_inside start n p there.0 there.1) ∙ out))), ap (λ (c : Cell). through c (below p)) blank, home)
   from false = tt
 
-run_holds : (below : ℕ → Value) (layer : Layer) (start n size p : ℕ) (overwrite : Bool) → layer.cell p ≡ own (byte 0) → layer.home ≡ home_in start (start + n)
+run_holds : (below : ℕ → Value) (layer : Layer) (start n size p : ℕ) (overwrite : Bool) → layer.cell p ≡ own (byte 0) → layer.writable_location ≡ home_in start (start + n)
     → IsHolding below layer start n overwrite p (held_in size start (start + n) overwrite (replicate size None) p)
 run_holds below layer start n size p overwrite blank home = from (leb start p && ltb p (start + n)) refl where
   from : (b : Bool) → (leb start p && ltb p (start + n)) ≡ b
@@ -67,15 +67,15 @@ apart_loose size start n p overwrite written some within apart =
     rw (is_outside start n p (inr (omega (arith, past, within)))) (loose_past size p past)
 
 -- A run that is prepared: it can be written where it is, and nothing is written to it yet.
-pub run_prepared : (below : ℕ → Value) (old new : Layer) (start n size claim : ℕ) (overwrite : Bool) → 0 < n
-    → new.fixed ≡ old.fixed → new.size ≡ old.size → new.cell ≡ old.cell → new.unspent ≡ Some claim
-    → ((p : ℕ) → new.cell p ≡ own (byte 0)) → new.home ≡ home_in start (start + n) → new.held ≡ held_in size start (start + n) overwrite (replicate size None)
-    → Prepared below old new (asking start n overwrite) (run_at 0 start n (Some claim))
-run_prepared below old new start n size claim overwrite some fixed same cell unspent blank home held = record {
+pub run_prepared : (below : ℕ → Value) (old new : Layer) (start n size mapping_id : ℕ) (overwrite : Bool) → 0 < n
+    → new.fixed ≡ old.fixed → new.size ≡ old.size → new.cell ≡ old.cell → new.unspent ≡ Some mapping_id
+    → ((p : ℕ) → new.cell p ≡ own (byte 0)) → new.writable_location ≡ home_in start (start + n) → new.held ≡ held_in size start (start + n) overwrite (replicate size None)
+    → Prepared below old new (asking start n overwrite) (run_at 0 start n (Some mapping_id))
+run_prepared below old new start n size mapping_id overwrite some fixed same cell unspent blank home held = record {
   fixed = fixed;
   size = same;
   cell = cell;
-  home = λ i lt. rw home (home_inside start n i lt);
+  writable_location = λ i lt. rw home (home_inside start n i lt);
   unspent = unspent;
   holds = λ p. rw held (run_holds below new start n size p overwrite (blank p) home);
   some_held = λ c is. (start, None, (omega arith, omega arith), rw held (rw (is_inside start n start (omega arith) (omega arith)) (ap (λ (w : Option ℕ). inside None w overwrite) (none_written size start))));
@@ -115,26 +115,26 @@ outside start end p out = elim (cases_lt p start) [
   | inr from ↦ elim (cases_lt p end) [ inl within ↦ absurd (grind (arith, nat_tests)) | inr behind ↦ inr behind ]
 ]
 
-settled_to : (written : Option ℕ) (announced : Bool) (v : ℕ) → v ≡ unwrap_or written 0 → Settles (inside None written announced) (own (byte 0)) (own (byte v))
+settled_to : (written : Option ℕ) (announced : Bool) (v : ℕ) → v ≡ unwrap_or written 0 → CommitsPlace (inside None written announced) (own (byte 0)) (own (byte v))
 settled_to (Some b) announced v is = ap (λ x. own (byte x)) is
 settled_to None true v is = inl (ap (λ x. own (byte x)) is)
 settled_to None false v is = ap (λ x. own (byte x)) is
 
 -- a place beside it has the 0 that it had
-beside_settles : (size p : ℕ) (c : Cell) → c ≡ own (byte 0) → Settles (beside_in size p) (own (byte 0)) c
+beside_settles : (size p : ℕ) (c : Cell) → c ≡ own (byte 0) → CommitsPlace (beside_in size p) (own (byte 0)) c
 beside_settles size p c is = from (ltb p size) where
-  from : (b : Bool) → Settles (if b then beside 0 else loose) (own (byte 0)) c
+  from : (b : Bool) → CommitsPlace (if b then beside 0 else loose) (own (byte 0)) c
   from true = is
   from false = is
 
 -- A place of a run that is committed has what was written to it, and else what it had.
 pub settled_cell : (size start end p : ℕ) (backed announced : Bool) (written : List (Option ℕ)) (bytes : List ℕ) → IsRunOf size backed start end written
-    → bytes ≡ map (λ w. unwrap_or w 0) written → Settles (held_in size start end announced written p) (blank_of backed) (own (byte (get_or bytes p 0)))
+    → bytes ≡ map (λ w. unwrap_or w 0) written → CommitsPlace (held_in size start end announced written p) (blank_of backed) (own (byte (get_or bytes p 0)))
 settled_cell size start end p backed announced written bytes run is = rw run.alone (from (leb start p && ltb p end) refl) where
   place : get_or bytes p 0 ≡ unwrap_or (get_or written p None) 0
   place = rw is (ListN.get_or-map (λ (w : Option ℕ). unwrap_or w 0) written p None)
 
-  from : (b : Bool) → (leb start p && ltb p end) ≡ b → Settles (if b then inside None (get_or written p None) announced else beside_in size p) (own (byte 0)) (own (byte (get_or bytes p 0)))
+  from : (b : Bool) → (leb start p && ltb p end) ≡ b → CommitsPlace (if b then inside None (get_or written p None) announced else beside_in size p) (own (byte 0)) (own (byte (get_or bytes p 0)))
   from true in_run = settled_to (get_or written p None) announced (get_or bytes p 0) place
   from false out = beside_settles size p (own (byte (get_or bytes p 0)))
       (ap (λ x. own (byte x)) (place ∙ ap (λ (w : Option ℕ). unwrap_or w 0) (run.others p (outside start end p out))))

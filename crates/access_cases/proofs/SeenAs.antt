@@ -4,13 +4,13 @@ use Rattle.std.specs.Prelude.{⊤, Result, Ok, Err, Option, OnOk, IfErr, IfOk}
 use Rattle.imago_storage.specs.Steps.{Call, IsIn, shrink}
 use Rattle.imago_storage.specs.declared.fault.Fault.{Fault}
 use Rattle.imago_storage.specs.declared.fault.Fault.TheVariants.{Memory, Storage}
-use Rattle.imago_access.specs.declared.seen.Seen.{Ghosts}
-use Rattle.imago_access.specs.declared.seen.SeenBelow.{Ghosts as GhostsBelow}
+use Rattle.imago_access.specs.declared.driver_model.DriverModel.{Ghosts}
+use Rattle.imago_access.specs.declared.driver_model.LayersBelowModel.{Ghosts as GhostsBelow}
 use Rattle.imago_access.specs.Changes.{Asked}
 use Rattle.imago_access.specs.Layer.{Layer}
 use Rattle.imago_access.specs.FileReads.{FilesRead}
-use Rattle.imago_access.specs.Files.{WasNotCutOff, files}
-use Rattle.imago_access.specs.Going.{IsUnchanged, AtOnce, IsSpared, Marks, MarksOver, Went}
+use Rattle.imago_access.specs.Files.{HadNoResourceError, files}
+use Rattle.imago_access.specs.Going.{IsUnchanged, EarlyOutcome, IsLeftUntouched, MarksFailed, MarksFailedOver, MutatingCall}
 use Rattle.imago_access.specs.Parts.{PartCause, DeclinableCause, GrowthCause, ShrinkCause}
 use Rattle.imago_access.specs.ResizeCalls.{Resizes, GrowthRefused, ShrinkRefused}
 use Rattle.imago_access.specs.declared.format.PreallocateMode.{PreallocateMode}
@@ -25,16 +25,16 @@ as_kind f h g = record {
   layer = λ d. h.layer (f d);
   image = λ d. h.image (f d);
   extras = λ d. h.extras (f d);
-  sees = λ d. h.sees (f d);
-  safe = λ d. h.safe (f d);
-  still = λ d. h.still (f d);
-  lasts = λ d. h.lasts (f d);
-  surplus = λ d. h.surplus (f d);
-  vacant = λ d. h.vacant (f d);
-  has_room = λ d. h.has_room (f d);
+  coherent = λ d. h.coherent (f d);
+  well_formed = λ d. h.well_formed (f d);
+  has_no_dirty_data = λ d. h.has_no_dirty_data (f d);
+  stable = λ d. h.stable (f d);
+  excess_refcount = λ d. h.excess_refcount (f d);
+  unallocated = λ d. h.unallocated (f d);
+  has_allocation = λ d. h.has_allocation (f d);
   zeroed = λ d. h.zeroed (f d);
-  stated = λ d. h.stated (f d);
-  claim = g.claim;
+  explicit_zero = λ d. h.explicit_zero (f d);
+  mapping_id = g.mapping_id;
   tag = g.tag;
   sound = h.sound;
   began = g.began;
@@ -50,7 +50,7 @@ on_ok_weaker (Err e) P Q more holds = tt
 module _ {D E St Su : Type 0} (f : D → E) (h : Ghosts E Su) (g : Ghosts D St) (same : as_kind f h g ≡ g) (a b : D)
     (on : (x : E) (call : Call) → h.began x call (f a) → h.began x call (f b)) where
   takes_in : (spared : ℕ → Type 0) → Takes (as_kind f h g) spared a b → Takes h spared (f a) (f b)
-  takes_in spared left = record { kept = left.kept; free = left.free; zeroes = left.zeroes }
+  takes_in spared left = record { stays_allocated = left.stays_allocated; free = left.free; zeroes = left.zeroes }
 
   unchanged_in : IsUnchanged (as_kind f h g) a b → IsUnchanged h (f a) (f b)
   unchanged_in u = record {
@@ -59,23 +59,23 @@ module _ {D E St Su : Type 0} (f : D → E) (h : Ghosts E Su) (g : Ghosts D St) 
     seen = u.seen;
     safely = u.safely;
     stilled = u.stilled;
-    lasting = u.lasting;
-    surplus = u.surplus;
-    room = λ safe. takes_in (λ _. ⊤) (u.room safe);
-    began = on;
+    stays_stable = u.stays_stable;
+    excess_refcount = u.excess_refcount;
+    room = λ well_formed. takes_in (λ _. ⊤) (u.room well_formed);
+    stays_begun = on;
   }
 
-  spared_in : IsSpared (as_kind f h g) a b → IsSpared h (f a) (f b)
+  spared_in : IsLeftUntouched (as_kind f h g) a b → IsLeftUntouched h (f a) (f b)
   spared_in s = record {
     known = record { seen = s.known.seen; safely = s.known.safely };
-    kept = s.kept;
+    unchanged_but_faults = s.unchanged_but_faults;
     stilled = s.stilled;
-    room = λ safe. takes_in (λ _. ⊤) (s.room safe);
-    began = on;
+    room = λ well_formed. takes_in (λ _. ⊤) (s.room well_formed);
+    stays_begun = on;
   }
 
-  at_once_in : {T : Type 0} (refusal : Option Fault) (nothing : Type 0) (result : Result T Fault) → AtOnce (as_kind f h g) refusal nothing result a b
-      → AtOnce h refusal nothing result (f a) (f b)
+  at_once_in : {T : Type 0} (refusal : Option Fault) (nothing : Type 0) (result : Result T Fault) → EarlyOutcome (as_kind f h g) refusal nothing result a b
+      → EarlyOutcome h refusal nothing result (f a) (f b)
   at_once_in refusal nothing result k = record { refused = k.refused; idle = k.idle; unchanged = λ none. unchanged_in (k.unchanged none) }
 
   -- all is as it was
@@ -83,50 +83,50 @@ module _ {D E St Su : Type 0} (f : D → E) (h : Ghosts E Su) (g : Ghosts D St) 
   unchanged_as unchanged = unchanged_in (subst (λ k. IsUnchanged k a b) (sym same) unchanged)
 
   -- what a call does at once
-  pub at_once_as : {T : Type 0} (refusal : Option Fault) (nothing : Type 0) (result : Result T Fault) → AtOnce g refusal nothing result a b
-      → AtOnce h refusal nothing result (f a) (f b)
-  at_once_as refusal nothing result once = at_once_in refusal nothing result (subst (λ k. AtOnce k refusal nothing result a b) (sym same) once)
+  pub at_once_as : {T : Type 0} (refusal : Option Fault) (nothing : Type 0) (result : Result T Fault) → EarlyOutcome g refusal nothing result a b
+      → EarlyOutcome h refusal nothing result (f a) (f b)
+  at_once_as refusal nothing result once = at_once_in refusal nothing result (subst (λ k. EarlyOutcome k refusal nothing result a b) (sym same) once)
 
   -- what a resize does at once
   pub resizes_as : (first second : ℕ) (result : Result Unit Fault) → Resizes g first second result a b → Resizes h first second result (f a) (f b)
   resizes_as first second result resizes = let k = subst (λ x. Resizes x first second result a b) (sym same) resizes in record {
     nothing = k.nothing;
     free = k.free;
-    at_once = at_once_in _ _ result k.at_once;
+    early_outcome = at_once_in _ _ result k.early_outcome;
     read_only = λ runs alters closed. let r = k.read_only runs alters closed in (r.0, unchanged_in r.1);
   }
 
-  went_as : (ok whole : Type 0) → Went g ok whole a b → Went h ok whole (f a) (f b)
-  went_as ok whole went = let w = subst (λ k. Went k ok whole a b) (sym same) went in record {
+  went_as : (ok whole : Type 0) → MutatingCall g ok whole a b → MutatingCall h ok whole (f a) (f b)
+  went_as ok whole mutating_call = let w = subst (λ k. MutatingCall k ok whole a b) (sym same) mutating_call in record {
     fixed = w.fixed;
     failed = w.failed;
-    later = w.later;
+    counts_not_fallen = w.counts_not_fallen;
     faults = w.faults;
     safely = w.safely;
-    lasting = w.lasting;
-    surplus = w.surplus;
+    stays_stable = w.stays_stable;
+    excess_refcount = w.excess_refcount;
   }
 
   -- a read of a file as it stands
   pub files_read_as : (whole : Type 0) → FilesRead g whole a b → FilesRead h whole (f a) (f b)
   files_read_as whole read = let r = subst (λ k. FilesRead k whole a b) (sym same) read in record {
     layer = r.layer;
-    kept = r.kept;
+    unchanged_but_faults = r.unchanged_but_faults;
     faults = r.faults;
     seen = r.seen;
     safely = r.safely;
     stilled = r.stilled;
-    lasting = r.lasting;
-    surplus = r.surplus;
-    room = λ safe. takes_in (λ _. ⊤) (r.room safe);
-    began = on;
+    stays_stable = r.stays_stable;
+    excess_refcount = r.excess_refcount;
+    room = λ well_formed. takes_in (λ _. ⊤) (r.room well_formed);
+    stays_begun = on;
   }
 
   leaves_as : (call : PartCall) (offset n : ℕ) → LeavesPart call (as_kind f h g) offset n a b → LeavesPart call h offset n (f a) (f b)
-  leaves_as ensures_zero offset n left = record { kept = left.kept; free = left.free; zeroes = left.zeroes }
-  leaves_as discards_to_zero offset n left = record { kept = left.kept; free = left.free; zeroes = left.zeroes }
-  leaves_as discards_to_any offset n left = record { kept = left.kept; free = left.free; zeroes = left.zeroes }
-  leaves_as discards_to_backing offset n left = record { kept = left.kept; free = left.free; zeroes = left.zeroes }
+  leaves_as ensures_zero offset n left = record { stays_allocated = left.stays_allocated; free = left.free; zeroes = left.zeroes }
+  leaves_as discards_to_zero offset n left = record { stays_allocated = left.stays_allocated; free = left.free; zeroes = left.zeroes }
+  leaves_as discards_to_any offset n left = record { stays_allocated = left.stays_allocated; free = left.free; zeroes = left.zeroes }
+  leaves_as discards_to_backing offset n left = record { stays_allocated = left.stays_allocated; free = left.free; zeroes = left.zeroes }
 
   done_as : (call : PartCall) (p : ℕ) → IsDone call (as_kind f h g) b p → IsDone call h (f b) p
   done_as ensures_zero p done = done
@@ -144,22 +144,22 @@ module _ {D E St Su : Type 0} (f : D → E) (h : Ghosts E Su) (g : Ghosts D St) 
     ok = k.ok;
     err = k.err;
     reach = k.reach;
-    given = λ safe. given_as call result (k.given safe);
-    room = λ safe whole. leaves_as call offset n (k.room safe whole);
-    like = k.like;
-    went = went_as (WasNotCutOff result) (WasNotCutOff result) does.went;
-    began = λ x whole begun part calm. on x whole begun;
-    stops = k.stops;
+    given = λ well_formed. given_as call result (k.given well_formed);
+    room = λ well_formed whole. leaves_as call offset n (k.room well_formed whole);
+    keeps_layer_state = k.keeps_layer_state;
+    mutating_call = went_as (HadNoResourceError result) (HadNoResourceError result) does.mutating_call;
+    stays_begun = λ x whole begun part no_change_refused. on x whole begun;
+    crash_images = k.crash_images;
   }
 
-  marks_one : (e : Fault) → Marks (as_kind f h g) a b e → Marks h (f a) (f b) e
+  marks_one : (e : Fault) → MarksFailed (as_kind f h g) a b e → MarksFailed h (f a) (f b) e
   marks_one Memory marks = λ marked. elim (marks marked) [ inl failed ↦ inl failed | inr spared ↦ inr (spared_in spared) ]
   marks_one Storage marks = marks
   marks_one _ marks = tt
 
-  pub marks_as : {T : Type 0} (result : Result T Fault) → IfErr result (Marks g a b) → IfErr result (Marks h (f a) (f b))
+  pub marks_as : {T : Type 0} (result : Result T Fault) → IfErr result (MarksFailed g a b) → IfErr result (MarksFailed h (f a) (f b))
   marks_as (Ok x) marks = tt
-  marks_as (Err e) marks = marks_one e (subst (λ k. Marks k a b e) (sym same) marks)
+  marks_as (Err e) marks = marks_one e (subst (λ k. MarksFailed k a b e) (sym same) marks)
 
   -- what refuses it, where each driver for which a call has begun has the causes of one of this kind
   pub refused_as : (call : PartCall) (offset n : ℕ) (result : Result (ℕ × ℕ) Fault)
@@ -167,10 +167,10 @@ module _ {D E St Su : Type 0} (f : D → E) (h : Ghosts E Su) (g : Ghosts D St) 
       → PartRefused call g offset n result a b → PartRefused call h offset n result (f a) (f b)
   refused_as call offset n result causes refused = let k = subst (λ x. PartRefused call x offset n result a b) (sym same) refused in record {
     failed = k.failed;
-    marks = marks_as result refused.marks;
-    cause = λ safe below x whole begun part is_for.
+    marks_failed = marks_as result refused.marks_failed;
+    cause = λ well_formed below x whole begun part is_for.
         let own = causes below x whole begun in
-        subst (λ c. IfErr result (DeclinableCause below (h.layer (f a)) offset n c (files h (f a)) (files h (f b)))) own.2 (k.cause safe below own.0 whole own.1 part is_for);
+        subst (λ c. IfErr result (DeclinableCause below (h.layer (f a)) offset n c (files h (f a)) (files h (f b)))) own.2 (k.cause well_formed below own.0 whole own.1 part is_for);
   }
 
   -- a write to a mapping
@@ -178,30 +178,30 @@ module _ {D E St Su : Type 0} (f : D → E) (h : Ghosts E Su) (g : Ghosts D St) 
   writes_as guest place bytes result writes = let k = subst (λ x. WritesMapped x guest place bytes result a b) (sym same) writes in record {
     mapped = k.mapped;
     empty = k.empty;
-    like = k.like;
+    keeps_layer_state = k.keeps_layer_state;
     ok = k.ok;
     err = k.err;
-    room = λ safe whole. let left = k.room safe whole in record { kept = left.kept; free = left.free; zeroes = left.zeroes };
-    stops = k.stops;
-    went = went_as (WasNotCutOff result) (WasNotCutOff result) writes.went;
-    began = λ x call begun. on_ok_always result _ (on x call begun);
+    room = λ well_formed whole. let left = k.room well_formed whole in record { stays_allocated = left.stays_allocated; free = left.free; zeroes = left.zeroes };
+    crash_images = k.crash_images;
+    mutating_call = went_as (HadNoResourceError result) (HadNoResourceError result) writes.mutating_call;
+    stays_begun = λ x call begun. on_ok_always result _ (on x call begun);
   }
 
   pub write_refused_as : (guest place n : ℕ) (result : Result Unit Fault) → WritingRefused g guest place n result a b → WritingRefused h guest place n result (f a) (f b)
   write_refused_as guest place n result refused = let k = subst (λ x. WritingRefused x guest place n result a b) (sym same) refused in record {
     failed = k.failed;
-    marks = marks_as result refused.marks;
+    marks_failed = marks_as result refused.marks_failed;
     cause = k.cause;
   }
 
-  marks_over_one : (e : Fault) → MarksOver (as_kind f h g) a b e → MarksOver h (f a) (f b) e
+  marks_over_one : (e : Fault) → MarksFailedOver (as_kind f h g) a b e → MarksFailedOver h (f a) (f b) e
   marks_over_one Memory marks = marks_one Memory marks
   marks_over_one Storage marks = λ marked. let told = marks marked in (told.0, elim told.1 [ inl failed ↦ inl failed | inr spared ↦ inr (spared_in spared) ])
   marks_over_one _ marks = tt
 
-  marks_over_as : {T : Type 0} (result : Result T Fault) → IfErr result (MarksOver g a b) → IfErr result (MarksOver h (f a) (f b))
+  marks_over_as : {T : Type 0} (result : Result T Fault) → IfErr result (MarksFailedOver g a b) → IfErr result (MarksFailedOver h (f a) (f b))
   marks_over_as (Ok x) marks = tt
-  marks_over_as (Err e) marks = marks_over_one e (subst (λ k. MarksOver k a b e) (sym same) marks)
+  marks_over_as (Err e) marks = marks_over_one e (subst (λ k. MarksFailedOver k a b e) (sym same) marks)
 
   -- what refuses a mapping
   pub run_refused_as : {B T : Type 0} (u : GhostsBelow B) (x y : B) (asked : Asked) (result : Result T Fault)
@@ -209,11 +209,11 @@ module _ {D E St Su : Type 0} (f : D → E) (h : Ghosts E Su) (g : Ghosts D St) 
       → RunRefused g u asked result (a, x) (b, y) → RunRefused h u asked result (f a, x) (f b, y)
   run_refused_as u x y asked result causes refused = let k = subst (λ z. RunRefused z u asked result (a, x) (b, y)) (sym same) refused in record {
     failed = k.failed;
-    marks = marks_over_as result refused.marks;
-    cause = λ safe sees e call begun part announced.
-        let own = causes (u.under x) e call begun in
-        subst (λ c. IfErr result (PartCause (u.under x) (h.layer (f a)) asked.offset asked.length c (files h (f a) ++ u.files_under x) (files h (f b) ++ u.files_under y))) own.2
-        (k.cause safe sees own.0 call own.1 part announced);
+    marks_failed = marks_over_as result refused.marks_failed;
+    cause = λ well_formed coherent e call begun part announced.
+        let own = causes (u.layers_below x) e call begun in
+        subst (λ c. IfErr result (PartCause (u.layers_below x) (h.layer (f a)) asked.offset asked.length c (files h (f a) ++ u.files_of_layers_below x) (files h (f b) ++ u.files_of_layers_below y))) own.2
+        (k.cause well_formed coherent own.0 call own.1 part announced);
   }
 
   -- the same of a refusal in place of another answer
@@ -222,7 +222,7 @@ module _ {D E St Su : Type 0} (f : D → E) (h : Ghosts E Su) (g : Ghosts D St) 
       → RunRefused {T = T} g u asked (Err e) (a, x) (b, y) → RunRefused {T = U} h u asked (Err e) (f a, x) (f b, y)
   run_refused_err u x y asked e causes refused = let k = run_refused_as u x y asked (Err e) causes refused in record {
     failed = k.failed;
-    marks = k.marks;
+    marks_failed = k.marks_failed;
     cause = k.cause;
   }
 
@@ -231,8 +231,8 @@ module _ {D E St Su : Type 0} (f : D → E) (h : Ghosts E Su) (g : Ghosts D St) 
       → ShrinkRefused g size result a b → ShrinkRefused h size result (f a) (f b)
   shrink_refused_as size result causes refused = let k = subst (λ x. ShrinkRefused x size result a b) (sym same) refused in record {
     failed = k.failed;
-    marks = marks_as result refused.marks;
-    cause = λ safe below. subst (λ c. IfErr result (ShrinkCause below (h.layer (f a)) size c (files h (f a)) (files h (f b)))) (causes below (shrink size)) (k.cause safe below);
+    marks_failed = marks_as result refused.marks_failed;
+    cause = λ well_formed below. subst (λ c. IfErr result (ShrinkCause below (h.layer (f a)) size c (files h (f a)) (files h (f b)))) (causes below (shrink size)) (k.cause well_formed below);
   }
 
   -- what refuses a growth
@@ -241,7 +241,7 @@ module _ {D E St Su : Type 0} (f : D → E) (h : Ghosts E Su) (g : Ghosts D St) 
       → GrowthRefused g u size mode result (a, x) (b, y) → GrowthRefused h u size mode result (f a, x) (f b, y)
   growth_refused_as u x y size mode result causes refused = let k = subst (λ z. GrowthRefused z u size mode result (a, x) (b, y)) (sym same) refused in record {
     failed = k.failed;
-    marks = marks_over_as result refused.marks;
-    cause = λ safe sees. subst (λ c. IfErr result (GrowthCause (u.under x) (h.layer (f a)) size c (files h (f a) ++ u.files_under x) (files h (f b) ++ u.files_under y))) (causes (u.under x))
-        (k.cause safe sees);
+    marks_failed = marks_over_as result refused.marks_failed;
+    cause = λ well_formed coherent. subst (λ c. IfErr result (GrowthCause (u.layers_below x) (h.layer (f a)) size c (files h (f a) ++ u.files_of_layers_below x) (files h (f b) ++ u.files_of_layers_below y))) (causes (u.layers_below x))
+        (k.cause well_formed coherent);
   }

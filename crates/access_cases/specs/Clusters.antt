@@ -53,8 +53,8 @@ cluster_fixed shape d = record {
   means = λ f. record { size = d.size; cell = meant_by d.content (blank_of d.backed) f };
   leaks = λ f c. 0;
   exact = false;
-  marks = true;
-  states_room = true;
+  marks_failed = true;
+  reports_allocation = true;
   unit = max d.size 1;
 }
 
@@ -83,7 +83,7 @@ held_of (Prepared run) size p = held_in size run.start run.end run.overwrite run
 held_of content size p = loose
 
 abbrev pub unspent_of : Content → Option ℕ
-unspent_of (Prepared run) = Some run.claim
+unspent_of (Prepared run) = Some run.mapping_id
 unspent_of content = None
 
 -- the image as a layer, with its file in this state
@@ -93,7 +93,7 @@ cluster_layer state d = record {
   size = d.size;
   failed = d.failed;
   cell = says d.content (blank_of d.backed) state.bytes;
-  home = home_of d.content (if d.writable then d.size else 0);
+  writable_location = home_of d.content (if d.writable then d.size else 0);
   held = held_of d.content d.size;
   unspent = unspent_of d.content;
 }
@@ -132,7 +132,7 @@ IsHeldIn size backed f (Prepared run) = (f ≡ []) × IsRunOf size backed run.st
 IsHeldIn size backed f Mapped = size ≤ length f
 
 -- It has not failed, its file keeps what is written, and what it holds fits that file.
-pub record IsSafe {S : Type 0} (state : StorageState) (d : OneCluster S) : Type 0 where
+pub record IsWellFormed {S : Type 0} (state : StorageState) (d : OneCluster S) : Type 0 where
   pub runs : d.failed ≡ false
   pub keeps : IsTrue state.shape.keeps
   pub fits : IsHeldIn d.size d.backed state.bytes d.content

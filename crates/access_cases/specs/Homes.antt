@@ -17,12 +17,12 @@ home_once start end p q at first second = from (leb start p && ltb p end) (leb s
   from true false first second = absurd (cc second)
   from false b first second = absurd (cc first)
 
-pub one_home : (content : Content) (size p q : ℕ) (at : ℕ × ℕ) → home_of content size p ≡ Some at → home_of content size q ≡ Some at → p ≡ q
-one_home (Prepared run) size p q at first second = home_once run.start run.end p q at first second
-one_home Mapped size p q at first second = home_once 0 size p q at first second
-one_home Unmapped size p q at first second = absurd (cc first)
-one_home Zeroed size p q at first second = absurd (cc first)
-one_home Barred size p q at first second = absurd (cc first)
+pub one_writable_location : (content : Content) (size p q : ℕ) (at : ℕ × ℕ) → home_of content size p ≡ Some at → home_of content size q ≡ Some at → p ≡ q
+one_writable_location (Prepared run) size p q at first second = home_once run.start run.end p q at first second
+one_writable_location Mapped size p q at first second = home_once 0 size p q at first second
+one_writable_location Unmapped size p q at first second = absurd (cc first)
+one_writable_location Zeroed size p q at first second = absurd (cc first)
+one_writable_location Barred size p q at first second = absurd (cc first)
 
 -- while nothing is prepared, no place is held
 pub free_loose : (content : Content) (size p : ℕ) → unspent_of content ≡ None → held_of content size p ≡ loose

@@ -13,21 +13,21 @@ ghost use Rattle.imago_storage.specs.declared.fault.Fault.TheVariants as fault;
 ghost use Rattle.imago_access.specs.Layer.{Layer, IsFree, loose};
 ghost use Rattle.imago_access.specs.Changes.{Committed};
 ghost use Rattle.imago_access.specs.Failing.{Fails};
-ghost use Rattle.imago_access.specs.Files.{IsMild, WasNotCutOff, ImageCause};
-ghost use Rattle.imago_access.specs.Going.{AtOnce, Went};
+ghost use Rattle.imago_access.specs.Files.{IsNotResourceError, HadNoResourceError, ImageCause};
+ghost use Rattle.imago_access.specs.Going.{EarlyOutcome, MutatingCall};
 ghost use Rattle.imago_access.specs.PartCalls.{PartCall, DoesPart, PartRefused};
 ghost use Rattle.imago_access.specs.Room.{Takes};
 ghost use Rattle.imago_access.specs.PreparingCalls.{Commits, CommitRefused, Cancels, WritesMapped, WritingRefused};
 ghost use Rattle.imago_access.specs.Spending.{commit_refusal, IsSpending, GivenBack};
-ghost use Rattle.imago_access.specs.Stops.{KeepsStops, GivesSettled};
+ghost use Rattle.imago_access.specs.Stops.{KeepsCrashImages, GivesSettled};
 ghost use Rattle.imago_access.specs.Refusals.{own_refusal};
 ghost use Rattle.imago_access.specs.Parts.{PartCause};
-ghost use Rattle.access_cases.specs.Clusters.{cluster_layer, cluster_cause, failed_by, IsBare, HasRoom, IsSafe};
-ghost use Rattle.access_cases.specs.Homes.{one_home, free_loose, blanks, not_both, bare_homeless, housed_room, some_cluster};
+ghost use Rattle.access_cases.specs.Clusters.{cluster_layer, cluster_cause, failed_by, IsBare, HasRoom, IsWellFormed};
+ghost use Rattle.access_cases.specs.Homes.{one_writable_location, free_loose, blanks, not_both, bare_homeless, housed_room, some_cluster};
 ghost use Rattle.access_cases.specs.declared.clusters.Content.TheVariants as content;
 
 use imago_access::{
-    Format, FormatDriverInstance, PreallocateMode, PreparedDataMapping, ReadBelow, Seen,
+    DriverModel, Format, FormatDriverInstance, PreallocateMode, PreparedDataMapping, ReadBelow,
     ShallowMapping, check_commit, check_range,
 };
 use imago_storage::{Fault, Storage, StorageExt, larger_alignment};
@@ -39,13 +39,13 @@ pub struct PreparedCluster {
     // The number of the image.
     pub image: u64,
     // Which of its mappings it is.
-    pub claim: u64,
+    pub mapping_id: u64,
 }
 
 // A run that is mapped, and isn't part of the disk yet.
 #[derive(Drop)]
 pub struct PreparedRun {
-    pub claim: u64,
+    pub mapping_id: u64,
     // The places that can be written, from the first up to the second.
     pub start: u64,
     pub end: u64,
@@ -130,9 +130,9 @@ fn settled(alloc: Global, written: &[Option<u8>]) -> Result<Vec<u8>, AllocError>
 impl<S: Storage> OneCluster<S> {
     // An image of so many bytes of 0 over an empty file, opened for writing. Nothing of it is mapped.
     pub fn new(file: S, size: u64, number: u64) -> Self
-        ensures free { IsFree (⟦<OneCluster<S> as Seen>⟧.layer result) }
-        ensures safe { (S.state file).bytes ≡ [] → IsTrue (S.state file).shape.keeps → ⟦<OneCluster<S> as Seen>⟧.safe result }
-        ensures sees { ⟦<OneCluster<S> as Seen>⟧.sees result }
+        ensures free { IsFree (⟦<OneCluster<S> as DriverModel>⟧.layer result) }
+        ensures well_formed { (S.state file).bytes ≡ [] → IsTrue (S.state file).shape.keeps → ⟦<OneCluster<S> as DriverModel>⟧.well_formed result }
+        ensures coherent { ⟦<OneCluster<S> as DriverModel>⟧.coherent result }
     {
         OneCluster {
             file,
@@ -152,14 +152,14 @@ impl<S: Storage> OneCluster<S> {
 
     // Why a change of a range is refused before anything is done.
     fn check(&self, offset: u64, length: u64) -> Result<(), Fault>
-        ensures ok { let d = ⟦<OneCluster<S> as Seen>⟧ in OnOk result (own_refusal (d.layer self.now) offset length ≡ None) }
+        ensures ok { let d = ⟦<OneCluster<S> as DriverModel>⟧ in OnOk result (own_refusal (d.layer self.now) offset length ≡ None) }
         ensures writing { 0 < length → OnOk result (IsTrue self.now.writable) }
         ensures inside { 0 < length → OnOk result (offset + length ≤ self.now.size) }
         ensures runs { OnOk result (self.now.failed ≡ false) }
-        ensures err { let d = ⟦<OneCluster<S> as Seen>⟧ in IfErr result (λ e. own_refusal (d.layer self.now) offset length ≡ Some e) }
-        ensures mild { IfErr result IsMild }
+        ensures err { let d = ⟦<OneCluster<S> as DriverModel>⟧ in IfErr result (λ e. own_refusal (d.layer self.now) offset length ≡ Some e) }
+        ensures not_resource_error { IfErr result IsNotResourceError }
         ensures failed { (olds news : List StorageState) → IfErr result (ImageCause olds news) }
-        ensures cause { let d = ⟦<OneCluster<S> as Seen>⟧ in (below : List Layer) (olds news : List StorageState) →
+        ensures cause { let d = ⟦<OneCluster<S> as DriverModel>⟧ in (below : List Layer) (olds news : List StorageState) →
             IfErr result (PartCause below (d.layer self.now) offset length cluster_cause olds news) }
     {
         self.ready()?;
@@ -170,11 +170,11 @@ impl<S: Storage> OneCluster<S> {
     // The part of a range that it zeroes or discards by itself: none.
     fn change(&self, offset: u64, length: u64) -> Result<(u64, u64), Fault>
         ensures ok { IfOk result (λ r. (r ≡ (offset, 0)) × (length ≡ 0)) }
-        ensures mild { IfErr result IsMild }
-        ensures does { (call : PartCall) → DoesPart call ⟦<OneCluster<S> as Seen>⟧ offset length result self.now self.now }
-        ensures at_once { let d = ⟦<OneCluster<S> as Seen>⟧ in
-            AtOnce d (own_refusal (d.layer self.now) offset length) (length ≡ 0) result self.now self.now }
-        ensures refused { (call : PartCall) → PartRefused call ⟦<OneCluster<S> as Seen>⟧ offset length result self.now self.now }
+        ensures not_resource_error { IfErr result IsNotResourceError }
+        ensures does { (call : PartCall) → DoesPart call ⟦<OneCluster<S> as DriverModel>⟧ offset length result self.now self.now }
+        ensures early_outcome { let d = ⟦<OneCluster<S> as DriverModel>⟧ in
+            EarlyOutcome d (own_refusal (d.layer self.now) offset length) (length ≡ 0) result self.now self.now }
+        ensures refused { (call : PartCall) → PartRefused call ⟦<OneCluster<S> as DriverModel>⟧ offset length result self.now self.now }
     {
         match self.check(offset, length) {
             Ok(()) => {}
@@ -188,11 +188,11 @@ impl<S: Storage> OneCluster<S> {
 
     // Whether a mapping that is handed in to be committed is taken.
     fn check_commit(&self, mapping: PreparedCluster) -> Result<(), Fault>
-        ensures ok { let d = ⟦<OneCluster<S> as Seen>⟧ in OnOk result (commit_refusal d (Some mapping) (d.layer self.now) ≡ None) }
+        ensures ok { let d = ⟦<OneCluster<S> as DriverModel>⟧ in OnOk result (commit_refusal d (Some mapping) (d.layer self.now) ≡ None) }
         ensures own { OnOk result (mapping.image ≡ self.now.number) }
         ensures writing { OnOk result (IsTrue self.now.writable) }
-        ensures err { let d = ⟦<OneCluster<S> as Seen>⟧ in IfErr result (λ e. commit_refusal d (Some mapping) (d.layer self.now) ≡ Some e) }
-        ensures back { let d = ⟦<OneCluster<S> as Seen>⟧ in IfErr result (GivenBack d.tag (Some mapping) (d.layer self.now)) }
+        ensures err { let d = ⟦<OneCluster<S> as DriverModel>⟧ in IfErr result (λ e. commit_refusal d (Some mapping) (d.layer self.now) ≡ Some e) }
+        ensures back { let d = ⟦<OneCluster<S> as DriverModel>⟧ in IfErr result (GivenBack d.tag (Some mapping) (d.layer self.now)) }
         ensures failed { (olds news : List StorageState) → IfErr result (ImageCause olds news) }
     {
         check_commit(self.ready(), self.writable, self.number, mapping.image)
@@ -201,21 +201,23 @@ impl<S: Storage> OneCluster<S> {
     // Makes the run that is prepared part of the disk, if it is the mapping's: all other places are 0.
     fn settle(&mut self, alloc: Global, mapping: PreparedCluster) -> Result<(), Fault>
         requires { IsTrue self.old.writable }
-        ensures ok { let d = ⟦<OneCluster<S> as Seen>⟧ in OnOk result ((d.layer self.old).unspent ≡ Some mapping.claim
-            → IsFree (d.layer self.new) × (d.safe self.old → Committed (d.layer self.old) (d.layer self.new))) }
-        ensures room { let d = ⟦<OneCluster<S> as Seen>⟧ in
+        ensures ok { let d = ⟦<OneCluster<S> as DriverModel>⟧ in OnOk result ((d.layer self.old).unspent ≡ Some mapping.mapping_id
+            → IsFree (d.layer self.new) × (d.well_formed self.old → Committed (d.layer self.old) (d.layer self.new))) }
+        ensures room { let d = ⟦<OneCluster<S> as DriverModel>⟧ in
             OnOk result (Takes d (λ p. (d.layer self.old).held p ≡ loose) self.old self.new) }
-        ensures went { let d = ⟦<OneCluster<S> as Seen>⟧ in
-            Went d (WasNotCutOff result) (IsOk result × ((d.layer self.old).unspent ≡ Some mapping.claim)) self.old self.new }
-        ensures stops { let d = ⟦<OneCluster<S> as Seen>⟧ in d.safe self.old → (below : List Layer) →
-            KeepsStops d below (GivesSettled below (d.layer self.old)) self.old self.new }
-        ensures failing { let d = ⟦<OneCluster<S> as Seen>⟧ in
-            IfErr result (λ e. IsTrue self.new.failed × IsFree (d.layer self.new) × IsSpending e × (IsMild e → ⊥)) }
+        ensures mutating_call { let d = ⟦<OneCluster<S> as DriverModel>⟧ in
+            MutatingCall d (HadNoResourceError result) (IsOk result × ((d.layer self.old).unspent ≡ Some mapping.mapping_id)) self.old self.new }
+        ensures crash_images { let d = ⟦<OneCluster<S> as DriverModel>⟧ in d.well_formed self.old → (below : List Layer) →
+            KeepsCrashImages d below (GivesSettled below (d.layer self.old)) self.old self.new }
+        ensures failing { let d = ⟦<OneCluster<S> as DriverModel>⟧ in
+            IfErr result (λ e. IsTrue self.new.failed × IsFree (d.layer self.new) × IsSpending e × (IsNotResourceError e → ⊥)) }
         ensures size { self.new.size ≡ self.old.size }
-        ensures failed { let d = ⟦<OneCluster<S> as Seen>⟧ in IfErr result (Fails d self.old self.new) }
+        ensures failed { let d = ⟦<OneCluster<S> as DriverModel>⟧ in IfErr result (Fails d self.old self.new) }
     {
         let bytes = match &self.content {
-            Content::Prepared(run) if run.claim == mapping.claim => { settled(alloc, &run.written) }
+            Content::Prepared(run) if run.mapping_id == mapping.mapping_id => {
+                settled(alloc, &run.written)
+            }
             _ => return Ok(()),
         };
         let bytes = match bytes {
@@ -234,11 +236,11 @@ impl<S: Storage> OneCluster<S> {
     // Writes to the file from a place on.
     fn write_file(&mut self, alloc: Global, at: u64, bytes: &[u8]) -> Result<(), Fault>
         requires mapped { self.old.content ≡ content.Mapped }
-        requires some { 0 < length bytes.now }
+        requires nonempty { 0 < length bytes.now }
         requires inside { at + length bytes.now ≤ self.old.size }
         requires writing { IsTrue self.old.writable }
-        ensures writes { WritesMapped ⟦<OneCluster<S> as Seen>⟧ at at bytes.now result self.old self.new }
-        ensures refused { WritingRefused ⟦<OneCluster<S> as Seen>⟧ at at (length bytes.now) result self.old self.new }
+        ensures writes { WritesMapped ⟦<OneCluster<S> as DriverModel>⟧ at at bytes.now result self.old self.new }
+        ensures refused { WritingRefused ⟦<OneCluster<S> as DriverModel>⟧ at at (length bytes.now) result self.old self.new }
     {
         match self.file.write(alloc, bytes, at) {
             Ok(()) => Ok(()),
@@ -261,7 +263,7 @@ impl<S: Storage> OneCluster<S> {
     // Gives up the run that is prepared and marks the image failed, for this cause, and answers what the commit is refused with.
     fn spend(&mut self, cause: Fault) -> Fault
         ensures spent { self.new ≡ record self.old { failed = true; faults = self.new.faults; content = content.Unmapped } }
-        ensures kind { IsSpending result × (IsMild result → ⊥) }
+        ensures kind { IsSpending result × (IsNotResourceError result → ⊥) }
         ensures storage { result ≡ fault.Storage → cause ≡ fault.Storage }
     {
         self.failed = true;
@@ -276,7 +278,7 @@ impl<S: Storage> OneCluster<S> {
     }
 }
 
-impl<S: Storage> Seen for OneCluster<S> {
+impl<S: Storage> DriverModel for OneCluster<S> {
     type State = PreparedCluster;
 
     ghost layer = { λ d. cluster_layer (S.state d.file) d };
@@ -285,25 +287,25 @@ impl<S: Storage> Seen for OneCluster<S> {
 
     ghost extras = { λ _. [] };
 
-    ghost sees = { λ _. ⊤ };
+    ghost coherent = { λ _. ⊤ };
 
-    ghost safe = { λ d. IsSafe (S.state d.file) d };
+    ghost well_formed = { λ d. IsWellFormed (S.state d.file) d };
 
-    ghost still = { λ _. ⊤ };
+    ghost has_no_dirty_data = { λ _. ⊤ };
 
-    ghost lasts = { λ _. ⊤ };
+    ghost stable = { λ _. ⊤ };
 
-    ghost surplus = { λ _ c. 0 };
+    ghost excess_refcount = { λ _ c. 0 };
 
-    ghost vacant = { λ d. IsBare d.content d.size };
+    ghost unallocated = { λ d. IsBare d.content d.size };
 
-    ghost has_room = { λ d. HasRoom d.content d.size };
+    ghost has_allocation = { λ d. HasRoom d.content d.size };
 
     ghost zeroed = { λ d. IsBare d.content d.size };
 
-    ghost stated = { λ d p. d.content ≡ content.Zeroed };
+    ghost explicit_zero = { λ d p. d.content ≡ content.Zeroed };
 
-    ghost claim = { λ s. s.claim };
+    ghost mapping_id = { λ s. s.mapping_id };
 
     ghost tag = { λ s. s.image };
 
@@ -319,15 +321,15 @@ impl<S: Storage> Seen for OneCluster<S> {
 impl<S: Storage> FormatDriverInstance for OneCluster<S> {
     type Storage = S;
 
-    ghost safe_sees = { λ d safe. tt };
+    ghost well_formed_is_coherent = { λ d well_formed. tt };
 
-    ghost safe_runs = { λ d safe. safe.runs };
+    ghost well_formed_is_usable = { λ d well_formed. well_formed.runs };
 
-    ghost safe_keeps = { λ d safe. safe.keeps };
+    ghost well_formed_keeps_writes = { λ d well_formed. well_formed.keeps };
 
-    ghost safe_sound = { λ d safe. record { is_sound = tt; size = le_refl d.size } };
+    ghost well_formed_is_sound = { λ d well_formed. record { is_sound = tt; size = le_refl d.size } };
 
-    ghost one_home = { λ d p q at safe. one_home d.content (if d.writable then d.size else 0) p q at };
+    ghost one_writable_location = { λ d p q at well_formed. one_writable_location d.content (if d.writable then d.size else 0) p q at };
 
     ghost blanks = { λ d. blanks d.backed };
 
@@ -337,7 +339,7 @@ impl<S: Storage> FormatDriverInstance for OneCluster<S> {
 
     ghost marked = { λ d is. refl };
 
-    ghost says_room = { λ d is. refl };
+    ghost reports_allocations = { λ d is. refl };
 
     ghost units = { λ d. some_cluster d.size };
 
@@ -348,7 +350,7 @@ impl<S: Storage> FormatDriverInstance for OneCluster<S> {
     ghost bare = { λ d p bare room. not_both d.content d.size p bare room };
 
     ghost rooms = { λ d p free states. record {
-      homeless = elim [
+      without_writable_location = elim [
         | inl bare ↦ bare_homeless d.content d.writable d.size p free bare
         | inr bare ↦ bare_homeless d.content d.writable d.size p free bare
       ];
@@ -485,10 +487,10 @@ impl<S: Storage> FormatDriverInstance for OneCluster<S> {
         self.claims = self.claims.wrapping_add(1);
         let mapping = PreparedCluster {
             image: self.number,
-            claim: self.claims,
+            mapping_id: self.claims,
         };
         self.content = Content::Prepared(PreparedRun {
-            claim: self.claims,
+            mapping_id: self.claims,
             start: offset,
             end: offset + length,
             overwrite,
@@ -502,8 +504,8 @@ impl<S: Storage> FormatDriverInstance for OneCluster<S> {
         alloc: Global,
         mapping: PreparedDataMapping<PreparedCluster>,
     ) -> Result<(), (Fault, Option<PreparedDataMapping<PreparedCluster>>)>
-        ensures commits { Commits ⟦<OneCluster<S> as Seen>⟧ mapping.state result self.old self.new }
-        ensures refused { CommitRefused ⟦<OneCluster<S> as Seen>⟧ mapping result self.old self.new }
+        ensures commits { Commits ⟦<OneCluster<S> as DriverModel>⟧ mapping.state result self.old self.new }
+        ensures refused { CommitRefused ⟦<OneCluster<S> as DriverModel>⟧ mapping result self.old self.new }
     {
         let (storage, place, length) = (mapping.storage(), mapping.offset(), mapping.length());
         match mapping.into_state() {
@@ -531,7 +533,7 @@ impl<S: Storage> FormatDriverInstance for OneCluster<S> {
         &mut self,
         mapping: PreparedDataMapping<PreparedCluster>,
     ) -> Result<(), (Fault, PreparedDataMapping<PreparedCluster>)>
-        ensures cancels { Cancels ⟦<OneCluster<S> as Seen>⟧ mapping result self.old self.new }
+        ensures cancels { Cancels ⟦<OneCluster<S> as DriverModel>⟧ mapping result self.old self.new }
     {
         let (storage, place, length) = (mapping.storage(), mapping.offset(), mapping.length());
         match mapping.into_state() {
@@ -542,7 +544,7 @@ impl<S: Storage> FormatDriverInstance for OneCluster<S> {
                     return Err((Fault::Foreign, back));
                 }
                 if let Content::Prepared(run) = &self.content
-                    && run.claim == state.claim
+                    && run.mapping_id == state.mapping_id
                 {
                     self.content = Content::Unmapped;
                 }

@@ -261,10 +261,10 @@ impl<'a> Disks<'a> {
                 let (storage, offset, n) = (size(storage)?, number(offset)?, number(n)?);
                 PreparedDataMapping::existing(storage, offset, n)
             }
-            [storage, offset, n, image, claim] => {
+            [storage, offset, n, image, mapping_id] => {
                 let (storage, offset, n) = (size(storage)?, number(offset)?, number(n)?);
-                let (image, claim) = (number(image)?, number(claim)?);
-                let state = PreparedCluster { image, claim };
+                let (image, mapping_id) = (number(image)?, number(mapping_id)?);
+                let state = PreparedCluster { image, mapping_id };
                 PreparedDataMapping::to_commit(storage, offset, n, state)
             }
             _ => return Err(Trouble::NoCall),

@@ -9,12 +9,12 @@ ghost use Rattle.imago_access.specs.Layer.{Layer, unmapped};
 ghost use Rattle.imago_access.specs.PreparingCalls.{Commits, CommitRefused, Cancels};
 ghost use Rattle.imago_formats.specs.RawHome as raw_home;
 ghost use Rattle.access_cases.specs.Drivers.{is_words, kind_cause};
-ghost use Rattle.access_cases.specs.Homes as homes;
+ghost use Rattle.access_cases.specs.Homes as writable_locations;
 ghost use Rattle.access_cases.specs.declared.drivers.Driver.TheVariants as driver;
 
 use crate::clusters::{OneCluster, PreparedCluster};
 use imago_access::{
-    Format, FormatDriverInstance, PreallocateMode, PreparedDataMapping, ReadBelow, Seen,
+    DriverModel, Format, FormatDriverInstance, PreallocateMode, PreparedDataMapping, ReadBelow,
     ShallowMapping, check_commit,
 };
 use imago_formats::{NoState, Raw};
@@ -44,7 +44,7 @@ fn stateless(mapping: PreparedDataMapping<NoState>) -> PreparedDataMapping<Prepa
 impl<S: Storage> Driver<S> {
     /// Whether it can stand over another layer.
     pub fn shows_below(&self) -> bool
-        ensures { IsTrue result → (⟦<Driver<S> as Seen>⟧.layer self.now).fixed.blank ≡ unmapped }
+        ensures { IsTrue result → (⟦<Driver<S> as DriverModel>⟧.layer self.now).fixed.blank ≡ unmapped }
     {
         match self {
             Driver::Raw(_) => false,
@@ -62,34 +62,34 @@ impl<S: Storage> Display for Driver<S> {
     }
 }
 
-impl<S: Storage> Seen for Driver<S> {
+impl<S: Storage> DriverModel for Driver<S> {
     type State = PreparedCluster;
 
-    ghost layer = { elim [ driver.Raw r ↦ ⟦<Raw<S> as Seen>⟧.layer r | driver.Words w ↦ ⟦<OneCluster<S> as Seen>⟧.layer w ] };
+    ghost layer = { elim [ driver.Raw r ↦ ⟦<Raw<S> as DriverModel>⟧.layer r | driver.Words w ↦ ⟦<OneCluster<S> as DriverModel>⟧.layer w ] };
 
     ghost image = { elim [ driver.Raw r ↦ S.state r.storage | driver.Words w ↦ S.state w.file ] };
 
     ghost extras = { λ _. [] };
 
-    ghost sees = { λ _. ⊤ };
+    ghost coherent = { λ _. ⊤ };
 
-    ghost safe = { elim [ driver.Raw r ↦ ⟦<Raw<S> as Seen>⟧.safe r | driver.Words w ↦ ⟦<OneCluster<S> as Seen>⟧.safe w ] };
+    ghost well_formed = { elim [ driver.Raw r ↦ ⟦<Raw<S> as DriverModel>⟧.well_formed r | driver.Words w ↦ ⟦<OneCluster<S> as DriverModel>⟧.well_formed w ] };
 
-    ghost still = { λ _. ⊤ };
+    ghost has_no_dirty_data = { λ _. ⊤ };
 
-    ghost lasts = { elim [ driver.Raw r ↦ r.size ≤ length (S.state r.storage).bytes | driver.Words w ↦ ⊤ ] };
+    ghost stable = { elim [ driver.Raw r ↦ r.size ≤ length (S.state r.storage).bytes | driver.Words w ↦ ⊤ ] };
 
-    ghost surplus = { λ _ c. 0 };
+    ghost excess_refcount = { λ _ c. 0 };
 
-    ghost vacant = { elim [ driver.Raw r ↦ ⟦<Raw<S> as Seen>⟧.vacant r | driver.Words w ↦ ⟦<OneCluster<S> as Seen>⟧.vacant w ] };
+    ghost unallocated = { elim [ driver.Raw r ↦ ⟦<Raw<S> as DriverModel>⟧.unallocated r | driver.Words w ↦ ⟦<OneCluster<S> as DriverModel>⟧.unallocated w ] };
 
-    ghost has_room = { elim [ driver.Raw r ↦ ⟦<Raw<S> as Seen>⟧.has_room r | driver.Words w ↦ ⟦<OneCluster<S> as Seen>⟧.has_room w ] };
+    ghost has_allocation = { elim [ driver.Raw r ↦ ⟦<Raw<S> as DriverModel>⟧.has_allocation r | driver.Words w ↦ ⟦<OneCluster<S> as DriverModel>⟧.has_allocation w ] };
 
-    ghost zeroed = { elim [ driver.Raw r ↦ ⟦<Raw<S> as Seen>⟧.zeroed r | driver.Words w ↦ ⟦<OneCluster<S> as Seen>⟧.zeroed w ] };
+    ghost zeroed = { elim [ driver.Raw r ↦ ⟦<Raw<S> as DriverModel>⟧.zeroed r | driver.Words w ↦ ⟦<OneCluster<S> as DriverModel>⟧.zeroed w ] };
 
-    ghost stated = { elim [ driver.Raw r ↦ ⟦<Raw<S> as Seen>⟧.stated r | driver.Words w ↦ ⟦<OneCluster<S> as Seen>⟧.stated w ] };
+    ghost explicit_zero = { elim [ driver.Raw r ↦ ⟦<Raw<S> as DriverModel>⟧.explicit_zero r | driver.Words w ↦ ⟦<OneCluster<S> as DriverModel>⟧.explicit_zero w ] };
 
-    ghost claim = { λ s. s.claim };
+    ghost mapping_id = { λ s. s.mapping_id };
 
     ghost tag = { λ s. s.image };
 
@@ -105,23 +105,23 @@ impl<S: Storage> Seen for Driver<S> {
 impl<S: Storage> FormatDriverInstance for Driver<S> {
     type Storage = S;
 
-    ghost safe_sees = { λ d safe. tt };
+    ghost well_formed_is_coherent = { λ d well_formed. tt };
 
-    ghost safe_runs = { elim [ driver.Raw r ↦ λ safe. refl | driver.Words w ↦ λ safe. safe.runs ] };
+    ghost well_formed_is_usable = { elim [ driver.Raw r ↦ λ well_formed. refl | driver.Words w ↦ λ well_formed. well_formed.runs ] };
 
-    ghost safe_keeps = { elim [ driver.Raw r ↦ λ safe. safe.0 | driver.Words w ↦ λ safe. safe.keeps ] };
+    ghost well_formed_keeps_writes = { elim [ driver.Raw r ↦ λ well_formed. well_formed.0 | driver.Words w ↦ λ well_formed. well_formed.keeps ] };
 
-    ghost safe_sound = { elim [
-      | driver.Raw r ↦ λ safe. record { is_sound = tt; size = safe.1 }
-      | driver.Words w ↦ λ safe. record { is_sound = tt; size = le_refl w.size }
+    ghost well_formed_is_sound = { elim [
+      | driver.Raw r ↦ λ well_formed. record { is_sound = tt; size = well_formed.1 }
+      | driver.Words w ↦ λ well_formed. record { is_sound = tt; size = le_refl w.size }
     ] };
 
-    ghost one_home = { elim [
-      | driver.Raw r ↦ λ p q at safe. raw_home.one_home r.size r.writable p q at
-      | driver.Words w ↦ λ p q at safe. homes.one_home w.content (if w.writable then w.size else 0) p q at
+    ghost one_writable_location = { elim [
+      | driver.Raw r ↦ λ p q at well_formed. raw_home.one_writable_location r.size r.writable p q at
+      | driver.Words w ↦ λ p q at well_formed. writable_locations.one_writable_location w.content (if w.writable then w.size else 0) p q at
     ] };
 
-    ghost blanks = { elim [ driver.Raw r ↦ inr refl | driver.Words w ↦ homes.blanks w.backed ] };
+    ghost blanks = { elim [ driver.Raw r ↦ inr refl | driver.Words w ↦ writable_locations.blanks w.backed ] };
 
     ghost aligned = { elim [
       | driver.Raw r ↦ (let shape = S.aligned r.storage in (shape.requests, shape.memory))
@@ -135,27 +135,27 @@ impl<S: Storage> FormatDriverInstance for Driver<S> {
 
     ghost marked = { elim [ driver.Raw r ↦ λ is. absurd (Prim.cc is) | driver.Words w ↦ λ is. refl ] };
 
-    ghost says_room = { elim [ driver.Raw r ↦ λ is. absurd (Prim.cc is) | driver.Words w ↦ λ is. refl ] };
+    ghost reports_allocations = { elim [ driver.Raw r ↦ λ is. absurd (Prim.cc is) | driver.Words w ↦ λ is. refl ] };
 
-    ghost units = { elim [ driver.Raw r ↦ le_refl 1 | driver.Words w ↦ homes.some_cluster w.size ] };
+    ghost units = { elim [ driver.Raw r ↦ le_refl 1 | driver.Words w ↦ writable_locations.some_cluster w.size ] };
 
     ghost begins = { λ d call. refl };
 
-    ghost free_loose = { elim [ driver.Raw r ↦ λ free p. refl | driver.Words w ↦ λ free p. homes.free_loose w.content w.size p free ] };
+    ghost free_loose = { elim [ driver.Raw r ↦ λ free p. refl | driver.Words w ↦ λ free p. writable_locations.free_loose w.content w.size p free ] };
 
     ghost bare = { elim [
       | driver.Raw r ↦ λ p bare room. room
-      | driver.Words w ↦ λ p bare room. homes.not_both w.content w.size p bare room
+      | driver.Words w ↦ λ p bare room. writable_locations.not_both w.content w.size p bare room
     ] };
 
     ghost rooms = { elim [
       | driver.Raw r ↦ λ p free states. raw_home.never states
       | driver.Words w ↦ λ p free states. record {
-        homeless = elim [
-          | inl bare ↦ homes.bare_homeless w.content w.writable w.size p free bare
-          | inr bare ↦ homes.bare_homeless w.content w.writable w.size p free bare
+        without_writable_location = elim [
+          | inl bare ↦ writable_locations.bare_homeless w.content w.writable w.size p free bare
+          | inr bare ↦ writable_locations.bare_homeless w.content w.writable w.size p free bare
         ];
-        housed = λ some. homes.housed_room w.content w.writable w.size p free some;
+        housed = λ some. writable_locations.housed_room w.content w.writable w.size p free some;
       }
     ] };
 
@@ -287,8 +287,8 @@ impl<S: Storage> FormatDriverInstance for Driver<S> {
         alloc: Global,
         mapping: PreparedDataMapping<PreparedCluster>,
     ) -> Result<(), (Fault, Option<PreparedDataMapping<PreparedCluster>>)>
-        ensures commits { Commits ⟦<Driver<S> as Seen>⟧ mapping.state result self.old self.new }
-        ensures refused { CommitRefused ⟦<Driver<S> as Seen>⟧ mapping result self.old self.new }
+        ensures commits { Commits ⟦<Driver<S> as DriverModel>⟧ mapping.state result self.old self.new }
+        ensures refused { CommitRefused ⟦<Driver<S> as DriverModel>⟧ mapping result self.old self.new }
     {
         let raw = match self {
             Driver::Words(words) => return words.commit_data_mapping(alloc, mapping),
@@ -311,7 +311,7 @@ impl<S: Storage> FormatDriverInstance for Driver<S> {
         &mut self,
         mapping: PreparedDataMapping<PreparedCluster>,
     ) -> Result<(), (Fault, PreparedDataMapping<PreparedCluster>)>
-        ensures cancels { Cancels ⟦<Driver<S> as Seen>⟧ mapping result self.old self.new }
+        ensures cancels { Cancels ⟦<Driver<S> as DriverModel>⟧ mapping result self.old self.new }
     {
         if let Driver::Words(words) = self {
             return words.cancel_data_mapping(mapping);

@@ -49,8 +49,8 @@ pub fn words_text(
     let mut text = String::new(alloc);
     for index in first..first.saturating_add(count) {
         let value = table.get(index).to_plain();
-        let word = format!(in alloc; "{value:x}")?;
-        joined(&mut text, word.as_str())?;
+        let raw_entry = format!(in alloc; "{value:x}")?;
+        joined(&mut text, raw_entry.as_str())?;
     }
     Ok(text)
 }

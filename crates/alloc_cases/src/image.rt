@@ -74,7 +74,7 @@ impl Draft {
         Ok(self.file.write(self.alloc, bytes, offset)?)
     }
 
-    fn word(&mut self, offset: u64, value: u64) -> Result<(), Trouble> {
+    fn raw_entry(&mut self, offset: u64, value: u64) -> Result<(), Trouble> {
         self.put(offset, &value.to_be_bytes())
     }
 
@@ -101,49 +101,49 @@ impl Draft {
             return Err(Trouble::NoCall);
         }
         self.file.resize(size, PreallocateMode::None)?;
-        self.word(0, 0x5146_49fb_0000_0003)?;
-        self.word(16, bits)?;
-        self.word(96, order << 32 | 104)
+        self.raw_entry(0, 0x5146_49fb_0000_0003)?;
+        self.raw_entry(16, bits)?;
+        self.raw_entry(96, order << 32 | 104)
     }
 
     // A refcount table of so many clusters.
     fn put_reftable(&mut self, cluster: u64, clusters: u64) -> Result<(), Trouble> {
         self.reftable = self.place(cluster);
-        self.word(48, self.reftable)?;
-        self.word(56, clusters.wrapping_mul(1 << 32))
+        self.raw_entry(48, self.reftable)?;
+        self.raw_entry(56, clusters.wrapping_mul(1 << 32))
     }
 
     // A word of the refcount table.
     fn put_block(&mut self, index: u64, cluster: u64) -> Result<(), Trouble> {
         let place = self.reftable.wrapping_add(index.wrapping_mul(8));
-        self.word(place, self.place(cluster))
+        self.raw_entry(place, self.place(cluster))
     }
 
     // An L1 table of so many words, for a disk of so many bytes.
     fn put_l1(&mut self, cluster: u64, words: u64, size: u64) -> Result<(), Trouble> {
         self.l1 = self.place(cluster);
-        self.word(24, size)?;
-        self.word(32, words)?;
-        self.word(40, self.l1)
+        self.raw_entry(24, size)?;
+        self.raw_entry(32, words)?;
+        self.raw_entry(40, self.l1)
     }
 
     // A word of the L1 table, which alone names its L2 table.
     fn put_table(&mut self, index: u64, cluster: u64) -> Result<(), Trouble> {
         let place = self.l1.wrapping_add(index.wrapping_mul(8));
-        self.word(place, COPIED | self.place(cluster))
+        self.raw_entry(place, COPIED | self.place(cluster))
     }
 
     // A word of an L2 table, which alone names its cluster.
     fn put_mapping(&mut self, table: u64, index: u64, cluster: u64) -> Result<(), Trouble> {
         let place = self.place(table).wrapping_add(index.wrapping_mul(8));
-        self.word(place, COPIED | self.place(cluster))
+        self.raw_entry(place, COPIED | self.place(cluster))
     }
 
     // Sets the counter of this width at the bit where it begins, counted from a byte's least one.
     fn put_counter(&mut self, block: u64, bit: u64, times: u64) -> Result<(), Trouble> {
         let place = block.wrapping_add(bit / 8);
         match self.width {
-            64 => self.word(place, times),
+            64 => self.raw_entry(place, times),
             32 => self.put(place, &((times & 0xffff_ffff) as u32).to_be_bytes()),
             16 => self.put(place, &((times & 0xffff) as u16).to_be_bytes()),
             _ => self.put_small_counter(place, bit % 8, times),
@@ -218,7 +218,7 @@ impl Draft {
                 self.begin(number(bits)?, number(width)?, number(clusters)?)
             }
             ["made", width, counted] => self.make(number(width)?, number(counted)?),
-            ["word", offset, value] => self.word(number(offset)?, number(value)?),
+            ["word", offset, value] => self.raw_entry(number(offset)?, number(value)?),
             ["put", offset, rest @ ..] => {
                 let bytes = bytes(self.alloc, rest)?;
                 self.put(number(offset)?, &bytes)

@@ -109,8 +109,8 @@ fn noted_text(alloc: Global, noted: Noted) -> Result<String, AllocError> {
 }
 
 // Whether something may be flushed.
-fn may_flush(word: &str) -> Result<bool, Trouble> {
-    match word {
+fn may_flush(raw_entry: &str) -> Result<bool, Trouble> {
+    match raw_entry {
         "flushing" => Ok(true),
         "unflushed" => Ok(false),
         _ => Err(Trouble::NoCall),

@@ -18,8 +18,8 @@ pub struct Waiting {
 }
 
 /// Whether the word names metadata.
-pub fn is_metadata(word: &str) -> Result<bool, Trouble> {
-    match word {
+pub fn is_metadata(raw_entry: &str) -> Result<bool, Trouble> {
+    match raw_entry {
         "data" => Ok(false),
         "metadata" => Ok(true),
         _ => Err(Trouble::NoCall),
@@ -113,7 +113,7 @@ impl Waiting {
 
     /// Lets the room for an entry go, where some is held.
     pub fn release(&mut self) {
-        if let Some(hold) = self.list.held_room() {
+        if let Some(hold) = self.list.reserved_slot() {
             self.list.release(hold);
         }
     }
@@ -159,7 +159,7 @@ impl Waiting {
         let Some(parts) = self.pending.pop() else {
             return Ok("none".to_string(self.alloc)?);
         };
-        let Some(hold) = self.list.held_room() else {
+        let Some(hold) = self.list.reserved_slot() else {
             return Ok("none".to_string(self.alloc)?);
         };
         if is_named {
@@ -186,7 +186,7 @@ impl Waiting {
 
     // Gives these clusters back, for which room is held.
     fn give_back(&mut self, parts: Parts) -> Result<(), Trouble> {
-        let Some(hold) = self.list.held_room() else {
+        let Some(hold) = self.list.reserved_slot() else {
             return Err(Trouble::NoCall);
         };
         let clusters = PendingClusters::new(entry(parts));

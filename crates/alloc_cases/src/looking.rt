@@ -1,6 +1,6 @@
 // What the file of an open image holds, what it was asked, and what its stops leave.
 use crate::judging::{Verdict, judge};
-use crate::opened::{Disk, Open, is_in_reach};
+use crate::opened::{Disk, Open, is_addressable};
 use crate::texts::{leaks_text, numbers_text};
 use cases::{Trouble, joined, number, runs, size};
 use imago_storage::{Request, StorageExt};
@@ -38,7 +38,7 @@ fn block_of<'a>(
     file: &mut ImageFile<Disk<'a>>,
     cluster: HostCluster,
 ) -> Result<RefBlock, Trouble> {
-    if !is_in_reach(cluster, file.header.cluster_bits()) {
+    if !is_addressable(cluster, file.header.cluster_bits()) {
         return Err(Trouble::NoCall);
     }
     Ok(RefBlock::load(alloc, &mut file.image, &file.header, cluster)?)
@@ -50,8 +50,8 @@ impl<'a> Open<'a> {
         let mut text = String::new(self.alloc);
         let requests = self.file.image.requests();
         for request in requests.iter().skip(self.told) {
-            let word = request_text(self.alloc, request)?;
-            joined(&mut text, word.as_str())?;
+            let raw_entry = request_text(self.alloc, request)?;
+            joined(&mut text, raw_entry.as_str())?;
         }
         self.told = requests.len();
         if text.is_empty() {

@@ -11,7 +11,7 @@
 //! - `reftable CLUSTER CLUSTERS`, `block INDEX CLUSTER`: where the refcount table stands, and a word of it; `count FIRST COUNT [TIMES]`.
 //! - `l1 CLUSTER WORDS SIZE`, `table INDEX CLUSTER`, `mapped TABLE INDEX CLUSTER`: the L1 table of a disk of SIZE bytes, a word of it, and
 //!   a word of an L2 table.
-//! - `word OFFSET VALUE`, `put OFFSET BYTES`.
+//! - `raw_entry OFFSET VALUE`, `put OFFSET BYTES`.
 //! - `open TABLES BLOCKS [MARK]`: caches for so many tables and blocks; the search for free clusters begins at MARK, or at 0. `fuse N`: the
 //!   Nth call of the storage fails from the opening on. `fuse BEFORE N MOST`: the Nth behind so many, where N is at most the last number.
 //! - `asked`: what the storage was asked since this was last told.
@@ -116,8 +116,8 @@ enum Topic {
 }
 
 // What a line about an open image is about, by its first word.
-fn open_topic(word: &str) -> Option<Topic> {
-    match word {
+fn open_topic(raw_entry: &str) -> Option<Topic> {
+    match raw_entry {
         "take"
         | "take_at"
         | "free"
@@ -152,8 +152,8 @@ fn open_topic(word: &str) -> Option<Topic> {
 }
 
 // What a line is about, by its first word.
-fn topic_of(word: &str) -> Option<Topic> {
-    match word {
+fn topic_of(raw_entry: &str) -> Option<Topic> {
+    match raw_entry {
         "image"
         | "made"
         | "word"
@@ -180,7 +180,7 @@ fn topic_of(word: &str) -> Option<Topic> {
         | "remove" => { Some(Topic::List) }
         "fuse" | "open" | "asked" => Some(Topic::Opening),
         "cache" => Some(Topic::Keyed),
-        _ => open_topic(word),
+        _ => open_topic(raw_entry),
     }
 }
 
@@ -271,10 +271,10 @@ impl<'a> Values<'a> {
 impl<'a> Values<'a> {
     // Makes the call of these words.
     fn make(&mut self, words: &[&str]) -> Result<String, Trouble> {
-        let Some(word) = words.first() else {
+        let Some(raw_entry) = words.first() else {
             return Err(Trouble::NoCall);
         };
-        match topic_of(word) {
+        match topic_of(raw_entry) {
             Some(Topic::Image) => self.describe(words),
             Some(Topic::List) => self.waiting.answer(words),
             Some(Topic::Opening) => self.begin_open(words),
@@ -305,8 +305,8 @@ impl<'a> Values<'a> {
         };
         let leaked = open.leaks(true)?;
         let is_kept = leaked.as_str() == kept.to_string(self.alloc)?.as_str();
-        let word = if is_kept { "yes" } else { "no" };
-        Ok(word.to_string(self.alloc)?)
+        let raw_entry = if is_kept { "yes" } else { "no" };
+        Ok(raw_entry.to_string(self.alloc)?)
     }
 
     // Makes a call that leaves all as it was where memory is refused before it has done anything, and then makes it once more.

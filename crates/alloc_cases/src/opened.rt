@@ -1,6 +1,6 @@
 // An open image: its file under a log and a fuse, its caches and its allocator.
 ghost use Rattle.std.specs.Prelude.{◌≤◌, IsTrue};
-ghost use Rattle.qcow2_metadata.specs.Places.{IsInReach};
+ghost use Rattle.qcow2_metadata.specs.Places.{IsAddressable};
 
 use crate::listing::Waiting;
 use cases::{Alignments, Notes, Shaped, Trouble};
@@ -41,9 +41,9 @@ pub struct Opening {
 }
 
 /// Whether words can name the cluster.
-pub fn is_in_reach(cluster: HostCluster, cluster_bits: u32) -> bool
+pub fn is_addressable(cluster: HostCluster, cluster_bits: u32) -> bool
     requires { cluster_bits ≤ 21 }
-    ensures { IsTrue result → IsInReach cluster_bits cluster }
+    ensures { IsTrue result → IsAddressable cluster_bits cluster }
 {
     match 1u64.checked_shl(cluster_bits) {
         Some(size) => match cluster.0.checked_mul(size) {
@@ -81,7 +81,7 @@ fn table_of<'a>(alloc: Global, file: &mut ImageFile<Disk<'a>>) -> Result<RefTabl
     let Some(cluster) = file.header.reftable_offset().checked_cluster(bits) else {
         return Err(Trouble::NoCall);
     };
-    if !is_in_reach(cluster, bits) {
+    if !is_addressable(cluster, bits) {
         return Err(Trouble::NoCall);
     }
     let entries = file.header.reftable_entries();

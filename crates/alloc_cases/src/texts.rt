@@ -55,16 +55,16 @@ pub fn leaks_text(alloc: Global, leaks: &[(u64, u64)]) -> Result<String, AllocEr
     let mut text = String::new(alloc);
     let mut first = 0u64;
     let mut end = 0u64;
-    for (cluster, surplus) in leaks.iter() {
-        if *surplus == 1 && *cluster == end && first < end {
+    for (cluster, excess_refcount) in leaks.iter() {
+        if *excess_refcount == 1 && *cluster == end && first < end {
             end = end.saturating_add(1);
             continue;
         }
         push_run(alloc, &mut text, first, end)?;
         first = *cluster;
         end = first.saturating_add(1);
-        if *surplus != 1 {
-            let leak = format!(in alloc; "{cluster}*{surplus}")?;
+        if *excess_refcount != 1 {
+            let leak = format!(in alloc; "{cluster}*{excess_refcount}")?;
             joined(&mut text, leak.as_str())?;
             end = first;
         }

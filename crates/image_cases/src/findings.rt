@@ -10,8 +10,8 @@ fn leaks(alloc: Global, found: &[(u64, u64)]) -> Result<String, AllocError> {
         return "no leaks".to_string(alloc);
     }
     let mut text = "leaks".to_string(alloc)?;
-    for (cluster, surplus) in found.iter() {
-        let one = format!(in alloc; "{cluster}:{surplus}")?;
+    for (cluster, excess_refcount) in found.iter() {
+        let one = format!(in alloc; "{cluster}:{excess_refcount}")?;
         joined(&mut text, one.as_str())?;
     }
     Ok(text)

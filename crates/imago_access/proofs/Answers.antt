@@ -3,7 +3,7 @@ use Rattle.std.proofs.Common.{◌≡◌, ◌∙◌, ap, refl, sym, subst}
 use Rattle.std.proofs.lemmas.Result.{err_from_is_err_and}
 use Rattle.std.specs.Prelude.{Result, Ok, Err, IsErrAnd, IsOk, IfOk, OnOk, IfErr}
 use Rattle.imago_storage.specs.declared.fault.Fault.{Fault}
-use Rattle.imago_access.specs.Files.{IsMild, WasNotCutOff}
+use Rattle.imago_access.specs.Files.{IsNotResourceError, HadNoResourceError}
 
 -- what a `?` hands on
 pub handed_on : {T : Type 0} (result : Result T Fault) (fault : Fault) → IsErrAnd result (λ e. e ≡ fault) → result ≡ Err fault
@@ -14,11 +14,11 @@ ok_holds (Ok v) P is h = h
 ok_holds (Err e) P is h = absurd (cc is)
 
 -- told of a value, of a success alone, and of a refusal that wasn't cut off
-pub whole_holds : {T : Type 0} (r : Result T Fault) (Q : T → Type 0) (P : Type 0) → WasNotCutOff r → ((v : T) → r ≡ Ok v → Q v → P) → IfOk r Q → IfErr r (λ e. IsMild e → P) → P
+pub whole_holds : {T : Type 0} (r : Result T Fault) (Q : T → Type 0) (P : Type 0) → HadNoResourceError r → ((v : T) → r ≡ Ok v → Q v → P) → IfOk r Q → IfErr r (λ e. IsNotResourceError e → P) → P
 whole_holds (Ok v) Q P is from h refused = from v refl h
 whole_holds (Err e) Q P is from h refused = refused is
 
-pub ok_whole : {T : Type 0} (r : Result T Fault) → IsOk r → WasNotCutOff r
+pub ok_whole : {T : Type 0} (r : Result T Fault) → IsOk r → HadNoResourceError r
 ok_whole (Ok v) is = tt
 ok_whole (Err e) is = absurd (cc is)
 
@@ -42,11 +42,11 @@ pub both_if_ok : {T E : Type 0} (r : Result T E) (P Q : T → Type 0) → IfOk r
 both_if_ok (Ok v) P Q p q = (p, q)
 both_if_ok (Err e) P Q p q = tt
 
-pub whole_of_ok : {T : Type 0} (r : Result T Fault) (v : T) → r ≡ Ok v → WasNotCutOff r
-whole_of_ok r v is = subst (λ (s : Result _ Fault). WasNotCutOff s) (sym is) tt
+pub whole_of_ok : {T : Type 0} (r : Result T Fault) (v : T) → r ≡ Ok v → HadNoResourceError r
+whole_of_ok r v is = subst (λ (s : Result _ Fault). HadNoResourceError s) (sym is) tt
 
-pub whole_of_mild : {T : Type 0} (r : Result T Fault) (e : Fault) → r ≡ Err e → IsMild e → WasNotCutOff r
-whole_of_mild r e is mild = subst (λ (s : Result _ Fault). WasNotCutOff s) (sym is) mild
+pub whole_of_mild : {T : Type 0} (r : Result T Fault) (e : Fault) → r ≡ Err e → IsNotResourceError e → HadNoResourceError r
+whole_of_mild r e is not_resource_error = subst (λ (s : Result _ Fault). HadNoResourceError s) (sym is) not_resource_error
 
 pub if_ok_under : {T E : Type 0} (r : Result T E) (P : Type 0) (Q : T → Type 0) → (P → IfOk r Q) → IfOk r (λ v. P → Q v)
 if_ok_under (Ok v) P Q h = h

@@ -11,15 +11,15 @@ use Rattle.imago_access.specs.Layer.{Layer, Fixed, unit_of_layer}
 use Rattle.imago_access.specs.Files.{Pairs, IsLater, IsDeclined}
 use Rattle.imago_access.specs.Parts.{PartCause, DeclinableCause, IsMappedAt, MappedCause}
 use Rattle.imago_access.specs.Chain.{disk_of, unit_of_chain}
-use Rattle.imago_access.specs.Refusals.{ChangeCause, barrier, SomeUnusable}
+use Rattle.imago_access.specs.Refusals.{ChangeCause, unusable_fault, SomeUnusable}
 use Rattle.imago_access.proofs.FilePairs.{pairs_append, some_rose_behind, some_rose_left}
 use Rattle.imago_access.proofs.ReadCauses.{part_overflows}
 
 -- what bars a layer that has not failed
-pub barrier_on : (entry mid : Layer) → mid.fixed ≡ entry.fixed → entry.failed ≡ false → mid.failed ≡ false → barrier mid ≡ barrier entry
+pub barrier_on : (entry mid : Layer) → mid.fixed ≡ entry.fixed → entry.failed ≡ false → mid.failed ≡ false → unusable_fault mid ≡ unusable_fault entry
 barrier_on entry mid fixed ran runs = rw (runs, ran, fixed) refl
 
-unusable_on : (entry mid : Layer) (below : List Layer) (fault : Fault) → barrier mid ≡ barrier entry → SomeUnusable (mid ∷ below) fault → SomeUnusable (entry ∷ below) fault
+unusable_on : (entry mid : Layer) (below : List Layer) (fault : Fault) → unusable_fault mid ≡ unusable_fault entry → SomeUnusable (mid ∷ below) fault → SomeUnusable (entry ∷ below) fault
 unusable_on entry mid below fault same h = elim h [ inl here ↦ inl (sym same ∙ here) | inr rest ↦ inr rest ]
 
 -- A part's cause at a later moment, seen from the entry: the image has not failed by then, and the layers below are the same.

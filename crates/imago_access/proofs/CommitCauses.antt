@@ -7,11 +7,11 @@ use Rattle.imago_storage.specs.Steps.{commit}
 use Rattle.imago_storage.specs.declared.fault.Fault.{Fault}
 use Rattle.imago_storage.specs.declared.fault.Fault.TheVariants.{ReadOnly, Foreign, MissingData, Failed, Memory, Storage}
 use Rattle.imago_access.specs.Layer.{Layer, IsFree}
-use Rattle.imago_access.specs.Files.{IsMild, ImageCause}
+use Rattle.imago_access.specs.Files.{IsNotResourceError, ImageCause}
 use Rattle.imago_access.specs.Spending.{IsSpending, IsMine, IsForeignTo, is_own, Spends, GivenBack}
 use Rattle.imago_access.specs.Refusals.{ChangeCause}
 use Rattle.imago_access.proofs.FilePairs.{some_rose_left}
-use Rattle.imago_access.specs.declared.seen.Seen.{Ghosts}
+use Rattle.imago_access.specs.declared.driver_model.DriverModel.{Ghosts}
 
 module _ {D St : Type 0} (g : Ghosts D St) (layer new : Layer) (below : List Layer) (olds news us vs : List StorageState) where
   abbrev pub Cause : Option St → Fault → Type 0
@@ -27,18 +27,18 @@ module _ {D St : Type 0} (g : Ghosts D St) (layer new : Layer) (below : List Lay
   back_cause None _ h = absurd h
 
   -- of one that is spent
-  pub spent_cause : (state : Option St) (e : Fault) → IsMine g state layer ⊎ IsForeignTo g.tag state layer → IsSome state → Spends g state layer new (IsFree new × (IsMild e → ⊥)) → ImageCause olds news e → Cause state e
+  pub spent_cause : (state : Option St) (e : Fault) → IsMine g state layer ⊎ IsForeignTo g.tag state layer → IsSome state → Spends g state layer new (IsFree new × (IsNotResourceError e → ⊥)) → ImageCause olds news e → Cause state e
   spent_cause None e whose some spends rose = absurd (cc some)
   spent_cause (Some s) Memory whose some spends rose = tt
   spent_cause (Some s) Storage whose some spends rose = some_rose_left olds news us vs rose
   spent_cause (Some s) _ whose some spends rose = elim whose [ inl mine ↦ absurd ((spends.1 mine.1).1 tt) | inr other ↦ absurd (other spends.0) ]
 
   -- told of only what a refusal of a safe image means
-  fewer : (state : Option St) (e : Fault) (safe : Type 0) → safe → Spends g state layer new (IsFree new × (safe → IsMild e → ⊥)) → Spends g state layer new (IsFree new × (IsMild e → ⊥))
-  fewer None e safe s h = h
-  fewer (Some x) e safe s h = (h.0, λ mine. ((h.1 mine).0, (h.1 mine).1 s))
+  fewer : (state : Option St) (e : Fault) (well_formed : Type 0) → well_formed → Spends g state layer new (IsFree new × (well_formed → IsNotResourceError e → ⊥)) → Spends g state layer new (IsFree new × (IsNotResourceError e → ⊥))
+  fewer None e well_formed s h = h
+  fewer (Some x) e well_formed s h = (h.0, λ mine. ((h.1 mine).0, (h.1 mine).1 s))
 
-  pub commit_cause : {M : Type 0} (state : Option St) (given : Option M) (safe : Type 0) (e : Fault) → IsMine g state layer ⊎ IsForeignTo g.tag state layer → safe
-      → IfSome given (λ m. GivenBack g.tag state layer e) → (given ≡ None → IsSome state × IsTrue new.failed × IsSpending e × Spends g state layer new (IsFree new × (safe → IsMild e → ⊥))) → ImageCause olds news e → Cause state e
-  commit_cause state (Some m) safe e whose s back spent rose = back_cause state e back
-  commit_cause state None safe e whose s back spent rose = let told = spent refl in spent_cause state e whose told.0 (fewer state e safe s told.3) rose
+  pub commit_cause : {M : Type 0} (state : Option St) (given : Option M) (well_formed : Type 0) (e : Fault) → IsMine g state layer ⊎ IsForeignTo g.tag state layer → well_formed
+      → IfSome given (λ m. GivenBack g.tag state layer e) → (given ≡ None → IsSome state × IsTrue new.failed × IsSpending e × Spends g state layer new (IsFree new × (well_formed → IsNotResourceError e → ⊥))) → ImageCause olds news e → Cause state e
+  commit_cause state (Some m) well_formed e whose s back spent rose = back_cause state e back
+  commit_cause state None well_formed e whose s back spent rose = let told = spent refl in spent_cause state e whose told.0 (fewer state e well_formed s told.3) rose

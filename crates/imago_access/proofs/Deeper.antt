@@ -8,13 +8,13 @@ use Rattle.imago_storage.specs.declared.fault.Fault.TheVariants.{Failed, Missing
 use Rattle.imago_access.specs.Layer.{Layer, unmapped}
 use Rattle.imago_access.specs.Chain.{at}
 use Rattle.imago_access.specs.Files.{Pairs, IsLater}
-use Rattle.imago_access.specs.Mappings.{AreStated, EachIs, States, Names, IsRun, IsDeepRun, NamesHome, stored_at, DeepNames, DeepNamesWritable, AreWritable, SaysBarred, IsRunBelow, HasStorage, IsThere, lower, is_deep_end}
+use Rattle.imago_access.specs.Mappings.{AreExplicitZeroes, EachIs, ReportsExplicitZero, Names, IsRun, IsDeepRun, ReportsWritable, stored_at, DeepNames, DeepNamesWritable, AreWritable, SaysBarred, IsRunBelow, HasStorage, IsThere, lower, is_deep_end}
 use Rattle.imago_access.specs.Refusals.{LookCause, DeepLookCause}
 use Rattle.imago_access.specs.declared.mapping.Mapping.{Mapping}
 use Rattle.imago_access.specs.declared.mapping.Mapping.TheVariants.{Raw, Zero, Eof, Special}
 use Rattle.imago_access.specs.declared.mapping.ShallowMapping.{ShallowMapping}
 use Rattle.imago_access.specs.declared.mapping.ShallowMapping.TheVariants as shallow
-use Rattle.imago_access.specs.declared.seen.Seen.{Ghosts}
+use Rattle.imago_access.specs.declared.driver_model.DriverModel.{Ghosts}
 use Rattle.imago_access.proofs.ReadCauses.{at_unmapped, at_own}
 use Rattle.imago_access.proofs.FilePairs.{some_rose_left, some_rose_right}
 
@@ -52,14 +52,14 @@ there_lower g d ds above (Zero explicit) h = tt
 there_lower g d ds above Eof h = tt
 
 -- the top layer states none of the places of an answer that goes on below
-pub unstated_below : (stated : ℕ → Type 0) (offset asked n : ℕ) (m : Mapping) → AreStated stated offset asked false → IsRunBelow asked m n → AreStated stated offset n false
-unstated_below stated offset asked n (Raw depth storage place writable) none run = λ i lt. none i (omega (arith, lt, run.0))
-unstated_below stated offset asked n (Special depth place) none run = λ i lt. none i (omega (arith, lt, run.0))
-unstated_below stated offset asked n (Zero explicit) none run = λ i lt. none i (omega (arith, lt, run.0))
-unstated_below stated offset asked n Eof none run = absurd run
+pub unstated_below : (explicit_zero : ℕ → Type 0) (offset asked n : ℕ) (m : Mapping) → AreExplicitZeroes explicit_zero offset asked false → IsRunBelow asked m n → AreExplicitZeroes explicit_zero offset n false
+unstated_below explicit_zero offset asked n (Raw depth storage place writable) none run = λ i lt. none i (omega (arith, lt, run.0))
+unstated_below explicit_zero offset asked n (Special depth place) none run = λ i lt. none i (omega (arith, lt, run.0))
+unstated_below explicit_zero offset asked n (Zero explicit) none run = λ i lt. none i (omega (arith, lt, run.0))
+unstated_below explicit_zero offset asked n Eof none run = absurd run
 
-pub indirect_unstated : (stated : ℕ → Type 0) (offset n place : ℕ) (writable : Bool) (mapping : ShallowMapping) → mapping ≡ shallow.Indirect place writable → States stated offset (mapping, n) → AreStated stated offset n false
-indirect_unstated stated offset n place writable mapping is states = subst (λ (m : ShallowMapping). States stated offset (m, n)) is states
+pub indirect_unstated : (explicit_zero : ℕ → Type 0) (offset n place : ℕ) (writable : Bool) (mapping : ShallowMapping) → mapping ≡ shallow.Indirect place writable → ReportsExplicitZero explicit_zero offset (mapping, n) → AreExplicitZeroes explicit_zero offset n false
+indirect_unstated explicit_zero offset n place writable mapping is states = subst (λ (m : ShallowMapping). ReportsExplicitZero explicit_zero offset (m, n)) is states
 
 -- Causes.
 pub deep_look_top : (layer : Layer) (below : List Layer) (offset n : ℕ) (olds news us vs : List StorageState) (e : Fault)
@@ -103,8 +103,8 @@ pub indirect_writable : (layer : Layer) (stored : ℕ → ℕ → ℕ) (offset n
 indirect_writable layer stored offset n place writable mapping is names = λ said. let says = subst (Names layer stored offset n) is names in (says.3 said, subst IsTrue says.2 said)
 
 -- that places which can be written are answered as such, from what the top layer answers
-pub writable_here : (layer : Layer) (below : List Layer) (offset asked storage place : ℕ) (writable : Bool) → NamesHome layer offset asked (shallow.Raw storage place writable) → DeepNamesWritable (layer ∷ below) offset asked (Raw 0 storage place writable)
-writable_here layer below offset asked storage place writable homes some can = from (layer.home offset) refl can.1 where
-  from : (home : Option (ℕ × ℕ)) → layer.home offset ≡ home → IsSome home → IsTrue writable
-  from (Some place') is some_place = let same = homes can.0 some place'.0 place'.1 is in cc
+pub writable_here : (layer : Layer) (below : List Layer) (offset asked storage place : ℕ) (writable : Bool) → ReportsWritable layer offset asked (shallow.Raw storage place writable) → DeepNamesWritable (layer ∷ below) offset asked (Raw 0 storage place writable)
+writable_here layer below offset asked storage place writable writable_locations some can = from (layer.writable_location offset) refl can.1 where
+  from : (home : Option (ℕ × ℕ)) → layer.writable_location offset ≡ home → IsSome home → IsTrue writable
+  from (Some place') is some_place = let same = writable_locations can.0 some place'.0 place'.1 is in cc
   from None is none = absurd (cc none)

@@ -10,23 +10,23 @@ use Rattle.imago_storage.specs.Causes.{Gives, PartlyDone, offset_of, length_of, 
 use Rattle.imago_storage.specs.declared.fault.Fault.{Fault}
 use Rattle.imago_storage.specs.declared.fault.Fault.TheVariants.{Unsupported, VersionLimit}
 use Rattle.imago_storage.proofs.Rounding.{le_round_up}
-use Rattle.imago_access.specs.Layer.{Layer, IsFree, IsLike, loose}
+use Rattle.imago_access.specs.Layer.{Layer, IsFree, KeepsLayerState, loose}
 use Rattle.imago_access.specs.Chain.{at, IsBacked}
 use Rattle.imago_access.specs.RangeCalls.{GivesDiscarded}
-use Rattle.imago_access.specs.Files.{IsMild, IsDeclined, WasNotCutOff, files_of, files}
-use Rattle.imago_access.specs.Going.{Went}
+use Rattle.imago_access.specs.Files.{IsNotResourceError, IsDeclined, HadNoResourceError, files_of, files}
+use Rattle.imago_access.specs.Going.{MutatingCall}
 use Rattle.imago_access.specs.Parts.{PartCause, DeclinableCause}
 use Rattle.imago_access.specs.Room.{IsUndeclined}
 use Rattle.imago_access.specs.Refusals.{change_refusal, ChangeCause}
-use Rattle.imago_access.specs.Running.{IsIntact, IsBetween, RanChain, IsIntactChain, chain_disk, RanAlone, below_ghosts, alone_ghosts}
-use Rattle.imago_access.specs.Stops.{KeepsStops}
+use Rattle.imago_access.specs.Running.{IsIntact, IsBetween, ChainRangeChange, IsIntactChain, chain_disk, DriverRangeChange, below_ghosts, alone_ghosts}
+use Rattle.imago_access.specs.Stops.{KeepsCrashImages}
 use Rattle.imago_access.specs.declared.access.discarding.Discarding.{Discarding}
 use Rattle.imago_access.specs.declared.access.discarding.Discarding.TheVariants.{ToAny, ToBacking}
 use Rattle.imago_access.proofs.ChangeCauses.{part_cause_left, change_cause}
 use Rattle.imago_access.proofs.Disks.{allowed_inside, disk_step, disk_partly}
 use Rattle.imago_access.proofs.Running.{holds_loose, ran_driver, ran_both, went_weaker}
 use Rattle.imago_access.proofs.Units.{overflows_chain}
-use Rattle.imago_access.specs.declared.seen.Seen.{Ghosts}
+use Rattle.imago_access.specs.declared.driver_model.DriverModel.{Ghosts}
 
 -- a discard of a part gives what that of the whole may
 pub discarded_wider : (discarding : Discarding) (below : List Layer) (offset n start m : ℕ) → offset ≤ start → start + m ≤ offset + n
@@ -38,11 +38,11 @@ discarded_there : (discarding : Discarding) (below : List Layer) (offset n p : �
 discarded_there ToAny below offset n p v gave = gave.0
 discarded_there ToBacking below offset n p v gave = gave.0
 
-pub like_both : (a b c : Layer) → IsLike a b → IsLike b c → IsLike a c
+pub like_both : (a b c : Layer) → KeepsLayerState a b → KeepsLayerState b c → KeepsLayerState a c
 like_both a b c first second = record { fixed = second.fixed ∙ first.fixed; size = second.size ∙ first.size; unspent = second.unspent ∙ first.unspent; failed = λ f. second.failed (first.failed f) }
 
 -- a call that was declined was not cut off
-pub declined_mild : (e : Fault) → IsDeclined e → IsMild e
+pub declined_mild : (e : Fault) → IsDeclined e → IsNotResourceError e
 declined_mild Unsupported h = tt
 declined_mild VersionLimit h = tt
 declined_mild _ h = absurd h
@@ -55,32 +55,32 @@ undeclined below layer offset n causes olds news _ none declined h = absurd decl
 
 module _ {D St : Type 0} (g : Ghosts D St) (free_loose : (d : D) → IsFree (g.layer d) → (p : ℕ) → (g.layer d).held p ≡ loose) where
   -- what is promised where the image is sound and the layers below are shown, of an image that has nothing prepared
-  pub ran_alone : (whole : Type 0) (gives : ℕ → Value → Type 0) (below : List Layer) (a b : D) → IsFree (g.layer a) → IsLike (g.layer a) (g.layer b) → Went g whole whole a b
-      → (g.safe a → IsBacked below (g.layer a) → whole → IsBetween gives below (g.layer a) (g.layer b))
-      → (g.safe a → IsBacked below (g.layer a) → KeepsStops g below gives a b)
-      → RanAlone g whole gives below a b
-  ran_alone whole gives below a b free like went values stops = ran_driver {B = List Layer} g alone_ghosts whole gives a b below like.size went
+  pub ran_alone : (whole : Type 0) (gives : ℕ → Value → Type 0) (below : List Layer) (a b : D) → IsFree (g.layer a) → KeepsLayerState (g.layer a) (g.layer b) → MutatingCall g whole whole a b
+      → (g.well_formed a → IsBacked below (g.layer a) → whole → IsBetween gives below (g.layer a) (g.layer b))
+      → (g.well_formed a → IsBacked below (g.layer a) → KeepsCrashImages g below gives a b)
+      → DriverRangeChange g whole gives below a b
+  ran_alone whole gives below a b free like mutating_call values stops = ran_driver {B = List Layer} g alone_ghosts whole gives a b below like.size mutating_call
       (λ w i. holds_loose (at below) (g.layer b) (free_loose b (like.unspent ∙ free)))
-      (λ w i. values i.is_safe i.backed w)
-      (λ i. stops i.is_safe i.backed)
+      (λ w i. values i.is_well_formed i.backed w)
+      (λ i. stops i.is_well_formed i.backed)
 
   -- such an image is intact
-  pub intact_alone : (below : List Layer) (a : D) → IsFree (g.layer a) → g.safe a → IsBacked below (g.layer a) → IsIntact g alone_ghosts a below
-  intact_alone below a free is_safe backed = record { is_safe = is_safe; is_seen = tt; backed = backed; held = holds_loose (at below) (g.layer a) (free_loose a free) }
+  pub intact_alone : (below : List Layer) (a : D) → IsFree (g.layer a) → g.well_formed a → IsBacked below (g.layer a) → IsIntact g alone_ghosts a below
+  intact_alone below a free is_well_formed backed = record { is_well_formed = is_well_formed; is_coherent = tt; backed = backed; held = holds_loose (at below) (g.layer a) (free_loose a free) }
 
-  pub went_alone : (whole : Type 0) (gives : ℕ → Value → Type 0) (below : List Layer) (a b : D) → RanAlone g whole gives below a b → Went g whole whole a b
-  went_alone whole gives below a b h = went_weaker g whole (whole × ⊤) whole whole a b (λ x. x) (λ x. (x, tt)) h.went
+  pub went_alone : (whole : Type 0) (gives : ℕ → Value → Type 0) (below : List Layer) (a b : D) → DriverRangeChange g whole gives below a b → MutatingCall g whole whole a b
+  went_alone whole gives below a b h = went_weaker g whole (whole × ⊤) whole whole a b (λ x. x) (λ x. (x, tt)) h.mutating_call
 
   -- a discard of a part behind others
   pub then_discarded : (whole : Type 0) (discarding : Discarding) (below : List Layer) (offset n start m : ℕ) (a b c : D) → offset ≤ start → start + m ≤ offset + n → IsFree (g.layer b)
-      → RanAlone g ⊤ (GivesDiscarded discarding below offset n) below a b → IsLike (g.layer b) (g.layer c) → Went g whole whole b c
-      → (g.safe b → (under : List Layer) → IsBacked under (g.layer b) → whole → IsBetween (GivesDiscarded discarding under start m) under (g.layer b) (g.layer c))
-      → (g.safe b → (under : List Layer) → IsBacked under (g.layer b) → KeepsStops g under (GivesDiscarded discarding under start m) b c)
-      → RanAlone g whole (GivesDiscarded discarding below offset n) below a c
-  then_discarded whole discarding below offset n start m a b c from to free first like went values stops =
+      → DriverRangeChange g ⊤ (GivesDiscarded discarding below offset n) below a b → KeepsLayerState (g.layer b) (g.layer c) → MutatingCall g whole whole b c
+      → (g.well_formed b → (under : List Layer) → IsBacked under (g.layer b) → whole → IsBetween (GivesDiscarded discarding under start m) under (g.layer b) (g.layer c))
+      → (g.well_formed b → (under : List Layer) → IsBacked under (g.layer b) → KeepsCrashImages g under (GivesDiscarded discarding under start m) b c)
+      → DriverRangeChange g whole (GivesDiscarded discarding below offset n) below a c
+  then_discarded whole discarding below offset n start m a b c from to free first like mutating_call values stops =
       ran_both {B = List Layer} g alone_ghosts whole (GivesDiscarded discarding below offset n) (GivesDiscarded discarding below start m) (GivesDiscarded discarding below offset n) a b c below below below
       (λ p v gave. gave) (discarded_wider discarding below offset n start m from to) first
-      (ran_alone whole (GivesDiscarded discarding below start m) below b c free like went (λ s backed w. values s below backed w) (λ s backed. stops s below backed))
+      (ran_alone whole (GivesDiscarded discarding below start m) below b c free like mutating_call (λ s backed w. values s below backed w) (λ s backed. stops s below backed))
 
 -- a range that a change isn't refused for ends within 64 bits
 pub allowed_fits : (unit : ℕ) (layer : Layer) (offset n : ℕ) → 0 < unit → offset < 2 ^ 64 → change_refusal unit layer offset n ≡ None → offset + n < 2 ^ 64
@@ -88,39 +88,39 @@ allowed_fits unit layer offset n positive low allowed = let up = le_round_up uni
 
 -- What a discard of all of a range does to a chain.
 module _ {D St : Type 0} (g : Ghosts D St) (free_loose : (d : D) → IsFree (g.layer d) → (p : ℕ) → (g.layer d).held p ≡ loose)
-    (d d' : D) (ds : List D) (discarding : Discarding) (offset n : ℕ) (is_free : IsFree (g.layer d)) (like : IsLike (g.layer d) (g.layer d')) where
+    (d d' : D) (ds : List D) (discarding : Discarding) (offset n : ℕ) (is_free : IsFree (g.layer d)) (like : KeepsLayerState (g.layer d) (g.layer d')) where
   was_loose : (p : ℕ) → (g.layer d).held p ≡ loose
   was_loose = free_loose d is_free
 
   is_loose : (p : ℕ) → (g.layer d').held p ≡ loose
   is_loose = free_loose d' (like.unspent ∙ is_free)
 
-  pub chain_ran : (result : Result (Unit {0}) Fault) → (g.safe d → (below : List Layer) → IsBacked below (g.layer d) → WasNotCutOff result → IsBetween (GivesDiscarded discarding below offset n) below (g.layer d) (g.layer d'))
-      → Went g (WasNotCutOff result) (WasNotCutOff result) d d'
-      → (g.safe d → (below : List Layer) → IsBacked below (g.layer d) → KeepsStops g below (GivesDiscarded discarding below offset n) d d')
-      → RanChain g (WasNotCutOff result) (GivesDiscarded discarding (map g.layer ds) offset n) (d, ds) (d', ds)
-  chain_ran result values went stops = ran_driver {B = List D} g (below_ghosts g) (WasNotCutOff result) (GivesDiscarded discarding (map g.layer ds) offset n) d d' ds like.size went
+  pub chain_ran : (result : Result (Unit {0}) Fault) → (g.well_formed d → (below : List Layer) → IsBacked below (g.layer d) → HadNoResourceError result → IsBetween (GivesDiscarded discarding below offset n) below (g.layer d) (g.layer d'))
+      → MutatingCall g (HadNoResourceError result) (HadNoResourceError result) d d'
+      → (g.well_formed d → (below : List Layer) → IsBacked below (g.layer d) → KeepsCrashImages g below (GivesDiscarded discarding below offset n) d d')
+      → ChainRangeChange g (HadNoResourceError result) (GivesDiscarded discarding (map g.layer ds) offset n) (d, ds) (d', ds)
+  chain_ran result values mutating_call stops = ran_driver {B = List D} g (below_ghosts g) (HadNoResourceError result) (GivesDiscarded discarding (map g.layer ds) offset n) d d' ds like.size mutating_call
       (λ w i. holds_loose (at (map g.layer ds)) (g.layer d') is_loose)
-      (λ w i. values i.is_safe (map g.layer ds) i.backed w)
-      (λ i. stops i.is_safe (map g.layer ds) i.backed)
+      (λ w i. values i.is_well_formed (map g.layer ds) i.backed w)
+      (λ i. stops i.is_well_formed (map g.layer ds) i.backed)
 
-  pub chain_done : (result : Result (Unit {0}) Fault) → (g.safe d → (below : List Layer) → IsBacked below (g.layer d) → WasNotCutOff result → IsBetween (GivesDiscarded discarding below offset n) below (g.layer d) (g.layer d'))
+  pub chain_done : (result : Result (Unit {0}) Fault) → (g.well_formed d → (below : List Layer) → IsBacked below (g.layer d) → HadNoResourceError result → IsBetween (GivesDiscarded discarding below offset n) below (g.layer d) (g.layer d'))
       → (Becomes : ℕ → Value → Value → Type 0) → ((p : ℕ) (was v : Value) → (v ≡ was) ⊎ GivesDiscarded discarding (map g.layer ds) offset n p v → Becomes p was v)
       → (unit : ℕ) → change_refusal unit (g.layer d) offset n ≡ None → IsIntactChain g (d, ds)
       → OnOk result (Unless (n ≡ 0) (Stays (chain_disk g.layer (d, ds)) (chain_disk g.layer (d', ds))) (Changes Becomes (chain_disk g.layer (d, ds)) (chain_disk g.layer (d', ds)) offset n))
   chain_done (Ok x) values Becomes becomes unit allowed i =
-      let between = values i.is_safe (map g.layer ds) i.backed tt in
+      let between = values i.is_well_formed (map g.layer ds) i.backed tt in
       let inside = allowed_inside unit (g.layer d) offset n allowed in
       disk_step (map g.layer ds) (map g.layer ds) (g.layer d) (g.layer d') refl like.size was_loose is_loose (GivesDiscarded discarding (map g.layer ds) offset n) Becomes offset n inside (discarded_there discarding (map g.layer ds) offset n) between
       (λ p there. becomes p (at (map g.layer (d ∷ ds)) p) (at (map g.layer (d' ∷ ds)) p) (between p (omega (arith, there.0, there.1, inside (omega (arith, there.0, there.1))))))
   chain_done (Err e) values Becomes becomes unit allowed i = tt
 
-  pub chain_partly : (result : Result (Unit {0}) Fault) → (g.safe d → (below : List Layer) → IsBacked below (g.layer d) → WasNotCutOff result → IsBetween (GivesDiscarded discarding below offset n) below (g.layer d) (g.layer d'))
+  pub chain_partly : (result : Result (Unit {0}) Fault) → (g.well_formed d → (below : List Layer) → IsBacked below (g.layer d) → HadNoResourceError result → IsBetween (GivesDiscarded discarding below offset n) below (g.layer d) (g.layer d'))
       → (call : Call) → offset_of call ≡ offset → length_of call ≡ n → ((p : ℕ) (was v : Value) → GivesDiscarded discarding (map g.layer ds) offset n p v → Gives (at (map g.layer ds)) call p was v)
-      → IsIntactChain g (d, ds) → IfErr result (λ e. IsMild e → PartlyDone (at (map g.layer ds)) call (chain_disk g.layer (d, ds)) (chain_disk g.layer (d', ds)))
+      → IsIntactChain g (d, ds) → IfErr result (λ e. IsNotResourceError e → PartlyDone (at (map g.layer ds)) call (chain_disk g.layer (d, ds)) (chain_disk g.layer (d', ds)))
   chain_partly (Ok x) values call from long given i = tt
-  chain_partly (Err e) values call from long given i = λ mild.
-      disk_partly (map g.layer ds) (map g.layer ds) (g.layer d) (g.layer d') refl like.size was_loose is_loose (GivesDiscarded discarding (map g.layer ds) offset n) call (values i.is_safe (map g.layer ds) i.backed mild)
+  chain_partly (Err e) values call from long given i = λ not_resource_error.
+      disk_partly (map g.layer ds) (map g.layer ds) (g.layer d) (g.layer d') refl like.size was_loose is_loose (GivesDiscarded discarding (map g.layer ds) offset n) call (values i.is_well_formed (map g.layer ds) i.backed not_resource_error)
       (λ p v gave. subst (λ (o : ℕ). IsIn o (length_of call) p) (sym from) (subst (λ (m : ℕ). IsIn offset m p) (sym long) (discarded_there discarding (map g.layer ds) offset n p v gave)))
       (λ p v. given p (at (map g.layer (d ∷ ds)) p) v)
 

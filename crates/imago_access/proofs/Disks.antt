@@ -8,7 +8,7 @@ use Rattle.imago_storage.specs.Causes.{offset_of, length_of, Gives, PartlyDone}
 use Rattle.imago_access.specs.Layer.{Layer, through, loose, hold_of}
 use Rattle.imago_access.specs.Chain.{at, disk_of}
 use Rattle.imago_access.specs.Refusals.{change_refusal}
-use Rattle.imago_access.specs.Files.{WasNotCutOff}
+use Rattle.imago_access.specs.Files.{HadNoResourceError}
 use Rattle.imago_access.specs.Running.{IsBetween}
 use Rattle.imago_access.proofs.Holding.{out_or_in, at_inside}
 use Rattle.imago_access.specs.Resizes.{Grown}
@@ -82,7 +82,7 @@ shows_grown old new below p was is same = at_inside new below p is ∙ same ∙ 
 
 -- a growth of a driver is one of the disk, whose layers below stay
 pub grown_step : (under later : List Layer) (old new : Layer) (size : ℕ) (fill : Growth) (r : Result Unit Fault) → ((p : ℕ) → new.held p ≡ loose)
-    → (size ≤ old.size → OnOk r (new ≡ old)) → (old.size < size → OnOk r (Grown (at under) old new size fill)) → (WasNotCutOff r → later ≡ under)
+    → (size ≤ old.size → OnOk r (new ≡ old)) → (old.size < size → OnOk r (Grown (at under) old new size fill)) → (HadNoResourceError r → later ≡ under)
     → OnOk r (Step (at under) (disk_of under old) (grow size fill) done (disk_of later new))
 grown_step under later old new size fill (Err e) is_free nothing grown stays = tt
 grown_step under later old new size fill (Ok v) is_free nothing grown stays = rw (stays tt) (elim (cases_lt old.size size) [
@@ -90,7 +90,7 @@ grown_step under later old new size fill (Ok v) is_free nothing grown stays = rw
     λ small. omega (arith, small, large),
     record {
       new_size = g.size;
-      kept = λ p low. shows_grown old new under p low (omega (arith, longer, low)) (g.kept p low);
+      prefix_unchanged = λ p low. shows_grown old new under p low (omega (arith, longer, low)) (g.data_unchanged p low);
       filled = λ p from to. rw (at_inside new under p (omega (arith, to, g.size))) (g.filled p from to);
       is_free = λ p low. ap hold_of (is_free p);
     },

@@ -4,21 +4,21 @@ use Rattle.std.specs.Prelude.{⊤, if◌then◌else◌}
 use Rattle.imago_storage.specs.Disk.{Value, Hold, Disk, IsFree}
 use Rattle.imago_storage.specs.declared.fault.Fault.{Fault}
 use Rattle.imago_storage.specs.declared.fault.Fault.TheVariants.{MissingData, Failed}
-use Rattle.imago_storage.specs.Steps.{Stays, Commits, IsIn, IsByte, Settles as SettlesValue}
+use Rattle.imago_storage.specs.Steps.{Stays, Commits, IsIn, IsByte, CommitsValue as SettlesValue}
 use Rattle.imago_access.specs.Layer.{Layer, Cell, through, Held, loose, beside, inside, hold_of}
 use Rattle.imago_access.specs.Chain.{at, disk_of}
-use Rattle.imago_access.specs.Changes.{asking, run_at, IsHolding, Prepared, Settles, Committed}
-use Rattle.imago_access.specs.Refusals.{barrier, change_refusal}
-use Rattle.imago_access.specs.Running.{IsTruly, HoldsTrue, IsIntact, Ran}
+use Rattle.imago_access.specs.Changes.{asking, run_at, IsHolding, Prepared, CommitsPlace, Committed}
+use Rattle.imago_access.specs.Refusals.{unusable_fault, change_refusal}
+use Rattle.imago_access.specs.Running.{IsTruly, HoldsTrue, IsIntact, RangeChange}
 use Rattle.imago_access.specs.Spending.{IsMine, Spends}
 use Rattle.imago_access.specs.Stops.{MayTake, GivesNone, GivesHeld, GivesAny, GivesAnnounced}
 use Rattle.imago_access.proofs.Holding.{at_inside, spent_settles}
 use Rattle.imago_access.proofs.Running.{ran_both, ran_gives_intact}
-use Rattle.imago_access.specs.declared.seen.Seen.{Ghosts}
-use Rattle.imago_access.specs.declared.seen.SeenBelow.{Ghosts as GhostsBelow}
+use Rattle.imago_access.specs.declared.driver_model.DriverModel.{Ghosts}
+use Rattle.imago_access.specs.declared.driver_model.LayersBelowModel.{Ghosts as GhostsBelow}
 
 -- what a committed place shows
-value_settles : (below : ℕ → Value) (layer : Layer) (p : ℕ) (h : Held) (c : Cell) → IsTruly below layer p h → Settles h (layer.cell p) c → SettlesValue (hold_of h) (through (layer.cell p) (below p)) (through c (below p))
+value_settles : (below : ℕ → Value) (layer : Layer) (p : ℕ) (h : Held) (c : Cell) → IsTruly below layer p h → CommitsPlace h (layer.cell p) c → SettlesValue (hold_of h) (through (layer.cell p) (below p)) (through c (below p))
 value_settles below layer p loose c truly settles = ap (λ (x : Cell). through x (below p)) settles
 value_settles below layer p (beside b) c truly settles = ap (λ (x : Cell). through x (below p)) settles ∙ sym truly.0
 value_settles below layer p (inside copied (Some b) announced) c truly settles = ap (λ (x : Cell). through x (below p)) settles
@@ -42,9 +42,9 @@ settled_commits g state below below' mid new same size truly mine stateless is_l
 })
 
 -- places that could be written are where they were
-pub settled_home : {D St : Type 0} (g : Ghosts D St) (state : Option St) (mid new : Layer) → IsMine g state mid → Spends g state mid new (Committed mid new) → (p : ℕ) (place : ℕ × ℕ) → mid.home p ≡ Some place → new.home p ≡ Some place
+pub settled_home : {D St : Type 0} (g : Ghosts D St) (state : Option St) (mid new : Layer) → IsMine g state mid → Spends g state mid new (Committed mid new) → (p : ℕ) (place : ℕ × ℕ) → mid.writable_location p ≡ Some place → new.writable_location p ≡ Some place
 settled_home g None mid new mine spends p place home = rw spends home
-settled_home g (Some s) mid new mine spends p place home = (spends.1 mine.1).home p place home
+settled_home g (Some s) mid new mine spends p place home = (spends.1 mine.1).writable_location p place home
 
 -- a byte that a commit may give to a place of a run just prepared was announced
 may_announced : (below : ℕ → Value) (layer : Layer) (offset n : ℕ) (overwrite : Bool) (p : ℕ) (h : Held) (v : Value) → IsHolding below layer offset n overwrite p h → MayTake h v → IsIn offset n p × (overwrite ≡ true) × IsByte v
@@ -62,14 +62,14 @@ announced_gives overwrite offset n p v is gives = rw is gives
 
 module _ {D St B : Type 0} (g : Ghosts D St) (u : GhostsBelow B) where
   -- prepared, and then spent
-  pub ran_ensured : (whole : Type 0) (a b c : D) (x y : B) (offset asked : ℕ) (overwrite : Bool) (storage place n : ℕ) (claim : Option ℕ) → n ≤ asked
-      → (IsIntact g u a x → Prepared (at (u.under x)) (g.layer a) (g.layer b) (asking offset asked overwrite) (run_at storage place n claim))
-      → Ran g u ⊤ GivesNone (a, x) (b, y) → Ran g u whole (GivesHeld (g.layer b)) (b, y) (c, y)
-      → Ran g u whole (GivesAnnounced overwrite offset asked) (a, x) (c, y)
-  ran_ensured whole a b c x y offset asked overwrite storage place n claim most prepared first second =
+  pub ran_ensured : (whole : Type 0) (a b c : D) (x y : B) (offset asked : ℕ) (overwrite : Bool) (storage place n : ℕ) (mapping_id : Option ℕ) → n ≤ asked
+      → (IsIntact g u a x → Prepared (at (u.layers_below x)) (g.layer a) (g.layer b) (asking offset asked overwrite) (run_at storage place n mapping_id))
+      → RangeChange g u ⊤ GivesNone (a, x) (b, y) → RangeChange g u whole (GivesHeld (g.layer b)) (b, y) (c, y)
+      → RangeChange g u whole (GivesAnnounced overwrite offset asked) (a, x) (c, y)
+  ran_ensured whole a b c x y offset asked overwrite storage place n mapping_id most prepared first second =
       ran_gives_intact g u whole (GivesHeld (g.layer b)) (GivesAnnounced overwrite offset asked) a c x y
       (λ i p v may.
-      let it = may_announced (at (u.under x)) (g.layer b) offset n overwrite p ((g.layer b).held p) v ((prepared i).holds p) may in
+      let it = may_announced (at (u.layers_below x)) (g.layer b) offset n overwrite p ((g.layer b).held p) v ((prepared i).holds p) may in
       announced_gives overwrite offset asked p v it.1 ((it.0.0, omega (arith, it.0.1, most)), it.2))
       (ran_both g u whole GivesNone (GivesHeld (g.layer b)) (GivesHeld (g.layer b)) a b c x y y (λ p v none. absurd none) (λ p v may. may) first second)
 
@@ -91,5 +91,5 @@ barrier_first true missing rest h = absurd (cc h)
 barrier_first false true rest h = absurd (cc h)
 barrier_first false false rest h = refl
 
-pub unbarred : (unit : ℕ) (layer : Layer) (offset n : ℕ) → change_refusal unit layer offset n ≡ None → barrier layer ≡ None
+pub unbarred : (unit : ℕ) (layer : Layer) (offset n : ℕ) → change_refusal unit layer offset n ≡ None → unusable_fault layer ≡ None
 unbarred unit layer offset n h = barrier_first layer.failed layer.fixed.missing _ h

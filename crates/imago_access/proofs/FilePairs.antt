@@ -3,7 +3,7 @@ use Rattle.std.proofs.Common.{refl, inl, inr, List, [], ◌∷◌, ◌++◌, ari
 use Rattle.imago_storage.specs.Calls.{IsFaultless}
 use Rattle.imago_storage.specs.State.{StorageState}
 use Rattle.imago_storage.proofs.Composing.{rose_behind, later_both}
-use Rattle.imago_access.specs.Files.{Pairs, IsKept, IsLater, SomeRose}
+use Rattle.imago_access.specs.Files.{Pairs, UnchangedButMoreFaults, IsLater, SomeRose}
 
 pub pairs_same : (R : StorageState → StorageState → Type 0) → ((s : StorageState) → R s s) → (xs : List StorageState) → Pairs R xs xs
 pairs_same R same [] = tt
@@ -23,17 +23,17 @@ pairs_append R (x ∷ xs) (y ∷ ys) us vs first second = (first.0, pairs_append
 pairs_append R [] (y ∷ ys) us vs first second = absurd first
 pairs_append R (x ∷ xs) [] us vs first second = absurd first
 
-pub is_kept_same : (s : StorageState) → IsKept s s
-is_kept_same s = (record { shape = refl; bytes = refl; refusals = refl; stop = refl; past = refl }, omega arith)
+pub is_kept_same : (s : StorageState) → UnchangedButMoreFaults s s
+is_kept_same s = (record { shape = refl; bytes = refl; refusals = refl; crash_image = refl; past_crash_images = refl }, omega arith)
 
-pub is_kept_both : (a b c : StorageState) → IsKept a b → IsKept b c → IsKept a c
+pub is_kept_both : (a b c : StorageState) → UnchangedButMoreFaults a b → UnchangedButMoreFaults b c → UnchangedButMoreFaults a c
 is_kept_both a b c first second = (
   record {
     shape = second.0.shape ∙ first.0.shape;
     bytes = second.0.bytes ∙ first.0.bytes;
     refusals = second.0.refusals ∙ first.0.refusals;
-    stop = second.0.stop ∙ first.0.stop;
-    past = second.0.past ∙ first.0.past;
+    crash_image = second.0.crash_image ∙ first.0.crash_image;
+    past_crash_images = second.0.past_crash_images ∙ first.0.past_crash_images;
   },
   omega (arith, first.1, second.1),
 )
@@ -44,11 +44,11 @@ is_later_same s = (refl, record { faults = omega arith; refusals = omega arith }
 pub is_later_both : (a b c : StorageState) → IsLater a b → IsLater b c → IsLater a c
 is_later_both a b c first second = (second.0 ∙ first.0, later_both a b c first.1 second.1)
 
-pub kept_all_same : (xs : List StorageState) → Pairs IsKept xs xs
-kept_all_same = pairs_same IsKept is_kept_same
+pub kept_all_same : (xs : List StorageState) → Pairs UnchangedButMoreFaults xs xs
+kept_all_same = pairs_same UnchangedButMoreFaults is_kept_same
 
-pub kept_all_both : (xs ys zs : List StorageState) → Pairs IsKept xs ys → Pairs IsKept ys zs → Pairs IsKept xs zs
-kept_all_both = pairs_both IsKept is_kept_both
+pub kept_all_both : (xs ys zs : List StorageState) → Pairs UnchangedButMoreFaults xs ys → Pairs UnchangedButMoreFaults ys zs → Pairs UnchangedButMoreFaults xs zs
+kept_all_both = pairs_both UnchangedButMoreFaults is_kept_both
 
 pub later_all_same : (xs : List StorageState) → Pairs IsLater xs xs
 later_all_same = pairs_same IsLater is_later_same

@@ -3,23 +3,23 @@ use Rattle.std.proofs.Common.{◌≡◌, refl, ℕ, zero, suc, ◌+◌, ◌-◌,
 use Rattle.std.specs.Prelude.{⊤, IsTrue}
 use Rattle.std.proofs.lemmas.Nat.{div-add-mod'}
 use Rattle.imago_storage.specs.State.{StorageState, IsAlignment, unit_of}
-use Rattle.imago_storage.specs.Calls.{IsFaultless, Kept}
+use Rattle.imago_storage.specs.Calls.{IsFaultless, UnchangedButFaults}
 use Rattle.imago_storage.specs.Through.{NotRead, Overflows, round_up}
 use Rattle.imago_storage.specs.declared.fault.Fault.{Fault}
 use Rattle.imago_storage.specs.declared.fault.Fault.TheVariants.{RangeOverflow, Memory, Storage}
-use Rattle.imago_access.specs.declared.seen.Seen.{Ghosts}
+use Rattle.imago_access.specs.declared.driver_model.DriverModel.{Ghosts}
 use Rattle.imago_access.specs.Layer.{Layer}
 use Rattle.imago_access.specs.Refusals.{IsOfStorages}
-use Rattle.imago_access.specs.Files.{Pairs, IsKept, IsLater, IsStorageAt, OverflowsIn, files, greatest}
+use Rattle.imago_access.specs.Files.{Pairs, UnchangedButMoreFaults, IsLater, IsStorageAt, OverflowsIn, files, greatest}
 use Rattle.imago_access.specs.FileReads.{file_bytes_in, files_at, FilesRead, FileReadCause}
-use Rattle.imago_access.specs.Going.{Looked}
+use Rattle.imago_access.specs.Going.{LookupCall}
 use Rattle.imago_access.specs.Stops.{Left, GivesNone}
 use Rattle.imago_access.proofs.FilePairs.{pairs_append, kept_all_same, kept_all_both, faultless_all_same, faultless_all_both, later_all_same, some_rose_left, some_rose_right}
 use Rattle.imago_access.proofs.Room.{room_same, takes_both}
 use Rattle.imago_access.proofs.Stopping.{passes_none}
 
 -- storages that were kept haven't gone back
-pub kept_later : (xs ys : List StorageState) → Pairs IsKept xs ys → Pairs IsLater xs ys
+pub kept_later : (xs ys : List StorageState) → Pairs UnchangedButMoreFaults xs ys → Pairs IsLater xs ys
 kept_later [] [] kept = tt
 kept_later [] (y ∷ ys) kept = absurd kept
 kept_later (x ∷ xs) [] kept = absurd kept
@@ -27,7 +27,7 @@ kept_later (x ∷ xs) (y ∷ ys) kept =
     ((kept.0.0.shape, record { faults = kept.0.1; refusals = omega (arith, kept.0.0.refusals) }), kept_later xs ys kept.1)
 
 -- they have the bytes that they had
-pub kept_bytes : (xs ys : List StorageState) (number : ℕ) → Pairs IsKept xs ys → file_bytes_in ys number ≡ file_bytes_in xs number
+pub kept_bytes : (xs ys : List StorageState) (number : ℕ) → Pairs UnchangedButMoreFaults xs ys → file_bytes_in ys number ≡ file_bytes_in xs number
 kept_bytes [] [] number kept = refl
 kept_bytes [] (y ∷ ys) number kept = absurd kept
 kept_bytes (x ∷ xs) [] number kept = absurd kept
@@ -49,50 +49,50 @@ module _ {D St : Type 0} (g : Ghosts D St) where
   pub read_same : (whole : Type 0) (d : D) → FilesRead g whole d d
   read_same whole d = record {
     layer = refl;
-    kept = kept_all_same (files g d);
+    unchanged_but_faults = kept_all_same (files g d);
     faults = λ w. faultless_all_same (files g d);
     seen = λ s. s;
     safely = λ s. s;
     stilled = λ s. s;
-    lasting = λ l. l;
-    surplus = λ s c. refl;
+    stays_stable = λ l. l;
+    excess_refcount = λ s c. refl;
     room = λ s. room_same g (λ _. ⊤) (λ _. ⊤) d;
-    began = λ x call b. b;
+    stays_begun = λ x call b. b;
   }
 
   pub read_both : (whole : Type 0) (a b c : D) → FilesRead g ⊤ a b → FilesRead g whole b c → FilesRead g whole a c
   read_both whole a b c first second = record {
     layer = second.layer ∙ first.layer;
-    kept = kept_all_both (files g a) (files g b) (files g c) first.kept second.kept;
+    unchanged_but_faults = kept_all_both (files g a) (files g b) (files g c) first.unchanged_but_faults second.unchanged_but_faults;
     faults = λ w. faultless_all_both (files g a) (files g b) (files g c) (first.faults tt) (second.faults w);
     seen = λ s. second.seen (first.seen s);
     safely = λ s. second.safely (first.safely s);
     stilled = λ s. second.stilled (first.stilled s);
-    lasting = λ l. second.lasting (first.lasting l);
-    surplus = λ s n. second.surplus (first.safely s) n ∙ first.surplus s n;
+    stays_stable = λ l. second.stays_stable (first.stays_stable l);
+    excess_refcount = λ s n. second.excess_refcount (first.safely s) n ∙ first.excess_refcount s n;
     room = λ s. takes_both g (λ _. ⊤) (λ _. ⊤) (λ _. ⊤) a b c (λ p there. (tt, tt)) (first.room s) (second.room (first.safely s));
-    began = λ x call begun. second.began x call (first.began x call begun);
+    stays_begun = λ x call begun. second.stays_begun x call (first.stays_begun x call begun);
   }
 
   -- such a read is a look
-  pub read_looked : (whole : Type 0) (a b : D) → FilesRead g whole a b → Looked g whole a b
+  pub read_looked : (whole : Type 0) (a b : D) → FilesRead g whole a b → LookupCall g whole a b
   read_looked whole a b r = record {
-    like = record {
+    keeps_layer_state = record {
       fixed = ap (λ (l : Layer). l.fixed) r.layer;
       size = ap (λ (l : Layer). l.size) r.layer;
       unspent = ap (λ (l : Layer). l.unspent) r.layer;
       failed = λ f. subst (λ (l : Layer). IsTrue l.failed) (sym r.layer) f;
     };
-    later = kept_later (files g a) (files g b) r.kept;
+    counts_not_fallen = kept_later (files g a) (files g b) r.unchanged_but_faults;
     faults = r.faults;
     stays = λ w see. (r.layer, r.seen see);
     safely = λ w s. r.safely s;
     cut = inr (record { seen = λ see. (r.layer, r.seen see); safely = r.safely });
-    lasting = r.lasting;
-    surplus = λ w. r.surplus;
-    kept = λ s. (r.kept, r.stilled s);
-    stops = λ s below. let k = r.kept.0.0 in
-        passes_none (Left below (g.layer a) (g.image a).bytes g.sound (g.layer a).size (g.layer a).size GivesNone) (g.image a) (g.image b) k.shape (k.stop, k.past, k.bytes, k.refusals);
+    stays_stable = r.stays_stable;
+    excess_refcount = λ w. r.excess_refcount;
+    unchanged_but_faults = λ s. (r.unchanged_but_faults, r.stilled s);
+    crash_images = λ s below. let k = r.unchanged_but_faults.0.0 in
+        passes_none (Left below (g.layer a) (g.image a).bytes g.sound (g.layer a).size (g.layer a).size GivesNone) (g.image a) (g.image b) k.shape (k.crash_image, k.past_crash_images, k.bytes, k.refusals);
   }
 
   -- The same of every layer of a chain.
@@ -108,7 +108,7 @@ module _ {D St : Type 0} (g : Ghosts D St) where
   all_read_both whole (x ∷ xs) [] zs first second = absurd first
   all_read_both whole (x ∷ xs) (y ∷ ys) [] first second = absurd second
 
-  pub all_read_looked : (whole : Type 0) (xs ys : List D) → Pairs (FilesRead g whole) xs ys → Pairs (Looked g whole) xs ys
+  pub all_read_looked : (whole : Type 0) (xs ys : List D) → Pairs (FilesRead g whole) xs ys → Pairs (LookupCall g whole) xs ys
   all_read_looked whole [] [] h = tt
   all_read_looked whole (x ∷ xs) (y ∷ ys) h = (read_looked whole x y h.0, all_read_looked whole xs ys h.1)
   all_read_looked whole [] (y ∷ ys) h = absurd h
@@ -117,7 +117,7 @@ module _ {D St : Type 0} (g : Ghosts D St) where
   -- each file of each layer has the bytes that it had
   pub bytes_at_kept : (whole : Type 0) (xs ys : List D) (layer file : ℕ) → Pairs (FilesRead g whole) xs ys → file_bytes_in (files_at g ys layer) file ≡ file_bytes_in (files_at g xs layer) file
   bytes_at_kept whole [] [] layer file h = refl
-  bytes_at_kept whole (x ∷ xs) (y ∷ ys) zero file h = kept_bytes (files g x) (files g y) file h.0.kept
+  bytes_at_kept whole (x ∷ xs) (y ∷ ys) zero file h = kept_bytes (files g x) (files g y) file h.0.unchanged_but_faults
   bytes_at_kept whole (x ∷ xs) (y ∷ ys) (suc layer) file h = bytes_at_kept whole xs ys layer file h.1
   bytes_at_kept whole [] (y ∷ ys) layer file h = absurd h
   bytes_at_kept whole (x ∷ xs) [] layer file h = absurd h
@@ -144,7 +144,7 @@ cause_more less more olds news Storage over why = why
 cause_more less more olds news e over why = absurd why
 
 -- why a read of a storage is refused is why one of the first of several is
-pub cause_of_first : (s t : StorageState) (ss : List StorageState) (offset n : ℕ) (e : Fault) → Kept s t → NotRead s t offset n e
+pub cause_of_first : (s t : StorageState) (ss : List StorageState) (offset n : ℕ) (e : Fault) → UnchangedButFaults s t → NotRead s t offset n e
     → FileReadCause (Overflows (unit_of s.shape) offset n) (s ∷ ss) (t ∷ ss) e
 cause_of_first s t ss offset n RangeOverflow kept why = why.0
 cause_of_first s t ss offset n Memory kept why = ((why, kept.refusals), faultless_all_same ss)

@@ -3,14 +3,14 @@ use Rattle.std.proofs.Common.{◌≡◌, ◌⊎◌, refl, inl, inr, ℕ, ◌+◌
 use Rattle.std.proofs.lemmas.Bool.{cases_lt, lt-ltb}
 use Rattle.imago_storage.specs.Disk.{Value, byte}
 use Rattle.imago_storage.specs.Steps.{IsIn, IsOut}
-use Rattle.imago_access.specs.Layer.{Layer, Cell, own, through, Held, loose, beside, inside, Fixed, IsFree, IsLike}
+use Rattle.imago_access.specs.Layer.{Layer, Cell, own, through, Held, loose, beside, inside, Fixed, IsFree, KeepsLayerState}
 use Rattle.imago_access.specs.Chain.{at}
-use Rattle.imago_access.specs.Changes.{asking, run_at, IsHolding, Prepared, TakesByte, Wrote, Settles, Committed, Cancelled}
+use Rattle.imago_access.specs.Changes.{asking, run_at, IsHolding, Prepared, TakesByte, Wrote, CommitsPlace, Committed, Cancelled}
 use Rattle.imago_access.specs.Parts.{IsMappedAt}
 use Rattle.imago_access.specs.Running.{IsTruly, HoldsTrue, IsBetween}
 use Rattle.imago_access.specs.Spending.{IsMine, Spends}
 use Rattle.imago_access.specs.Stops.{MayTake, GivesBytes, GivesHeld, GivesSettled}
-use Rattle.imago_access.specs.declared.seen.Seen.{Ghosts}
+use Rattle.imago_access.specs.declared.driver_model.DriverModel.{Ghosts}
 
 pub at_inside : (layer : Layer) (below : List Layer) (p : ℕ) → p < layer.size → at (layer ∷ below) p ≡ through (layer.cell p) (at below p)
 at_inside layer below p lt = rw (lt-ltb p layer.size lt) refl
@@ -35,18 +35,18 @@ holding_truly below layer offset n overwrite p (inside (Some b) written announce
 holding_truly below layer offset n overwrite p (inside None written announced) holding = tt
 
 -- what a preparation has copied is what the places show
-pub truly_prepared : (below : ℕ → Value) (old new : Layer) (offset asked : ℕ) (overwrite : Bool) (storage place n : ℕ) (claim : Option ℕ) → Prepared below old new (asking offset asked overwrite) (run_at storage place n claim) → HoldsTrue below new
-truly_prepared below old new offset asked overwrite storage place n claim prepared p = holding_truly below new offset n overwrite p (new.held p) (prepared.holds p)
+pub truly_prepared : (below : ℕ → Value) (old new : Layer) (offset asked : ℕ) (overwrite : Bool) (storage place n : ℕ) (mapping_id : Option ℕ) → Prepared below old new (asking offset asked overwrite) (run_at storage place n mapping_id) → HoldsTrue below new
+truly_prepared below old new offset asked overwrite storage place n mapping_id prepared p = holding_truly below new offset n overwrite p (new.held p) (prepared.holds p)
 
 -- Written.
 
-truly_same : (below : ℕ → Value) (old new : Layer) (p : ℕ) (h : Held) → new.cell p ≡ old.cell p → new.home p ≡ old.home p → IsTruly below old p h → IsTruly below new p h
+truly_same : (below : ℕ → Value) (old new : Layer) (p : ℕ) (h : Held) → new.cell p ≡ old.cell p → new.writable_location p ≡ old.writable_location p → IsTruly below old p h → IsTruly below new p h
 truly_same below old new p loose cell home truly = tt
 truly_same below old new p (beside b) cell home truly = (ap (λ (c : Cell). through c (below p)) cell ∙ truly.0, home ∙ truly.1)
 truly_same below old new p (inside (Some b) written announced) cell home truly = ap (λ (c : Cell). through c (below p)) cell ∙ truly
 truly_same below old new p (inside None written announced) cell home truly = tt
 
-takes_truly : (below : ℕ → Value) (old new : Layer) (p b : ℕ) (h held : Held) → (old.home p ≡ None → ⊥) → IsTruly below old p h → TakesByte b h (old.cell p) held (new.cell p) → IsTruly below new p held
+takes_truly : (below : ℕ → Value) (old new : Layer) (p b : ℕ) (h held : Held) → (old.writable_location p ≡ None → ⊥) → IsTruly below old p h → TakesByte b h (old.cell p) held (new.cell p) → IsTruly below new p held
 takes_truly below old new p b loose held mapped truly takes = subst (IsTruly below new p) (sym takes.1) tt
 takes_truly below old new p b (beside copied) held mapped truly takes = absurd (mapped truly.1)
 takes_truly below old new p b (inside (Some copied) written announced) held mapped truly takes = subst (IsTruly below new p) (sym takes.1) (ap (λ (c : Cell). through c (below p)) takes.0 ∙ truly)
@@ -57,7 +57,7 @@ pub truly_wrote : (below : ℕ → Value) (old new : Layer) (guest place : ℕ) 
 truly_wrote below old new guest place bytes mapped wrote truly p = elim (out_or_in guest (length bytes) p) [
   | inl out ↦
       let same = wrote.others p out in
-      subst (IsTruly below new p) (sym same.1) (truly_same below old new p (old.held p) same.0 (ap (λ (h : ℕ → Option (ℕ × ℕ)). h p) wrote.home) (truly p))
+      subst (IsTruly below new p) (sym same.1) (truly_same below old new p (old.held p) same.0 (ap (λ (h : ℕ → Option (ℕ × ℕ)). h p) wrote.writable_location) (truly p))
   | inr into ↦
       let i = p - guest in
       let is : guest + i ≡ p = omega (arith, into.0) in
@@ -75,21 +75,21 @@ takes_cell b (inside copied written announced) was held is takes = inr takes.0
 
 pub between_wrote : (below : List Layer) (old new : Layer) (guest : ℕ) (bytes : List ℕ) → Wrote old new guest bytes → IsBetween (GivesBytes guest bytes) below old new
 between_wrote below old new guest bytes wrote p lt_size = elim (out_or_in guest (length bytes) p) [
-  | inl out ↦ inl (at_alike old new below p wrote.like.size (ap (λ (c : Cell). through c (at below p)) (wrote.others p out).0))
+  | inl out ↦ inl (at_alike old new below p wrote.keeps_layer_state.size (ap (λ (c : Cell). through c (at below p)) (wrote.others p out).0))
   | inr into ↦
       let i = p - guest in
       let is : guest + i ≡ p = omega (arith, into.0) in
       let lt : i < length bytes = omega (arith, into.0, into.1) in
       elim (takes_cell (slice_index bytes i) (old.held (guest + i)) (old.cell (guest + i)) (new.held (guest + i)) (new.cell (guest + i)) (wrote.range i lt)) [
-        | inl written ↦ inr (i, lt, sym is, at_inside new below p (rw (wrote.like.size) lt_size) ∙ ap (λ (q : ℕ). through (new.cell q) (at below p)) (sym is) ∙ ap (λ (c : Cell). through c (at below p)) written)
-        | inr same ↦ inl (at_alike old new below p wrote.like.size (ap (λ (c : Cell). through c (at below p)) (subst (λ (q : ℕ). new.cell q ≡ old.cell q) is same)))
+        | inl written ↦ inr (i, lt, sym is, at_inside new below p (rw (wrote.keeps_layer_state.size) lt_size) ∙ ap (λ (q : ℕ). through (new.cell q) (at below p)) (sym is) ∙ ap (λ (c : Cell). through c (at below p)) written)
+        | inr same ↦ inl (at_alike old new below p wrote.keeps_layer_state.size (ap (λ (c : Cell). through c (at below p)) (subst (λ (q : ℕ). new.cell q ≡ old.cell q) is same)))
       ]
 ]
 
 -- Spent.
 
 -- a place whose mapping is committed shows what it did, or what may have been written to it
-settled_value : (below : ℕ → Value) (layer : Layer) (p : ℕ) (h : Held) (is : Cell) → IsTruly below layer p h → Settles h (layer.cell p) is
+settled_value : (below : ℕ → Value) (layer : Layer) (p : ℕ) (h : Held) (is : Cell) → IsTruly below layer p h → CommitsPlace h (layer.cell p) is
     → (through is (below p) ≡ through (layer.cell p) (below p)) ⊎ MayTake h (through is (below p))
 settled_value below layer p loose is truly settles = inl (ap (λ (c : Cell). through c (below p)) settles)
 settled_value below layer p (beside b) is truly settles = inl (ap (λ (c : Cell). through c (below p)) settles ∙ sym truly.0)
@@ -101,7 +101,7 @@ settled_value below layer p (inside None None true) is truly settles = elim sett
 ]
 settled_value below layer p (inside None None false) is truly settles = inl (ap (λ (c : Cell). through c (below p)) settles)
 
-pub between_settled : (below : List Layer) (old new : Layer) → new.size ≡ old.size → HoldsTrue (at below) old → ((p : ℕ) → Settles (old.held p) (old.cell p) (new.cell p)) → IsBetween (GivesHeld old) below old new
+pub between_settled : (below : List Layer) (old new : Layer) → new.size ≡ old.size → HoldsTrue (at below) old → ((p : ℕ) → CommitsPlace (old.held p) (old.cell p) (new.cell p)) → IsBetween (GivesHeld old) below old new
 between_settled below old new size truly settles p lt_size = elim (settled_value (at below) old p (old.held p) (new.cell p) (truly p) (settles p)) [
   | inl same ↦ inl (at_alike old new below p size same)
   | inr took ↦ inr (subst (MayTake (old.held p)) (sym (at_inside new below p (rw size lt_size))) took)
@@ -115,14 +115,14 @@ settled_given below layer truly p v lt_size gives = elim (settled_value (at belo
 ]
 
 -- a mapping of the image stays its own while nothing is spent
-pub mine_on : {D St : Type 0} (g : Ghosts D St) (state : Option St) (old new : Layer) → IsLike old new → IsMine g state old → IsMine g state new
+pub mine_on : {D St : Type 0} (g : Ghosts D St) (state : Option St) (old new : Layer) → KeepsLayerState old new → IsMine g state old → IsMine g state new
 mine_on g None old new like mine = tt
 mine_on g (Some s) old new like mine = (mine.0 ∙ ap (λ (x : Fixed). x.number) (sym like.fixed), like.unspent ∙ mine.1)
 
 -- what a spent mapping without state has done: nothing, as it holds no place
 pub spent_settles : {D St : Type 0} (g : Ghosts D St) (state : Option St) (old new : Layer) → IsMine g state old → (state ≡ None → (p : ℕ) → old.held p ≡ loose) → Spends g state old new (Committed old new)
-    → (p : ℕ) → Settles (old.held p) (old.cell p) (new.cell p)
-spent_settles g None old new mine none spends p = subst (λ (h : Held). Settles h (old.cell p) (new.cell p)) (sym (none refl p)) (ap (λ (l : Layer). l.cell p) spends)
+    → (p : ℕ) → CommitsPlace (old.held p) (old.cell p) (new.cell p)
+spent_settles g None old new mine none spends p = subst (λ (h : Held). CommitsPlace h (old.cell p) (new.cell p)) (sym (none refl p)) (ap (λ (l : Layer). l.cell p) spends)
 spent_settles g (Some s) old new mine none spends p = (spends.1 mine.1).cell p
 
 pub spends_more : {D St : Type 0} (g : Ghosts D St) (state : Option St) (old new : Layer) (P Q : Type 0) → (P → Q) → Spends g state old new P → Spends g state old new Q
@@ -164,9 +164,9 @@ took_byte b (beside copied) was held is v takes may = absurd (subst (λ (x : Hel
 took_byte b (inside copied written announced) was held is v takes may = subst (λ (x : Held). MayTake x v) takes.1 may
 
 -- what a commit may give at a place that is held are the bytes of its run
-pub held_written : (below : ℕ → Value) (old mid new : Layer) (offset asked : ℕ) (overwrite : Bool) (storage place : ℕ) (bytes : List ℕ) (claim : Option ℕ)
-    → Prepared below old mid (asking offset asked overwrite) (run_at storage place (length bytes) claim) → Wrote mid new offset bytes → (p : ℕ) (v : Value) → GivesHeld new p v → GivesBytes offset bytes p v
-held_written below old mid new offset asked overwrite storage place bytes claim prepared wrote p v gives = elim (out_or_in offset (length bytes) p) [
+pub held_written : (below : ℕ → Value) (old mid new : Layer) (offset asked : ℕ) (overwrite : Bool) (storage place : ℕ) (bytes : List ℕ) (mapping_id : Option ℕ)
+    → Prepared below old mid (asking offset asked overwrite) (run_at storage place (length bytes) mapping_id) → Wrote mid new offset bytes → (p : ℕ) (v : Value) → GivesHeld new p v → GivesBytes offset bytes p v
+held_written below old mid new offset asked overwrite storage place bytes mapping_id prepared wrote p v gives = elim (out_or_in offset (length bytes) p) [
   | inl out ↦ absurd (holding_takes below mid offset (length bytes) overwrite p (mid.held p) v (prepared.holds p) out (subst (λ (h : Held). MayTake h v) (wrote.others p out).1 gives))
   | inr into ↦
       let i = p - offset in

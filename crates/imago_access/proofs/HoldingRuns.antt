@@ -5,22 +5,22 @@ use Rattle.std.proofs.lemmas.Grind.{common_steps}
 use Rattle.std.proofs.lemmas.Result.{IfErr-weaker}
 use Rattle.imago_storage.specs.Disk.{Value, byte}
 use Rattle.imago_storage.specs.declared.fault.Fault.{Fault}
-use Rattle.imago_access.specs.Layer.{Layer, Cell, Held, loose, through, IsFree, IsLike, beside, inside, own}
+use Rattle.imago_access.specs.Layer.{Layer, Cell, Held, loose, through, IsFree, KeepsLayerState, beside, inside, own}
 use Rattle.imago_access.specs.Chain.{at}
-use Rattle.imago_access.specs.Changes.{asking, run_at, Prepared, NotPrepared, Wrote, Committed, Cancelled, IsHolding, TakesByte, Settles}
-use Rattle.imago_access.specs.Files.{IsMild, WasNotCutOff}
-use Rattle.imago_access.specs.Going.{KeepsSurplus, LookedUnder, Went}
+use Rattle.imago_access.specs.Changes.{asking, run_at, Prepared, NotPrepared, Wrote, Committed, Cancelled, IsHolding, TakesByte, CommitsPlace}
+use Rattle.imago_access.specs.Files.{IsNotResourceError, HadNoResourceError}
+use Rattle.imago_access.specs.Going.{KeepsExcessRefcounts, LookupCallBelow, MutatingCall}
 use Rattle.imago_access.specs.Parts.{IsMappedAt}
-use Rattle.imago_access.specs.Running.{IsTruly, HoldsTrue, IsIntact, Ran, RanAlone, alone_ghosts}
-use Rattle.imago_access.specs.Spending.{claim_of, IsMine, Spends}
-use Rattle.imago_access.specs.Stops.{KeepsStops, Left, GivesNone, GivesBytes, GivesHeld, GivesSettled}
+use Rattle.imago_access.specs.Running.{IsTruly, HoldsTrue, IsIntact, RangeChange, DriverRangeChange, alone_ghosts}
+use Rattle.imago_access.specs.Spending.{mapping_id_of, IsMine, Spends}
+use Rattle.imago_access.specs.Stops.{KeepsCrashImages, Left, GivesNone, GivesBytes, GivesHeld, GivesSettled}
 use Rattle.imago_access.specs.declared.mapping.PreparedDataMapping.{PreparedDataMapping}
 use Rattle.imago_access.proofs.Answers.{whole_holds}
 use Rattle.imago_access.proofs.Holding.{at_alike, held_written, truly_prepared, truly_wrote, between_wrote, between_settled, settled_given, spent_settles, given_up_failed, given_up_fixed, given_up_size, given_up_cell, given_up_free, at_inside}
 use Rattle.imago_access.proofs.Running.{holds_loose, went_weaker, went_then, ran_both, ran_over, ran_driver, ran_gives_intact}
 use Rattle.imago_access.proofs.Stopping.{passes_on, passes_weaker, left_weaker}
-use Rattle.imago_access.specs.declared.seen.Seen.{Ghosts}
-use Rattle.imago_access.specs.declared.seen.SeenBelow.{Ghosts as GhostsBelow}
+use Rattle.imago_access.specs.declared.driver_model.DriverModel.{Ghosts}
+use Rattle.imago_access.specs.declared.driver_model.LayersBelowModel.{Ghosts as GhostsBelow}
 
 -- a run's byte is one of all the bytes
 pub gives_prefix : (offset n : ℕ) (bytes : List ℕ) → n ≤ length bytes → (p : ℕ) (v : Value) → GivesBytes offset (take n bytes) p v → GivesBytes offset bytes p v
@@ -31,32 +31,32 @@ gives_prefix offset n bytes most p v gives =
     (gives.0, omega (arith, lt, most), gives.2, gives.3 ∙ ap byte same)
 
 -- what a commit may give are the bytes of the run that was written
-pub held_run : (below : ℕ → Value) (old mid new : Layer) (offset asked : ℕ) (overwrite : Bool) (storage place n : ℕ) (bytes : List ℕ) (claim : Option ℕ) → n ≤ length bytes
-    → Prepared below old mid (asking offset asked overwrite) (run_at storage place n claim) → Wrote mid new offset (take n bytes) → (p : ℕ) (v : Value) → GivesHeld new p v → GivesBytes offset (take n bytes) p v
-held_run below old mid new offset asked overwrite storage place n bytes claim most prepared =
+pub held_run : (below : ℕ → Value) (old mid new : Layer) (offset asked : ℕ) (overwrite : Bool) (storage place n : ℕ) (bytes : List ℕ) (mapping_id : Option ℕ) → n ≤ length bytes
+    → Prepared below old mid (asking offset asked overwrite) (run_at storage place n mapping_id) → Wrote mid new offset (take n bytes) → (p : ℕ) (v : Value) → GivesHeld new p v → GivesBytes offset (take n bytes) p v
+held_run below old mid new offset asked overwrite storage place n bytes mapping_id most prepared =
     let long : length (take n bytes) ≡ n = grind (arith, common_steps) in
-    held_written below old mid new offset asked overwrite storage place (take n bytes) claim (subst (λ (k : ℕ). Prepared below old mid (asking offset asked overwrite) (run_at storage place k claim)) (sym long) prepared)
+    held_written below old mid new offset asked overwrite storage place (take n bytes) mapping_id (subst (λ (k : ℕ). Prepared below old mid (asking offset asked overwrite) (run_at storage place k mapping_id)) (sym long) prepared)
 
 -- the run that was prepared is mapped where it says
-pub prepared_mapped : (below : ℕ → Value) (old mid : Layer) (offset asked : ℕ) (overwrite : Bool) (storage place n : ℕ) (bytes : List ℕ) (claim : Option ℕ) → n ≤ length bytes
-    → Prepared below old mid (asking offset asked overwrite) (run_at storage place n claim) → IsMappedAt mid offset place (length (take n bytes))
-prepared_mapped below old mid offset asked overwrite storage place n bytes claim most prepared =
+pub prepared_mapped : (below : ℕ → Value) (old mid : Layer) (offset asked : ℕ) (overwrite : Bool) (storage place n : ℕ) (bytes : List ℕ) (mapping_id : Option ℕ) → n ≤ length bytes
+    → Prepared below old mid (asking offset asked overwrite) (run_at storage place n mapping_id) → IsMappedAt mid offset place (length (take n bytes))
+prepared_mapped below old mid offset asked overwrite storage place n bytes mapping_id most prepared =
     let long : length (take n bytes) ≡ n = grind (arith, common_steps) in
-    (storage, λ i lt. prepared.home i (omega (arith, lt, long)))
+    (storage, λ i lt. prepared.writable_location i (omega (arith, lt, long)))
 
 -- a byte that was written to a run is the place's, once the run is spent
-settles_byte : (b : ℕ) (was_held : Held) (was : Cell) (held : Held) (mid new : Cell) → ((copied : ℕ) → was_held ≡ beside copied → ⊥) → TakesByte b was_held was held mid → Settles held mid new → new ≡ own (byte b)
-settles_byte b loose was held mid new inside_run takes settles = subst (λ (h : Held). Settles h mid new) takes.1 settles ∙ takes.0
+settles_byte : (b : ℕ) (was_held : Held) (was : Cell) (held : Held) (mid new : Cell) → ((copied : ℕ) → was_held ≡ beside copied → ⊥) → TakesByte b was_held was held mid → CommitsPlace held mid new → new ≡ own (byte b)
+settles_byte b loose was held mid new inside_run takes settles = subst (λ (h : Held). CommitsPlace h mid new) takes.1 settles ∙ takes.0
 settles_byte b (beside copied) was held mid new inside_run takes settles = absurd (inside_run copied refl)
-settles_byte b (inside copied written announced) was held mid new inside_run takes settles = subst (λ (h : Held). Settles h mid new) takes.1 settles
+settles_byte b (inside copied written announced) was held mid new inside_run takes settles = subst (λ (h : Held). CommitsPlace h mid new) takes.1 settles
 
 -- what a run shows that was prepared, written and spent
-pub run_shows : {D St : Type 0} (g : Ghosts D St) (state : Option St) (below : List Layer) (old mid wrote_to new : Layer) (offset asked : ℕ) (overwrite : Bool) (storage place n : ℕ) (bytes : List ℕ) (claim : Option ℕ)
+pub run_shows : {D St : Type 0} (g : Ghosts D St) (state : Option St) (below : List Layer) (old mid wrote_to new : Layer) (offset asked : ℕ) (overwrite : Bool) (storage place n : ℕ) (bytes : List ℕ) (mapping_id : Option ℕ)
     → n ≤ length bytes → offset + n ≤ new.size
-    → Prepared (at below) old mid (asking offset asked overwrite) (run_at storage place n claim) → Wrote mid wrote_to offset (take n bytes)
+    → Prepared (at below) old mid (asking offset asked overwrite) (run_at storage place n mapping_id) → Wrote mid wrote_to offset (take n bytes)
     → IsMine g state wrote_to → (state ≡ None → (p : ℕ) → wrote_to.held p ≡ loose) → Spends g state wrote_to new (Committed wrote_to new)
     → (i : ℕ) → i < n → at (new ∷ below) (offset + i) ≡ byte (slice_index bytes i)
-run_shows g state below old mid wrote_to new offset asked overwrite storage place n bytes claim most in_disk prepared wrote mine stateless spends i lt =
+run_shows g state below old mid wrote_to new offset asked overwrite storage place n bytes mapping_id most in_disk prepared wrote mine stateless spends i lt =
     let p = offset + i in
     let long : length (take n bytes) ≡ n = grind (arith, common_steps) in
     let same : slice_index (take n bytes) i ≡ slice_index bytes i = grind (arith, common_steps) in
@@ -66,7 +66,7 @@ run_shows g state below old mid wrote_to new offset asked overwrite storage plac
     ∙ ap byte same
 
 -- what a commit may give at a stop
-pub held_stops : {D St : Type 0} (g : Ghosts D St) (below : List Layer) (old new : D) → HoldsTrue (at below) (g.layer old) → KeepsStops g below (GivesSettled below (g.layer old)) old new → KeepsStops g below (GivesHeld (g.layer old)) old new
+pub held_stops : {D St : Type 0} (g : Ghosts D St) (below : List Layer) (old new : D) → HoldsTrue (at below) (g.layer old) → KeepsCrashImages g below (GivesSettled below (g.layer old)) old new → KeepsCrashImages g below (GivesHeld (g.layer old)) old new
 held_stops g below old new holds =
     let layer = g.layer old in
     let file = (g.image old).bytes in
@@ -77,125 +77,125 @@ held_stops g below old new holds =
 module _ {D St B : Type 0} (g : Ghosts D St) (u : GhostsBelow B) where
   -- a preparation changes no value, whatever its answer
   pub ran_prepared : (r : Result (PreparedDataMapping St) Fault) (a b : D) (x y : B) (offset asked : ℕ) (overwrite : Bool) → ((p : ℕ) → (g.layer a).held p ≡ loose) → (g.layer b).size ≡ (g.layer a).size
-      → Went g (WasNotCutOff r) (WasNotCutOff r × u.sees_under x) a b → LookedUnder u (WasNotCutOff r) x y
-      → (g.safe a → u.sees_under x → IfOk r (λ m. Prepared (at (u.under x)) (g.layer a) (g.layer b) (asking offset asked overwrite) (run_at m.storage m.offset m.length (claim_of g.claim m.state))))
-      → (g.safe a → u.sees_under x → IfErr r (λ e. IsMild e → NotPrepared (g.layer a) (g.layer b)))
-      → (g.safe a → u.sees_under x → KeepsStops g (u.under x) GivesNone a b)
-      → Ran g u (WasNotCutOff r) GivesNone (a, x) (b, y)
-  ran_prepared r a b x y offset asked overwrite was_loose size went looked done refused stops =
-      let held_on : WasNotCutOff r → IsIntact g u a x → HoldsTrue (at (u.under x)) (g.layer b) × ((g.layer b).cell ≡ (g.layer a).cell) = λ w i.
-      whole_holds r (λ m. Prepared (at (u.under x)) (g.layer a) (g.layer b) (asking offset asked overwrite) (run_at m.storage m.offset m.length (claim_of g.claim m.state))) (HoldsTrue (at (u.under x)) (g.layer b) × ((g.layer b).cell ≡ (g.layer a).cell)) w
-      (λ m is made. (truly_prepared (at (u.under x)) (g.layer a) (g.layer b) offset asked overwrite m.storage m.offset m.length (claim_of g.claim m.state) made, made.cell)) (done i.is_safe i.is_seen)
-      (IfErr-weaker r (λ e. IsMild e → NotPrepared (g.layer a) (g.layer b)) (λ e. IsMild e → HoldsTrue (at (u.under x)) (g.layer b) × ((g.layer b).cell ≡ (g.layer a).cell))
-      (λ e not mild. (λ p. subst (IsTruly (at (u.under x)) (g.layer b) p) (sym (ap (λ (h : ℕ → Held). h p) (not mild).held ∙ was_loose p)) tt, (not mild).cell)) (refused i.is_safe i.is_seen)) in
-      ran_over g u (WasNotCutOff r) GivesNone a b x y size went looked
+      → MutatingCall g (HadNoResourceError r) (HadNoResourceError r × u.coherent_below x) a b → LookupCallBelow u (HadNoResourceError r) x y
+      → (g.well_formed a → u.coherent_below x → IfOk r (λ m. Prepared (at (u.layers_below x)) (g.layer a) (g.layer b) (asking offset asked overwrite) (run_at m.storage m.offset m.length (mapping_id_of g.mapping_id m.state))))
+      → (g.well_formed a → u.coherent_below x → IfErr r (λ e. IsNotResourceError e → NotPrepared (g.layer a) (g.layer b)))
+      → (g.well_formed a → u.coherent_below x → KeepsCrashImages g (u.layers_below x) GivesNone a b)
+      → RangeChange g u (HadNoResourceError r) GivesNone (a, x) (b, y)
+  ran_prepared r a b x y offset asked overwrite was_loose size mutating_call looked done refused stops =
+      let held_on : HadNoResourceError r → IsIntact g u a x → HoldsTrue (at (u.layers_below x)) (g.layer b) × ((g.layer b).cell ≡ (g.layer a).cell) = λ w i.
+      whole_holds r (λ m. Prepared (at (u.layers_below x)) (g.layer a) (g.layer b) (asking offset asked overwrite) (run_at m.storage m.offset m.length (mapping_id_of g.mapping_id m.state))) (HoldsTrue (at (u.layers_below x)) (g.layer b) × ((g.layer b).cell ≡ (g.layer a).cell)) w
+      (λ m is made. (truly_prepared (at (u.layers_below x)) (g.layer a) (g.layer b) offset asked overwrite m.storage m.offset m.length (mapping_id_of g.mapping_id m.state) made, made.cell)) (done i.is_well_formed i.is_coherent)
+      (IfErr-weaker r (λ e. IsNotResourceError e → NotPrepared (g.layer a) (g.layer b)) (λ e. IsNotResourceError e → HoldsTrue (at (u.layers_below x)) (g.layer b) × ((g.layer b).cell ≡ (g.layer a).cell))
+      (λ e not not_resource_error. (λ p. subst (IsTruly (at (u.layers_below x)) (g.layer b) p) (sym (ap (λ (h : ℕ → Held). h p) (not not_resource_error).held ∙ was_loose p)) tt, (not not_resource_error).cell)) (refused i.is_well_formed i.is_coherent)) in
+      ran_over g u (HadNoResourceError r) GivesNone a b x y size mutating_call looked
       (λ w i. (held_on w i).0)
-      (λ w i p lt. inl (at_alike (g.layer a) (g.layer b) (u.under x) p size (ap (λ (c : ℕ → Cell). through (c p) (at (u.under x) p)) (held_on w i).1)))
-      (λ i. stops i.is_safe i.is_seen)
+      (λ w i p lt. inl (at_alike (g.layer a) (g.layer b) (u.layers_below x) p size (ap (λ (c : ℕ → Cell). through (c p) (at (u.layers_below x) p)) (held_on w i).1)))
+      (λ i. stops i.is_well_formed i.is_coherent)
 
   -- a run that is mapped, from one place of a storage on
   pub ran_mapped : (state : Option St) (a b : D) (x y : B) (offset asked : ℕ) (overwrite : Bool) (storage place n : ℕ) → ((p : ℕ) → (g.layer a).held p ≡ loose) → (g.layer b).size ≡ (g.layer a).size
-      → Went g ⊤ (⊤ × u.sees_under x) a b → LookedUnder u ⊤ x y
-      → (g.safe a → u.sees_under x → Prepared (at (u.under x)) (g.layer a) (g.layer b) (asking offset asked overwrite) (run_at storage place n (claim_of g.claim state)))
-      → (g.safe a → u.sees_under x → KeepsStops g (u.under x) GivesNone a b)
-      → Ran g u ⊤ GivesNone (a, x) (b, y)
-  ran_mapped state a b x y offset asked overwrite storage place n was_loose size went looked made stops =
+      → MutatingCall g ⊤ (⊤ × u.coherent_below x) a b → LookupCallBelow u ⊤ x y
+      → (g.well_formed a → u.coherent_below x → Prepared (at (u.layers_below x)) (g.layer a) (g.layer b) (asking offset asked overwrite) (run_at storage place n (mapping_id_of g.mapping_id state)))
+      → (g.well_formed a → u.coherent_below x → KeepsCrashImages g (u.layers_below x) GivesNone a b)
+      → RangeChange g u ⊤ GivesNone (a, x) (b, y)
+  ran_mapped state a b x y offset asked overwrite storage place n was_loose size mutating_call looked made stops =
       let mapping : PreparedDataMapping St = record { storage = storage; offset = place; length = n; state = state } in
-      ran_prepared (Ok mapping) a b x y offset asked overwrite was_loose size went looked made (λ safely see. tt) stops
+      ran_prepared (Ok mapping) a b x y offset asked overwrite was_loose size mutating_call looked made (λ safely see. tt) stops
 
   -- a write to a mapped range
-  pub ran_wrote : (whole : Type 0) (a b : D) (x : B) (guest place : ℕ) (bytes : List ℕ) → IsLike (g.layer a) (g.layer b) → Went g whole whole a b
-      → (whole → g.safe a → 0 < length bytes → IsMappedAt (g.layer a) guest place (length bytes))
-      → (whole → g.safe a → Wrote (g.layer a) (g.layer b) guest bytes)
-      → (g.safe a → (below : List Layer) → KeepsStops g below (GivesBytes guest bytes) a b)
-      → Ran g u whole (GivesBytes guest bytes) (a, x) (b, x)
-  ran_wrote whole a b x guest place bytes like went mapped wrote stops =
-      ran_driver g u whole (GivesBytes guest bytes) a b x like.size went
-      (λ w i. truly_wrote (at (u.under x)) (g.layer a) (g.layer b) guest place bytes (mapped w i.is_safe) (wrote w i.is_safe) i.held)
-      (λ w i. between_wrote (u.under x) (g.layer a) (g.layer b) guest bytes (wrote w i.is_safe))
-      (λ i. stops i.is_safe (u.under x))
+  pub ran_wrote : (whole : Type 0) (a b : D) (x : B) (guest place : ℕ) (bytes : List ℕ) → KeepsLayerState (g.layer a) (g.layer b) → MutatingCall g whole whole a b
+      → (whole → g.well_formed a → 0 < length bytes → IsMappedAt (g.layer a) guest place (length bytes))
+      → (whole → g.well_formed a → Wrote (g.layer a) (g.layer b) guest bytes)
+      → (g.well_formed a → (below : List Layer) → KeepsCrashImages g below (GivesBytes guest bytes) a b)
+      → RangeChange g u whole (GivesBytes guest bytes) (a, x) (b, x)
+  ran_wrote whole a b x guest place bytes like mutating_call mapped wrote stops =
+      ran_driver g u whole (GivesBytes guest bytes) a b x like.size mutating_call
+      (λ w i. truly_wrote (at (u.layers_below x)) (g.layer a) (g.layer b) guest place bytes (mapped w i.is_well_formed) (wrote w i.is_well_formed) i.held)
+      (λ w i. between_wrote (u.layers_below x) (g.layer a) (g.layer b) guest bytes (wrote w i.is_well_formed))
+      (λ i. stops i.is_well_formed (u.layers_below x))
 
   -- one that is refused changes nothing, unless want of memory or a storage cut it off
-  pub ran_refused : (whole : Type 0) (gives : ℕ → Value → Type 0) (a b : D) (x : B) → IsLike (g.layer a) (g.layer b) → Went g whole whole a b
-      → (whole → g.safe a → g.layer b ≡ g.layer a)
-      → (g.safe a → (below : List Layer) → KeepsStops g below gives a b)
-      → Ran g u whole gives (a, x) (b, x)
-  ran_refused whole gives a b x like went stayed stops =
-      ran_driver g u whole gives a b x like.size went
-      (λ w i. subst (HoldsTrue (at (u.under x))) (sym (stayed w i.is_safe)) i.held)
-      (λ w i p lt. inl (ap (λ (l : Layer). at (l ∷ u.under x) p) (stayed w i.is_safe)))
-      (λ i. stops i.is_safe (u.under x))
+  pub ran_refused : (whole : Type 0) (gives : ℕ → Value → Type 0) (a b : D) (x : B) → KeepsLayerState (g.layer a) (g.layer b) → MutatingCall g whole whole a b
+      → (whole → g.well_formed a → g.layer b ≡ g.layer a)
+      → (g.well_formed a → (below : List Layer) → KeepsCrashImages g below gives a b)
+      → RangeChange g u whole gives (a, x) (b, x)
+  ran_refused whole gives a b x like mutating_call stayed stops =
+      ran_driver g u whole gives a b x like.size mutating_call
+      (λ w i. subst (HoldsTrue (at (u.layers_below x))) (sym (stayed w i.is_well_formed)) i.held)
+      (λ w i p lt. inl (ap (λ (l : Layer). at (l ∷ u.layers_below x) p) (stayed w i.is_well_formed)))
+      (λ i. stops i.is_well_formed (u.layers_below x))
 
   -- a mapping of the image that is committed, and then nothing is prepared
   pub ran_settled : (state : Option St) (whole : Type 0) (a b : D) (x : B) → (free_loose : (d : D) → IsFree (g.layer d) → (p : ℕ) → (g.layer d).held p ≡ loose)
-      → (g.layer b).size ≡ (g.layer a).size → Went g whole whole a b → IsMine g state (g.layer a) → (state ≡ None → IsFree (g.layer a)) → IsFree (g.layer b)
-      → (whole → g.safe a → Spends g state (g.layer a) (g.layer b) (Committed (g.layer a) (g.layer b)))
-      → (g.safe a → (below : List Layer) → KeepsStops g below (GivesSettled below (g.layer a)) a b)
-      → Ran g u whole (GivesHeld (g.layer a)) (a, x) (b, x)
-  ran_settled state whole a b x free_loose size went mine stateless free spends stops =
-      ran_driver g u whole (GivesHeld (g.layer a)) a b x size went
-      (λ w i. holds_loose (at (u.under x)) (g.layer b) (free_loose b free))
-      (λ w i. between_settled (u.under x) (g.layer a) (g.layer b) size i.held (spent_settles g state (g.layer a) (g.layer b) mine (λ none. free_loose a (stateless none)) (spends w i.is_safe)))
-      (λ i. held_stops g (u.under x) a b i.held (stops i.is_safe (u.under x)))
+      → (g.layer b).size ≡ (g.layer a).size → MutatingCall g whole whole a b → IsMine g state (g.layer a) → (state ≡ None → IsFree (g.layer a)) → IsFree (g.layer b)
+      → (whole → g.well_formed a → Spends g state (g.layer a) (g.layer b) (Committed (g.layer a) (g.layer b)))
+      → (g.well_formed a → (below : List Layer) → KeepsCrashImages g below (GivesSettled below (g.layer a)) a b)
+      → RangeChange g u whole (GivesHeld (g.layer a)) (a, x) (b, x)
+  ran_settled state whole a b x free_loose size mutating_call mine stateless free spends stops =
+      ran_driver g u whole (GivesHeld (g.layer a)) a b x size mutating_call
+      (λ w i. holds_loose (at (u.layers_below x)) (g.layer b) (free_loose b free))
+      (λ w i. between_settled (u.layers_below x) (g.layer a) (g.layer b) size i.held (spent_settles g state (g.layer a) (g.layer b) mine (λ none. free_loose a (stateless none)) (spends w i.is_well_formed)))
+      (λ i. held_stops g (u.layers_below x) a b i.held (stops i.is_well_formed (u.layers_below x)))
 
   -- one that could not be committed and is given up
   pub ran_unsettled : (state : Option St) (whole : Type 0) (a b : D) (x : B) → (free_loose : (d : D) → IsFree (g.layer d) → (p : ℕ) → (g.layer d).held p ≡ loose)
-      → (g.layer b).size ≡ (g.layer a).size → Went g whole whole a b → IsMine g state (g.layer a) → IsFree (g.layer b)
-      → (whole → g.safe a → Spends g state (g.layer a) (g.layer b) (Cancelled (g.layer a) (g.layer b)))
-      → (g.safe a → (below : List Layer) → KeepsStops g below (GivesSettled below (g.layer a)) a b)
-      → Ran g u whole (GivesHeld (g.layer a)) (a, x) (b, x)
-  ran_unsettled state whole a b x free_loose size went mine free spends stops =
-      ran_driver g u whole (GivesHeld (g.layer a)) a b x size went
-      (λ w i. holds_loose (at (u.under x)) (g.layer b) (free_loose b free))
-      (λ w i p lt. inl (at_alike (g.layer a) (g.layer b) (u.under x) p size (ap (λ (c : ℕ → Cell). through (c p) (at (u.under x) p)) (given_up_cell g state (g.layer a) (g.layer b) mine (spends w i.is_safe)))))
-      (λ i. held_stops g (u.under x) a b i.held (stops i.is_safe (u.under x)))
+      → (g.layer b).size ≡ (g.layer a).size → MutatingCall g whole whole a b → IsMine g state (g.layer a) → IsFree (g.layer b)
+      → (whole → g.well_formed a → Spends g state (g.layer a) (g.layer b) (Cancelled (g.layer a) (g.layer b)))
+      → (g.well_formed a → (below : List Layer) → KeepsCrashImages g below (GivesSettled below (g.layer a)) a b)
+      → RangeChange g u whole (GivesHeld (g.layer a)) (a, x) (b, x)
+  ran_unsettled state whole a b x free_loose size mutating_call mine free spends stops =
+      ran_driver g u whole (GivesHeld (g.layer a)) a b x size mutating_call
+      (λ w i. holds_loose (at (u.layers_below x)) (g.layer b) (free_loose b free))
+      (λ w i p lt. inl (at_alike (g.layer a) (g.layer b) (u.layers_below x) p size (ap (λ (c : ℕ → Cell). through (c p) (at (u.layers_below x) p)) (given_up_cell g state (g.layer a) (g.layer b) mine (spends w i.is_well_formed)))))
+      (λ i. held_stops g (u.layers_below x) a b i.held (stops i.is_well_formed (u.layers_below x)))
 
   -- a refused write to a mapping that is given up then
   pub ran_given_up : (state : Option St) (whole : Type 0) (gives : ℕ → Value → Type 0) (a b c : D) (x : B) → (free_loose : (d : D) → IsFree (g.layer d) → (p : ℕ) → (g.layer d).held p ≡ loose)
-      → IsLike (g.layer a) (g.layer b) → Went g whole whole a b → IsMine g state (g.layer b) → (state ≡ None → IsFree (g.layer b))
-      → (whole → g.safe a → g.layer b ≡ g.layer a)
-      → Spends g state (g.layer b) (g.layer c) (Cancelled (g.layer b) (g.layer c)) → (g.safe b → g.safe c) → (g.lasts b → g.lasts c) → (g.safe b → KeepsSurplus g b c) → g.image c ≡ g.image b → g.extras c ≡ g.extras b
-      → (g.safe a → (below : List Layer) → KeepsStops g below gives a b)
-      → Ran g u whole gives (a, x) (c, x)
-  ran_given_up state whole gives a b c x free_loose like went mine stateless stayed spends safely lasting surplus same same' stops =
+      → KeepsLayerState (g.layer a) (g.layer b) → MutatingCall g whole whole a b → IsMine g state (g.layer b) → (state ≡ None → IsFree (g.layer b))
+      → (whole → g.well_formed a → g.layer b ≡ g.layer a)
+      → Spends g state (g.layer b) (g.layer c) (Cancelled (g.layer b) (g.layer c)) → (g.well_formed b → g.well_formed c) → (g.stable b → g.stable c) → (g.well_formed b → KeepsExcessRefcounts g b c) → g.image c ≡ g.image b → g.extras c ≡ g.extras b
+      → (g.well_formed a → (below : List Layer) → KeepsCrashImages g below gives a b)
+      → RangeChange g u whole gives (a, x) (c, x)
+  ran_given_up state whole gives a b c x free_loose like mutating_call mine stateless stayed spends safely lasting excess_refcount same same' stops =
       let size : (g.layer c).size ≡ (g.layer a).size = given_up_size g state (g.layer b) (g.layer c) mine spends ∙ like.size in
-      ran_driver g u whole gives a c x size (went_then g whole whole a b c (given_up_fixed g state (g.layer b) (g.layer c) mine spends) (given_up_failed g state (g.layer b) (g.layer c) mine spends) same same' safely lasting surplus went)
-      (λ w i. holds_loose (at (u.under x)) (g.layer c) (free_loose c (given_up_free g state (g.layer b) (g.layer c) mine stateless spends)))
-      (λ w i p lt. inl (at_alike (g.layer a) (g.layer c) (u.under x) p size
-      (ap (λ (f : ℕ → Cell). through (f p) (at (u.under x) p)) (given_up_cell g state (g.layer b) (g.layer c) mine spends ∙ ap (λ (l : Layer). l.cell) (stayed w i.is_safe)))))
-      (λ i. passes_on (Left (u.under x) (g.layer a) (g.image a).bytes g.sound (g.layer a).size (g.layer a).size gives) (g.image a) (g.image b) (g.image c) same (stops i.is_safe (u.under x)))
+      ran_driver g u whole gives a c x size (went_then g whole whole a b c (given_up_fixed g state (g.layer b) (g.layer c) mine spends) (given_up_failed g state (g.layer b) (g.layer c) mine spends) same same' safely lasting excess_refcount mutating_call)
+      (λ w i. holds_loose (at (u.layers_below x)) (g.layer c) (free_loose c (given_up_free g state (g.layer b) (g.layer c) mine stateless spends)))
+      (λ w i p lt. inl (at_alike (g.layer a) (g.layer c) (u.layers_below x) p size
+      (ap (λ (f : ℕ → Cell). through (f p) (at (u.layers_below x) p)) (given_up_cell g state (g.layer b) (g.layer c) mine spends ∙ ap (λ (l : Layer). l.cell) (stayed w i.is_well_formed)))))
+      (λ i. passes_on (Left (u.layers_below x) (g.layer a) (g.image a).bytes g.sound (g.layer a).size (g.layer a).size gives) (g.image a) (g.image b) (g.image c) same (stops i.is_well_formed (u.layers_below x)))
 
   -- writes to a mapping that is given up then
   pub ran_abandoned : (state : Option St) (whole : Type 0) (gives : ℕ → Value → Type 0) (a b c : D) (x : B) → (free_loose : (d : D) → IsFree (g.layer d) → (p : ℕ) → (g.layer d).held p ≡ loose)
-      → IsMine g state (g.layer b) → (state ≡ None → IsFree (g.layer b)) → Spends g state (g.layer b) (g.layer c) (Cancelled (g.layer b) (g.layer c)) → (g.safe b → g.safe c) → (g.lasts b → g.lasts c) → (g.safe b → KeepsSurplus g b c) → g.image c ≡ g.image b → g.extras c ≡ g.extras b
-      → Ran g u whole gives (a, x) (b, x) → Ran g u whole gives (a, x) (c, x)
-  ran_abandoned state whole gives a b c x free_loose mine stateless spends safely lasting surplus same same' ran =
+      → IsMine g state (g.layer b) → (state ≡ None → IsFree (g.layer b)) → Spends g state (g.layer b) (g.layer c) (Cancelled (g.layer b) (g.layer c)) → (g.well_formed b → g.well_formed c) → (g.stable b → g.stable c) → (g.well_formed b → KeepsExcessRefcounts g b c) → g.image c ≡ g.image b → g.extras c ≡ g.extras b
+      → RangeChange g u whole gives (a, x) (b, x) → RangeChange g u whole gives (a, x) (c, x)
+  ran_abandoned state whole gives a b c x free_loose mine stateless spends safely lasting excess_refcount same same' ran =
       let size : (g.layer c).size ≡ (g.layer b).size = given_up_size g state (g.layer b) (g.layer c) mine spends in
-      let alike : (p : ℕ) → at (g.layer c ∷ u.under x) p ≡ at (g.layer b ∷ u.under x) p = λ p.
-      at_alike (g.layer b) (g.layer c) (u.under x) p size (ap (λ (f : ℕ → Cell). through (f p) (at (u.under x) p)) (given_up_cell g state (g.layer b) (g.layer c) mine spends)) in
+      let alike : (p : ℕ) → at (g.layer c ∷ u.layers_below x) p ≡ at (g.layer b ∷ u.layers_below x) p = λ p.
+      at_alike (g.layer b) (g.layer c) (u.layers_below x) p size (ap (λ (f : ℕ → Cell). through (f p) (at (u.layers_below x) p)) (given_up_cell g state (g.layer b) (g.layer c) mine spends)) in
       ran_over g u whole gives a c x x (size ∙ ran.size)
-      (went_then g whole (whole × u.sees_under x) a b c (given_up_fixed g state (g.layer b) (g.layer c) mine spends) (given_up_failed g state (g.layer b) (g.layer c) mine spends) same same' safely lasting surplus ran.went) ran.looked
-      (λ w i. holds_loose (at (u.under x)) (g.layer c) (free_loose c (given_up_free g state (g.layer b) (g.layer c) mine stateless spends)))
+      (went_then g whole (whole × u.coherent_below x) a b c (given_up_fixed g state (g.layer b) (g.layer c) mine spends) (given_up_failed g state (g.layer b) (g.layer c) mine spends) same same' safely lasting excess_refcount ran.mutating_call) ran.lookup_call
+      (λ w i. holds_loose (at (u.layers_below x)) (g.layer c) (free_loose c (given_up_free g state (g.layer b) (g.layer c) mine stateless spends)))
       (λ w i p lt. elim (ran.values w i p lt) [ inl was ↦ inl (alike p ∙ was) | inr gave ↦ inr (subst (gives p) (sym (alike p)) gave) ])
-      (λ i. passes_on (Left (u.under x) (g.layer a) (g.image a).bytes g.sound (g.layer a).size (g.layer a).size gives) (g.image a) (g.image b) (g.image c) same (ran.stops i))
+      (λ i. passes_on (Left (u.layers_below x) (g.layer a) (g.image a).bytes g.sound (g.layer a).size (g.layer a).size gives) (g.image a) (g.image b) (g.image c) same (ran.crash_images i))
 
   -- what a call does to a driver alone, seen over the layers below
-  pub ran_seen_over : (whole : Type 0) (gives : ℕ → Value → Type 0) (a b : D) (x : B) → RanAlone g whole gives (u.under x) a b
-      → Ran g u whole gives (a, x) (b, x)
+  pub ran_seen_over : (whole : Type 0) (gives : ℕ → Value → Type 0) (a b : D) (x : B) → DriverRangeChange g whole gives (u.layers_below x) a b
+      → RangeChange g u whole gives (a, x) (b, x)
   ran_seen_over whole gives a b x ran =
-      let alone : IsIntact g u a x → IsIntact g alone_ghosts a (u.under x) = λ i. record { is_safe = i.is_safe; is_seen = tt; backed = i.backed; held = i.held } in
-      ran_driver g u whole gives a b x ran.size (went_weaker g whole (whole × ⊤) whole whole a b (λ h. h) (λ w. (w, tt)) ran.went)
+      let alone : IsIntact g u a x → IsIntact g alone_ghosts a (u.layers_below x) = λ i. record { is_well_formed = i.is_well_formed; is_coherent = tt; backed = i.backed; held = i.held } in
+      ran_driver g u whole gives a b x ran.size (went_weaker g whole (whole × ⊤) whole whole a b (λ h. h) (λ w. (w, tt)) ran.mutating_call)
       (λ w i. (ran.intact w (alone i)).held)
       (λ w i. ran.values w (alone i))
-      (λ i. ran.stops (alone i))
+      (λ i. ran.crash_images (alone i))
 
   -- A run that is prepared, written and spent.
   pub ran_run : (whole : Type 0) (a b c e : D) (x y : B) (offset n : ℕ) (bytes : List ℕ) → n ≤ length bytes
       → (IsIntact g u a x → (p : ℕ) (v : Value) → GivesHeld (g.layer c) p v → GivesBytes offset (take n bytes) p v)
-      → Ran g u ⊤ GivesNone (a, x) (b, y)
-      → Ran g u ⊤ (GivesBytes offset (take n bytes)) (b, y) (c, y)
-      → Ran g u whole (GivesHeld (g.layer c)) (c, y) (e, y)
-      → Ran g u whole (GivesBytes offset bytes) (a, x) (e, y)
+      → RangeChange g u ⊤ GivesNone (a, x) (b, y)
+      → RangeChange g u ⊤ (GivesBytes offset (take n bytes)) (b, y) (c, y)
+      → RangeChange g u whole (GivesHeld (g.layer c)) (c, y) (e, y)
+      → RangeChange g u whole (GivesBytes offset bytes) (a, x) (e, y)
   ran_run whole a b c e x y offset n bytes most held first second third =
       ran_gives_intact g u whole (λ p v. GivesBytes offset (take n bytes) p v ⊎ GivesHeld (g.layer c) p v) (GivesBytes offset bytes) a e x y
       (λ i p v gives. gives_prefix offset n bytes most p v (elim gives [ inl gave ↦ gave | inr gave ↦ held i p v gave ]))
@@ -206,17 +206,17 @@ module _ {D St B : Type 0} (g : Ghosts D St) (u : GhostsBelow B) where
   -- The same of a run that is mapped for bytes of which it takes the first.
   pub ran_spent : (state : Option St) (whole : Type 0) (a b c e : D) (x y : B) (offset asked storage place n : ℕ) (bytes : List ℕ) → n ≤ length bytes
       → ((p : ℕ) → (g.layer a).held p ≡ loose) → (g.layer b).size ≡ (g.layer a).size
-      → Went g ⊤ (⊤ × u.sees_under x) a b → LookedUnder u ⊤ x y
-      → (g.safe a → u.sees_under x → Prepared (at (u.under x)) (g.layer a) (g.layer b) (asking offset asked true) (run_at storage place n (claim_of g.claim state)))
-      → (g.safe a → u.sees_under x → KeepsStops g (u.under x) GivesNone a b)
-      → (g.safe b → Wrote (g.layer b) (g.layer c) offset (take n bytes))
-      → Ran g u ⊤ (GivesBytes offset (take n bytes)) (b, y) (c, y)
-      → Ran g u whole (GivesHeld (g.layer c)) (c, y) (e, y)
-      → Ran g u whole (GivesBytes offset bytes) (a, x) (e, y)
-  ran_spent state whole a b c e x y offset asked storage place n bytes most was_loose size went looked made stops wrote second third =
+      → MutatingCall g ⊤ (⊤ × u.coherent_below x) a b → LookupCallBelow u ⊤ x y
+      → (g.well_formed a → u.coherent_below x → Prepared (at (u.layers_below x)) (g.layer a) (g.layer b) (asking offset asked true) (run_at storage place n (mapping_id_of g.mapping_id state)))
+      → (g.well_formed a → u.coherent_below x → KeepsCrashImages g (u.layers_below x) GivesNone a b)
+      → (g.well_formed b → Wrote (g.layer b) (g.layer c) offset (take n bytes))
+      → RangeChange g u ⊤ (GivesBytes offset (take n bytes)) (b, y) (c, y)
+      → RangeChange g u whole (GivesHeld (g.layer c)) (c, y) (e, y)
+      → RangeChange g u whole (GivesBytes offset bytes) (a, x) (e, y)
+  ran_spent state whole a b c e x y offset asked storage place n bytes most was_loose size mutating_call looked made stops wrote second third =
       ran_run whole a b c e x y offset n bytes most
-      (λ i. held_run (at (u.under x)) (g.layer a) (g.layer b) (g.layer c) offset asked true storage place n bytes (claim_of g.claim state) most (made i.is_safe i.is_seen)
-      (wrote (went.safely (tt, i.is_seen) i.is_safe)))
-      (ran_mapped state a b x y offset asked true storage place n was_loose size went looked made stops)
+      (λ i. held_run (at (u.layers_below x)) (g.layer a) (g.layer b) (g.layer c) offset asked true storage place n bytes (mapping_id_of g.mapping_id state) most (made i.is_well_formed i.is_coherent)
+      (wrote (mutating_call.safely (tt, i.is_coherent) i.is_well_formed)))
+      (ran_mapped state a b x y offset asked true storage place n was_loose size mutating_call looked made stops)
       second
       third

@@ -9,9 +9,9 @@ use Rattle.imago_access.specs.Refusals.{ReadMappedCause}
 use Rattle.imago_access.proofs.FilePairs.{pairs_append, some_rose_behind, some_rose_left, some_rose_right}
 
 -- behind a call
-pub failed_behind : (olds mids news : List StorageState) (e : Fault) → Pairs IsLater olds mids → ImageCause mids news e → ImageCause olds news e
-failed_behind olds mids news Storage later failed = some_rose_behind olds mids news later failed
-failed_behind olds mids news _ later failed = failed
+pub failed_after : (olds mids news : List StorageState) (e : Fault) → Pairs IsLater olds mids → ImageCause mids news e → ImageCause olds news e
+failed_after olds mids news Storage later failed = some_rose_behind olds mids news later failed
+failed_after olds mids news _ later failed = failed
 
 -- among more storages
 pub failed_left : (olds news us vs : List StorageState) (e : Fault) → ImageCause olds news e → ImageCause (olds ++ us) (news ++ vs) e
@@ -24,7 +24,7 @@ failed_right olds news us vs _ later failed = failed
 
 -- behind a call on two groups of storages: in both, and in the first alone
 pub failed_then : (olds mids news us ws vs : List StorageState) (e : Fault) → Pairs IsLater olds mids → Pairs IsLater us ws → ImageCause (mids ++ ws) (news ++ vs) e → ImageCause (olds ++ us) (news ++ vs) e
-failed_then olds mids news us ws vs e later later' = failed_behind (olds ++ us) (mids ++ ws) (news ++ vs) e (pairs_append IsLater olds mids us ws later later')
+failed_then olds mids news us ws vs e later later' = failed_after (olds ++ us) (mids ++ ws) (news ++ vs) e (pairs_append IsLater olds mids us ws later later')
 
 pub failed_alone : (olds mids news us vs : List StorageState) (e : Fault) → Pairs IsLater olds mids → Pairs IsLater us vs → ImageCause mids news e → ImageCause (olds ++ us) (news ++ vs) e
 failed_alone olds mids news us vs e later later' failed = failed_then olds mids news us vs vs e later later' (failed_left mids news vs vs e failed)

@@ -6,7 +6,7 @@ use Rattle.imago_storage.specs.Steps.{Kind, lookup, found, Step, Stays, stored, 
 use Rattle.imago_storage.specs.declared.fault.Fault.{Fault}
 use Rattle.imago_access.specs.Layer.{Layer, Cell, through}
 use Rattle.imago_access.specs.Chain.{at, disk_of}
-use Rattle.imago_access.specs.Files.{WasNotCutOff}
+use Rattle.imago_access.specs.Files.{HadNoResourceError}
 use Rattle.imago_access.specs.Kinds.{kind_of, deep_kind_of}
 use Rattle.imago_access.specs.Mappings.{Names, Looks, IsRun, IsDeepRun, DeepNames}
 use Rattle.imago_access.specs.declared.mapping.ShallowMapping.{ShallowMapping}
@@ -32,7 +32,7 @@ run_inside below disk offset asked n kind other low most inside some each = reco
   most = most;
   end = (λ is. absurd (other is), λ past. absurd (omega (arith, low, past)));
   none = λ past. absurd (omega (arith, low, past));
-  some = λ lt asks. some asks;
+  nonempty = λ lt asks. some asks;
   inside = λ lt. inside;
   range = place_of (λ p. IsOfKind below kind p (disk.value p)) offset n each;
 }
@@ -43,7 +43,7 @@ run_at_end below disk offset asked n none past = record {
   most = omega (arith, none);
   end = (λ is. past, λ high. refl);
   none = λ high. none;
-  some = λ low asks. absurd (omega (arith, low, past));
+  nonempty = λ low asks. absurd (omega (arith, low, past));
   inside = λ low. absurd (omega (arith, low, past));
   range = λ p inside. absurd (omega (arith, none, inside.0, inside.1));
 }
@@ -64,7 +64,7 @@ module _ (layer : Layer) (below : List Layer) (bytes : ℕ → ℕ → ℕ) (off
   shallow_run n shallow.Eof run names = run_at_end (at below) (disk_of below layer) offset asked n run.0 run.1
 
   pub shallow_step : (layer' : Layer) (below' : List Layer) (result : Result (ShallowMapping × ℕ) Fault) → IfOk result (λ r. IsRun layer offset asked r.0 r.1) → IfOk result (λ r. Looks layer bytes offset asked r.0 r.1)
-      → (WasNotCutOff result → layer' ≡ layer) → below' ≡ below → IfOk result (λ r. Step (at below) (disk_of below layer) (lookup offset asked) (found (kind_of r.0) r.1) (disk_of below' layer'))
+      → (HadNoResourceError result → layer' ≡ layer) → below' ≡ below → IfOk result (λ r. Step (at below) (disk_of below layer) (lookup offset asked) (found (kind_of r.0) r.1) (disk_of below' layer'))
   shallow_step layer' below' (Ok r) run looks same same_below = (shallow_run r.1 r.0 run looks.names, stays_same layer layer' below below' (same tt) same_below)
   shallow_step layer' below' (Err fault) run looks same same_below = tt
 
@@ -79,6 +79,6 @@ module _ (layer : Layer) (below : List Layer) (bytes : ℕ → ℕ → ℕ → �
   deep_run n deep.Eof run names = run_at_end (at below) (disk_of below layer) offset asked n run.0 run.1
 
   pub deep_step : (layer' : Layer) (below' : List Layer) (result : Result (Mapping × ℕ) Fault) → IfOk result (λ r. IsDeepRun layer.size offset asked r.0 r.1) → IfOk result (λ r. DeepNames (layer ∷ below) (at (layer ∷ below)) bytes offset r.1 r.0)
-      → (WasNotCutOff result → (layer' ≡ layer) × (below' ≡ below)) → IfOk result (λ r. Step (at below) (disk_of below layer) (lookup offset asked) (found (deep_kind_of r.0) r.1) (disk_of below' layer'))
+      → (HadNoResourceError result → (layer' ≡ layer) × (below' ≡ below)) → IfOk result (λ r. Step (at below) (disk_of below layer) (lookup offset asked) (found (deep_kind_of r.0) r.1) (disk_of below' layer'))
   deep_step layer' below' (Ok r) run names same = (deep_run r.1 r.0 run names, stays_same layer layer' below below' (same tt).0 (same tt).1)
   deep_step layer' below' (Err fault) run names same = tt

@@ -8,23 +8,23 @@ use Rattle.imago_storage.specs.Disk.{Value, free, held}
 use Rattle.imago_storage.specs.Steps.{Step, Stays, IsIn, prepare, prepared, write_mapped}
 use Rattle.imago_storage.specs.declared.fault.Fault.{Fault}
 use Rattle.imago_storage.specs.declared.fault.Fault.TheVariants.{ReadOnly, PastEnd, RangeOverflow, Foreign, MissingData, Failed, Outdated, Memory, Storage}
-use Rattle.imago_access.specs.Layer.{Layer, Cell, through, Held, loose, beside, inside, hold_of, IsLike, unit_of_layer}
+use Rattle.imago_access.specs.Layer.{Layer, Cell, through, Held, loose, beside, inside, hold_of, KeepsLayerState, unit_of_layer}
 use Rattle.imago_access.specs.Chain.{at, disk_of, unit_of_chain}
 use Rattle.imago_access.specs.Changes.{asking, run_at, IsHolding, Prepared, NotPrepared, Wrote}
-use Rattle.imago_access.specs.Files.{IsMild, WasNotCutOff}
-use Rattle.imago_access.specs.Going.{Went}
+use Rattle.imago_access.specs.Files.{IsNotResourceError, HadNoResourceError}
+use Rattle.imago_access.specs.Going.{MutatingCall}
 use Rattle.imago_access.specs.Parts.{IsMappedAt, MappedCause}
 use Rattle.imago_access.specs.Refusals.{ChangeCause}
-use Rattle.imago_access.specs.Running.{HoldsTrue, IsBetween, Ran}
-use Rattle.imago_access.specs.Spending.{claim_of}
-use Rattle.imago_access.specs.Stops.{KeepsStops, GivesBytes}
+use Rattle.imago_access.specs.Running.{HoldsTrue, IsBetween, RangeChange}
+use Rattle.imago_access.specs.Spending.{mapping_id_of}
+use Rattle.imago_access.specs.Stops.{KeepsCrashImages, GivesBytes}
 use Rattle.imago_access.proofs.Answers.{whole_holds, both_on_ok}
 use Rattle.imago_access.proofs.FilePairs.{some_rose_left}
 use Rattle.imago_access.proofs.Holding.{at_alike, truly_wrote, between_wrote}
 use Rattle.imago_access.proofs.Running.{ran_driver}
 use Rattle.imago_access.proofs.Units.{overflows_more, layer_aligned, unit_aligned}
-use Rattle.imago_access.specs.declared.seen.Seen.{Ghosts}
-use Rattle.imago_access.specs.declared.seen.SeenBelow.{Ghosts as GhostsBelow}
+use Rattle.imago_access.specs.declared.driver_model.DriverModel.{Ghosts}
+use Rattle.imago_access.specs.declared.driver_model.LayersBelowModel.{Ghosts as GhostsBelow}
 
 -- Writes to a mapped range.
 
@@ -49,8 +49,8 @@ write_mapped_cause layer aligned d ds guest place bytes olds news us vs _ h = ab
 -- where layers say and hold the same, the disk stays
 pub not_prepared_stays : (below below' : List Layer) (old new : Layer) → below' ≡ below → NotPrepared old new → Stays (disk_of below old) (disk_of below' new)
 not_prepared_stays below below' old new same refused = rw same (record {
-  size = refused.like.size;
-  value = λ p low. at_alike old new below p refused.like.size (ap (λ (c : ℕ → Cell). through (c p) (at below p)) refused.cell);
+  size = refused.keeps_layer_state.size;
+  value = λ p low. at_alike old new below p refused.keeps_layer_state.size (ap (λ (c : ℕ → Cell). through (c p) (at below p)) refused.cell);
   hold = λ p low. ap (λ (h : ℕ → Held). hold_of (h p)) refused.held;
 })
 
@@ -66,15 +66,15 @@ pub stateless_is : {S : Type 0} (state : Option S) → is_some state ≡ false �
 stateless_is None h = refl
 stateless_is (Some s) h = absurd (cc h)
 
-pub stateful_claims : {S : Type 0} (claim : S → ℕ) (state : Option S) → is_some state ≡ true → (c : ℕ) × (claim_of claim state ≡ Some c)
-stateful_claims claim None h = absurd (cc h)
-stateful_claims claim (Some s) h = (claim s, refl)
+pub stateful_claims : {S : Type 0} (mapping_id : S → ℕ) (state : Option S) → is_some state ≡ true → (c : ℕ) × (mapping_id_of mapping_id state ≡ Some c)
+stateful_claims mapping_id None h = absurd (cc h)
+stateful_claims mapping_id (Some s) h = (mapping_id s, refl)
 
-pub prepared_step : (below below' : List Layer) (old new : Layer) (offset asked : ℕ) (overwrite : Bool) (storage place n : ℕ) (claim : Option ℕ) (state : Bool) → below' ≡ below
-    → ((p : ℕ) → old.held p ≡ loose) → Prepared (at below) old new (asking offset asked overwrite) (run_at storage place n claim) → n ≤ asked → (0 < asked → 0 < n) → (0 < asked → offset + n ≤ old.size)
-    → (state ≡ false → (p : ℕ) → new.held p ≡ loose) → (state ≡ true → (c : ℕ) × (claim ≡ Some c)) → (asked ≡ 0 → state ≡ false)
+pub prepared_step : (below below' : List Layer) (old new : Layer) (offset asked : ℕ) (overwrite : Bool) (storage place n : ℕ) (mapping_id : Option ℕ) (state : Bool) → below' ≡ below
+    → ((p : ℕ) → old.held p ≡ loose) → Prepared (at below) old new (asking offset asked overwrite) (run_at storage place n mapping_id) → n ≤ asked → (0 < asked → 0 < n) → (0 < asked → offset + n ≤ old.size)
+    → (state ≡ false → (p : ℕ) → new.held p ≡ loose) → (state ≡ true → (c : ℕ) × (mapping_id ≡ Some c)) → (asked ≡ 0 → state ≡ false)
     → Step (at below) (disk_of below old) (prepare offset asked overwrite) (prepared n state) (disk_of below' new)
-prepared_step below below' old new offset asked overwrite storage place n claim state same was_loose done most some in_disk stateless stateful empty =
+prepared_step below below' old new offset asked overwrite storage place n mapping_id state same was_loose done most some in_disk stateless stateful empty =
     let value : (p : ℕ) → at (new ∷ below) p ≡ at (old ∷ below) p = λ p. at_alike old new below p done.size (ap (λ (c : ℕ → Cell). through (c p) (at below p)) done.cell) in
     rw same (elim (cases_lt 0 asked) [
       | inl positive ↦ inr (
@@ -82,7 +82,7 @@ prepared_step below below' old new offset asked overwrite storage place n claim 
         record {
           was_free = λ p low. ap hold_of (was_loose p);
           values = record { size = done.size; value = λ p low. value p };
-          some = some positive;
+          nonempty = some positive;
           most = most;
           inside = in_disk positive;
           holds = λ p low. holds_or_free (at below) new offset n overwrite p (new.held p) (done.holds p);
@@ -108,18 +108,18 @@ prepared_step below below' old new offset asked overwrite storage place n claim 
 
 module _ {D St B : Type 0} (g : Ghosts D St) (u : GhostsBelow B) where
   -- a write to a mapped range, by its answer
-  pub ran_mapped : {T : Type 0} (r : Result T Fault) (a b : D) (x : B) (guest place : ℕ) (bytes : List ℕ) → IsLike (g.layer a) (g.layer b) → Went g (WasNotCutOff r) (WasNotCutOff r) a b
-      → (g.safe a → OnOk r (Wrote (g.layer a) (g.layer b) guest bytes)) → (g.safe a → OnOk r (0 < length bytes → IsMappedAt (g.layer a) guest place (length bytes)))
-      → (g.safe a → IfErr r (λ e. IsMild e → g.layer b ≡ g.layer a))
-      → (g.safe a → (below : List Layer) → KeepsStops g below (GivesBytes guest bytes) a b)
-      → Ran g u (WasNotCutOff r) (GivesBytes guest bytes) (a, x) (b, x)
-  ran_mapped r a b x guest place bytes like went wrote mapped refused stops =
+  pub ran_mapped : {T : Type 0} (r : Result T Fault) (a b : D) (x : B) (guest place : ℕ) (bytes : List ℕ) → KeepsLayerState (g.layer a) (g.layer b) → MutatingCall g (HadNoResourceError r) (HadNoResourceError r) a b
+      → (g.well_formed a → OnOk r (Wrote (g.layer a) (g.layer b) guest bytes)) → (g.well_formed a → OnOk r (0 < length bytes → IsMappedAt (g.layer a) guest place (length bytes)))
+      → (g.well_formed a → IfErr r (λ e. IsNotResourceError e → g.layer b ≡ g.layer a))
+      → (g.well_formed a → (below : List Layer) → KeepsCrashImages g below (GivesBytes guest bytes) a b)
+      → RangeChange g u (HadNoResourceError r) (GivesBytes guest bytes) (a, x) (b, x)
+  ran_mapped r a b x guest place bytes like mutating_call wrote mapped refused stops =
       let Done = Wrote (g.layer a) (g.layer b) guest bytes × (0 < length bytes → IsMappedAt (g.layer a) guest place (length bytes)) in
-      ran_driver g u (WasNotCutOff r) (GivesBytes guest bytes) a b x like.size went
-      (λ w i. whole_holds r (λ _. Done) (HoldsTrue (at (u.under x)) (g.layer b)) w (λ v is h. truly_wrote (at (u.under x)) (g.layer a) (g.layer b) guest place bytes h.1 h.0 i.held)
-      (both_on_ok r (Wrote (g.layer a) (g.layer b) guest bytes) (0 < length bytes → IsMappedAt (g.layer a) guest place (length bytes)) (wrote i.is_safe) (mapped i.is_safe))
-      (IfErr-weaker r (λ e. IsMild e → g.layer b ≡ g.layer a) (λ e. IsMild e → HoldsTrue (at (u.under x)) (g.layer b)) (λ e same mild. subst (HoldsTrue (at (u.under x))) (sym (same mild)) i.held) (refused i.is_safe)))
-      (λ w i. whole_holds r (λ _. Wrote (g.layer a) (g.layer b) guest bytes) (IsBetween (GivesBytes guest bytes) (u.under x) (g.layer a) (g.layer b)) w (λ v is h. between_wrote (u.under x) (g.layer a) (g.layer b) guest bytes h)
-      (wrote i.is_safe)
-      (IfErr-weaker r (λ e. IsMild e → g.layer b ≡ g.layer a) (λ e. IsMild e → IsBetween (GivesBytes guest bytes) (u.under x) (g.layer a) (g.layer b)) (λ e same mild p low. inl (ap (λ (l : Layer). at (l ∷ u.under x) p) (same mild))) (refused i.is_safe)))
-      (λ i. stops i.is_safe (u.under x))
+      ran_driver g u (HadNoResourceError r) (GivesBytes guest bytes) a b x like.size mutating_call
+      (λ w i. whole_holds r (λ _. Done) (HoldsTrue (at (u.layers_below x)) (g.layer b)) w (λ v is h. truly_wrote (at (u.layers_below x)) (g.layer a) (g.layer b) guest place bytes h.1 h.0 i.held)
+      (both_on_ok r (Wrote (g.layer a) (g.layer b) guest bytes) (0 < length bytes → IsMappedAt (g.layer a) guest place (length bytes)) (wrote i.is_well_formed) (mapped i.is_well_formed))
+      (IfErr-weaker r (λ e. IsNotResourceError e → g.layer b ≡ g.layer a) (λ e. IsNotResourceError e → HoldsTrue (at (u.layers_below x)) (g.layer b)) (λ e same not_resource_error. subst (HoldsTrue (at (u.layers_below x))) (sym (same not_resource_error)) i.held) (refused i.is_well_formed)))
+      (λ w i. whole_holds r (λ _. Wrote (g.layer a) (g.layer b) guest bytes) (IsBetween (GivesBytes guest bytes) (u.layers_below x) (g.layer a) (g.layer b)) w (λ v is h. between_wrote (u.layers_below x) (g.layer a) (g.layer b) guest bytes h)
+      (wrote i.is_well_formed)
+      (IfErr-weaker r (λ e. IsNotResourceError e → g.layer b ≡ g.layer a) (λ e. IsNotResourceError e → IsBetween (GivesBytes guest bytes) (u.layers_below x) (g.layer a) (g.layer b)) (λ e same not_resource_error p low. inl (ap (λ (l : Layer). at (l ∷ u.layers_below x) p) (same not_resource_error))) (refused i.is_well_formed)))
+      (λ i. stops i.is_well_formed (u.layers_below x))

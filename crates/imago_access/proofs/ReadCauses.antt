@@ -11,10 +11,10 @@ use Rattle.imago_storage.proofs.Rounding.{round_up-le}
 use Rattle.imago_access.specs.Layer.{Layer, own, unmapped, unit_of_layer}
 use Rattle.imago_access.specs.Chain.{at}
 use Rattle.imago_access.specs.Files.{Pairs, IsLater}
-use Rattle.imago_access.specs.Mappings.{EachIs, Names, Looks, IsRun, IsInReach}
+use Rattle.imago_access.specs.Mappings.{EachIs, Names, Looks, IsRun, IsAddressable}
 use Rattle.imago_access.specs.declared.mapping.ShallowMapping.{ShallowMapping}
 use Rattle.imago_access.specs.declared.mapping.ShallowMapping.TheVariants.{Raw, Indirect, Special}
-use Rattle.imago_access.specs.Refusals.{barrier, SomeIs, ReadCause, LookCause, ReadMappedCause, InvalidateCause}
+use Rattle.imago_access.specs.Refusals.{unusable_fault, SomeIs, ReadCause, LookCause, ReadMappedCause, InvalidateCause}
 use Rattle.imago_access.proofs.FilePairs.{some_rose_behind, some_rose_left, some_rose_right}
 
 -- where a layer maps nothing, the one below shows
@@ -60,26 +60,26 @@ look_cause layer below unit offset n olds news us vs _ h = absurd h
 pub read_cause_below : (layer : Layer) (below : List Layer) (unit less offset part n : ℕ) (olds news us vs : List StorageState) (e : Fault)
     → ReadCause below (at below) less offset part us vs e → (Overflows less offset part → ⊥) → EachIs layer.cell offset part (λ i. unmapped) → offset + part ≤ layer.size → part ≤ n
     → Pairs IsLater olds news → ReadCause (layer ∷ below) (at (layer ∷ below)) unit offset n (olds ++ us) (news ++ vs) e
-read_cause_below layer below unit less offset part n olds news us vs Failed h calm free inside fits later = inr h
-read_cause_below layer below unit less offset part n olds news us vs MissingData h calm free inside fits later = inr h
-read_cause_below layer below unit less offset part n olds news us vs RangeOverflow h calm free inside fits later = absurd (calm h)
-read_cause_below layer below unit less offset part n olds news us vs DamagedTable h calm free inside fits later =
+read_cause_below layer below unit less offset part n olds news us vs Failed h no_change_refused free inside fits later = inr h
+read_cause_below layer below unit less offset part n olds news us vs MissingData h no_change_refused free inside fits later = inr h
+read_cause_below layer below unit less offset part n olds news us vs RangeOverflow h no_change_refused free inside fits later = absurd (no_change_refused h)
+read_cause_below layer below unit less offset part n olds news us vs DamagedTable h no_change_refused free inside fits later =
     (h.0, omega (arith, h.1), at_unmapped layer below (offset + h.0) (omega (arith, h.1)) (free h.0 h.1) ∙ h.2)
-read_cause_below layer below unit less offset part n olds news us vs Barred h calm free inside fits later =
+read_cause_below layer below unit less offset part n olds news us vs Barred h no_change_refused free inside fits later =
     (h.0, omega (arith, h.1), at_unmapped layer below (offset + h.0) (omega (arith, h.1)) (free h.0 h.1) ∙ h.2)
-read_cause_below layer below unit less offset part n olds news us vs Memory h calm free inside fits later = h
-read_cause_below layer below unit less offset part n olds news us vs Storage h calm free inside fits later = some_rose_right olds news us vs later h
-read_cause_below layer below unit less offset part n olds news us vs _ h calm free inside fits later = absurd h
+read_cause_below layer below unit less offset part n olds news us vs Memory h no_change_refused free inside fits later = h
+read_cause_below layer below unit less offset part n olds news us vs Storage h no_change_refused free inside fits later = some_rose_right olds news us vs later h
+read_cause_below layer below unit less offset part n olds news us vs _ h no_change_refused free inside fits later = absurd h
 
 -- a cause met at the bytes of a storage that a lookup has named
 pub read_mapped_cause : (layer mid : Layer) (below : List Layer) (value : ℕ → Value) (unit offset n place part : ℕ) (olds mids news us vs : List StorageState) (e : Fault)
     → ReadMappedCause mid place part mids news e → mid ≡ layer → (Overflows (unit_of_layer mid) place part → ⊥) → Pairs IsLater olds mids → ReadCause (layer ∷ below) value unit offset n (olds ++ us) (news ++ vs) e
-read_mapped_cause layer mid below value unit offset n place part olds mids news us vs Failed h same calm later = inl (ap barrier (sym same) ∙ h)
-read_mapped_cause layer mid below value unit offset n place part olds mids news us vs MissingData h same calm later = inl (ap barrier (sym same) ∙ h)
-read_mapped_cause layer mid below value unit offset n place part olds mids news us vs RangeOverflow h same calm later = absurd (calm h)
-read_mapped_cause layer mid below value unit offset n place part olds mids news us vs Memory h same calm later = h
-read_mapped_cause layer mid below value unit offset n place part olds mids news us vs Storage h same calm later = some_rose_left olds news us vs (some_rose_behind olds mids news later h)
-read_mapped_cause layer mid below value unit offset n place part olds mids news us vs _ h same calm later = absurd h
+read_mapped_cause layer mid below value unit offset n place part olds mids news us vs Failed h same no_change_refused later = inl (ap unusable_fault (sym same) ∙ h)
+read_mapped_cause layer mid below value unit offset n place part olds mids news us vs MissingData h same no_change_refused later = inl (ap unusable_fault (sym same) ∙ h)
+read_mapped_cause layer mid below value unit offset n place part olds mids news us vs RangeOverflow h same no_change_refused later = absurd (no_change_refused h)
+read_mapped_cause layer mid below value unit offset n place part olds mids news us vs Memory h same no_change_refused later = h
+read_mapped_cause layer mid below value unit offset n place part olds mids news us vs Storage h same no_change_refused later = some_rose_left olds news us vs (some_rose_behind olds mids news later h)
+read_mapped_cause layer mid below value unit offset n place part olds mids news us vs _ h same no_change_refused later = absurd h
 
 -- What a lookup says, by the kind that it answers.
 module _ (layer : Layer) (stored : ℕ → ℕ → ℕ) (offset asked : ℕ) (mapping : ShallowMapping) (n : ℕ) (looks : Looks layer stored offset asked mapping n) where
@@ -87,7 +87,7 @@ module _ (layer : Layer) (stored : ℕ → ℕ → ℕ) (offset asked : ℕ) (ma
   indirect_free place writable is = (subst (Names layer stored offset n) is looks.names).0
 
   pub raw_reach : (storage place : ℕ) (writable : Bool) → mapping ≡ Raw storage place writable → Overflows (unit_of_layer layer) place n → Overflows (unit_of_layer layer) offset n
-  raw_reach storage place writable is = subst (λ (m : ShallowMapping). IsInReach layer offset m n) is looks.reach
+  raw_reach storage place writable is = subst (λ (m : ShallowMapping). IsAddressable layer offset m n) is looks.reach
 
   pub special_barred : (place : ℕ) → mapping ≡ Special place → EachIs layer.cell offset n (λ i. own barred)
   special_barred place is = (subst (Names layer stored offset n) is looks.names).0

@@ -7,7 +7,7 @@ use Rattle.imago_storage.specs.Steps.{IsIn, IsByte}
 use Rattle.imago_storage.specs.declared.fault.Fault.{Fault}
 use Rattle.imago_access.specs.Layer.{Cell, own, unmapped, through, Layer}
 use Rattle.imago_access.specs.Chain.{at, IsBacked}
-use Rattle.imago_access.specs.Files.{IsMild, WasNotCutOff}
+use Rattle.imago_access.specs.Files.{IsNotResourceError, HadNoResourceError}
 use Rattle.imago_access.specs.Changes.{Rewrites, PartRewrites, ToAny, ToBelow}
 use Rattle.imago_access.specs.Running.{IsBetween}
 use Rattle.imago_access.specs.Stops.{GivesAny, GivesBelow}
@@ -30,7 +30,7 @@ module _ (Q : ℕ → Cell → Cell → Type 0) (gives : ℕ → Value → Type 
 
   -- a part of the range was done
   pub whole_between : (start done : ℕ) → offset ≤ start → (done ≡ 0) ⊎ (start + done ≤ offset + n) → Rewrites Q old new start done → IsBetween gives below old new
-  whole_between start done from to h p inside = shown h.like.size p inside (elim (cases_lt p start) [
+  whole_between start done from to h p inside = shown h.keeps_layer_state.size p inside (elim (cases_lt p start) [
     | inl before ↦ inl (h.others p (inl before))
     | inr ge ↦ elim (cases_lt p (start + done)) [
       | inl lt ↦ shows p (old.cell p) (new.cell p) (omega (arith, from, ge), omega (arith, to, ge, lt)) (h.range p (ge, lt))
@@ -39,7 +39,7 @@ module _ (Q : ℕ → Cell → Cell → Type 0) (gives : ℕ → Value → Type 
   ])
 
   pub part_between : PartRewrites Q old new offset n → IsBetween gives below old new
-  part_between h p inside = shown h.like.size p inside (elim (cases_lt p offset) [
+  part_between h p inside = shown h.keeps_layer_state.size p inside (elim (cases_lt p offset) [
     | inl before ↦ inl (h.others p (inl before))
     | inr ge ↦ elim (cases_lt p (offset + n)) [
       | inl lt ↦ elim (h.range p (ge, lt)) [ inl same ↦ inl same | inr new_one ↦ shows p (old.cell p) (new.cell p) (ge, lt) new_one ]
@@ -49,7 +49,7 @@ module _ (Q : ℕ → Cell → Cell → Type 0) (gives : ℕ → Value → Type 
 
   -- whatever the call answers
   pub result_between : (result : Result (ℕ × ℕ) Fault) → IfOk result (IsPart offset n)
-      → IfOk result (λ r. Rewrites Q old new r.0 r.1) → IfErr result (λ e. IsMild e → PartRewrites Q old new offset n) → WasNotCutOff result → IsBetween gives below old new
+      → IfOk result (λ r. Rewrites Q old new r.0 r.1) → IfErr result (λ e. IsNotResourceError e → PartRewrites Q old new offset n) → HadNoResourceError result → IsBetween gives below old new
   result_between (Ok r) part ok err whole = whole_between r.0 r.1 part.inside.0 part.inside.1 ok
   result_between (Err e) part ok err whole = part_between (err whole)
 

@@ -9,8 +9,8 @@ use Rattle.imago_access.specs.Changes.{Wrote}
 use Rattle.imago_access.specs.RangeCalls.{IsZeroedBy}
 use Rattle.imago_access.specs.declared.access.zeroing.Zeroing.{Zeroing}
 use Rattle.imago_access.specs.declared.access.zeroing.Zeroing.TheVariants.{Keep, GiveUp}
-use Rattle.imago_access.specs.Room.{IsWholeUnit, IsOfUnit, IsApart, Reaches, IsGivenUp, IsGivenUpTo, LeavesRoom, Takes, GivesUp}
-use Rattle.imago_access.specs.declared.seen.Seen.{Ghosts}
+use Rattle.imago_access.specs.Room.{IsWholeUnit, IsOfUnit, IsApart, Reaches, IsGivenUp, IsGivenUpTo, LeavesAllocation, Takes, GivesUp}
+use Rattle.imago_access.specs.declared.driver_model.DriverModel.{Ghosts}
 
 -- a range lies in another
 pub apart_wider : (unit offset n start m p : ℕ) → offset ≤ start → start + m ≤ offset + n → IsApart unit offset n p → IsApart unit start m p
@@ -30,12 +30,12 @@ whole_rest unit size offset n at u whole from = record { start = from; on_disk =
 pub none_behind : (unit size offset n at u p : ℕ) → IsWholeUnit unit size offset n u → offset + n ≤ at → at ≤ u * unit → IsOfUnit unit size u p → ⊥
 none_behind unit size offset n at u p whole over from of = omega (arith, whole.end, over, from, of.start, of.end, of.on_disk)
 
-module _ (vacant : ℕ → Type 0) (unit size offset n : ℕ) where
-  pub given_none : IsGivenUpTo vacant unit size offset n offset
+module _ (unallocated : ℕ → Type 0) (unit size offset n : ℕ) where
+  pub given_none : IsGivenUpTo unallocated unit size offset n offset
   given_none u whole = inl whole.start
 
   -- the first part
-  pub given_part : (start done : ℕ) → Reaches unit size offset n start done → ((p : ℕ) → IsIn start done p → vacant p) → IsGivenUpTo vacant unit size offset n (start + done)
+  pub given_part : (start done : ℕ) → Reaches unit size offset n start done → ((p : ℕ) → IsIn start done p → unallocated p) → IsGivenUpTo unallocated unit size offset n (start + done)
   given_part start done reach gave u whole = elim (cases_lt (u * unit) (start + done)) [
     | inl lt ↦
         let cut = reach.none_cut u whole lt in
@@ -44,11 +44,11 @@ module _ (vacant : ℕ → Type 0) (unit size offset n : ℕ) where
   ]
 
   -- a part that is empty: there is no whole unit
-  pub given_empty : (start at : ℕ) → Reaches unit size offset n start 0 → IsGivenUpTo vacant unit size offset n at
-  given_empty start at reach u whole = absurd (omega (arith, reach.some u whole))
+  pub given_empty : (start at : ℕ) → Reaches unit size offset n start 0 → IsGivenUpTo unallocated unit size offset n at
+  given_empty start at reach u whole = absurd (omega (arith, reach.nonempty u whole))
 
   -- all of the range
-  pub given_all : (at : ℕ) → offset + n ≤ at → IsGivenUpTo vacant unit size offset n at → IsGivenUp vacant unit size offset n
+  pub given_all : (at : ℕ) → offset + n ≤ at → IsGivenUpTo unallocated unit size offset n at → IsGivenUp unallocated unit size offset n
   given_all at over given u whole p of = elim (given u whole) [
     | inl from ↦ absurd (none_behind unit size offset n at u p whole over from of)
     | inr done ↦ done.1 p of
@@ -56,16 +56,16 @@ module _ (vacant : ℕ → Type 0) (unit size offset n : ℕ) where
 
   -- a part behind others, which takes nothing where they have given up
   pub given_both : (before : ℕ → Type 0) (at next : ℕ) → at ≤ next
-      → ((p u : ℕ) → IsOfUnit unit size u p → min (u * unit + unit) size ≤ at → before p → vacant p)
-      → IsGivenUpTo before unit size offset n at → IsGivenUpTo vacant unit size at (offset + n - at) next → IsGivenUpTo vacant unit size offset n next
+      → ((p u : ℕ) → IsOfUnit unit size u p → min (u * unit + unit) size ≤ at → before p → unallocated p)
+      → IsGivenUpTo before unit size offset n at → IsGivenUpTo unallocated unit size at (offset + n - at) next → IsGivenUpTo unallocated unit size offset n next
   given_both before at next further stays first second u whole = elim (first u whole) [
     | inl from ↦ second u (whole_rest unit size offset n at u whole from)
     | inr done ↦ inr (omega (arith, done.0, further), λ p of. stays p u of done.0 (done.1 p of))
   ]
 
 -- units that were given up stay so
-pub given_on : (before vacant : ℕ → Type 0) (unit size offset n at : ℕ) → ((u p : ℕ) → IsWholeUnit unit size offset n u → IsOfUnit unit size u p → before p → vacant p) → IsGivenUpTo before unit size offset n at → IsGivenUpTo vacant unit size offset n at
-given_on before vacant unit size offset n at stays given u whole = elim (given u whole) [
+pub given_on : (before unallocated : ℕ → Type 0) (unit size offset n at : ℕ) → ((u p : ℕ) → IsWholeUnit unit size offset n u → IsOfUnit unit size u p → before p → unallocated p) → IsGivenUpTo before unit size offset n at → IsGivenUpTo unallocated unit size offset n at
+given_on before unallocated unit size offset n at stays given u whole = elim (given u whole) [
   | inl rest ↦ inl rest
   | inr done ↦ inr (done.0, λ p of. stays u p whole of (done.1 p of))
 ]
@@ -79,19 +79,19 @@ pub begun_apart : (unit size offset start u p : ℕ) → offset ≤ start → st
 begun_apart unit size offset start u p from behind of = (u, of.start, of.end, inr (omega (arith, from, behind)))
 
 -- all of the range, where the rest of it has no whole unit
-pub given_rest : (vacant : ℕ → Type 0) (unit size offset n : ℕ) (before : ℕ → Type 0) (at start : ℕ) → ((p : ℕ) → before p → vacant p) → IsGivenUpTo before unit size offset n at → Reaches unit size at (offset + n - at) start 0 → IsGivenUp vacant unit size offset n
-given_rest vacant unit size offset n before at start stays first reach =
+pub given_rest : (unallocated : ℕ → Type 0) (unit size offset n : ℕ) (before : ℕ → Type 0) (at start : ℕ) → ((p : ℕ) → before p → unallocated p) → IsGivenUpTo before unit size offset n at → Reaches unit size at (offset + n - at) start 0 → IsGivenUp unallocated unit size offset n
+given_rest unallocated unit size offset n before at start stays first reach =
     let past = at + (offset + n) in
-    given_all vacant unit size offset n past (omega arith) (given_both vacant unit size offset n before at past (omega arith) (λ p u of low is. stays p is) first (given_empty vacant unit size at (offset + n - at) start past reach))
+    given_all unallocated unit size offset n past (omega arith) (given_both unallocated unit size offset n before at past (omega arith) (λ p u of low is. stays p is) first (given_empty unallocated unit size at (offset + n - at) start past reach))
 
 module _ {D St : Type 0} (g : Ghosts D St) where
-  pub room_same : (left spared : ℕ → Type 0) (d : D) → LeavesRoom g left spared d d
-  room_same left spared d = record { kept = λ p there has. has; free = λ p there is. is; zeroes = λ p there there' is. is }
+  pub room_same : (left spared : ℕ → Type 0) (d : D) → LeavesAllocation g left spared d d
+  room_same left spared d = record { stays_allocated = λ p there has. has; free = λ p there is. is; zeroes = λ p there there' is. is }
 
   pub room_both : (left left' left'' spared spared' spared'' : ℕ → Type 0) (a b c : D) → ((p : ℕ) → left'' p → left p × left' p) → ((p : ℕ) → spared'' p → spared p × spared' p)
-      → LeavesRoom g left spared a b → LeavesRoom g left' spared' b c → LeavesRoom g left'' spared'' a c
+      → LeavesAllocation g left spared a b → LeavesAllocation g left' spared' b c → LeavesAllocation g left'' spared'' a c
   room_both left left' left'' spared spared' spared'' a b c from to first second = record {
-    kept = λ p there has. second.kept p (from p there).1 (first.kept p (from p there).0 has);
+    stays_allocated = λ p there has. second.stays_allocated p (from p there).1 (first.stays_allocated p (from p there).0 has);
     free = λ p there is. second.free p (to p there).1 (first.free p (to p there).0 is);
     zeroes = λ p there there' is. second.zeroes p (from p there).1 (to p there').1 (first.zeroes p (from p there).0 (to p there').0 is);
   }
@@ -111,18 +111,18 @@ module _ {D St : Type 0} (g : Ghosts D St) where
   gives_up_both offset n start m a b c from to = room_both (IsOut offset n) (IsOut start m) (IsOut offset n) (λ _. ⊤) (λ _. ⊤) (λ _. ⊤) a b c (λ p out. (out, out_wider offset n start m p from to out)) (λ p there. (tt, tt))
 
 -- where fewer places are asked for
-pub room_fewer : {D St : Type 0} (g : Ghosts D St) (left left' spared : ℕ → Type 0) (a b : D) → ((p : ℕ) → left' p → left p) → LeavesRoom g left spared a b → LeavesRoom g left' spared a b
-room_fewer g left left' spared a b from h = record { kept = λ p there. h.kept p (from p there); free = h.free; zeroes = λ p there. h.zeroes p (from p there) }
+pub room_fewer : {D St : Type 0} (g : Ghosts D St) (left left' spared : ℕ → Type 0) (a b : D) → ((p : ℕ) → left' p → left p) → LeavesAllocation g left spared a b → LeavesAllocation g left' spared a b
+room_fewer g left left' spared a b from h = record { stays_allocated = λ p there. h.stays_allocated p (from p there); free = h.free; zeroes = λ p there. h.zeroes p (from p there) }
 
 -- what a zeroing leaves stays in a call that leaves these places
 pub left_on : {D St : Type 0} (g : Ghosts D St) (left spared : ℕ → Type 0) (zeroing : Zeroing) (a b : D) (p : ℕ) → (zeroing ≡ Keep → left p) → spared p
-    → LeavesRoom g left spared a b → IsZeroedBy zeroing (g.vacant a) (g.zeroed a) p → IsZeroedBy zeroing (g.vacant b) (g.zeroed b) p
+    → LeavesAllocation g left spared a b → IsZeroedBy zeroing (g.unallocated a) (g.zeroed a) p → IsZeroedBy zeroing (g.unallocated b) (g.zeroed b) p
 left_on g left spared Keep a b p there apart room is = room.zeroes p (there refl) apart is
 left_on g left spared GiveUp a b p there apart room is = room.free p apart is
 
 -- A call on a part of a range, behind calls on parts of it.
 pub room_then : {D St : Type 0} (g : Ghosts D St) (left left' : ℕ → Type 0) (offset n start m : ℕ) (a b c : D) → (g.layer b).fixed ≡ (g.layer a).fixed → offset ≤ start → start + m ≤ offset + n → ((p : ℕ) → left p → left' p)
-    → LeavesRoom g left (IsApart (g.layer a).fixed.unit offset n) a b → LeavesRoom g left' (IsApart (g.layer b).fixed.unit start m) b c → LeavesRoom g left (IsApart (g.layer a).fixed.unit offset n) a c
+    → LeavesAllocation g left (IsApart (g.layer a).fixed.unit offset n) a b → LeavesAllocation g left' (IsApart (g.layer b).fixed.unit start m) b c → LeavesAllocation g left (IsApart (g.layer a).fixed.unit offset n) a c
 room_then g left left' offset n start m a b c fixed from to more first second =
     room_both g left left' left (IsApart (g.layer a).fixed.unit offset n) (IsApart (g.layer b).fixed.unit start m) (IsApart (g.layer a).fixed.unit offset n) a b c (λ p there. (there, more p there))
     (λ p apart. (apart, subst (λ (f : Fixed). IsApart f.unit start m p) (sym fixed) (apart_wider (g.layer a).fixed.unit offset n start m p from to apart))) first second

@@ -4,15 +4,15 @@ use Rattle.std.specs.Prelude.{⊤, IsTrue}
 use Rattle.imago_storage.specs.Disk.{Value}
 use Rattle.imago_access.specs.Layer.{Layer, Fixed, loose, IsFree}
 use Rattle.imago_access.specs.Chain.{at, IsBacked}
-use Rattle.imago_access.specs.Going.{KeepsSurplus, Went, WentAnew, LookedUnder}
-use Rattle.imago_access.specs.Stops.{KeepsStops, KeepsStopsTo, Left}
-use Rattle.imago_access.specs.Running.{IsTruly, HoldsTrue, IsIntact, IsBetween, Ran}
+use Rattle.imago_access.specs.Going.{KeepsExcessRefcounts, MutatingCall, ReloadingCall, LookupCallBelow}
+use Rattle.imago_access.specs.Stops.{KeepsCrashImages, KeepsCrashImagesTo, Left}
+use Rattle.imago_access.specs.Running.{IsTruly, HoldsTrue, IsIntact, IsBetween, RangeChange}
 use Rattle.imago_access.proofs.FilePairs.{later_all_same, later_all_both, faultless_all_same, faultless_all_both}
 use Rattle.imago_access.proofs.Looking.{seen_by, looked_under_same, looked_under_weaker, looked_under_both}
 use Rattle.imago_access.proofs.Stopping.{then_left, passes_none, passes_weaker, left_weaker}
 use Rattle.imago_access.specs.Files.{files}
-use Rattle.imago_access.specs.declared.seen.Seen.{Ghosts}
-use Rattle.imago_access.specs.declared.seen.SeenBelow.{Ghosts as GhostsBelow}
+use Rattle.imago_access.specs.declared.driver_model.DriverModel.{Ghosts}
+use Rattle.imago_access.specs.declared.driver_model.LayersBelowModel.{Ghosts as GhostsBelow}
 
 -- a layer shows the same layers below while what never changes is the same
 pub backed_on : (below : List Layer) (old new : Layer) → new.fixed ≡ old.fixed → IsBacked below old → IsBacked below new
@@ -39,160 +39,160 @@ between_both gives gives' more below a b c size from from' first second p inside
 ]
 
 module _ {D St : Type 0} (g : Ghosts D St) where
-  pub went_same : (ok whole : Type 0) (d : D) → Went g ok whole d d
+  pub went_same : (ok whole : Type 0) (d : D) → MutatingCall g ok whole d d
   went_same ok whole d = record {
     fixed = refl;
     failed = λ f. f;
-    later = later_all_same (files g d);
+    counts_not_fallen = later_all_same (files g d);
     faults = λ h. faultless_all_same (files g d);
     safely = λ h s. s;
-    lasting = λ l. l;
-    surplus = λ h s c. refl;
+    stays_stable = λ l. l;
+    excess_refcount = λ h s c. refl;
   }
 
   -- a call that went on leaves what one that reads files anew does
-  pub went_anew : (ok whole : Type 0) (a b : D) → Went g ok whole a b → WentAnew g ok whole a b
-  went_anew ok whole a b h = record { fixed = h.fixed; failed = h.failed; later = h.later; faults = h.faults; safely = h.safely; lasting = h.lasting }
+  pub went_anew : (ok whole : Type 0) (a b : D) → MutatingCall g ok whole a b → ReloadingCall g ok whole a b
+  went_anew ok whole a b h = record { fixed = h.fixed; failed = h.failed; counts_not_fallen = h.counts_not_fallen; faults = h.faults; safely = h.safely; stays_stable = h.stays_stable }
 
-  pub went_weaker : (ok whole ok' whole' : Type 0) (a b : D) → (ok' → ok) → (whole' → whole) → Went g ok whole a b → Went g ok' whole' a b
+  pub went_weaker : (ok whole ok' whole' : Type 0) (a b : D) → (ok' → ok) → (whole' → whole) → MutatingCall g ok whole a b → MutatingCall g ok' whole' a b
   went_weaker ok whole ok' whole' a b from from' h = record {
     fixed = h.fixed;
     failed = h.failed;
-    later = h.later;
+    counts_not_fallen = h.counts_not_fallen;
     faults = λ x. h.faults (from x);
     safely = λ x. h.safely (from' x);
-    lasting = h.lasting;
-    surplus = λ x. h.surplus (from' x);
+    stays_stable = h.stays_stable;
+    excess_refcount = λ x. h.excess_refcount (from' x);
   }
 
   -- a call, and then one that makes no request
-  pub went_then : (ok whole : Type 0) (a b c : D) → (g.layer c).fixed ≡ (g.layer b).fixed → (IsTrue (g.layer b).failed → IsTrue (g.layer c).failed) → g.image c ≡ g.image b → g.extras c ≡ g.extras b → (g.safe b → g.safe c) → (g.lasts b → g.lasts c) → (g.safe b → KeepsSurplus g b c) → Went g ok whole a b → Went g ok whole a c
-  went_then ok whole a b c fixed failing same same' safely lasting surplus h = record {
+  pub went_then : (ok whole : Type 0) (a b c : D) → (g.layer c).fixed ≡ (g.layer b).fixed → (IsTrue (g.layer b).failed → IsTrue (g.layer c).failed) → g.image c ≡ g.image b → g.extras c ≡ g.extras b → (g.well_formed b → g.well_formed c) → (g.stable b → g.stable c) → (g.well_formed b → KeepsExcessRefcounts g b c) → MutatingCall g ok whole a b → MutatingCall g ok whole a c
+  went_then ok whole a b c fixed failing same same' safely lasting excess_refcount h = record {
     fixed = fixed ∙ h.fixed;
     failed = λ f. failing (h.failed f);
-    later = rw (same, same') h.later;
+    counts_not_fallen = rw (same, same') h.counts_not_fallen;
     faults = λ good. rw (same, same') (h.faults good);
     safely = λ w s. safely (h.safely w s);
-    lasting = λ l. lasting (h.lasting l);
-    surplus = λ w s n. surplus (h.safely w s) n ∙ h.surplus w s n;
+    stays_stable = λ l. lasting (h.stays_stable l);
+    excess_refcount = λ w s n. excess_refcount (h.safely w s) n ∙ h.excess_refcount w s n;
   }
 
 module _ {D St B : Type 0} (g : Ghosts D St) (u : GhostsBelow B) where
   -- nothing happened
-  pub ran_same : (whole : Type 0) (gives : ℕ → Value → Type 0) (d : D) (b : B) → Ran g u whole gives (d, b) (d, b)
+  pub ran_same : (whole : Type 0) (gives : ℕ → Value → Type 0) (d : D) (b : B) → RangeChange g u whole gives (d, b) (d, b)
   ran_same whole gives d b = record {
     size = refl;
-    went = went_same g whole (whole × u.sees_under b) d;
-    looked = looked_under_same u whole b;
+    mutating_call = went_same g whole (whole × u.coherent_below b) d;
+    lookup_call = looked_under_same u whole b;
     intact = λ w i. i;
     values = λ w i p inside. inl refl;
-    stops = λ i. passes_none (Left (u.under b) (g.layer d) (g.image d).bytes g.sound (g.layer d).size (g.layer d).size gives) (g.image d) (g.image d) refl (refl, refl, refl, refl);
+    crash_images = λ i. passes_none (Left (u.layers_below b) (g.layer d) (g.image d).bytes g.sound (g.layer d).size (g.layer d).size gives) (g.image d) (g.image d) refl (refl, refl, refl, refl);
   }
 
   pub ran_weaker : (whole whole' : Type 0) (gives : ℕ → Value → Type 0) (a b : D) (x y : B) → (whole' → whole)
-      → Ran g u whole gives (a, x) (b, y) → Ran g u whole' gives (a, x) (b, y)
+      → RangeChange g u whole gives (a, x) (b, y) → RangeChange g u whole' gives (a, x) (b, y)
   ran_weaker whole whole' gives a b x y from h = record {
     size = h.size;
-    went = went_weaker g whole (whole × u.sees_under x) whole' (whole' × u.sees_under x) a b from (λ w. (from w.0, w.1)) h.went;
-    looked = looked_under_weaker u whole whole' x y from h.looked;
+    mutating_call = went_weaker g whole (whole × u.coherent_below x) whole' (whole' × u.coherent_below x) a b from (λ w. (from w.0, w.1)) h.mutating_call;
+    lookup_call = looked_under_weaker u whole whole' x y from h.lookup_call;
     intact = λ w. h.intact (from w);
     values = λ w. h.values (from w);
-    stops = h.stops;
+    crash_images = h.crash_images;
   }
 
   -- what a call gives may be weakened, by what promises on values rest on
   pub ran_gives_intact : (whole : Type 0) (gives more : ℕ → Value → Type 0) (a b : D) (x y : B) → (IsIntact g u a x → (p : ℕ) (v : Value) → gives p v → more p v)
-      → Ran g u whole gives (a, x) (b, y) → Ran g u whole more (a, x) (b, y)
+      → RangeChange g u whole gives (a, x) (b, y) → RangeChange g u whole more (a, x) (b, y)
   ran_gives_intact whole gives more a b x y from h = record {
     size = h.size;
-    went = h.went;
-    looked = h.looked;
+    mutating_call = h.mutating_call;
+    lookup_call = h.lookup_call;
     intact = h.intact;
-    values = λ w i p inside. elim (h.values w i p inside) [ inl same ↦ inl same | inr gave ↦ inr (from i p (at (g.layer b ∷ u.under x) p) gave) ];
-    stops = λ i. passes_weaker (Left (u.under x) (g.layer a) (g.image a).bytes g.sound (g.layer a).size (g.layer a).size gives) (Left (u.under x) (g.layer a) (g.image a).bytes g.sound (g.layer a).size (g.layer a).size more) (g.image a) (g.image b)
-        (left_weaker (u.under x) g.sound (g.layer a) (g.image a).bytes (g.layer a).size (g.layer a).size gives more (λ p v inside gave. inr (inr (from i p v gave)))) (h.stops i);
+    values = λ w i p inside. elim (h.values w i p inside) [ inl same ↦ inl same | inr gave ↦ inr (from i p (at (g.layer b ∷ u.layers_below x) p) gave) ];
+    crash_images = λ i. passes_weaker (Left (u.layers_below x) (g.layer a) (g.image a).bytes g.sound (g.layer a).size (g.layer a).size gives) (Left (u.layers_below x) (g.layer a) (g.image a).bytes g.sound (g.layer a).size (g.layer a).size more) (g.image a) (g.image b)
+        (left_weaker (u.layers_below x) g.sound (g.layer a) (g.image a).bytes (g.layer a).size (g.layer a).size gives more (λ p v inside gave. inr (inr (from i p v gave)))) (h.crash_images i);
   }
 
   pub ran_gives : (whole : Type 0) (gives more : ℕ → Value → Type 0) (a b : D) (x y : B) → ((p : ℕ) (v : Value) → gives p v → more p v)
-      → Ran g u whole gives (a, x) (b, y) → Ran g u whole more (a, x) (b, y)
+      → RangeChange g u whole gives (a, x) (b, y) → RangeChange g u whole more (a, x) (b, y)
   ran_gives whole gives more a b x y from = ran_gives_intact whole gives more a b x y (λ i. from)
 
   -- two calls, one behind the other
   pub ran_both : (whole : Type 0) (gives gives' more : ℕ → Value → Type 0) (a b c : D) (x y z : B) → ((p : ℕ) (v : Value) → gives p v → more p v) → ((p : ℕ) (v : Value) → gives' p v → more p v)
-      → Ran g u ⊤ gives (a, x) (b, y) → Ran g u whole gives' (b, y) (c, z)
-      → Ran g u whole more (a, x) (c, z)
+      → RangeChange g u ⊤ gives (a, x) (b, y) → RangeChange g u whole gives' (b, y) (c, z)
+      → RangeChange g u whole more (a, x) (c, z)
   ran_both whole gives gives' more a b c x y z from from' first second = record {
     size = second.size ∙ first.size;
-    went = record {
-      fixed = second.went.fixed ∙ first.went.fixed;
-      failed = λ f. second.went.failed (first.went.failed f);
-      later = later_all_both (files g a) (files g b) (files g c) first.went.later second.went.later;
-      faults = λ h. faultless_all_both (files g a) (files g b) (files g c) (first.went.faults tt) (second.went.faults h);
-      lasting = λ l. second.went.lasting (first.went.lasting l);
-      surplus = λ h s n. second.went.surplus (h.0, (first.looked.stays tt h.1).1) (first.went.safely (tt, h.1) s) n ∙ first.went.surplus (tt, h.1) s n;
-      safely = λ h s. second.went.safely (h.0, (first.looked.stays tt h.1).1) (first.went.safely (tt, h.1) s);
+    mutating_call = record {
+      fixed = second.mutating_call.fixed ∙ first.mutating_call.fixed;
+      failed = λ f. second.mutating_call.failed (first.mutating_call.failed f);
+      counts_not_fallen = later_all_both (files g a) (files g b) (files g c) first.mutating_call.counts_not_fallen second.mutating_call.counts_not_fallen;
+      faults = λ h. faultless_all_both (files g a) (files g b) (files g c) (first.mutating_call.faults tt) (second.mutating_call.faults h);
+      stays_stable = λ l. second.mutating_call.stays_stable (first.mutating_call.stays_stable l);
+      excess_refcount = λ h s n. second.mutating_call.excess_refcount (h.0, (first.lookup_call.stays tt h.1).1) (first.mutating_call.safely (tt, h.1) s) n ∙ first.mutating_call.excess_refcount (tt, h.1) s n;
+      safely = λ h s. second.mutating_call.safely (h.0, (first.lookup_call.stays tt h.1).1) (first.mutating_call.safely (tt, h.1) s);
     };
-    looked = looked_under_both u whole x y z first.looked second.looked;
+    lookup_call = looked_under_both u whole x y z first.lookup_call second.lookup_call;
     intact = λ w i. second.intact w (first.intact tt i);
     values = λ w i.
-        let same : u.under y ≡ u.under x = (first.looked.stays tt i.is_seen).0 in
-        between_both gives gives' more (u.under x) (g.layer a) (g.layer b) (g.layer c) first.size from from' (first.values tt i) (subst (λ (below : List Layer). IsBetween gives' below (g.layer b) (g.layer c)) same (second.values w (first.intact tt i)));
-    stops = λ i.
-        let same : u.under y ≡ u.under x = (first.looked.stays tt i.is_seen).0 in
-        let later : KeepsStops g (u.under x) gives' b c = subst (λ (below : List Layer). KeepsStops g below gives' b c) same (second.stops (first.intact tt i)) in
-        then_left (u.under x) g.sound (g.layer a) (g.layer b) (g.layer a).size (g.layer a).size more gives' (g.image a) (g.image b) (g.image c) first.went.later.0 second.went.later.0 first.went.fixed first.size (omega arith) (omega arith)
-        (λ p inside. elim (first.values tt i p inside) [ inl was ↦ inr (inl was) | inr gave ↦ inr (inr (from p (at (g.layer b ∷ u.under x) p) gave)) ])
+        let same : u.layers_below y ≡ u.layers_below x = (first.lookup_call.stays tt i.is_coherent).0 in
+        between_both gives gives' more (u.layers_below x) (g.layer a) (g.layer b) (g.layer c) first.size from from' (first.values tt i) (subst (λ (below : List Layer). IsBetween gives' below (g.layer b) (g.layer c)) same (second.values w (first.intact tt i)));
+    crash_images = λ i.
+        let same : u.layers_below y ≡ u.layers_below x = (first.lookup_call.stays tt i.is_coherent).0 in
+        let later : KeepsCrashImages g (u.layers_below x) gives' b c = subst (λ (below : List Layer). KeepsCrashImages g below gives' b c) same (second.crash_images (first.intact tt i)) in
+        then_left (u.layers_below x) g.sound (g.layer a) (g.layer b) (g.layer a).size (g.layer a).size more gives' (g.image a) (g.image b) (g.image c) first.mutating_call.counts_not_fallen.0 second.mutating_call.counts_not_fallen.0 first.mutating_call.fixed first.size (omega arith) (omega arith)
+        (λ p inside. elim (first.values tt i p inside) [ inl was ↦ inr (inl was) | inr gave ↦ inr (inr (from p (at (g.layer b ∷ u.layers_below x) p) gave)) ])
         (λ p v inside gave. inr (inr (from' p v gave)))
-        (passes_weaker (Left (u.under x) (g.layer a) (g.image a).bytes g.sound (g.layer a).size (g.layer a).size gives) (Left (u.under x) (g.layer a) (g.image a).bytes g.sound (g.layer a).size (g.layer a).size more) (g.image a) (g.image b)
-        (left_weaker (u.under x) g.sound (g.layer a) (g.image a).bytes (g.layer a).size (g.layer a).size gives more (λ p v inside gave. inr (inr (from p v gave)))) (first.stops i))
-        (subst (λ (n : ℕ). KeepsStopsTo g (u.under x) n n gives' b c) first.size later);
+        (passes_weaker (Left (u.layers_below x) (g.layer a) (g.image a).bytes g.sound (g.layer a).size (g.layer a).size gives) (Left (u.layers_below x) (g.layer a) (g.image a).bytes g.sound (g.layer a).size (g.layer a).size more) (g.image a) (g.image b)
+        (left_weaker (u.layers_below x) g.sound (g.layer a) (g.image a).bytes (g.layer a).size (g.layer a).size gives more (λ p v inside gave. inr (inr (from p v gave)))) (first.crash_images i))
+        (subst (λ (n : ℕ). KeepsCrashImagesTo g (u.layers_below x) n n gives' b c) first.size later);
   }
 
   -- a call that reads the layers below
-  pub ran_over : (whole : Type 0) (gives : ℕ → Value → Type 0) (a b : D) (x y : B) → (g.layer b).size ≡ (g.layer a).size → Went g whole (whole × u.sees_under x) a b → LookedUnder u whole x y
-      → (whole → IsIntact g u a x → HoldsTrue (at (u.under x)) (g.layer b))
-      → (whole → IsIntact g u a x → IsBetween gives (u.under x) (g.layer a) (g.layer b))
-      → (IsIntact g u a x → KeepsStops g (u.under x) gives a b)
-      → Ran g u whole gives (a, x) (b, y)
-  ran_over whole gives a b x y size went looked held values stops = record {
+  pub ran_over : (whole : Type 0) (gives : ℕ → Value → Type 0) (a b : D) (x y : B) → (g.layer b).size ≡ (g.layer a).size → MutatingCall g whole (whole × u.coherent_below x) a b → LookupCallBelow u whole x y
+      → (whole → IsIntact g u a x → HoldsTrue (at (u.layers_below x)) (g.layer b))
+      → (whole → IsIntact g u a x → IsBetween gives (u.layers_below x) (g.layer a) (g.layer b))
+      → (IsIntact g u a x → KeepsCrashImages g (u.layers_below x) gives a b)
+      → RangeChange g u whole gives (a, x) (b, y)
+  ran_over whole gives a b x y size mutating_call looked held values stops = record {
     size = size;
-    went = went;
-    looked = looked;
+    mutating_call = mutating_call;
+    lookup_call = looked;
     intact = λ w i.
-        let stays = looked.stays w i.is_seen in
+        let stays = looked.stays w i.is_coherent in
         record {
-          is_safe = went.safely (w, i.is_seen) i.is_safe;
-          is_seen = stays.1;
-          backed = subst (λ (below : List Layer). IsBacked below (g.layer b)) (sym stays.0) (backed_on (u.under x) (g.layer a) (g.layer b) went.fixed i.backed);
+          is_well_formed = mutating_call.safely (w, i.is_coherent) i.is_well_formed;
+          is_coherent = stays.1;
+          backed = subst (λ (below : List Layer). IsBacked below (g.layer b)) (sym stays.0) (backed_on (u.layers_below x) (g.layer a) (g.layer b) mutating_call.fixed i.backed);
           held = subst (λ (below : List Layer). HoldsTrue (at below) (g.layer b)) (sym stays.0) (held w i);
         };
     values = values;
-    stops = stops;
+    crash_images = stops;
   }
 
   -- a call on the driver alone
-  pub ran_driver : (whole : Type 0) (gives : ℕ → Value → Type 0) (a b : D) (x : B) → (g.layer b).size ≡ (g.layer a).size → Went g whole whole a b
-      → (whole → IsIntact g u a x → HoldsTrue (at (u.under x)) (g.layer b))
-      → (whole → IsIntact g u a x → IsBetween gives (u.under x) (g.layer a) (g.layer b))
-      → (IsIntact g u a x → KeepsStops g (u.under x) gives a b)
-      → Ran g u whole gives (a, x) (b, x)
-  ran_driver whole gives a b x size went held values stops =
-      ran_over whole gives a b x x size (went_weaker g whole whole whole (whole × u.sees_under x) a b (λ h. h) (λ h. h.0) went) (looked_under_same u whole x) held values stops
+  pub ran_driver : (whole : Type 0) (gives : ℕ → Value → Type 0) (a b : D) (x : B) → (g.layer b).size ≡ (g.layer a).size → MutatingCall g whole whole a b
+      → (whole → IsIntact g u a x → HoldsTrue (at (u.layers_below x)) (g.layer b))
+      → (whole → IsIntact g u a x → IsBetween gives (u.layers_below x) (g.layer a) (g.layer b))
+      → (IsIntact g u a x → KeepsCrashImages g (u.layers_below x) gives a b)
+      → RangeChange g u whole gives (a, x) (b, x)
+  ran_driver whole gives a b x size mutating_call held values stops =
+      ran_over whole gives a b x x size (went_weaker g whole whole whole (whole × u.coherent_below x) a b (λ h. h) (λ h. h.0) mutating_call) (looked_under_same u whole x) held values stops
 
 -- The same layers below, seen as another type's.
 module _ {D St B C : Type 0} (f : B → C) (g : Ghosts D St) (u : GhostsBelow C) where
   pub intact_seen : (a : D) (x : B) → IsIntact g (seen_by f u) a x → IsIntact g u a (f x)
-  intact_seen a x i = record { is_safe = i.is_safe; is_seen = i.is_seen; backed = i.backed; held = i.held }
+  intact_seen a x i = record { is_well_formed = i.is_well_formed; is_coherent = i.is_coherent; backed = i.backed; held = i.held }
 
   pub intact_by : (a : D) (x : B) → IsIntact g u a (f x) → IsIntact g (seen_by f u) a x
-  intact_by a x i = record { is_safe = i.is_safe; is_seen = i.is_seen; backed = i.backed; held = i.held }
+  intact_by a x i = record { is_well_formed = i.is_well_formed; is_coherent = i.is_coherent; backed = i.backed; held = i.held }
 
-  pub ran_seen : (whole : Type 0) (gives : ℕ → Value → Type 0) (a b : D) (x y : B) → Ran g (seen_by f u) whole gives (a, x) (b, y) → Ran g u whole gives (a, f x) (b, f y)
+  pub ran_seen : (whole : Type 0) (gives : ℕ → Value → Type 0) (a b : D) (x y : B) → RangeChange g (seen_by f u) whole gives (a, x) (b, y) → RangeChange g u whole gives (a, f x) (b, f y)
   ran_seen whole gives a b x y h = record {
     size = h.size;
-    went = h.went;
-    looked = record { like = h.looked.like; later = h.looked.later; faults = h.looked.faults; stays = h.looked.stays; safely = h.looked.safely; cut = elim h.looked.cut [ inl failed ↦ inl failed | inr known ↦ inr (record { seen = known.seen; safely = known.safely }) ]; lasting = h.looked.lasting; kept = h.looked.kept };
+    mutating_call = h.mutating_call;
+    lookup_call = record { keeps_layer_state = h.lookup_call.keeps_layer_state; counts_not_fallen = h.lookup_call.counts_not_fallen; faults = h.lookup_call.faults; stays = h.lookup_call.stays; safely = h.lookup_call.safely; cut = elim h.lookup_call.cut [ inl failed ↦ inl failed | inr known ↦ inr (record { seen = known.seen; safely = known.safely }) ]; stays_stable = h.lookup_call.stays_stable; unchanged_but_faults = h.lookup_call.unchanged_but_faults };
     intact = λ w i. intact_seen b y (h.intact w (intact_by a x i));
     values = λ w i. h.values w (intact_by a x i);
-    stops = λ i. h.stops (intact_by a x i);
+    crash_images = λ i. h.crash_images (intact_by a x i);
   }

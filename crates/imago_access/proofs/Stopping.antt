@@ -2,51 +2,51 @@
 use Rattle.std.proofs.Common.{◌≡◌, ◌⊎◌, inl, inr, ℕ, ◌<◌, ◌≤◌, List, [], ◌∷◌, ◌++◌, arith, sym, ◌∙◌, ap, subst}
 use Rattle.std.specs.Prelude.{IsTrue, All}
 use Rattle.std.proofs.lemmas.List.Elements.{All-head}
-use Rattle.imago_storage.specs.State.{StorageState, InStep}
-use Rattle.imago_storage.specs.Through.{StopsIn}
+use Rattle.imago_storage.specs.State.{StorageState, CrashImageIsBytes}
+use Rattle.imago_storage.specs.Through.{EachCrashImageIn}
 use Rattle.imago_storage.specs.Disk.{Value}
 use Rattle.imago_storage.proofs.Composing.{tells_on, keeps_on, no_stops, stops_both, stops_weaker, rose_before, rose_behind}
 use Rattle.imago_access.specs.Layer.{Layer, Fixed}
 use Rattle.imago_access.specs.Chain.{at}
 use Rattle.imago_access.specs.Files.{IsLater}
-use Rattle.imago_storage.specs.Passing.{Passes}
+use Rattle.imago_storage.specs.Passing.{UnrefusedCrashImages}
 use Rattle.imago_access.specs.Stops.{shown, May, Left, MakesNone}
 
 -- The file now is what the newest stop left, or there was none.
-pub newest : (P : List ℕ → Type 0) (a b : StorageState) (files : List (List ℕ)) → b.stop ∷ b.past ≡ files ++ (a.stop ∷ a.past) → All P files → (b.stop ≡ a.stop) ⊎ P b.stop
+pub newest : (P : List ℕ → Type 0) (a b : StorageState) (files : List (List ℕ)) → b.crash_image ∷ b.past_crash_images ≡ files ++ (a.crash_image ∷ a.past_crash_images) → All P files → (b.crash_image ≡ a.crash_image) ⊎ P b.crash_image
 newest P a b [] told each = inl (cc told)
-newest P a b (f ∷ fs) told each = let is : b.stop ≡ f = cc told in inr (subst P (sym is) (All-head P f fs each))
+newest P a b (f ∷ fs) told each = let is : b.crash_image ≡ f = cc told in inr (subst P (sym is) (All-head P f fs each))
 
 -- The file now is as it was, or what a stop between left.
-pub here : (P : List ℕ → Type 0) (a b : StorageState) → IsLater a b → InStep a → InStep b → IsTrue a.shape.tells → IsTrue a.shape.keeps → StopsIn P a b → (b.bytes ≡ a.bytes) ⊎ P b.bytes
+pub here : (P : List ℕ → Type 0) (a b : StorageState) → IsLater a b → CrashImageIsBytes a → CrashImageIsBytes b → IsTrue a.shape.tells → IsTrue a.shape.keeps → EachCrashImageIn P a b → (b.bytes ≡ a.bytes) ⊎ P b.bytes
 here P a b later was is tells keeps stops =
-    let now : b.stop ≡ b.bytes = is (tells_on a b later.0 tells) (keeps_on a b later.0 keeps) in
-    let before : a.stop ≡ a.bytes = was tells keeps in
+    let now : b.crash_image ≡ b.bytes = is (tells_on a b later.0 tells) (keeps_on a b later.0 keeps) in
+    let before : a.crash_image ≡ a.bytes = was tells keeps in
     elim (newest P a b stops.files stops.told stops.each) [ inl same ↦ inl (sym now ∙ same ∙ before) | inr holds ↦ inr (subst P now holds) ]
 
 -- Two calls, one behind the other; what is said of the stops of the second may rest on the file between.
 pub passes_both : (P Q R : List ℕ → Type 0) (a b c : StorageState) → IsLater a b → IsLater b c → ((f : List ℕ) → P f → R f) → (((b.bytes ≡ a.bytes) ⊎ P b.bytes) → (f : List ℕ) → Q f → R f)
-    → Passes P a b → Passes Q b c → Passes R a c
-passes_both P Q R a b c ab bc from_first from_second first second calm =
-    let one = first (λ r. calm (rose_before a.refusals b.refusals c.refusals r bc.1.refusals)) in
-    let two = second (λ r. calm (rose_behind a.refusals b.refusals c.refusals ab.1.refusals r)) in (
+    → UnrefusedCrashImages P a b → UnrefusedCrashImages Q b c → UnrefusedCrashImages R a c
+passes_both P Q R a b c ab bc from_first from_second first second no_change_refused =
+    let one = first (λ r. no_change_refused (rose_before a.refusals b.refusals c.refusals r bc.1.refusals)) in
+    let two = second (λ r. no_change_refused (rose_behind a.refusals b.refusals c.refusals ab.1.refusals r)) in (
       λ same. two.0 (one.0 same),
       λ same tells keeps. stops_both P Q R a b c ab.0 one.0 (λ k f p. from_first f p) (λ k f q. from_second (here P a b ab same (one.0 same) tells keeps (one.1 same tells keeps)) f q) one.1 two.1 same tells keeps,
     )
 
-pub passes_weaker : (P Q : List ℕ → Type 0) (a b : StorageState) → ((f : List ℕ) → P f → Q f) → Passes P a b → Passes Q a b
-passes_weaker P Q a b more passes calm = let one = passes calm in (one.0, stops_weaker P Q a b (λ k f p. more f p) one.1)
+pub passes_weaker : (P Q : List ℕ → Type 0) (a b : StorageState) → ((f : List ℕ) → P f → Q f) → UnrefusedCrashImages P a b → UnrefusedCrashImages Q a b
+passes_weaker P Q a b more passes no_change_refused = let one = passes no_change_refused in (one.0, stops_weaker P Q a b (λ k f p. more f p) one.1)
 
 -- a call that makes no request
-pub passes_none : (P : List ℕ → Type 0) (a b : StorageState) → b.shape ≡ a.shape → MakesNone a b → Passes P a b
-passes_none P a b shape none calm = (
+pub passes_none : (P : List ℕ → Type 0) (a b : StorageState) → b.shape ≡ a.shape → MakesNone a b → UnrefusedCrashImages P a b
+passes_none P a b shape none no_change_refused = (
   λ same tells keeps. none.0 ∙ same (subst (λ (s : _). IsTrue s.tells) shape tells) (subst (λ (s : _). IsTrue s.keeps) shape keeps) ∙ sym none.2,
   no_stops P a b none.0 none.1,
 )
 
 -- a call behind another that leaves the file's state
-pub passes_on : (P : List ℕ → Type 0) (a b c : StorageState) → c ≡ b → Passes P a b → Passes P a c
-passes_on P a b c same passes = subst (Passes P a) (sym same) passes
+pub passes_on : (P : List ℕ → Type 0) (a b c : StorageState) → c ≡ b → UnrefusedCrashImages P a b → UnrefusedCrashImages P a c
+passes_on P a b c same passes = subst (UnrefusedCrashImages P a) (sym same) passes
 
 -- A file left by a later call, seen from the entry of the first: the later one begins with a file that the first may show, and each
 -- value that its own entry's disk has or that it gives is one that the whole may show.
@@ -78,8 +78,8 @@ pub then_left : (below : List Layer) (sound : ℕ → List ℕ → Type 0) (entr
     → IsLater a b → IsLater b c → mid.fixed ≡ entry.fixed → mid.size ≡ entry.size → least ≤ entry.size → entry.size ≤ most
     → ((p : ℕ) → p < entry.size → May below entry a.bytes gives p (at (mid ∷ below) p))
     → ((p : ℕ) (v : Value) → p < entry.size → later_gives p v → May below entry a.bytes gives p v)
-    → Passes (Left below entry a.bytes sound entry.size entry.size gives) a b → Passes (Left below mid b.bytes sound least most later_gives) b c
-    → Passes (Left below entry a.bytes sound least most gives) a c
+    → UnrefusedCrashImages (Left below entry a.bytes sound entry.size entry.size gives) a b → UnrefusedCrashImages (Left below mid b.bytes sound least most later_gives) b c
+    → UnrefusedCrashImages (Left below entry a.bytes sound least most gives) a c
 then_left below sound entry mid least most gives later_gives a b c ab bc fixed size low high disk given first second =
     let between : ((b.bytes ≡ a.bytes) ⊎ Left below entry a.bytes sound entry.size entry.size gives b.bytes) → (p : ℕ) → p < entry.size → May below entry a.bytes gives p (shown below entry.fixed.means b.bytes p) = λ how p inside.
     elim how [

@@ -9,7 +9,7 @@ use Rattle.imago_storage.specs.Through.{Overflows, round_up}
 use Rattle.imago_storage.proofs.Rounding.{round_up-le, round_up_whole, le_round_up, round_up_part}
 use Rattle.imago_storage.proofs.Powers.{divides_larger}
 use Rattle.imago_access.specs.Layer.{Layer, unit_of_layer}
-use Rattle.imago_access.specs.Chain.{req_align_of, mem_align_of, unit_of_chain, Likes}
+use Rattle.imago_access.specs.Chain.{req_align_of, mem_align_of, unit_of_chain, KeepLayerStates}
 
 pub alignment_one : IsAlignment 1
 alignment_one = record { positive = omega arith; small = omega arith; divides = refl }
@@ -61,9 +61,9 @@ module _ {D : Type 0} (layer : D → Layer) (aligned : (d : D) → IsAlignment (
 
   -- a range that is in reach of a chain is in reach of the layers below
   pub calm_below : (d : D) (ds : List D) (offset n : ℕ) → (Overflows (unit_of_chain (map layer (d ∷ ds))) offset n → ⊥) → Overflows (unit_of_chain (map layer ds)) offset n → ⊥
-  calm_below d ds offset n calm h =
+  calm_below d ds offset n no_change_refused h =
       let le : unit_of_chain (map layer ds) ≤ unit_of_chain (map layer (d ∷ ds)) = omega arith in
-      calm (overflows_more (unit_of_chain (map layer ds)) (unit_of_chain (map layer (d ∷ ds))) offset n (unit_aligned ds) (unit_aligned (d ∷ ds)) le h)
+      no_change_refused (overflows_more (unit_of_chain (map layer ds)) (unit_of_chain (map layer (d ∷ ds))) offset n (unit_aligned ds) (unit_aligned (d ∷ ds)) le h)
 
   -- a range that isn't in reach of the top layer isn't in reach of the chain
   pub overflows_chain : (d : D) (ds : List D) (offset n : ℕ) → Overflows (unit_of_layer (layer d)) offset n → Overflows (unit_of_chain (map layer (d ∷ ds))) offset n
@@ -73,15 +73,15 @@ module _ {D : Type 0} (layer : D → Layer) (aligned : (d : D) → IsAlignment (
 
   -- and of the top layer
   pub calm_top : (d : D) (ds : List D) (offset n : ℕ) → (Overflows (unit_of_chain (map layer (d ∷ ds))) offset n → ⊥) → Overflows (unit_of_layer (layer d)) offset n → ⊥
-  calm_top d ds offset n calm h =
-      calm (overflows_chain d ds offset n h)
+  calm_top d ds offset n no_change_refused h =
+      no_change_refused (overflows_chain d ds offset n h)
 
 -- layers that are like what they were have the same units
-pub likes_same : (xs : List Layer) → Likes xs xs
+pub likes_same : (xs : List Layer) → KeepLayerStates xs xs
 likes_same [] = tt
 likes_same (x ∷ xs) = (record { fixed = refl; size = refl; unspent = refl; failed = λ f. f }, likes_same xs)
 
-pub likes_both : (xs ys zs : List Layer) → Likes xs ys → Likes ys zs → Likes xs zs
+pub likes_both : (xs ys zs : List Layer) → KeepLayerStates xs ys → KeepLayerStates ys zs → KeepLayerStates xs zs
 likes_both [] [] [] first second = tt
 likes_both (x ∷ xs) (y ∷ ys) (z ∷ zs) first second =
     (record { fixed = second.0.fixed ∙ first.0.fixed; size = second.0.size ∙ first.0.size; unspent = second.0.unspent ∙ first.0.unspent; failed = λ f. second.0.failed (first.0.failed f) }, likes_both xs ys zs first.1 second.1)
@@ -90,17 +90,17 @@ likes_both [] [] (z ∷ zs) first second = absurd second
 likes_both (x ∷ xs) [] zs first second = absurd first
 likes_both (x ∷ xs) (y ∷ ys) [] first second = absurd second
 
-likes_req : (xs ys : List Layer) → Likes xs ys → req_align_of ys ≡ req_align_of xs
+likes_req : (xs ys : List Layer) → KeepLayerStates xs ys → req_align_of ys ≡ req_align_of xs
 likes_req [] [] like = refl
 likes_req (x ∷ xs) (y ∷ ys) like = rw (like.0.fixed, likes_req xs ys like.1) refl
 likes_req [] (y ∷ ys) like = absurd like
 likes_req (x ∷ xs) [] like = absurd like
 
-likes_mem : (xs ys : List Layer) → Likes xs ys → mem_align_of ys ≡ mem_align_of xs
+likes_mem : (xs ys : List Layer) → KeepLayerStates xs ys → mem_align_of ys ≡ mem_align_of xs
 likes_mem [] [] like = refl
 likes_mem (x ∷ xs) (y ∷ ys) like = rw (like.0.fixed, likes_mem xs ys like.1) refl
 likes_mem [] (y ∷ ys) like = absurd like
 likes_mem (x ∷ xs) [] like = absurd like
 
-pub likes_unit : (xs ys : List Layer) → Likes xs ys → unit_of_chain ys ≡ unit_of_chain xs
+pub likes_unit : (xs ys : List Layer) → KeepLayerStates xs ys → unit_of_chain ys ≡ unit_of_chain xs
 likes_unit xs ys like = rw (likes_req xs ys like, likes_mem xs ys like) refl

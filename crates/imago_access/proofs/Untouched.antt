@@ -5,13 +5,13 @@ use Rattle.imago_storage.specs.Disk.{Value}
 use Rattle.imago_access.specs.Layer.{Layer}
 use Rattle.imago_access.specs.Chain.{at}
 use Rattle.imago_access.specs.Files.{Pairs}
-use Rattle.imago_access.specs.Going.{IsUnchanged, Went, WentAnew}
-use Rattle.imago_access.specs.Running.{HoldsTrue, IsIntact, Ran}
-use Rattle.imago_access.specs.Stops.{KeepsStops}
+use Rattle.imago_access.specs.Going.{IsUnchanged, MutatingCall, ReloadingCall}
+use Rattle.imago_access.specs.Running.{HoldsTrue, IsIntact, RangeChange}
+use Rattle.imago_access.specs.Stops.{KeepsCrashImages}
 use Rattle.imago_access.proofs.Room.{room_same, takes_both}
 use Rattle.imago_access.proofs.Running.{went_anew, went_same, ran_driver}
-use Rattle.imago_access.specs.declared.seen.Seen.{Ghosts}
-use Rattle.imago_access.specs.declared.seen.SeenBelow.{Ghosts as GhostsBelow}
+use Rattle.imago_access.specs.declared.driver_model.DriverModel.{Ghosts}
+use Rattle.imago_access.specs.declared.driver_model.LayersBelowModel.{Ghosts as GhostsBelow}
 
 -- all is as it was: where nothing is done, and in two calls
 pub unchanged_same : {D St : Type 0} (g : Ghosts D St) (d : D) → IsUnchanged g d d
@@ -21,10 +21,10 @@ unchanged_same g d = record {
   seen = λ s. s;
   safely = λ s. s;
   stilled = λ s. s;
-  lasting = λ l. l;
-  surplus = λ s c. refl;
+  stays_stable = λ l. l;
+  excess_refcount = λ s c. refl;
   room = λ s. room_same g (λ _. ⊤) (λ _. ⊤) d;
-  began = λ x call begun. begun;
+  stays_begun = λ x call begun. begun;
 }
 
 pub unchanged_both : {D St : Type 0} (g : Ghosts D St) (a b c : D) → IsUnchanged g a b → IsUnchanged g b c → IsUnchanged g a c
@@ -34,24 +34,24 @@ unchanged_both g a b c first second = record {
   seen = λ s. second.seen (first.seen s);
   safely = λ s. second.safely (first.safely s);
   stilled = λ s. second.stilled (first.stilled s);
-  lasting = λ l. second.lasting (first.lasting l);
-  surplus = λ s n. second.surplus (first.safely s) n ∙ first.surplus s n;
+  stays_stable = λ l. second.stays_stable (first.stays_stable l);
+  excess_refcount = λ s n. second.excess_refcount (first.safely s) n ∙ first.excess_refcount s n;
   room = λ s. takes_both g (λ _. ⊤) (λ _. ⊤) (λ _. ⊤) a b c (λ p there. (tt, tt)) (first.room s) (second.room (first.safely s));
-  began = λ x call begun. second.began x call (first.began x call begun);
+  stays_begun = λ x call begun. second.stays_begun x call (first.stays_begun x call begun);
 }
 
-pub all_went_same : {D St : Type 0} (g : Ghosts D St) (whole : Type 0) (ds : List D) → Pairs (WentAnew g whole whole) ds ds
+pub all_went_same : {D St : Type 0} (g : Ghosts D St) (whole : Type 0) (ds : List D) → Pairs (ReloadingCall g whole whole) ds ds
 all_went_same g whole [] = tt
 all_went_same g whole (d ∷ ds) = (went_anew g whole whole d d (went_same g whole whole d), all_went_same g whole ds)
 
 -- A call on the driver alone that leaves the layer as it was.
 pub ran_kept : {D St B : Type 0} (g : Ghosts D St) (u : GhostsBelow B)
-    (whole : Type 0) (gives : ℕ → Value → Type 0) (a b : D) (x : B) → (g.layer b).size ≡ (g.layer a).size → Went g whole whole a b
+    (whole : Type 0) (gives : ℕ → Value → Type 0) (a b : D) (x : B) → (g.layer b).size ≡ (g.layer a).size → MutatingCall g whole whole a b
     → (whole → IsIntact g u a x → g.layer b ≡ g.layer a)
-    → (IsIntact g u a x → KeepsStops g (u.under x) gives a b)
-    → Ran g u whole gives (a, x) (b, x)
-ran_kept g u whole gives a b x size went same stops =
-    ran_driver g u whole gives a b x size went
-    (λ w i. subst (HoldsTrue (at (u.under x))) (sym (same w i)) i.held)
-    (λ w i p inside. inl (ap (λ (l : Layer). at (l ∷ u.under x) p) (same w i)))
+    → (IsIntact g u a x → KeepsCrashImages g (u.layers_below x) gives a b)
+    → RangeChange g u whole gives (a, x) (b, x)
+ran_kept g u whole gives a b x size mutating_call same stops =
+    ran_driver g u whole gives a b x size mutating_call
+    (λ w i. subst (HoldsTrue (at (u.layers_below x))) (sym (same w i)) i.held)
+    (λ w i p inside. inl (ap (λ (l : Layer). at (l ∷ u.layers_below x) p) (same w i)))
     stops

@@ -7,15 +7,15 @@ use Rattle.imago_storage.specs.Disk.{Value, byte}
 use Rattle.imago_storage.specs.Steps.{Call, Step, write, done, IsIn, ToBytes}
 use Rattle.imago_storage.specs.Causes.{PartlyDone}
 use Rattle.imago_storage.specs.declared.fault.Fault.{Fault}
-use Rattle.imago_access.specs.Files.{IsMild, WasNotCutOff}
+use Rattle.imago_access.specs.Files.{IsNotResourceError, HadNoResourceError}
 use Rattle.imago_access.specs.Layer.{Layer, loose, IsFree}
 use Rattle.imago_access.specs.Chain.{at}
 use Rattle.imago_access.specs.Parts.{IsPartOf}
 use Rattle.imago_access.specs.Refusals.{change_refusal}
-use Rattle.imago_access.specs.Running.{IsBetween, IsIntactChain, RanChain, chain_disk, below_of}
+use Rattle.imago_access.specs.Running.{IsBetween, IsIntactChain, ChainRangeChange, chain_disk, below_of}
 use Rattle.imago_access.specs.Stops.{GivesBytes}
 use Rattle.imago_access.proofs.Disks.{allowed_inside, disk_step, disk_partly}
-use Rattle.imago_access.specs.declared.seen.Seen.{Ghosts}
+use Rattle.imago_access.specs.declared.driver_model.DriverModel.{Ghosts}
 
 -- the bytes behind the first, as the code takes them
 abbrev pub rest_of : ℕ → List ℕ → List ℕ
@@ -71,10 +71,10 @@ module _ {D St T : Type 0} (g : Ghosts D St) (free_loose : (d : D) → IsFree (g
   -- a write that succeeds is a step of the disk
   pub write_ok : (old new : D × List D) (unit offset : ℕ) (bytes : List ℕ) (result : Result T Fault) → IsFree (g.layer old.0) → IsFree (g.layer new.0) → change_refusal unit (g.layer old.0) offset (length bytes) ≡ None
       → (IsIntactChain g old → OnOk result ((i : ℕ) → i < length bytes → at (g.layer new.0 ∷ map g.layer old.1) (offset + i) ≡ byte (slice_index bytes i)))
-      → RanChain g (WasNotCutOff result) (GivesBytes offset bytes) old new
+      → ChainRangeChange g (HadNoResourceError result) (GivesBytes offset bytes) old new
       → IsIntactChain g old → OnOk result (Step (below_of g.layer old) (chain_disk g.layer old) (write offset bytes) done (chain_disk g.layer new))
   write_ok old new unit offset bytes (Ok x) was_free is_free allowed shown ran i =
-      disk_step (map g.layer old.1) (map g.layer new.1) (g.layer old.0) (g.layer new.0) (ran.looked.stays tt i.is_seen).0 ran.size (free_loose old.0 was_free) (free_loose new.0 is_free)
+      disk_step (map g.layer old.1) (map g.layer new.1) (g.layer old.0) (g.layer new.0) (ran.lookup_call.stays tt i.is_coherent).0 ran.size (free_loose old.0 was_free) (free_loose new.0 is_free)
       (GivesBytes offset bytes) (ToBytes offset bytes) offset (length bytes) (allowed_inside unit (g.layer old.0) offset (length bytes) allowed) (gives_inside offset bytes) (ran.values tt i)
       (λ p into.
       let k = p - offset in
@@ -84,9 +84,9 @@ module _ {D St T : Type 0} (g : Ghosts D St) (free_loose : (d : D) → IsFree (g
 
   -- a refused one is done in part
   pub write_err : (old new : D × List D) (offset : ℕ) (bytes : List ℕ) (result : Result T Fault) → IsFree (g.layer old.0) → IsFree (g.layer new.0)
-      → RanChain g (WasNotCutOff result) (GivesBytes offset bytes) old new
-      → IsIntactChain g old → IfErr result (λ e. IsMild e → PartlyDone (below_of g.layer old) (write offset bytes) (chain_disk g.layer old) (chain_disk g.layer new))
+      → ChainRangeChange g (HadNoResourceError result) (GivesBytes offset bytes) old new
+      → IsIntactChain g old → IfErr result (λ e. IsNotResourceError e → PartlyDone (below_of g.layer old) (write offset bytes) (chain_disk g.layer old) (chain_disk g.layer new))
   write_err old new offset bytes (Ok x) was_free is_free ran i = tt
-  write_err old new offset bytes (Err e) was_free is_free ran i = λ mild.
-      disk_partly (map g.layer old.1) (map g.layer new.1) (g.layer old.0) (g.layer new.0) (ran.looked.stays mild i.is_seen).0 ran.size (free_loose old.0 was_free) (free_loose new.0 is_free)
-      (GivesBytes offset bytes) (write offset bytes) (ran.values mild i) (gives_inside offset bytes) (λ p v gave. gives_byte offset bytes p (at (g.layer old.0 ∷ map g.layer old.1) p) v gave)
+  write_err old new offset bytes (Err e) was_free is_free ran i = λ not_resource_error.
+      disk_partly (map g.layer old.1) (map g.layer new.1) (g.layer old.0) (g.layer new.0) (ran.lookup_call.stays not_resource_error i.is_coherent).0 ran.size (free_loose old.0 was_free) (free_loose new.0 is_free)
+      (GivesBytes offset bytes) (write offset bytes) (ran.values not_resource_error i) (gives_inside offset bytes) (λ p v gave. gives_byte offset bytes p (at (g.layer old.0 ∷ map g.layer old.1) p) v gave)

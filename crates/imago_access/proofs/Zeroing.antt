@@ -10,16 +10,16 @@ use Rattle.imago_storage.specs.Steps.{Call, IsIn, Stays, Changes, Unless}
 use Rattle.imago_storage.specs.Causes.{Gives, PartlyDone, offset_of, length_of}
 use Rattle.imago_storage.specs.declared.fault.Fault.{Fault}
 use Rattle.imago_storage.specs.declared.fault.Fault.TheVariants.{Outdated}
-use Rattle.imago_access.specs.Layer.{Layer, Cell, Held, IsFree, IsLike, loose, through, unit_of_layer}
+use Rattle.imago_access.specs.Layer.{Layer, Cell, Held, IsFree, KeepsLayerState, loose, through, unit_of_layer}
 use Rattle.imago_access.specs.Chain.{at}
 use Rattle.imago_access.specs.Changes.{Wrote, TakesByte}
-use Rattle.imago_access.specs.Files.{Pairs, IsLater, IsMild, WasNotCutOff, files}
-use Rattle.imago_access.specs.Going.{Went}
+use Rattle.imago_access.specs.Files.{Pairs, IsLater, IsNotResourceError, HadNoResourceError, files}
+use Rattle.imago_access.specs.Going.{MutatingCall}
 use Rattle.imago_access.specs.Parts.{PartCause, MappedCause}
 use Rattle.imago_access.specs.Refusals.{change_refusal}
 use Rattle.imago_access.specs.Room.{IsApart}
-use Rattle.imago_access.specs.Running.{IsIntact, IsBetween, Ran, RanChain, IsIntactChain, chain_disk, below_of}
-use Rattle.imago_access.specs.Stops.{KeepsStops, GivesBytes, GivesZero}
+use Rattle.imago_access.specs.Running.{IsIntact, IsBetween, RangeChange, ChainRangeChange, IsIntactChain, chain_disk, below_of}
+use Rattle.imago_access.specs.Stops.{KeepsCrashImages, GivesBytes, GivesZero}
 use Rattle.imago_access.proofs.ChangeCauses.{part_cause_later}
 use Rattle.imago_access.proofs.Discarding.{like_both}
 use Rattle.imago_access.proofs.Disks.{allowed_inside, disk_step, disk_partly}
@@ -27,8 +27,8 @@ use Rattle.imago_access.proofs.FilePairs.{pairs_append}
 use Rattle.imago_access.proofs.Room.{apart_out, out_wider}
 use Rattle.imago_access.proofs.Running.{holds_loose, ran_driver}
 use Rattle.imago_access.proofs.Units.{layer_aligned}
-use Rattle.imago_access.specs.declared.seen.Seen.{Ghosts}
-use Rattle.imago_access.specs.declared.seen.SeenBelow.{Ghosts as GhostsBelow}
+use Rattle.imago_access.specs.declared.driver_model.DriverModel.{Ghosts}
+use Rattle.imago_access.specs.declared.driver_model.LayersBelowModel.{Ghosts as GhostsBelow}
 
 -- a zeroing of a part gives what that of the whole may
 pub zero_wider : (offset n start m : ℕ) → offset ≤ start → start + m ≤ offset + n → (p : ℕ) (v : Value) → GivesZero start m p v → GivesZero offset n p v
@@ -52,7 +52,7 @@ zero_taken old new guest n wrote i lt =
     subst (λ (z : ℕ). TakesByte z (old.held (guest + i)) (old.cell (guest + i)) (new.held (guest + i)) (new.cell (guest + i))) (zeroes_zero n (replicate n 0) refl i (omega (arith, lt, long))) (wrote.range i (omega (arith, lt, long)))
 
 pub wrote_none : (layer : Layer) (guest : ℕ) → Wrote layer layer guest (replicate 0 0)
-wrote_none layer guest = record { like = record { fixed = refl; size = refl; unspent = refl; failed = λ f. f }; home = refl; range = λ i lt. absurd (omega (arith, lt)); others = λ p out. (refl, refl) }
+wrote_none layer guest = record { keeps_layer_state = record { fixed = refl; size = refl; unspent = refl; failed = λ f. f }; writable_location = refl; range = λ i lt. absurd (omega (arith, lt)); others = λ p out. (refl, refl) }
 
 -- zeroes, and then more behind them
 pub wrote_more : (a b c : Layer) (guest k m : ℕ) → Wrote a b guest (replicate k 0) → Wrote b c (guest + k) (replicate m 0) → Wrote a c guest (replicate (k + m) 0)
@@ -61,8 +61,8 @@ wrote_more a b c guest k m first second =
     let second_long : length (replicate m 0) ≡ m = zeroes_long m (replicate m 0) refl in
     let long : length (replicate (k + m) 0) ≡ k + m = zeroes_long (k + m) (replicate (k + m) 0) refl in
     record {
-      like = like_both a b c first.like second.like;
-      home = second.home ∙ first.home;
+      keeps_layer_state = like_both a b c first.keeps_layer_state second.keeps_layer_state;
+      writable_location = second.writable_location ∙ first.writable_location;
       range = λ i lt. subst (λ (z : ℕ). TakesByte z (a.held (guest + i)) (a.cell (guest + i)) (c.held (guest + i)) (c.cell (guest + i))) (sym (zeroes_zero (k + m) (replicate (k + m) 0) refl i lt)) (elim (cases_lt i k) [
         | inl low ↦
             let stays = second.others (guest + i) (inl (omega (arith, low))) in
@@ -97,7 +97,7 @@ zeroes_loose unit offset n k mid new most near wrote p apart =
     (wrote.others p (out_wider offset n offset (length (replicate k 0)) p (omega arith) (omega (arith, long, most)) (apart_out unit offset n p apart))).1 ∙ near p apart
 
 -- why a piece of a write to a mapping is refused, seen from the entry
-pub mapped_later : (entry mid : Layer) (guest place n done m : ℕ) (olds mids news : List StorageState) → mid.fixed ≡ entry.fixed → mid.size ≡ entry.size → mid.home ≡ entry.home → entry.failed ≡ false → mid.failed ≡ false → 0 < unit_of_layer entry
+pub mapped_later : (entry mid : Layer) (guest place n done m : ℕ) (olds mids news : List StorageState) → mid.fixed ≡ entry.fixed → mid.size ≡ entry.size → mid.writable_location ≡ entry.writable_location → entry.failed ≡ false → mid.failed ≡ false → 0 < unit_of_layer entry
     → done + m ≤ n → Pairs IsLater olds mids → (e : Fault) → MappedCause mid (guest + done) (place + done) m mids news e → MappedCause entry guest place n olds news e
 mapped_later entry mid guest place n done m olds mids news fixed size home ran runs positive inside later Outdated h = (
   omega (arith, h.0, inside),
@@ -105,7 +105,7 @@ mapped_later entry mid guest place n done m olds mids news fixed size home ran r
     mapped.0,
     λ i lt.
         let there : place + (done + i) ≡ place + done + i = omega arith in
-        ap (λ (f : ℕ → Option (ℕ × ℕ)). f (guest + done + i)) home ∙ subst (λ (p : ℕ). entry.home p ≡ Some (mapped.0, place + done + i)) (omega arith) (subst (λ (q : ℕ). entry.home (guest + (done + i)) ≡ Some (mapped.0, q)) there (mapped.1 (done + i) (omega (arith, lt, inside)))),
+        ap (λ (f : ℕ → Option (ℕ × ℕ)). f (guest + done + i)) home ∙ subst (λ (p : ℕ). entry.writable_location p ≡ Some (mapped.0, place + done + i)) (omega arith) (subst (λ (q : ℕ). entry.writable_location (guest + (done + i)) ≡ Some (mapped.0, q)) there (mapped.1 (done + i) (omega (arith, lt, inside)))),
   ),
 )
 mapped_later entry mid guest place n done m olds mids news fixed size home ran runs positive inside later e h =
@@ -132,46 +132,46 @@ zeroes_more below old new offset done count gap n size between before now p ther
 
 module _ {D St B : Type 0} (g : Ghosts D St) (u : GhostsBelow B) where
   -- a zeroing by the driver alone, of an image that has nothing prepared
-  pub ran_zeroed : (free_loose : (d : D) → IsFree (g.layer d) → (p : ℕ) → (g.layer d).held p ≡ loose) (whole : Type 0) (offset n : ℕ) (a b : D) (x : B) → IsFree (g.layer a) → IsLike (g.layer a) (g.layer b) → Went g whole whole a b
-      → (g.safe a → (below : List Layer) → whole → IsBetween (GivesZero offset n) below (g.layer a) (g.layer b))
-      → (g.safe a → (below : List Layer) → KeepsStops g below (GivesZero offset n) a b)
-      → Ran g u whole (GivesZero offset n) (a, x) (b, x)
-  ran_zeroed free_loose whole offset n a b x free like went values stops = ran_driver g u whole (GivesZero offset n) a b x like.size went
-      (λ w i. holds_loose (at (u.under x)) (g.layer b) (free_loose b (like.unspent ∙ free)))
-      (λ w i. values i.is_safe (u.under x) w)
-      (λ i. stops i.is_safe (u.under x))
+  pub ran_zeroed : (free_loose : (d : D) → IsFree (g.layer d) → (p : ℕ) → (g.layer d).held p ≡ loose) (whole : Type 0) (offset n : ℕ) (a b : D) (x : B) → IsFree (g.layer a) → KeepsLayerState (g.layer a) (g.layer b) → MutatingCall g whole whole a b
+      → (g.well_formed a → (below : List Layer) → whole → IsBetween (GivesZero offset n) below (g.layer a) (g.layer b))
+      → (g.well_formed a → (below : List Layer) → KeepsCrashImages g below (GivesZero offset n) a b)
+      → RangeChange g u whole (GivesZero offset n) (a, x) (b, x)
+  ran_zeroed free_loose whole offset n a b x free like mutating_call values stops = ran_driver g u whole (GivesZero offset n) a b x like.size mutating_call
+      (λ w i. holds_loose (at (u.layers_below x)) (g.layer b) (free_loose b (like.unspent ∙ free)))
+      (λ w i. values i.is_well_formed (u.layers_below x) w)
+      (λ i. stops i.is_well_formed (u.layers_below x))
 
   -- a cause in a part, behind calls that went well, is one of the whole
-  pub cause_behind : (safe_runs : (d : D) → g.safe d → (g.layer d).failed ≡ false) (aligned : (d : D) → IsAlignment (g.layer d).fixed.req_align × IsAlignment (g.layer d).fixed.mem_align) (gives : ℕ → Value → Type 0) (offset n start m : ℕ) (a b : D) (x y : B) (news : List StorageState) (own_cause : List Layer → Fault → Type 0) (e : Fault)
-      → offset ≤ start → start + m ≤ offset + n → Ran g u ⊤ gives (a, x) (b, y) → IsIntact g u a x
-      → PartCause (u.under y) (g.layer b) start m (own_cause (u.under y)) (files g b ++ u.files_under y) news e → PartCause (u.under x) (g.layer a) offset n (own_cause (u.under x)) (files g a ++ u.files_under x) news e
-  cause_behind safe_runs aligned gives offset n start m a b x y news own_cause e from to first i h =
-      let same : u.under y ≡ u.under x = (first.looked.stays tt i.is_seen).0 in
-      part_cause_later (u.under x) (g.layer a) (g.layer b) offset n start m (files g a ++ u.files_under x) (files g b ++ u.files_under y) news
-      first.went.fixed first.size (safe_runs a i.is_safe) (safe_runs b (first.intact tt i).is_safe) (layer_aligned g.layer aligned a).positive from to
-      (pairs_append IsLater (files g a) (files g b) (u.files_under x) (u.files_under y) first.went.later first.looked.later)
-      (own_cause (u.under x)) (own_cause (u.under x)) e (λ c. c)
-      (subst (λ (below : List Layer). PartCause below (g.layer b) start m (own_cause below) (files g b ++ u.files_under y) news e) same h)
+  pub cause_behind : (well_formed_is_usable : (d : D) → g.well_formed d → (g.layer d).failed ≡ false) (aligned : (d : D) → IsAlignment (g.layer d).fixed.req_align × IsAlignment (g.layer d).fixed.mem_align) (gives : ℕ → Value → Type 0) (offset n start m : ℕ) (a b : D) (x y : B) (news : List StorageState) (own_cause : List Layer → Fault → Type 0) (e : Fault)
+      → offset ≤ start → start + m ≤ offset + n → RangeChange g u ⊤ gives (a, x) (b, y) → IsIntact g u a x
+      → PartCause (u.layers_below y) (g.layer b) start m (own_cause (u.layers_below y)) (files g b ++ u.files_of_layers_below y) news e → PartCause (u.layers_below x) (g.layer a) offset n (own_cause (u.layers_below x)) (files g a ++ u.files_of_layers_below x) news e
+  cause_behind well_formed_is_usable aligned gives offset n start m a b x y news own_cause e from to first i h =
+      let same : u.layers_below y ≡ u.layers_below x = (first.lookup_call.stays tt i.is_coherent).0 in
+      part_cause_later (u.layers_below x) (g.layer a) (g.layer b) offset n start m (files g a ++ u.files_of_layers_below x) (files g b ++ u.files_of_layers_below y) news
+      first.mutating_call.fixed first.size (well_formed_is_usable a i.is_well_formed) (well_formed_is_usable b (first.intact tt i).is_well_formed) (layer_aligned g.layer aligned a).positive from to
+      (pairs_append IsLater (files g a) (files g b) (u.files_of_layers_below x) (u.files_of_layers_below y) first.mutating_call.counts_not_fallen first.lookup_call.counts_not_fallen)
+      (own_cause (u.layers_below x)) (own_cause (u.layers_below x)) e (λ c. c)
+      (subst (λ (below : List Layer). PartCause below (g.layer b) start m (own_cause below) (files g b ++ u.files_of_layers_below y) news e) same h)
 
 -- What a zeroing of all of a range does to a chain's disk.
 module _ {D St : Type 0} (g : Ghosts D St) (free_loose : (d : D) → IsFree (g.layer d) → (p : ℕ) → (g.layer d).held p ≡ loose)
     (old new : D × List D) (offset n : ℕ) (was_free : IsFree (g.layer old.0)) (is_free : IsFree (g.layer new.0)) where
   pub zero_ok : (unit : ℕ) (result : Result (Unit {0}) Fault) → change_refusal unit (g.layer old.0) offset n ≡ None
       → (IsIntactChain g old → OnOk result ((p : ℕ) → IsIn offset n p → at (g.layer new.0 ∷ map g.layer old.1) p ≡ byte 0))
-      → RanChain g (WasNotCutOff result) (GivesZero offset n) old new → IsIntactChain g old
+      → ChainRangeChange g (HadNoResourceError result) (GivesZero offset n) old new → IsIntactChain g old
       → OnOk result (Unless (n ≡ 0) (Stays (chain_disk g.layer old) (chain_disk g.layer new)) (Changes Steps.ToZero (chain_disk g.layer old) (chain_disk g.layer new) offset n))
   zero_ok unit (Ok x) allowed shown ran i =
-      disk_step (map g.layer old.1) (map g.layer new.1) (g.layer old.0) (g.layer new.0) (ran.looked.stays tt i.is_seen).0 ran.size (free_loose old.0 was_free) (free_loose new.0 is_free)
+      disk_step (map g.layer old.1) (map g.layer new.1) (g.layer old.0) (g.layer new.0) (ran.lookup_call.stays tt i.is_coherent).0 ran.size (free_loose old.0 was_free) (free_loose new.0 is_free)
       (GivesZero offset n) Steps.ToZero offset n (allowed_inside unit (g.layer old.0) offset n allowed) (λ p v gave. gave.0) (ran.values tt i) (shown i)
   zero_ok unit (Err e) allowed shown ran i = tt
 
   -- a refused one is done in part
   pub zero_err : (result : Result (Unit {0}) Fault) (call : Call) → offset_of call ≡ offset → length_of call ≡ n → ((p : ℕ) (was : Value) → Gives (at (map g.layer old.1)) call p was (byte 0))
-      → RanChain g (WasNotCutOff result) (GivesZero offset n) old new → IsIntactChain g old
-      → IfErr result (λ e. IsMild e → PartlyDone (below_of g.layer old) call (chain_disk g.layer old) (chain_disk g.layer new))
+      → ChainRangeChange g (HadNoResourceError result) (GivesZero offset n) old new → IsIntactChain g old
+      → IfErr result (λ e. IsNotResourceError e → PartlyDone (below_of g.layer old) call (chain_disk g.layer old) (chain_disk g.layer new))
   zero_err (Ok x) call from long given ran i = tt
-  zero_err (Err e) call from long given ran i = λ mild.
-      disk_partly (map g.layer old.1) (map g.layer new.1) (g.layer old.0) (g.layer new.0) (ran.looked.stays mild i.is_seen).0 ran.size (free_loose old.0 was_free) (free_loose new.0 is_free)
-      (GivesZero offset n) call (ran.values mild i)
+  zero_err (Err e) call from long given ran i = λ not_resource_error.
+      disk_partly (map g.layer old.1) (map g.layer new.1) (g.layer old.0) (g.layer new.0) (ran.lookup_call.stays not_resource_error i.is_coherent).0 ran.size (free_loose old.0 was_free) (free_loose new.0 is_free)
+      (GivesZero offset n) call (ran.values not_resource_error i)
       (λ p v gave. subst (λ (o : ℕ). IsIn o (length_of call) p) (sym from) (subst (λ (m : ℕ). IsIn offset m p) (sym long) gave.0))
       (λ p v gave. subst (Gives (at (map g.layer old.1)) call p (at (g.layer old.0 ∷ map g.layer old.1) p)) (sym gave.1) (given p (at (g.layer old.0 ∷ map g.layer old.1) p)))

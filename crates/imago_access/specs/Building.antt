@@ -4,10 +4,10 @@ use Rattle.imago_storage.specs.Options.{OpenOptions}
 use Rattle.imago_storage.specs.State.{StorageState}
 use Rattle.imago_storage.specs.declared.fault.Fault.{Fault}
 use Rattle.imago_access.specs.declared.format.Format.{Format}
-use Rattle.imago_access.specs.declared.seen.Seen.{Ghosts}
+use Rattle.imago_access.specs.declared.driver_model.DriverModel.{Ghosts}
 use Rattle.imago_access.specs.Layer.{IsFree}
-use Rattle.imago_access.specs.Files.{IsKept}
-use Rattle.imago_access.specs.Refusals.{barrier}
+use Rattle.imago_access.specs.Files.{UnchangedButMoreFaults}
+use Rattle.imago_access.specs.Refusals.{unusable_fault}
 use Rattle.imago_access.specs.Stops.{IsCounted, IsWritten}
 
 -- these options, or new ones, for writing or not
@@ -27,13 +27,13 @@ pub record IsOpened {D St : Type 0} (g : Ghosts D St) (format : Format) (writabl
   pub size_is : (g.layer d).size ≡ ((g.layer d).fixed.means (g.image d).bytes).size
   pub meant : IsWritten g d
   pub counted : IsCounted g d
-  pub kept : IsKept before (g.image d)
+  pub unchanged_but_faults : UnchangedButMoreFaults before (g.image d)
   pub free : IsFree (g.layer d)
-  pub usable : barrier (g.layer d) ≡ None
-  pub sees : g.sees d
-  pub still : g.still d
-  pub lasting : g.lasts d
-  pub safe : IsTrue (g.layer d).fixed.keeps → g.sound (g.layer d).fixed.kind (g.image d).bytes → g.safe d
+  pub usable : unusable_fault (g.layer d) ≡ None
+  pub coherent : g.coherent d
+  pub has_no_dirty_data : g.has_no_dirty_data d
+  pub stays_stable : g.stable d
+  pub well_formed : IsTrue (g.layer d).fixed.keeps → g.sound (g.layer d).fixed.kind (g.image d).bytes → g.well_formed d
 
 -- Each driver that may be opened is one just opened.
 abbrev pub OpensOnly : {D St : Type 0} → Ghosts D St → (D → Type 0) → Format → Bool → ℕ → StorageState → Type 0

@@ -1,7 +1,7 @@
 -- What a chain of layers shows.
 use Rattle.std.specs.Prelude.{◌≡◌, ◌⊎◌, max, Bool, true, false, ℕ, List, [], ◌∷◌, if◌then◌else◌, ltb, ⊤}
 use Rattle.imago_storage.specs.Disk.{Value, byte, Disk}
-use Rattle.imago_access.specs.Layer.{unmapped, Layer, through, hold_of, IsLike}
+use Rattle.imago_access.specs.Layer.{unmapped, Layer, through, hold_of, KeepsLayerState}
 
 -- the value at a place: the top layer's, or where it has none the one below; 0 past the end of a layer
 abbrev pub at : List Layer → ℕ → Value
@@ -46,7 +46,7 @@ EndsAt P Q (old ∷ olds) (new ∷ news) = (Q old new × (news ≡ olds)) ⊎ (P
 EndsAt P Q _ _ = ⊥
 
 -- each layer is like what it was: what never changes, its size and the unspent mapping
-abbrev pub Likes : List Layer → List Layer → Type 0
-Likes [] [] = ⊤
-Likes (old ∷ olds) (new ∷ news) = IsLike old new × Likes olds news
-Likes _ _ = ⊥
+abbrev pub KeepLayerStates : List Layer → List Layer → Type 0
+KeepLayerStates [] [] = ⊤
+KeepLayerStates (old ∷ olds) (new ∷ news) = KeepsLayerState old new × KeepLayerStates olds news
+KeepLayerStates _ _ = ⊥

@@ -4,7 +4,7 @@ use Rattle.imago_storage.specs.Steps.{Call, Answer, Step, Stays, ensure, run, pr
 use Rattle.imago_storage.specs.Causes.{PartlyDone, offset_of, length_of}
 use Rattle.imago_storage.specs.declared.fault.Fault.{Fault}
 use Rattle.imago_storage.specs.declared.fault.Fault.TheVariants.{ReadOnly, Outdated}
-use Rattle.imago_access.specs.declared.seen.Seen.{Ghosts}
+use Rattle.imago_access.specs.declared.driver_model.DriverModel.{Ghosts}
 use Rattle.imago_access.specs.declared.mapping.Mapping.{Mapping}
 use Rattle.imago_access.specs.declared.mapping.PreparedDataMapping.{PreparedDataMapping}
 use Rattle.imago_access.specs.declared.format.PreallocateMode.{PreallocateMode}
@@ -12,15 +12,15 @@ use Rattle.imago_access.specs.Layer.{Layer}
 use Rattle.imago_access.specs.Chain.{unit_of_chain}
 use Rattle.imago_access.specs.Layers.{chain}
 use Rattle.imago_access.specs.Changes.{Asked}
-use Rattle.imago_access.specs.Files.{ImageCause, IsMild, WasNotCutOff, files_of}
+use Rattle.imago_access.specs.Files.{ImageCause, IsNotResourceError, HadNoResourceError, files_of}
 use Rattle.imago_access.specs.Going.{IsUnchanged}
 use Rattle.imago_access.specs.Parts.{IsMappedAt, GrowthCause, ShrinkCause}
-use Rattle.imago_access.specs.Refusals.{barrier, change_refusal, look_refusal, ChangeCause}
+use Rattle.imago_access.specs.Refusals.{unusable_fault, change_refusal, look_refusal, ChangeCause}
 use Rattle.imago_access.specs.Resizes.{fill_of, resizing}
-use Rattle.imago_access.specs.Room.{IsApart, Takes, LeavesRoom, IsUndeclined, IsGivenUp, IsZeroed}
+use Rattle.imago_access.specs.Room.{IsApart, Takes, LeavesAllocation, IsUndeclined, IsGivenUp, IsZeroed}
 use Rattle.imago_access.specs.Running.{IsIntactChain, chain_disk, below_of}
 use Rattle.imago_access.specs.Spending.{IsMine, IsForeignTo, is_own}
-use Rattle.imago_access.specs.Stops.{KeepsStops, KeepsStopsTo, GivesHeld, GivesPast, GivesBelowPast}
+use Rattle.imago_access.specs.Stops.{KeepsCrashImages, KeepsCrashImagesTo, GivesHeld, GivesPast, GivesBelowPast}
 
 -- the call is a step of the chain's disk, and answers this
 abbrev pub ChainSteps : {D St : Type 0} → Ghosts D St → Call → Answer → D × List D → D × List D → Type 0
@@ -54,8 +54,8 @@ abbrev pub OwnCause : {D St : Type 0} → Ghosts D St → Call → D × List D �
 OwnCause g call old new = ChainCause g call (g.own_cause old.0 (map g.layer old.1) call) old new
 
 -- P, where it was refused for another cause than want of memory or a storage that failed
-abbrev pub IfMild : {T : Type 0} → Result T Fault → Type 0 → Type 0
-IfMild result P = IfErr result (λ e. IsMild e → P)
+abbrev pub UnlessResourceError : {T : Type 0} → Result T Fault → Type 0 → Type 0
+UnlessResourceError result P = IfErr result (λ e. IsNotResourceError e → P)
 
 -- a call over this range, in bytes, has nothing to do, or is refused before anything is done: one that changes, and one that only looks
 abbrev pub EndsAtOnce : {D St : Type 0} → Ghosts D St → D × List D → ℕ → ℕ → Type 0
@@ -81,7 +81,7 @@ abbrev pub IsCarriedOut : {D St : Type 0} → Ghosts D St → Call → Result Un
 IsCarriedOut g call result old new = IsIntactChain g old → OnOk result (ChainSteps g call done old new)
 
 abbrev pub IsDoneInPart : {D St : Type 0} → Ghosts D St → Call → Result Unit Fault → D × List D → D × List D → Type 0
-IsDoneInPart g call result old new = IsIntactChain g old → IfMild result (ChainPartly g call old new)
+IsDoneInPart g call result old new = IsIntactChain g old → UnlessResourceError result (ChainPartly g call old new)
 
 abbrev pub CallRefused : {D St T : Type 0} → Ghosts D St → Call → Result T Fault → D × List D → D × List D → Type 0
 CallRefused g call result old new = IsIntactChain g old → IfErr result (OwnCause g call old new)
@@ -90,7 +90,7 @@ CallRefused g call result old new = IsIntactChain g old → IfErr result (OwnCau
 -- or VMDK top, where each byte counts as vacant and zeroed. Nor does it of a qcow2 top, whose driver may decline each such call.
 abbrev pub GivesUnitsUp : {D St : Type 0} → Ghosts D St → Call → Result Unit Fault → D × List D → D × List D → Type 0
 GivesUnitsUp g call result old new = IsIntactChain g old → WontDecline g call old
-    → OnOk result (IsGivenUp (g.vacant new.0) (g.layer old.0).fixed.unit (g.layer old.0).size (offset_of call) (length_of call))
+    → OnOk result (IsGivenUp (g.unallocated new.0) (g.layer old.0).fixed.unit (g.layer old.0).size (offset_of call) (length_of call))
 
 abbrev pub ZeroesUnits : {D St : Type 0} → Ghosts D St → Call → Result Unit Fault → D × List D → D × List D → Type 0
 ZeroesUnits g call result old new = IsIntactChain g old → WontDecline g call old
@@ -98,12 +98,12 @@ ZeroesUnits g call result old new = IsIntactChain g old → WontDecline g call o
 
 -- A call that gives no room up, or none out of the range, and takes none but in units that the range touches.
 abbrev pub TakesNear : {D St T : Type 0} → Ghosts D St → ℕ → ℕ → Result T Fault → D × List D → D × List D → Type 0
-TakesNear g offset n result old new = IsIntactChain g old → WasNotCutOff result
+TakesNear g offset n result old new = IsIntactChain g old → HadNoResourceError result
     → Takes g (IsApart (g.layer old.0).fixed.unit offset n) old.0 new.0
 
 abbrev pub GivesUpNear : {D St T : Type 0} → Ghosts D St → ℕ → ℕ → Result T Fault → D × List D → D × List D → Type 0
-GivesUpNear g offset n result old new = IsIntactChain g old → WasNotCutOff result
-    → LeavesRoom g (IsOut offset n) (IsApart (g.layer old.0).fixed.unit offset n) old.0 new.0
+GivesUpNear g offset n result old new = IsIntactChain g old → HadNoResourceError result
+    → LeavesAllocation g (IsOut offset n) (IsApart (g.layer old.0).fixed.unit offset n) old.0 new.0
 
 -- a run of the range was mapped as part of the disk, and to be written and committed
 abbrev pub ChainEnsures : {D St : Type 0} → Ghosts D St → Asked → D × List D → D × List D → Mapping × ℕ → Type 0
@@ -115,7 +115,7 @@ ChainPrepares g asked old new m =
 
 -- each place of the run of a prepared mapping, from an offset on, can be written where the mapping says
 abbrev pub CanWriteRun : {St : Type 0} → Layer → ℕ → PreparedDataMapping St → Type 0
-CanWriteRun layer offset m = (i : ℕ) → i < m.length → layer.home (offset + i) ≡ Some (m.storage, m.offset + i)
+CanWriteRun layer offset m = (i : ℕ) → i < m.length → layer.writable_location (offset + i) ≡ Some (m.storage, m.offset + i)
 
 -- the commit of a mapping with this state, if it has any, by whether it was prepared under the top driver's number
 abbrev pub commit_of : {D St : Type 0} → Ghosts D St → Option St → D × List D → Call
@@ -133,12 +133,12 @@ abbrev pub WhereMine : {D St : Type 0} → Ghosts D St → Option St → D × Li
 WhereMine g state c P = IsIntactChain g c → IsMine g state (g.layer c.0) → P
 
 -- each place that could be written can be, in the same place
-abbrev pub KeepsHomes : Layer → Layer → Type 0
-KeepsHomes old new = (p : ℕ) (place : ℕ × ℕ) → old.home p ≡ Some place → new.home p ≡ Some place
+abbrev pub KeepsWritableLocations : Layer → Layer → Type 0
+KeepsWritableLocations old new = (p : ℕ) (place : ℕ × ℕ) → old.writable_location p ≡ Some place → new.writable_location p ≡ Some place
 
 -- a stop in a commit shows what was written to the mapping, place by place
-abbrev pub CommitStops : {D St : Type 0} → Ghosts D St → D × List D → D × List D → Type 0
-CommitStops g old new = KeepsStops g (map g.layer old.1) (GivesHeld (g.layer old.0)) old.0 new.0
+abbrev pub CommitCrashImages : {D St : Type 0} → Ghosts D St → D × List D → D × List D → Type 0
+CommitCrashImages g old new = KeepsCrashImages g (map g.layer old.1) (GivesHeld (g.layer old.0)) old.0 new.0
 
 -- why the commit of a mapping is refused that the top driver has prepared, or that was prepared under another number
 abbrev pub ChainCommitRefused : {D St T : Type 0} → Ghosts D St → Option St → Result Unit (Fault × T) → D × List D → D × List D → Type 0
@@ -159,7 +159,7 @@ ChainMappedCause g guest place bytes old new =
 
 -- A resize of a chain that has something to do is refused by a top driver that wasn't opened for writing.
 abbrev pub NeedsWritable : {D St : Type 0} → Ghosts D St → Type 0 → Result Unit Fault → D × List D → D × List D → Type 0
-NeedsWritable g Alters result old new = barrier (g.layer old.0) ≡ None → Alters → IsFalse (g.layer old.0).fixed.writable
+NeedsWritable g Alters result old new = unusable_fault (g.layer old.0) ≡ None → Alters → IsFalse (g.layer old.0).fixed.writable
     → IsErrOf result ReadOnly × AllUnchanged g old new
 
 -- the disk has this size then
@@ -167,13 +167,13 @@ abbrev pub ChainResizes : {D St : Type 0} → Ghosts D St → ℕ → Preallocat
 ChainResizes g size mode old new = ChainSteps g (resizing (g.layer old.0).size size (fill_of mode)) done old new
 
 -- a stop in a growth to this size shows anything behind the old one, and one in a shrink to it the layers below behind it
-abbrev pub GrowthStops : {D St : Type 0} → Ghosts D St → ℕ → D × List D → D × List D → Type 0
-GrowthStops g size old new =
-    KeepsStopsTo g (map g.layer old.1) (g.layer old.0).size (max (g.layer old.0).size size) (GivesPast (g.layer old.0).size) old.0 new.0
+abbrev pub GrowthCrashImages : {D St : Type 0} → Ghosts D St → ℕ → D × List D → D × List D → Type 0
+GrowthCrashImages g size old new =
+    KeepsCrashImagesTo g (map g.layer old.1) (g.layer old.0).size (max (g.layer old.0).size size) (GivesPast (g.layer old.0).size) old.0 new.0
 
-abbrev pub ShrinkStops : {D St : Type 0} → Ghosts D St → ℕ → D × List D → D × List D → Type 0
-ShrinkStops g size old new =
-    KeepsStopsTo g (map g.layer old.1) size (g.layer old.0).size (GivesBelowPast (map g.layer old.1) size) old.0 new.0
+abbrev pub ShrinkCrashImages : {D St : Type 0} → Ghosts D St → ℕ → D × List D → D × List D → Type 0
+ShrinkCrashImages g size old new =
+    KeepsCrashImagesTo g (map g.layer old.1) size (g.layer old.0).size (GivesBelowPast (map g.layer old.1) size) old.0 new.0
 
 -- why a growth or a shrink to this size is refused
 abbrev pub ChainGrowthRefused : {D St : Type 0} → Ghosts D St → ℕ → PreallocateMode → Result Unit Fault → D × List D → D × List D → Type 0

@@ -3,16 +3,16 @@ use Rattle.std.specs.Prelude.{◌≡◌, ◌⊎◌, ℕ, ◌+◌, ◌<◌, ◌^�
 use Rattle.imago_storage.specs.Disk.{byte}
 use Rattle.imago_storage.specs.Steps.{lookup, found, read, bytes_read}
 use Rattle.imago_storage.specs.declared.fault.Fault.{Fault}
-use Rattle.imago_access.specs.declared.seen.Seen.{Ghosts}
+use Rattle.imago_access.specs.declared.driver_model.DriverModel.{Ghosts}
 use Rattle.imago_access.specs.declared.mapping.ShallowMapping.{ShallowMapping}
 use Rattle.imago_access.specs.declared.mapping.Mapping.{Mapping}
 use Rattle.imago_access.specs.Layer.{Layer}
 use Rattle.imago_access.specs.Chain.{at, Each, EndsAt, unit_of_chain}
 use Rattle.imago_access.specs.Files.{IsStale, files_of}
-use Rattle.imago_access.specs.Going.{Marks}
+use Rattle.imago_access.specs.Going.{MarksFailed}
 use Rattle.imago_access.specs.Kinds.{kind_of, deep_kind_of}
 use Rattle.imago_access.specs.Mappings.{DeepNames, DeepNamesWritable, IsDeepBelow, IsThere, stored_at}
-use Rattle.imago_access.specs.Refusals.{barrier, IsUnusable, ReadCause, DeepLookCause, InvalidateCause}
+use Rattle.imago_access.specs.Refusals.{unusable_fault, IsUnusable, ReadCause, DeepLookCause, InvalidateCause}
 use Rattle.imago_access.specs.Failing.{RefusesReload}
 use Rattle.imago_access.specs.ChainCalls.{ChainSteps, AllUnchanged}
 
@@ -33,7 +33,7 @@ ShowBytes layers offset bytes n = (i : ℕ) → i < n → at layers (offset + i)
 
 -- P, where lookups in each of these layers are true, and they are fewer than depths can name
 abbrev pub WhereAllSee : {D St : Type 0} → Ghosts D St → List D → Type 0 → Type 0
-WhereAllSee g ds P = length ds < 2 ^ 64 → Each g.sees ds → P
+WhereAllSee g ds P = length ds < 2 ^ 64 → Each g.coherent ds → P
 
 -- The answer says what the places of its run are, by the bytes that the files hold then, and which places can be written; it names a depth
 -- that there is.
@@ -53,7 +53,7 @@ NamesStorage g result ds = length ds < 2 ^ 64 → IfOk result (λ r. IsThere g d
 
 -- a read of a run has filled the buffer's begin with what these layers show
 abbrev pub ReadsRun : {D St : Type 0} → Ghosts D St → ℕ → Result ℕ Fault → List ℕ → List D → Type 0
-ReadsRun g offset result buf ds = Each g.sees ds → IfOk result (ShowBytes (map g.layer ds) offset buf)
+ReadsRun g offset result buf ds = Each g.coherent ds → IfOk result (ShowBytes (map g.layer ds) offset buf)
 
 -- a lookup of so many bytes in a layer has nothing to do, or is refused at once
 abbrev pub NeedsNoLook : Layer → ℕ → Type 0
@@ -65,35 +65,35 @@ UnchangedIfIdle g asked old new = NeedsNoLook (g.layer old.0) asked → AllUncha
 
 -- why a lookup through these layers is refused, and a read
 abbrev pub LookRefused : {D St T : Type 0} → Ghosts D St → ℕ → ℕ → Result T Fault → List D → List D → Type 0
-LookRefused g offset asked result olds news = Each g.sees olds
+LookRefused g offset asked result olds news = Each g.coherent olds
     → IfErr result (DeepLookCause (map g.layer olds) (at (map g.layer olds)) offset asked (files_of g olds) (files_of g news))
 
 abbrev pub ReadRefused : {D St T : Type 0} → Ghosts D St → ℕ → ℕ → Result T Fault → List D → List D → Type 0
-ReadRefused g offset n result olds news = Each g.sees olds
+ReadRefused g offset n result olds news = Each g.coherent olds
     → IfErr result (ReadCause (map g.layer olds) (at (map g.layer olds)) (unit_of_chain (map g.layer olds)) offset n
     (files_of g olds) (files_of g news))
 
 -- Right after a flush of each layer nothing is lost by a call that drops what they hold in memory: they are what they were, and lookups
 -- stay true.
 abbrev pub WhereFlushed : {D St : Type 0} → Ghosts D St → List D → Type 0 → Type 0
-WhereFlushed g ds P = Each (λ d. IsTrue (g.layer d).fixed.keeps) ds → Each g.sees ds → Each g.still ds → P
+WhereFlushed g ds P = Each (λ d. IsTrue (g.layer d).fixed.keeps) ds → Each g.coherent ds → Each g.has_no_dirty_data ds → P
 
 abbrev pub KeepsLayers : {D St : Type 0} → Ghosts D St → Result Unit Fault → List D → List D → Type 0
 KeepsLayers g result olds news = WhereFlushed g olds (OnOk result (map g.layer news ≡ map g.layer olds))
 
 abbrev pub KeepsSight : {D St : Type 0} → Ghosts D St → Result Unit Fault → List D → List D → Type 0
-KeepsSight g result olds news = WhereFlushed g olds (OnOk result (Each g.sees news))
+KeepsSight g result olds news = WhereFlushed g olds (OnOk result (Each g.coherent news))
 
 -- Why the files of the layer at which that ended couldn't be read again, by its own storages, and what this marks. Where they say something
 -- else than what was read of them it could be used before, and has failed.
 pub record EndsReload {D St : Type 0} (g : Ghosts D St) (fault : Fault) (old new : D) : Type 0 where
   pub cause : RefusesReload g old new fault
-  pub marks : Marks g old new fault
-  pub failed : IsStale fault → (barrier (g.layer old) ≡ None) × IsTrue (g.layer new).failed
+  pub marks_failed : MarksFailed g old new fault
+  pub failed : IsStale fault → (unusable_fault (g.layer old) ≡ None) × IsTrue (g.layer new).failed
 
 -- and what the others are: nothing waits in those above it, and those below it are as they were
 abbrev pub EndsReloads : {D St : Type 0} → Ghosts D St → List D → List D → Fault → Type 0
-EndsReloads g olds news fault = EndsAt g.still (EndsReload g fault) olds news
+EndsReloads g olds news fault = EndsAt g.has_no_dirty_data (EndsReload g fault) olds news
 
 -- why the layers' files can't be read again
 abbrev pub RefusesReloads : {D St : Type 0} → Ghosts D St → List D → List D → Fault → Type 0

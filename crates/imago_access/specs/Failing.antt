@@ -1,8 +1,8 @@
 -- Why calls of a driver are refused, of every image, by the storages of the driver and of the layers below it.
 use Rattle.std.specs.Prelude.{◌++◌, ℕ, [], ◌∷◌}
 use Rattle.imago_storage.specs.declared.fault.Fault.{Fault}
-use Rattle.imago_access.specs.declared.seen.Seen.{Ghosts}
-use Rattle.imago_access.specs.declared.seen.SeenBelow.{Ghosts as GhostsBelow}
+use Rattle.imago_access.specs.declared.driver_model.DriverModel.{Ghosts}
+use Rattle.imago_access.specs.declared.driver_model.LayersBelowModel.{Ghosts as GhostsBelow}
 use Rattle.imago_access.specs.Chain.{at, unit_of_chain}
 use Rattle.imago_access.specs.Files.{ImageCause, files}
 use Rattle.imago_access.specs.Parts.{PlainCause}
@@ -14,7 +14,7 @@ Fails g old new = ImageCause (files g old) (files g new)
 
 -- and by those of the layers below, that it reads
 abbrev pub FailsOver : {D St B : Type 0} → Ghosts D St → GhostsBelow B → D × B → D × B → Fault → Type 0
-FailsOver g u old new = ImageCause (files g old.0 ++ u.files_under old.1) (files g new.0 ++ u.files_under new.1)
+FailsOver g u old new = ImageCause (files g old.0 ++ u.files_of_layers_below old.1) (files g new.0 ++ u.files_of_layers_below new.1)
 
 -- What refuses a call of a driver: a lookup of a range, a read of places of a storage or of the layers below, a flush or a sync, and
 -- reading its files again.
@@ -26,7 +26,7 @@ RefusesRead g place n old new = ReadMappedCause (g.layer old) place n (files g o
 
 abbrev pub RefusesReads : {B : Type 0} → GhostsBelow B → ℕ → ℕ → B → B → Fault → Type 0
 RefusesReads u offset n old new =
-    ReadCause (u.under old) (at (u.under old)) (unit_of_chain (u.under old)) offset n (u.files_under old) (u.files_under new)
+    ReadCause (u.layers_below old) (at (u.layers_below old)) (unit_of_chain (u.layers_below old)) offset n (u.files_of_layers_below old) (u.files_of_layers_below new)
 
 abbrev pub RefusesFlush : {D St : Type 0} → Ghosts D St → D → D → Fault → Type 0
 RefusesFlush g old new = PlainCause (g.layer old) (files g old) (files g new)

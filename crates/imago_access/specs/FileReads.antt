@@ -5,9 +5,9 @@ use Rattle.imago_storage.specs.Calls.{IsFaultless}
 use Rattle.imago_storage.specs.Steps.{Call}
 use Rattle.imago_storage.specs.declared.fault.Fault.{Fault}
 use Rattle.imago_storage.specs.declared.fault.Fault.TheVariants.{RangeOverflow, Memory, Storage}
-use Rattle.imago_access.specs.declared.seen.Seen.{Ghosts}
-use Rattle.imago_access.specs.Files.{Pairs, IsKept, SomeRose, files}
-use Rattle.imago_access.specs.Going.{KeepsSurplus}
+use Rattle.imago_access.specs.declared.driver_model.DriverModel.{Ghosts}
+use Rattle.imago_access.specs.Files.{Pairs, UnchangedButMoreFaults, SomeRose, files}
+use Rattle.imago_access.specs.Going.{KeepsExcessRefcounts}
 use Rattle.imago_access.specs.Room.{Takes}
 
 -- the bytes of the storage with this number: none where there is none
@@ -26,15 +26,15 @@ files_at g (d ∷ ds) (suc layer) = files_at g ds layer
 -- `whole` holds, and then these are, too.
 pub record FilesRead {D St : Type 0} (g : Ghosts D St) (whole : Type 0) (old new : D) : Type 0 where
   pub layer : g.layer new ≡ g.layer old
-  pub kept : Pairs IsKept (files g old) (files g new)
+  pub unchanged_but_faults : Pairs UnchangedButMoreFaults (files g old) (files g new)
   pub faults : whole → Pairs IsFaultless (files g old) (files g new)
-  pub seen : g.sees old → g.sees new
-  pub safely : g.safe old → g.safe new
-  pub stilled : g.still old → g.still new
-  pub lasting : g.lasts old → g.lasts new
-  pub surplus : g.safe old → KeepsSurplus g old new
-  pub room : g.safe old → Takes g (λ _. ⊤) old new
-  pub began : (d : D) (call : Call) → g.began d call old → g.began d call new
+  pub seen : g.coherent old → g.coherent new
+  pub safely : g.well_formed old → g.well_formed new
+  pub stilled : g.has_no_dirty_data old → g.has_no_dirty_data new
+  pub stays_stable : g.stable old → g.stable new
+  pub excess_refcount : g.well_formed old → KeepsExcessRefcounts g old new
+  pub room : g.well_formed old → Takes g (λ _. ⊤) old new
+  pub stays_begun : (d : D) (call : Call) → g.began d call old → g.began d call new
 
 -- Why such a read is refused: the padded end of its range passes 64 bits, memory is wanting and no storage failed, or one failed.
 abbrev pub FileReadCause : (overflows : Type 0) → List StorageState → List StorageState → Fault → Type 0

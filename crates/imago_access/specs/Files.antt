@@ -1,9 +1,9 @@
 -- What calls do to the storages of an image or of a chain.
 use Rattle.std.specs.Prelude.{◌≡◌, ◌⊎◌, ⊤, ◌<◌, ◌≤◌, ◌+◌, ◌∷◌, [], ◌++◌, ◌&&◌, max, ℕ, zero, suc, Bool, List, Result, MatchResult, slice_index}
-use Rattle.imago_storage.specs.State.{StorageState, Rose, unit_of}
-use Rattle.imago_storage.specs.Calls.{Kept, Later}
+use Rattle.imago_storage.specs.State.{StorageState, HasRisen, unit_of}
+use Rattle.imago_storage.specs.Calls.{UnchangedButFaults, CountsNotFallen}
 use Rattle.imago_storage.specs.Through.{Overflows}
-use Rattle.imago_access.specs.declared.seen.Seen.{Ghosts}
+use Rattle.imago_access.specs.declared.driver_model.DriverModel.{Ghosts}
 use Rattle.imago_storage.specs.declared.fault.Fault.{Fault}
 use Rattle.imago_storage.specs.declared.fault.Fault.TheVariants.{DamagedHeader, DamagedTable, DamagedDescriptor, Unsupported, VersionLimit, Limit, MissingBelow, ExtraLayer, CacheFull, BadArgument, Memory, Storage, BadCommand}
 
@@ -14,16 +14,16 @@ Pairs R (old ∷ olds) (new ∷ news) = R old new × Pairs R olds news
 Pairs R _ _ = ⊥
 
 -- nothing has changed but counts of faults, and these have not fallen
-abbrev pub IsKept : StorageState → StorageState → Type 0
-IsKept old new = Kept old new × (old.faults ≤ new.faults)
+abbrev pub UnchangedButMoreFaults : StorageState → StorageState → Type 0
+UnchangedButMoreFaults old new = UnchangedButFaults old new × (old.faults ≤ new.faults)
 
 -- what never changes of a storage is the same, and no count has fallen
 abbrev pub IsLater : StorageState → StorageState → Type 0
-IsLater old new = (new.shape ≡ old.shape) × Later old new
+IsLater old new = (new.shape ≡ old.shape) × CountsNotFallen old new
 
 -- a storage has failed
 abbrev pub SomeRose : List StorageState → List StorageState → Type 0
-SomeRose (old ∷ olds) (new ∷ news) = Rose old.faults new.faults ⊎ SomeRose olds news
+SomeRose (old ∷ olds) (new ∷ news) = HasRisen old.faults new.faults ⊎ SomeRose olds news
 SomeRose _ _ = ⊥
 
 -- Why a call of an image, sound or not, is refused: by a number that calls of images answer, and by a storage only where one has failed.
@@ -39,14 +39,14 @@ ImageCause olds news Storage = SomeRose olds news
 ImageCause olds news fault = ⊤
 
 -- neither want of memory nor a storage that failed
-abbrev pub IsMild : Fault → Type 0
-IsMild Memory = ⊥
-IsMild Storage = ⊥
-IsMild fault = ⊤
+abbrev pub IsNotResourceError : Fault → Type 0
+IsNotResourceError Memory = ⊥
+IsNotResourceError Storage = ⊥
+IsNotResourceError fault = ⊤
 
 -- the call succeeded, or was refused for another cause than these two
-abbrev pub WasNotCutOff : {T : Type 0} → Result T Fault → Type 0
-WasNotCutOff result = MatchResult result (λ _. ⊤) IsMild
+abbrev pub HadNoResourceError : {T : Type 0} → Result T Fault → Type 0
+HadNoResourceError result = MatchResult result (λ _. ⊤) IsNotResourceError
 
 -- the format can't do it, or its storage can't
 abbrev pub IsDeclined : Fault → Type 0

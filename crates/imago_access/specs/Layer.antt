@@ -59,9 +59,9 @@ pub record Fixed : Type 0 where
   -- its file states the size of the disk
   pub exact : Bool
   -- a call that want of memory or a storage's fault cut off marks the image failed, or has left all as it was
-  pub marks : Bool
+  pub marks_failed : Bool
   -- it says of each place whether something is allocated for it, and whether it is zeroed, by what its lookups answer
-  pub states_room : Bool
+  pub reports_allocation : Bool
   -- what it allocates and gives up as a whole, in bytes: each multiple of it up to the next, or to the disk's end
   pub unit : ℕ
 
@@ -73,7 +73,7 @@ pub record Layer : Type 0 where
   pub failed : Bool
   pub cell : ℕ → Cell
   -- the storage and the offset where a place can be written, where it can
-  pub home : ℕ → Option (ℕ × ℕ)
+  pub writable_location : ℕ → Option (ℕ × ℕ)
   pub held : ℕ → Held
   -- which mapping with state is prepared and not yet spent
   pub unspent : Option ℕ
@@ -88,10 +88,10 @@ IsFree layer = layer.unspent ≡ None
 
 -- two places that can be written at one place of a storage are one
 abbrev pub IsOneAt : Layer → ℕ × ℕ → ℕ → ℕ → Type 0
-IsOneAt layer at p q = layer.home p ≡ Some at → layer.home q ≡ Some at → p ≡ q
+IsOneAt layer at p q = layer.writable_location p ≡ Some at → layer.writable_location q ≡ Some at → p ≡ q
 
 -- what it was and will be, but for a resize or a mapping: what never changes, its size and the unspent mapping; and one that had failed has
-pub record IsLike (old new : Layer) : Type 0 where
+pub record KeepsLayerState (old new : Layer) : Type 0 where
   pub fixed : new.fixed ≡ old.fixed
   pub size : new.size ≡ old.size
   pub unspent : new.unspent ≡ old.unspent

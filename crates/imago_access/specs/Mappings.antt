@@ -3,7 +3,7 @@ use Rattle.std.specs.Prelude.{◌≡◌, ◌⊎◌, ⊤, ℕ, ◌+◌, ◌<◌, 
 use Rattle.imago_storage.specs.Through.{Overflows}
 use Rattle.imago_storage.specs.Disk.{Value, byte, barred}
 use Rattle.imago_access.specs.Layer.{Layer, Cell, own, unmapped, unit_of_layer, IsFree}
-use Rattle.imago_access.specs.declared.seen.Seen.{Ghosts}
+use Rattle.imago_access.specs.declared.driver_model.DriverModel.{Ghosts}
 use Rattle.imago_access.specs.Files.{byte_in, files}
 use Rattle.imago_access.specs.declared.mapping.ShallowMapping.{ShallowMapping}
 use Rattle.imago_access.specs.declared.mapping.ShallowMapping.TheVariants as shallow
@@ -21,7 +21,7 @@ abbrev pub Names : Layer → (ℕ → ℕ → ℕ) → ℕ → ℕ → ShallowMa
 Names layer stored offset n (shallow.Raw storage place writable) =
     EachIs layer.cell offset n (λ i. own (byte (stored storage (place + i))))
     × (IsTrue writable → IsTrue layer.fixed.writable)
-    × (IsTrue writable → (i : ℕ) → i < n → layer.home (offset + i) ≡ Some (storage, place + i))
+    × (IsTrue writable → (i : ℕ) → i < n → layer.writable_location (offset + i) ≡ Some (storage, place + i))
 Names layer stored offset n (shallow.Indirect place writable) =
     EachIs layer.cell offset n (λ i. unmapped) × (place ≡ offset)
     × (writable ≡ layer.fixed.lets_through) × (IsTrue writable → IsTrue layer.fixed.writable)
@@ -36,26 +36,26 @@ IsRun layer offset asked shallow.Eof n = (n ≡ 0) × (layer.size ≤ offset)
 IsRun layer offset asked mapping n = (offset < layer.size) × (n ≤ asked) × (offset + n ≤ layer.size) × (0 < asked → 0 < n)
 
 -- the places of a storage have a padded end that fits 64 bits, where those of the disk have
-abbrev pub IsInReach : Layer → ℕ → ShallowMapping → ℕ → Type 0
-IsInReach layer offset (shallow.Raw storage place writable) n =
+abbrev pub IsAddressable : Layer → ℕ → ShallowMapping → ℕ → Type 0
+IsAddressable layer offset (shallow.Raw storage place writable) n =
     Overflows (unit_of_layer layer) place n → Overflows (unit_of_layer layer) offset n
-IsInReach layer offset mapping n = ⊤
+IsAddressable layer offset mapping n = ⊤
 
 -- while nothing is prepared, a place that can be written is answered as such
-abbrev pub NamesHome : Layer → ℕ → ℕ → ShallowMapping → Type 0
-NamesHome layer offset asked mapping = IsFree layer → 0 < asked
-    → (storage place : ℕ) → layer.home offset ≡ Some (storage, place) → mapping ≡ shallow.Raw storage place true
+abbrev pub ReportsWritable : Layer → ℕ → ℕ → ShallowMapping → Type 0
+ReportsWritable layer offset asked mapping = IsFree layer → 0 < asked
+    → (storage place : ℕ) → layer.writable_location offset ≡ Some (storage, place) → mapping ≡ shallow.Raw storage place true
 
 -- where a layer says of places what room they have, one that is vacant or zeroed isn't answered as a place of a storage, nor as one that
 -- can't be read
-abbrev pub HasStoredRoom : Layer → (vacant zeroed : ℕ → Type 0) → ℕ → ℕ → Type 0
-HasStoredRoom layer vacant zeroed offset n =
-    IsTrue layer.fixed.states_room → (i : ℕ) → i < n → (vacant (offset + i) ⊎ zeroed (offset + i)) → ⊥
+abbrev pub HasStoredAllocation : Layer → (unallocated zeroed : ℕ → Type 0) → ℕ → ℕ → Type 0
+HasStoredAllocation layer unallocated zeroed offset n =
+    IsTrue layer.fixed.reports_allocation → (i : ℕ) → i < n → (unallocated (offset + i) ⊎ zeroed (offset + i)) → ⊥
 
-abbrev pub NamesRoom : Layer → (vacant zeroed : ℕ → Type 0) → ℕ → ℕ → ShallowMapping → Type 0
-NamesRoom layer vacant zeroed offset n (shallow.Raw storage place writable) = HasStoredRoom layer vacant zeroed offset n
-NamesRoom layer vacant zeroed offset n (shallow.Special place) = HasStoredRoom layer vacant zeroed offset n
-NamesRoom layer vacant zeroed offset n mapping = ⊤
+abbrev pub ReportsAllocation : Layer → (unallocated zeroed : ℕ → Type 0) → ℕ → ℕ → ShallowMapping → Type 0
+ReportsAllocation layer unallocated zeroed offset n (shallow.Raw storage place writable) = HasStoredAllocation layer unallocated zeroed offset n
+ReportsAllocation layer unallocated zeroed offset n (shallow.Special place) = HasStoredAllocation layer unallocated zeroed offset n
+ReportsAllocation layer unallocated zeroed offset n mapping = ⊤
 
 -- the answer tells a zero that the layer states, or the top layer of a chain
 abbrev pub is_explicit : ShallowMapping → Bool
@@ -67,22 +67,22 @@ is_deep_explicit (deep.Zero explicit) = explicit
 is_deep_explicit mapping = false
 
 -- each place of the run is stated, or none is
-abbrev pub AreStated : (ℕ → Type 0) → ℕ → ℕ → Bool → Type 0
-AreStated stated offset n true = (i : ℕ) → i < n → stated (offset + i)
-AreStated stated offset n false = (i : ℕ) → i < n → stated (offset + i) → ⊥
+abbrev pub AreExplicitZeroes : (ℕ → Type 0) → ℕ → ℕ → Bool → Type 0
+AreExplicitZeroes explicit_zero offset n true = (i : ℕ) → i < n → explicit_zero (offset + i)
+AreExplicitZeroes explicit_zero offset n false = (i : ℕ) → i < n → explicit_zero (offset + i) → ⊥
 
 -- A layer's answer is an explicit zero exactly of places that the layer states, and a chain's exactly of those that its top layer states.
-abbrev pub States : (ℕ → Type 0) → ℕ → ShallowMapping × ℕ → Type 0
-States stated offset answer = AreStated stated offset answer.1 (is_explicit answer.0)
+abbrev pub ReportsExplicitZero : (ℕ → Type 0) → ℕ → ShallowMapping × ℕ → Type 0
+ReportsExplicitZero explicit_zero offset answer = AreExplicitZeroes explicit_zero offset answer.1 (is_explicit answer.0)
 
-abbrev pub DeepStates : (ℕ → Type 0) → ℕ → Mapping × ℕ → Type 0
-DeepStates stated offset answer = AreStated stated offset answer.1 (is_deep_explicit answer.0)
+abbrev pub DeepReportsExplicitZero : (ℕ → Type 0) → ℕ → Mapping × ℕ → Type 0
+DeepReportsExplicitZero explicit_zero offset answer = AreExplicitZeroes explicit_zero offset answer.1 (is_deep_explicit answer.0)
 
 -- what a lookup of one layer answers
 pub record Looks (layer : Layer) (stored : ℕ → ℕ → ℕ) (offset asked : ℕ) (mapping : ShallowMapping) (n : ℕ) : Type 0 where
   pub names : Names layer stored offset n mapping
-  pub reach : IsInReach layer offset mapping n
-  pub home : NamesHome layer offset asked mapping
+  pub reach : IsAddressable layer offset mapping n
+  pub writable_location : ReportsWritable layer offset asked mapping
 
 -- the answer names one of so many storages
 abbrev pub IsOneOf : ℕ → ShallowMapping → Type 0
@@ -93,8 +93,8 @@ IsOneOf count mapping = ⊤
 abbrev pub LooksIn : {D St : Type 0} → Ghosts D St → ℕ → ℕ → D → D → ShallowMapping × ℕ → Type 0
 LooksIn g offset asked old new answer = Looks (g.layer old) (byte_in (files g new)) offset asked answer.0 answer.1
 
-abbrev pub NamesRoomIn : {D St : Type 0} → Ghosts D St → ℕ → D → ShallowMapping × ℕ → Type 0
-NamesRoomIn g offset old answer = NamesRoom (g.layer old) (g.vacant old) (g.zeroed old) offset answer.1 answer.0
+abbrev pub ReportsAllocationIn : {D St : Type 0} → Ghosts D St → ℕ → D → ShallowMapping × ℕ → Type 0
+ReportsAllocationIn g offset old answer = ReportsAllocation (g.layer old) (g.unallocated old) (g.zeroed old) offset answer.1 answer.0
 
 -- the byte at a place of a storage of the driver at a depth
 abbrev pub stored_at : {D St : Type 0} → Ghosts D St → List D → ℕ → ℕ → ℕ → ℕ
@@ -107,7 +107,7 @@ stored_at g (d ∷ ds) (suc depth) storage place = stored_at g ds depth storage 
 abbrev pub AreWritable : ℕ → List Layer → ℕ → ℕ → ℕ → ℕ → Type 0
 AreWritable depth [] storage place offset n = ⊥
 AreWritable zero (layer ∷ below) storage place offset n =
-    IsTrue layer.fixed.writable × ((i : ℕ) → i < n → layer.home (offset + i) ≡ Some (storage, place + i))
+    IsTrue layer.fixed.writable × ((i : ℕ) → i < n → layer.writable_location (offset + i) ≡ Some (storage, place + i))
 AreWritable (suc depth) (layer ∷ below) storage place offset n =
     IsTrue layer.fixed.writable × IsTrue layer.fixed.lets_through × AreWritable depth below storage place offset n
 
@@ -142,14 +142,14 @@ DeepNames chain value stored offset n (deep.Special depth place) =
 DeepNames chain value stored offset n deep.Eof = ⊤
 
 -- while nothing is prepared, a place of the top layer that can be written is answered as such
-abbrev pub DeepNamesHome : Layer → ℕ → ℕ → Mapping → Type 0
-DeepNamesHome layer offset asked mapping = IsFree layer → 0 < asked
-    → (storage place : ℕ) → layer.home offset ≡ Some (storage, place) → mapping ≡ deep.Raw 0 storage place true
+abbrev pub DeepReportsWritable : Layer → ℕ → ℕ → Mapping → Type 0
+DeepReportsWritable layer offset asked mapping = IsFree layer → 0 < asked
+    → (storage place : ℕ) → layer.writable_location offset ≡ Some (storage, place) → mapping ≡ deep.Raw 0 storage place true
 
 -- Nothing is prepared in the layer at this depth, which can be written at the place, and each layer above it lets that through.
 abbrev pub CanWrite : ℕ → List Layer → ℕ → Type 0
 CanWrite depth [] offset = ⊥
-CanWrite zero (layer ∷ below) offset = IsFree layer × IsSome (layer.home offset)
+CanWrite zero (layer ∷ below) offset = IsFree layer × IsSome (layer.writable_location offset)
 CanWrite (suc depth) (layer ∷ below) offset = IsTrue layer.fixed.lets_through × CanWrite depth below offset
 
 -- an answer that names a storage says that the place can be written, where it can be in that layer
@@ -175,10 +175,10 @@ abbrev pub IsTopRun : Mapping → ℕ → Type 0
 IsTopRun mapping n = (storage : ℕ) × (place : ℕ) × (mapping ≡ deep.Raw 0 storage place true) × (place + n < 2 ^ 64)
 
 -- the run lies in the top layer, and each of its places can be written where the answer says
-abbrev pub IsHomeRun : Layer → ℕ → Mapping → ℕ → Type 0
-IsHomeRun layer offset (deep.Raw depth storage place writable) n =
-    (depth ≡ 0) × IsTrue writable × ((i : ℕ) → i < n → layer.home (offset + i) ≡ Some (storage, place + i))
-IsHomeRun layer offset mapping n = ⊥
+abbrev pub IsWritableRun : Layer → ℕ → Mapping → ℕ → Type 0
+IsWritableRun layer offset (deep.Raw depth storage place writable) n =
+    (depth ≡ 0) × IsTrue writable × ((i : ℕ) → i < n → layer.writable_location (offset + i) ≡ Some (storage, place + i))
+IsWritableRun layer offset mapping n = ⊥
 
 -- the depth names one of so many layers
 abbrev pub IsDeepBelow : ℕ → Mapping → Type 0

@@ -3,15 +3,15 @@ use Rattle.std.specs.Prelude.{◌≡◌, ⊤, ◌⊎◌, ℕ, ◌+◌, ◌≤◌
 use Rattle.imago_storage.specs.Disk.{Value}
 use Rattle.imago_storage.specs.Steps.{Call, write_zeroes, discard_to_zero, discard_to_any, discard_to_backing, IsIn, IsOut}
 use Rattle.imago_storage.specs.declared.fault.Fault.{Fault}
-use Rattle.imago_access.specs.declared.seen.Seen.{Ghosts}
-use Rattle.imago_access.specs.Layer.{Layer, Cell, IsLike}
+use Rattle.imago_access.specs.declared.driver_model.DriverModel.{Ghosts}
+use Rattle.imago_access.specs.Layer.{Layer, Cell, KeepsLayerState}
 use Rattle.imago_access.specs.Chain.{IsBacked}
 use Rattle.imago_access.specs.Room.{Reaches, Takes, GivesUp}
-use Rattle.imago_access.specs.Files.{ImageCause, IsMild, WasNotCutOff, files}
-use Rattle.imago_access.specs.Going.{Went, Marks}
+use Rattle.imago_access.specs.Files.{ImageCause, IsNotResourceError, HadNoResourceError, files}
+use Rattle.imago_access.specs.Going.{MutatingCall, MarksFailed}
 use Rattle.imago_access.specs.Changes.{Rewrites, PartRewrites, ToZero, ToAny, ToBelow}
 use Rattle.imago_access.specs.Parts.{IsPartOf, DeclinableCause}
-use Rattle.imago_access.specs.Stops.{KeepsStops, GivesZero, GivesAny, GivesBelow}
+use Rattle.imago_access.specs.Stops.{KeepsCrashImages, GivesZero, GivesAny, GivesBelow}
 
 pub data PartCall : Type 0 where
   -- zeroes, and keeps what is allocated
@@ -51,7 +51,7 @@ LeavesPart call g offset n = GivesUp g offset n
 -- what is true then of each place of the part
 abbrev pub IsDone : {D St : Type 0} → PartCall → Ghosts D St → D → ℕ → Type 0
 IsDone ensures_zero g = g.zeroed
-IsDone call g = g.vacant
+IsDone call g = g.unallocated
 
 -- the call of a disk that is done by such parts
 abbrev pub IsFor : PartCall → Call → Type 0
@@ -69,21 +69,21 @@ pub record IsPart (offset n : ℕ) (part : ℕ × ℕ) : Type 0 where
 -- What the call does to an image that is safe, and what it leaves of every image.
 pub record DoesPart {D St : Type 0} (call : PartCall) (g : Ghosts D St) (offset n : ℕ)
     (result : Result (ℕ × ℕ) Fault) (old new : D) : Type 0 where
-  pub ok : g.safe old → IfOk result (λ r. Rewrites (Becomes call (g.layer old)) (g.layer old) (g.layer new) r.0 r.1)
-  pub err : g.safe old → IfErr result (λ e. IsMild e → PartRewrites (Becomes call (g.layer old)) (g.layer old) (g.layer new) offset n)
-  pub reach : g.safe old → IfOk result (λ r. Reaches (g.layer old).fixed.unit (g.layer old).size offset n r.0 r.1)
-  pub given : g.safe old → IfOk result (λ r. (p : ℕ) → IsIn r.0 r.1 p → IsDone call g new p)
-  pub room : g.safe old → WasNotCutOff result → LeavesPart call g offset n old new
-  pub like : IsLike (g.layer old) (g.layer new)
-  pub went : Went g (WasNotCutOff result) (WasNotCutOff result) old new
-  pub began : (d : D) (whole : Call) → g.began d whole old → IsPartOf whole offset n → WasNotCutOff result → g.began d whole new
-  pub stops : g.safe old → (below : List Layer) → IsToldOver call below (g.layer old)
-      → KeepsStops g below (PartGives call below offset n) old new
+  pub ok : g.well_formed old → IfOk result (λ r. Rewrites (Becomes call (g.layer old)) (g.layer old) (g.layer new) r.0 r.1)
+  pub err : g.well_formed old → IfErr result (λ e. IsNotResourceError e → PartRewrites (Becomes call (g.layer old)) (g.layer old) (g.layer new) offset n)
+  pub reach : g.well_formed old → IfOk result (λ r. Reaches (g.layer old).fixed.unit (g.layer old).size offset n r.0 r.1)
+  pub given : g.well_formed old → IfOk result (λ r. (p : ℕ) → IsIn r.0 r.1 p → IsDone call g new p)
+  pub room : g.well_formed old → HadNoResourceError result → LeavesPart call g offset n old new
+  pub keeps_layer_state : KeepsLayerState (g.layer old) (g.layer new)
+  pub mutating_call : MutatingCall g (HadNoResourceError result) (HadNoResourceError result) old new
+  pub stays_begun : (d : D) (whole : Call) → g.began d whole old → IsPartOf whole offset n → HadNoResourceError result → g.began d whole new
+  pub crash_images : g.well_formed old → (below : List Layer) → IsToldOver call below (g.layer old)
+      → KeepsCrashImages g below (PartGives call below offset n) old new
 
 -- why it is refused, as part of a call that is done by such parts
 pub record PartRefused {D St : Type 0} (call : PartCall) (g : Ghosts D St) (offset n : ℕ)
     (result : Result (ℕ × ℕ) Fault) (old new : D) : Type 0 where
   pub failed : IfErr result (ImageCause (files g old) (files g new))
-  pub marks : IfErr result (Marks g old new)
-  pub cause : g.safe old → (below : List Layer) (d : D) (whole : Call) → g.began d whole old → IsPartOf whole offset n → IsFor call whole
+  pub marks_failed : IfErr result (MarksFailed g old new)
+  pub cause : g.well_formed old → (below : List Layer) (d : D) (whole : Call) → g.began d whole old → IsPartOf whole offset n → IsFor call whole
       → IfErr result (DeclinableCause below (g.layer old) offset n (g.own_cause d below whole) (files g old) (files g new))

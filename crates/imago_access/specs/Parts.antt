@@ -9,7 +9,7 @@ use Rattle.imago_storage.specs.declared.fault.Fault.TheVariants.{ReadOnly, PastE
 use Rattle.imago_access.specs.Layer.{Layer, unit_of_layer}
 use Rattle.imago_access.specs.Files.{SomeRose}
 use Rattle.imago_access.specs.Room.{IsUncutAt}
-use Rattle.imago_access.specs.Refusals.{barrier, SomeUnusable}
+use Rattle.imago_access.specs.Refusals.{unusable_fault, SomeUnusable}
 
 -- the range lies in that of the call
 pub record IsPartOf (call : Call) (offset n : ℕ) : Type 0 where
@@ -56,15 +56,15 @@ DeclinableCause below layer offset n causes olds news fault = PartCause below la
 
 -- why a call without a range is refused: by what the image is, for want of memory or by a storage that failed
 abbrev pub PlainCause : Layer → List StorageState → List StorageState → Fault → Type 0
-PlainCause layer olds news Failed = barrier layer ≡ Some Failed
-PlainCause layer olds news MissingData = barrier layer ≡ Some MissingData
+PlainCause layer olds news Failed = unusable_fault layer ≡ Some Failed
+PlainCause layer olds news MissingData = unusable_fault layer ≡ Some MissingData
 PlainCause layer olds news Memory = ⊤
 PlainCause layer olds news Storage = SomeRose olds news
 PlainCause layer olds news fault = ⊥
 
 -- the range is mapped from a place of one of its storages on, and can be written there
 abbrev pub IsMappedAt : Layer → ℕ → ℕ → ℕ → Type 0
-IsMappedAt layer guest place n = (storage : ℕ) × ((i : ℕ) → i < n → layer.home (guest + i) ≡ Some (storage, place + i))
+IsMappedAt layer guest place n = (storage : ℕ) × ((i : ℕ) → i < n → layer.writable_location (guest + i) ≡ Some (storage, place + i))
 
 -- why a write to a mapping is refused: also where the range isn't mapped there
 abbrev pub MappedCause : Layer → ℕ → ℕ → ℕ → List StorageState → List StorageState → Fault → Type 0

@@ -3,19 +3,19 @@ use Rattle.std.specs.Prelude.{◌≡◌, ◌++◌, ⊤, ◌⊎◌, ℕ, ◌<◌,
 use Rattle.imago_storage.specs.Steps.{Call}
 use Rattle.imago_storage.specs.declared.fault.Fault.{Fault}
 use Rattle.imago_storage.specs.declared.fault.Fault.TheVariants.{Foreign}
-use Rattle.imago_access.specs.declared.seen.Seen.{Ghosts}
-use Rattle.imago_access.specs.declared.seen.SeenBelow.{Ghosts as GhostsBelow}
+use Rattle.imago_access.specs.declared.driver_model.DriverModel.{Ghosts}
+use Rattle.imago_access.specs.declared.driver_model.LayersBelowModel.{Ghosts as GhostsBelow}
 use Rattle.imago_access.specs.declared.mapping.PreparedDataMapping.{PreparedDataMapping}
-use Rattle.imago_access.specs.Layer.{Layer, IsFree, IsLike, loose}
+use Rattle.imago_access.specs.Layer.{Layer, IsFree, KeepsLayerState, loose}
 use Rattle.imago_access.specs.Chain.{at}
 use Rattle.imago_access.specs.Room.{IsApart, IsUncutAt, Takes}
-use Rattle.imago_access.specs.Files.{ImageCause, IsMild, WasNotCutOff, Unasked, files}
-use Rattle.imago_access.specs.Going.{IsUnchanged, KeepsSurplus, Marks, MarksOver, Went}
+use Rattle.imago_access.specs.Files.{ImageCause, IsNotResourceError, HadNoResourceError, Unasked, files}
+use Rattle.imago_access.specs.Going.{IsUnchanged, KeepsExcessRefcounts, MarksFailed, MarksFailedOver, MutatingCall}
 use Rattle.imago_access.specs.Changes.{Asked, Prepared, NotPrepared, Wrote, Committed, Cancelled}
 use Rattle.imago_access.specs.Spending.{run_of, IsMine, Spends, IsSpending, commit_refusal, GivenBack, IsForeignTo}
 use Rattle.imago_access.specs.Parts.{IsPartOf, IsUncutPart, announces, PartCause, IsMappedAt, MappedCause}
 use Rattle.imago_access.specs.Failing.{FailsOver}
-use Rattle.imago_access.specs.Stops.{KeepsStops, GivesNone, GivesBytes, GivesSettled}
+use Rattle.imago_access.specs.Stops.{KeepsCrashImages, GivesNone, GivesBytes, GivesSettled}
 
 -- a mapping of no length and without state, at the start of the storage 0
 abbrev pub nowhere : {St : Type 0} → PreparedDataMapping St
@@ -29,51 +29,51 @@ IsHeldBy g state layer = IsMine g state layer × (state ≡ None → IsFree laye
 pub record RunRefused {D St B T : Type 0} (g : Ghosts D St) (u : GhostsBelow B) (asked : Asked)
     (result : Result T Fault) (old new : D × B) : Type 0 where
   pub failed : IfErr result (FailsOver g u old new)
-  pub marks : IfErr result (MarksOver g old.0 new.0)
-  pub cause : g.safe old.0 → u.sees_under old.1 → (d : D) (call : Call) → g.began d call old.0
+  pub marks_failed : IfErr result (MarksFailedOver g old.0 new.0)
+  pub cause : g.well_formed old.0 → u.coherent_below old.1 → (d : D) (call : Call) → g.began d call old.0
       → IsUncutPart (g.layer old.0) call asked.offset asked.length → Some asked.overwrite ≡ announces call
-      → IfErr result (PartCause (u.under old.1) (g.layer old.0) asked.offset asked.length (g.own_cause d (u.under old.1) call)
-      (files g old.0 ++ u.files_under old.1) (files g new.0 ++ u.files_under new.1))
+      → IfErr result (PartCause (u.layers_below old.1) (g.layer old.0) asked.offset asked.length (g.own_cause d (u.layers_below old.1) call)
+      (files g old.0 ++ u.files_of_layers_below old.1) (files g new.0 ++ u.files_of_layers_below new.1))
 
 -- What a preparation does over the layers below, where the image is safe and reads of these are true, and what it leaves of a begun call.
 pub record Prepares {D St B : Type 0} (g : Ghosts D St) (u : GhostsBelow B) (asked : Asked)
     (result : Result (PreparedDataMapping St) Fault) (old new : D × B) : Type 0 where
-  pub ok : g.safe old.0 → u.sees_under old.1
-      → IfOk result (λ m. Prepared (at (u.under old.1)) (g.layer old.0) (g.layer new.0) asked (run_of g m))
-  pub err : g.safe old.0 → u.sees_under old.1 → IfErr result (λ e. IsMild e → NotPrepared (g.layer old.0) (g.layer new.0))
-  pub uncut : g.safe old.0 → u.sees_under old.1
+  pub ok : g.well_formed old.0 → u.coherent_below old.1
+      → IfOk result (λ m. Prepared (at (u.layers_below old.1)) (g.layer old.0) (g.layer new.0) asked (run_of g m))
+  pub err : g.well_formed old.0 → u.coherent_below old.1 → IfErr result (λ e. IsNotResourceError e → NotPrepared (g.layer old.0) (g.layer new.0))
+  pub uncut : g.well_formed old.0 → u.coherent_below old.1
       → IfOk result (λ m. IsUncutAt (g.layer old.0).fixed.unit (g.layer old.0).size asked.offset asked.length (asked.offset + m.length))
-  pub near : g.safe old.0 → u.sees_under old.1
+  pub no_range_overflow : g.well_formed old.0 → u.coherent_below old.1
       → OnOk result ((p : ℕ) → IsApart (g.layer old.0).fixed.unit asked.offset asked.length p → (g.layer new.0).held p ≡ loose)
-  pub room : g.safe old.0 → u.sees_under old.1 → WasNotCutOff result → Takes g (λ _. ⊤) old.0 new.0
-  pub stops : g.safe old.0 → u.sees_under old.1 → KeepsStops g (u.under old.1) GivesNone old.0 new.0
-  pub went : Went g (WasNotCutOff result) (WasNotCutOff result × u.sees_under old.1) old.0 new.0
-  pub began : (d : D) (call : Call) → g.began d call old.0 → IsPartOf call asked.offset asked.length
-      → WasNotCutOff result → g.began d call new.0
+  pub room : g.well_formed old.0 → u.coherent_below old.1 → HadNoResourceError result → Takes g (λ _. ⊤) old.0 new.0
+  pub crash_images : g.well_formed old.0 → u.coherent_below old.1 → KeepsCrashImages g (u.layers_below old.1) GivesNone old.0 new.0
+  pub mutating_call : MutatingCall g (HadNoResourceError result) (HadNoResourceError result × u.coherent_below old.1) old.0 new.0
+  pub stays_begun : (d : D) (call : Call) → g.began d call old.0 → IsPartOf call asked.offset asked.length
+      → HadNoResourceError result → g.began d call new.0
   pub refused : RunRefused g u asked result old new
 
 -- What a commit does. One without state changes nothing, and succeeds where the image can be used.
 pub record Commits {D St : Type 0} (g : Ghosts D St) (state : Option St)
     (result : Result Unit (Fault × Option (PreparedDataMapping St))) (old new : D) : Type 0 where
   pub ok : OnOk result (Spends g state (g.layer old) (g.layer new)
-      (IsFree (g.layer new) × (g.safe old → Committed (g.layer old) (g.layer new))))
+      (IsFree (g.layer new) × (g.well_formed old → Committed (g.layer old) (g.layer new))))
   pub size : (g.layer new).size ≡ (g.layer old).size
-  pub room : g.safe old → IsMine g state (g.layer old) → OnOk result (Takes g (λ p. (g.layer old).held p ≡ loose) old new)
-  pub stops : g.safe old → IsMine g state (g.layer old) → (below : List Layer)
-      → KeepsStops g below (GivesSettled below (g.layer old)) old new
-  pub went : Went g (MatchResult result (λ _. ⊤) (λ e. IsMild e.0)) (IsOk result × IsMine g state (g.layer old)) old new
-  pub sees : state ≡ None → g.sees old → g.sees new
-  pub began : (d : D) (call : Call) → g.began d call old → IsMine g state (g.layer old) → OnOk result (g.began d call new)
+  pub room : g.well_formed old → IsMine g state (g.layer old) → OnOk result (Takes g (λ p. (g.layer old).held p ≡ loose) old new)
+  pub crash_images : g.well_formed old → IsMine g state (g.layer old) → (below : List Layer)
+      → KeepsCrashImages g below (GivesSettled below (g.layer old)) old new
+  pub mutating_call : MutatingCall g (MatchResult result (λ _. ⊤) (λ e. IsNotResourceError e.0)) (IsOk result × IsMine g state (g.layer old)) old new
+  pub coherent : state ≡ None → g.coherent old → g.coherent new
+  pub stays_begun : (d : D) (call : Call) → g.began d call old → IsMine g state (g.layer old) → OnOk result (g.began d call new)
 
 -- Why it is refused: at once it gives the mapping back, and changes nothing; else it has spent it, and the image has failed.
 pub record CommitRefused {D St : Type 0} (g : Ghosts D St) (mapping : PreparedDataMapping St)
     (result : Result Unit (Fault × Option (PreparedDataMapping St))) (old new : D) : Type 0 where
-  pub at_once : (f : Fault) → commit_refusal g mapping.state (g.layer old) ≡ Some f
+  pub early_outcome : (f : Fault) → commit_refusal g mapping.state (g.layer old) ≡ Some f
       → MatchResult result (λ _. ⊥) (λ e. (e.0 ≡ f) × IsSome e.1)
   pub unchanged : (mapping.state ≡ None) ⊎ IsSome (commit_refusal g mapping.state (g.layer old)) → IsUnchanged g old new
   pub back : IfErr result (λ e. IfSome e.1 (λ m. (m ≡ mapping) × GivenBack g.tag mapping.state (g.layer old) e.0 × IsUnchanged g old new))
   pub spent : IfErr result (λ e. e.1 ≡ None → IsSome mapping.state × IsTrue (g.layer new).failed × IsSpending e.0
-      × Spends g mapping.state (g.layer old) (g.layer new) (IsFree (g.layer new) × (g.safe old → IsMild e.0 → ⊥)))
+      × Spends g mapping.state (g.layer old) (g.layer new) (IsFree (g.layer new) × (g.well_formed old → IsNotResourceError e.0 → ⊥)))
   pub failed : IfErr result (λ e. ImageCause (files g old) (files g new) e.0)
 
 -- What becomes of a driver whose mapping is given up: the disk is as it was, and nothing is asked of a file. One without state changes
@@ -87,28 +87,28 @@ pub record Cancels {D St : Type 0} (g : Ghosts D St) (mapping : PreparedDataMapp
   pub size : (g.layer new).size ≡ (g.layer old).size
   pub failed : (g.layer new).failed ≡ (g.layer old).failed
   pub none : Unasked g old new
-  pub lasts : g.lasts old → g.lasts new
-  pub surplus : IsMine g mapping.state (g.layer old) → g.safe old → KeepsSurplus g old new
-  pub sees : g.sees old → g.sees new
-  pub safe : IsMine g mapping.state (g.layer old) → g.safe old → g.safe new
-  pub room : g.safe old → IsMine g mapping.state (g.layer old) → Takes g (λ _. ⊤) old new
-  pub began : (d : D) (call : Call) → g.began d call old → g.began d call new
+  pub stable : g.stable old → g.stable new
+  pub excess_refcount : IsMine g mapping.state (g.layer old) → g.well_formed old → KeepsExcessRefcounts g old new
+  pub coherent : g.coherent old → g.coherent new
+  pub well_formed : IsMine g mapping.state (g.layer old) → g.well_formed old → g.well_formed new
+  pub room : g.well_formed old → IsMine g mapping.state (g.layer old) → Takes g (λ _. ⊤) old new
+  pub stays_begun : (d : D) (call : Call) → g.began d call old → g.began d call new
 
 -- What a write does from a place of a storage on, where the range is mapped.
 pub record WritesMapped {D St : Type 0} (g : Ghosts D St) (guest place : ℕ) (bytes : List ℕ)
     (result : Result Unit Fault) (old new : D) : Type 0 where
-  pub mapped : g.sees old → OnOk result (0 < length bytes → IsMappedAt (g.layer old) guest place (length bytes))
+  pub mapped : g.coherent old → OnOk result (0 < length bytes → IsMappedAt (g.layer old) guest place (length bytes))
   pub empty : length bytes ≡ 0 → g.layer new ≡ g.layer old
-  pub like : IsLike (g.layer old) (g.layer new)
-  pub ok : g.safe old → OnOk result (Wrote (g.layer old) (g.layer new) guest bytes)
-  pub err : g.safe old → IfErr result (λ e. IsMild e → g.layer new ≡ g.layer old)
-  pub room : g.safe old → WasNotCutOff result → Takes g (λ _. ⊤) old new
-  pub stops : g.safe old → (below : List Layer) → KeepsStops g below (GivesBytes guest bytes) old new
-  pub went : Went g (WasNotCutOff result) (WasNotCutOff result) old new
-  pub began : (d : D) (call : Call) → g.began d call old → OnOk result (g.began d call new)
+  pub keeps_layer_state : KeepsLayerState (g.layer old) (g.layer new)
+  pub ok : g.well_formed old → OnOk result (Wrote (g.layer old) (g.layer new) guest bytes)
+  pub err : g.well_formed old → IfErr result (λ e. IsNotResourceError e → g.layer new ≡ g.layer old)
+  pub room : g.well_formed old → HadNoResourceError result → Takes g (λ _. ⊤) old new
+  pub crash_images : g.well_formed old → (below : List Layer) → KeepsCrashImages g below (GivesBytes guest bytes) old new
+  pub mutating_call : MutatingCall g (HadNoResourceError result) (HadNoResourceError result) old new
+  pub stays_begun : (d : D) (call : Call) → g.began d call old → OnOk result (g.began d call new)
 
 -- why it is refused
 pub record WritingRefused {D St : Type 0} (g : Ghosts D St) (guest place n : ℕ) (result : Result Unit Fault) (old new : D) : Type 0 where
   pub failed : IfErr result (ImageCause (files g old) (files g new))
-  pub marks : IfErr result (Marks g old new)
-  pub cause : g.safe old → IfErr result (MappedCause (g.layer old) guest place n (files g old) (files g new))
+  pub marks_failed : IfErr result (MarksFailed g old new)
+  pub cause : g.well_formed old → IfErr result (MappedCause (g.layer old) guest place n (files g old) (files g new))

@@ -15,8 +15,8 @@ zero_by GiveUp = discards_to_zero
 
 -- a zeroing leaves a place zeroed or, where room is given up, vacant
 abbrev pub IsZeroedBy : Zeroing → (ℕ → Type 0) → (ℕ → Type 0) → ℕ → Type 0
-IsZeroedBy Keep vacant zeroed = zeroed
-IsZeroedBy GiveUp vacant zeroed = vacant
+IsZeroedBy Keep unallocated zeroed = zeroed
+IsZeroedBy GiveUp unallocated zeroed = unallocated
 
 abbrev pub discard_by : Discarding → PartCall
 discard_by ToAny = discards_to_any

@@ -14,11 +14,11 @@ use Rattle.imago_access.specs.Chain.{disk_of, unit_of_chain}
 use Rattle.imago_access.specs.Files.{SomeRose, IsStale, greatest, keep_all}
 
 -- why no call of an image but getters and a cancel succeeds
-abbrev pub barrier : Layer → Option Fault
-barrier layer = if layer.failed then Some Failed else if layer.fixed.missing then Some MissingData else None
+abbrev pub unusable_fault : Layer → Option Fault
+unusable_fault layer = if layer.failed then Some Failed else if layer.fixed.missing then Some MissingData else None
 
 abbrev pub IsUnusable : Layer → Type 0
-IsUnusable layer = IsSome (barrier layer)
+IsUnusable layer = IsSome (unusable_fault layer)
 
 -- The first cause why a change of a range, in bytes, is refused, by whether the image was opened for writing, its unit of requests and its
 -- size.
@@ -67,7 +67,7 @@ pub record IsOfStorages (layer : Layer) (image : StorageState) (extras : List St
 -- a layer of the chain can't be used, for this
 abbrev pub SomeUnusable : List Layer → Fault → Type 0
 SomeUnusable [] fault = ⊥
-SomeUnusable (layer ∷ below) fault = (barrier layer ≡ Some fault) ⊎ SomeUnusable below fault
+SomeUnusable (layer ∷ below) fault = (unusable_fault layer ≡ Some fault) ⊎ SomeUnusable below fault
 
 -- a layer of the chain has failed
 abbrev pub SomeFailed : List Layer → Type 0
@@ -81,8 +81,8 @@ SomeIs value offset n v = (i : ℕ) × (i < n) × (value (offset + i) ≡ v)
 -- Why a lookup in one layer is refused: by what the image is, by a table that is damaged at a place of the range, for want of memory, or
 -- by a storage that failed.
 abbrev pub LookCause : Layer → ℕ → ℕ → List StorageState → List StorageState → Fault → Type 0
-LookCause layer offset n olds news Failed = barrier layer ≡ Some Failed
-LookCause layer offset n olds news MissingData = barrier layer ≡ Some MissingData
+LookCause layer offset n olds news Failed = unusable_fault layer ≡ Some Failed
+LookCause layer offset n olds news MissingData = unusable_fault layer ≡ Some MissingData
 LookCause layer offset n olds news DamagedTable =
     (i : ℕ) × (i < n) × (offset + i < layer.size) × (layer.cell (offset + i) ≡ own damaged_place)
 LookCause layer offset n olds news Memory = ⊤
@@ -119,8 +119,8 @@ ChangeCause below layer call causes olds news fault = causes fault
 
 -- Why a read of the bytes of a storage is refused.
 abbrev pub ReadMappedCause : Layer → ℕ → ℕ → List StorageState → List StorageState → Fault → Type 0
-ReadMappedCause layer place n olds news Failed = barrier layer ≡ Some Failed
-ReadMappedCause layer place n olds news MissingData = barrier layer ≡ Some MissingData
+ReadMappedCause layer place n olds news Failed = unusable_fault layer ≡ Some Failed
+ReadMappedCause layer place n olds news MissingData = unusable_fault layer ≡ Some MissingData
 ReadMappedCause layer place n olds news RangeOverflow = Overflows (unit_of_layer layer) place n
 ReadMappedCause layer place n olds news Memory = ⊤
 ReadMappedCause layer place n olds news Storage = SomeRose olds news

@@ -4,8 +4,8 @@ use Rattle.imago_storage.specs.Disk.{Value, Shows, byte}
 use Rattle.imago_storage.specs.Steps.{Call, IsIn, IsOut}
 use Rattle.imago_storage.specs.declared.fault.Fault.{Fault}
 use Rattle.imago_storage.specs.declared.fault.Fault.TheVariants.{Memory, Storage}
-use Rattle.imago_access.specs.declared.seen.Seen.{Ghosts}
-use Rattle.imago_access.specs.declared.seen.SeenBelow.{Ghosts as GhostsBelow}
+use Rattle.imago_access.specs.declared.driver_model.DriverModel.{Ghosts}
+use Rattle.imago_access.specs.declared.driver_model.LayersBelowModel.{Ghosts as GhostsBelow}
 use Rattle.imago_access.specs.declared.access.zeroing.Zeroing.{Zeroing}
 use Rattle.imago_access.specs.declared.access.zeroing.Zeroing.TheVariants as zeroing_is
 use Rattle.imago_access.specs.Layer.{Layer}
@@ -15,13 +15,13 @@ use Rattle.imago_access.specs.ChainLooks.{ShowBytes}
 use Rattle.imago_access.specs.Changes.{Committed, Cancelled}
 use Rattle.imago_access.specs.RangeCalls.{GivesDiscarded, discard_by, IsZeroedBy, zero_by}
 use Rattle.imago_access.specs.Failing.{FailsOver}
-use Rattle.imago_access.specs.Files.{WasNotCutOff, SomeRose, files}
+use Rattle.imago_access.specs.Files.{HadNoResourceError, SomeRose, files}
 use Rattle.imago_access.specs.Parts.{IsPartOf, IsUncutPart, announces, PartCause, MappedCause}
 use Rattle.imago_access.specs.PartCalls.{PartCall, IsFor}
-use Rattle.imago_access.specs.Room.{IsApart, IsUncutAt, Reaches, IsUndeclined, IsGivenUp, IsGivenUpTo, IsGivenUpBehind, LeavesRoom}
-use Rattle.imago_access.specs.Running.{IsIntact, IsBetween, Ran, RanAlone}
+use Rattle.imago_access.specs.Room.{IsApart, IsUncutAt, Reaches, IsUndeclined, IsGivenUp, IsGivenUpTo, IsGivenUpBehind, LeavesAllocation}
+use Rattle.imago_access.specs.Running.{IsIntact, IsBetween, RangeChange, DriverRangeChange}
 use Rattle.imago_access.specs.Spending.{Spends}
-use Rattle.imago_access.specs.Stops.{KeepsStops, GivesBytes, GivesZero, GivesSettled}
+use Rattle.imago_access.specs.Stops.{KeepsCrashImages, GivesBytes, GivesZero, GivesSettled}
 
 -- a change of a range, in bytes
 pub data Work : Type 0 where
@@ -58,26 +58,26 @@ WorkKeeps (zeroing_by how offset n) p = (how ≡ zeroing_is.Keep) ⊎ IsOut offs
 -- What it does: it gives its values at places of its range, and takes room only in units that the range touches.
 pub record DoesWork {D St B T : Type 0} (g : Ghosts D St) (u : GhostsBelow B) (work : Work)
     (result : Result T Fault) (old new : D × B) : Type 0 where
-  pub ran : Ran g u (WasNotCutOff result) (WorkGives work) old new
-  pub room : IsIntact g u old.0 old.1 → WasNotCutOff result
-      → LeavesRoom g (WorkKeeps work) (IsApart (g.layer old.0).fixed.unit (start_of work) (extent_of work)) old.0 new.0
-  pub began : (d : D) (call : Call) → g.began d call old.0 → IsPartOf call (start_of work) (extent_of work)
+  pub range_change : RangeChange g u (HadNoResourceError result) (WorkGives work) old new
+  pub room : IsIntact g u old.0 old.1 → HadNoResourceError result
+      → LeavesAllocation g (WorkKeeps work) (IsApart (g.layer old.0).fixed.unit (start_of work) (extent_of work)) old.0 new.0
+  pub stays_begun : (d : D) (call : Call) → g.began d call old.0 → IsPartOf call (start_of work) (extent_of work)
       → OnOk result (g.began d call new.0)
 
 -- What a refusal leaves of an image of a format that marks failures, where a change of a driver alone may have been done in part: a
 -- storage's fault has marked it, and want of memory has marked it or left it safe.
-abbrev pub MarksAlone : {D St : Type 0} → Ghosts D St → D → D → Fault → Type 0
-MarksAlone g old new Storage = IsTrue (g.layer old).fixed.marks → IsTrue (g.layer new).failed
-MarksAlone g old new Memory = IsTrue (g.layer old).fixed.marks → IsTrue (g.layer new).failed ⊎ (g.safe old → g.safe new)
-MarksAlone g old new fault = ⊤
+abbrev pub DriverMarksFailed : {D St : Type 0} → Ghosts D St → D → D → Fault → Type 0
+DriverMarksFailed g old new Storage = IsTrue (g.layer old).fixed.marks_failed → IsTrue (g.layer new).failed
+DriverMarksFailed g old new Memory = IsTrue (g.layer old).fixed.marks_failed → IsTrue (g.layer new).failed ⊎ (g.well_formed old → g.well_formed new)
+DriverMarksFailed g old new fault = ⊤
 
 -- the same over the layers below: a fault of the top's own storages has marked it, and one of theirs has, or left one that was intact safe
-abbrev pub MarksTop : {D St B : Type 0} → Ghosts D St → GhostsBelow B → D × B → D × B → Fault → Type 0
-MarksTop g u old new Storage = IsTrue (g.layer old.0).fixed.marks
+abbrev pub MarksTopFailed : {D St B : Type 0} → Ghosts D St → GhostsBelow B → D × B → D × B → Fault → Type 0
+MarksTopFailed g u old new Storage = IsTrue (g.layer old.0).fixed.marks_failed
     → (SomeRose (files g old.0) (files g new.0) → IsTrue (g.layer new.0).failed)
-    × (IsTrue (g.layer new.0).failed ⊎ (IsIntact g u old.0 old.1 → g.safe new.0))
-MarksTop g u old new Memory = IsTrue (g.layer old.0).fixed.marks → IsTrue (g.layer new.0).failed ⊎ (IsIntact g u old.0 old.1 → g.safe new.0)
-MarksTop g u old new fault = ⊤
+    × (IsTrue (g.layer new.0).failed ⊎ (IsIntact g u old.0 old.1 → g.well_formed new.0))
+MarksTopFailed g u old new Memory = IsTrue (g.layer old.0).fixed.marks_failed → IsTrue (g.layer new.0).failed ⊎ (IsIntact g u old.0 old.1 → g.well_formed new.0)
+MarksTopFailed g u old new fault = ⊤
 
 -- the call is one that such work is part of, and announces that all of its range will be written
 abbrev pub IsWorkOf : Work → Call → Type 0
@@ -89,33 +89,33 @@ IsWorkOf (zeroing_by how offset n) call = IsFor (zero_by how) call × (Some true
 pub record WorkRefused {D St B T : Type 0} (g : Ghosts D St) (u : GhostsBelow B) (work : Work)
     (result : Result T Fault) (old new : D × B) : Type 0 where
   pub failed : IfErr result (FailsOver g u old new)
-  pub marks : IfErr result (MarksTop g u old new)
+  pub marks_failed : IfErr result (MarksTopFailed g u old new)
   pub cause : IsIntact g u old.0 old.1 → (d : D) (call : Call) → g.began d call old.0
       → IsUncutPart (g.layer old.0) call (start_of work) (extent_of work) → IsWorkOf work call
-      → IfErr result (PartCause (u.under old.1) (g.layer old.0) (start_of work) (extent_of work) (g.own_cause d (u.under old.1) call)
-      (files g old.0 ++ u.files_under old.1) (files g new.0 ++ u.files_under new.1))
+      → IfErr result (PartCause (u.layers_below old.1) (g.layer old.0) (start_of work) (extent_of work) (g.own_cause d (u.layers_below old.1) call)
+      (files g old.0 ++ u.files_of_layers_below old.1) (files g new.0 ++ u.files_of_layers_below new.1))
 
 -- where the image is intact, the layers show what was written: the bytes of a first run, and all;
 abbrev pub ShowsRun : {D St B : Type 0} → Ghosts D St → GhostsBelow B → ℕ → List ℕ → Result ℕ Fault → D × B → D × B → Type 0
-ShowsRun g u offset bytes result old new = IsIntact g u old.0 old.1 → IfOk result (ShowBytes (g.layer new.0 ∷ u.under old.1) offset bytes)
+ShowsRun g u offset bytes result old new = IsIntact g u old.0 old.1 → IfOk result (ShowBytes (g.layer new.0 ∷ u.layers_below old.1) offset bytes)
 
 abbrev pub ShowsAll : {D St B : Type 0} → Ghosts D St → GhostsBelow B → ℕ → List ℕ → Result Unit Fault → D × B → D × B → Type 0
-ShowsAll g u offset bytes result old new = IsIntact g u old.0 old.1 → OnOk result (Shows (at (g.layer new.0 ∷ u.under old.1)) offset bytes)
+ShowsAll g u offset bytes result old new = IsIntact g u old.0 old.1 → OnOk result (Shows (at (g.layer new.0 ∷ u.layers_below old.1)) offset bytes)
 
 -- zeroes over a first run of so many places, and over a range; and zeroes up to a place
 abbrev pub ShowsZeroRun : {D St B : Type 0} → Ghosts D St → GhostsBelow B → ℕ → Result ℕ Fault → D × B → D × B → Type 0
 ShowsZeroRun g u offset result old new = IsIntact g u old.0 old.1
-    → IfOk result (λ count. (i : ℕ) → i < count → at (g.layer new.0 ∷ u.under old.1) (offset + i) ≡ byte 0)
+    → IfOk result (λ count. (i : ℕ) → i < count → at (g.layer new.0 ∷ u.layers_below old.1) (offset + i) ≡ byte 0)
 
 abbrev pub ShowsZeroes : {D St B : Type 0} → Ghosts D St → GhostsBelow B → ℕ → ℕ → Result Unit Fault → D × B → D × B → Type 0
 ShowsZeroes g u offset n result old new = IsIntact g u old.0 old.1
-    → OnOk result ((p : ℕ) → IsIn offset n p → at (g.layer new.0 ∷ u.under old.1) p ≡ byte 0)
+    → OnOk result ((p : ℕ) → IsIn offset n p → at (g.layer new.0 ∷ u.layers_below old.1) p ≡ byte 0)
 
 abbrev pub AreZeroTo : List Layer → ℕ → ℕ → Type 0
 AreZeroTo layers offset end = (p : ℕ) → offset ≤ p → p < end → at layers p ≡ byte 0
 
 abbrev pub ShowsZeroTo : {D St B : Type 0} → Ghosts D St → GhostsBelow B → ℕ → Result ℕ Fault → D × B → D × B → Type 0
-ShowsZeroTo g u offset result old new = IsIntact g u old.0 old.1 → IfOk result (AreZeroTo (g.layer new.0 ∷ u.under old.1) offset)
+ShowsZeroTo g u offset result old new = IsIntact g u old.0 old.1 → IfOk result (AreZeroTo (g.layer new.0 ∷ u.layers_below old.1) offset)
 
 -- Places cut no unit of the layer that lies whole in a range: one, both ends of a part, and the end of a first run.
 abbrev pub CutsNoUnit : Layer → ℕ → ℕ → ℕ → Type 0
@@ -129,18 +129,18 @@ RunIsUncut g u offset n result old = IsIntact g u old.0 old.1 → IfOk result (�
 
 -- The mapping of this state was committed, or given up; one without state is spent with nothing changed.
 abbrev pub SettlesMapping : {D St : Type 0} → Ghosts D St → Option St → D → D → Type 0
-SettlesMapping g state old new = Spends g state (g.layer old) (g.layer new) (g.safe old → Committed (g.layer old) (g.layer new))
+SettlesMapping g state old new = Spends g state (g.layer old) (g.layer new) (g.well_formed old → Committed (g.layer old) (g.layer new))
 
 abbrev pub GivesMappingUp : {D St : Type 0} → Ghosts D St → Option St → D → D → Type 0
 GivesMappingUp g state old new = Spends g state (g.layer old) (g.layer new) (Cancelled (g.layer old) (g.layer new))
 
 -- a stop in it shows what a held place may become
-abbrev pub SettlingStops : {D St : Type 0} → Ghosts D St → D → D → Type 0
-SettlingStops g old new = g.safe old → (below : List Layer) → KeepsStops g below (GivesSettled below (g.layer old)) old new
+abbrev pub WriteBackCrashImages : {D St : Type 0} → Ghosts D St → D → D → Type 0
+WriteBackCrashImages g old new = g.well_formed old → (below : List Layer) → KeepsCrashImages g below (GivesSettled below (g.layer old)) old new
 
 -- it is refused by no cause of the driver's own, whatever the range of the mapping
 abbrev pub SettlingRefused : {D St : Type 0} → Ghosts D St → Result Unit Fault → D → D → Type 0
-SettlingRefused g result old new = g.safe old → (below : List Layer) (offset n : ℕ) → 0 < n
+SettlingRefused g result old new = g.well_formed old → (below : List Layer) (offset n : ℕ) → 0 < n
     → IfErr result (PartCause below (g.layer old) offset n (λ _. ⊥) (files g old) (files g new))
 
 -- A part of a call that was begun leaves it begun where the part was not cut off.
@@ -148,37 +148,37 @@ abbrev pub StaysBegun : {D St : Type 0} → Ghosts D St → ℕ → ℕ → Type
 StaysBegun {D} g offset n whole old new = (d : D) (call : Call) → g.began d call old → IsPartOf call offset n → whole → g.began d call new
 
 -- the same change of a driver alone, over whatever layers below
-abbrev pub RanAnywhere : {D St : Type 0} → Ghosts D St → Type 0 → (ℕ → Value → Type 0) → D → D → Type 0
-RanAnywhere g whole gives old new = (below : List Layer) → RanAlone g whole gives below old new
+abbrev pub DriverRangeChangeAnywhere : {D St : Type 0} → Ghosts D St → Type 0 → (ℕ → Value → Type 0) → D → D → Type 0
+DriverRangeChangeAnywhere g whole gives old new = (below : List Layer) → DriverRangeChange g whole gives below old new
 
 -- why zeroes aren't written to a range that is mapped from a place of a storage on
 abbrev pub MappedRefused : {D St : Type 0} → Ghosts D St → ℕ → ℕ → ℕ → Result Unit Fault → D → D → Type 0
-MappedRefused g guest place n result old new = g.safe old
+MappedRefused g guest place n result old new = g.well_formed old
     → IfErr result (MappedCause (g.layer old) guest place n (files g old) (files g new))
 
 -- why a driver refuses a range, as part of a call that was begun, over whatever layers below
 abbrev pub RangeRefused : {D St T : Type 0} → PartCall → Ghosts D St → ℕ → ℕ → Result T Fault → D → D → Type 0
-RangeRefused {D} part g offset n result old new = g.safe old → (below : List Layer) (d : D) (call : Call)
+RangeRefused {D} part g offset n result old new = g.well_formed old → (below : List Layer) (d : D) (call : Call)
     → g.began d call old → IsPartOf call offset n → IsFor part call
     → IfErr result (PartCause below (g.layer old) offset n (g.own_cause d below call) (files g old) (files g new))
 
 -- What a driver alone zeroes, and what it discards, over layers below that it shows, and at a stop: places of the range take what is given.
 abbrev pub ZeroesAlone : {D St T : Type 0} → Ghosts D St → ℕ → ℕ → Result T Fault → D → D → Type 0
-ZeroesAlone g offset n result old new = g.safe old → (below : List Layer) → WasNotCutOff result
+ZeroesAlone g offset n result old new = g.well_formed old → (below : List Layer) → HadNoResourceError result
     → IsBetween (GivesZero offset n) below (g.layer old) (g.layer new)
 
 abbrev pub DiscardsAlone : {D St T : Type 0} → Ghosts D St → Discarding → ℕ → ℕ → Result T Fault → D → D → Type 0
-DiscardsAlone g how offset n result old new = g.safe old → (below : List Layer) → IsBacked below (g.layer old) → WasNotCutOff result
+DiscardsAlone g how offset n result old new = g.well_formed old → (below : List Layer) → IsBacked below (g.layer old) → HadNoResourceError result
     → IsBetween (GivesDiscarded how below offset n) below (g.layer old) (g.layer new)
 
-abbrev pub DiscardStops : {D St : Type 0} → Ghosts D St → Discarding → ℕ → ℕ → D → D → Type 0
-DiscardStops g how offset n old new = g.safe old → (below : List Layer) → IsBacked below (g.layer old)
-    → KeepsStops g below (GivesDiscarded how below offset n) old new
+abbrev pub DiscardCrashImages : {D St : Type 0} → Ghosts D St → Discarding → ℕ → ℕ → D → D → Type 0
+DiscardCrashImages g how offset n old new = g.well_formed old → (below : List Layer) → IsBacked below (g.layer old)
+    → KeepsCrashImages g below (GivesDiscarded how below offset n) old new
 
 -- what room a driver's zeroing leaves: it takes none outside its range, and gives up none there, nor where what is allocated is kept
 abbrev pub ZeroingLeaves : {D St T : Type 0} → Ghosts D St → Zeroing → ℕ → ℕ → Result T Fault → D → D → Type 0
-ZeroingLeaves g how offset n result old new = g.safe old → WasNotCutOff result
-    → LeavesRoom g (WorkKeeps (zeroing_by how offset n)) (IsOut offset n) old new
+ZeroingLeaves g how offset n result old new = g.well_formed old → HadNoResourceError result
+    → LeavesAllocation g (WorkKeeps (zeroing_by how offset n)) (IsOut offset n) old new
 
 -- the part that was done of a range leaves out no whole unit of the layer before it, cuts none, and isn't empty where the range has one
 abbrev pub ReachesUnits : Layer → ℕ → ℕ → ℕ × ℕ → Type 0
@@ -186,7 +186,7 @@ ReachesUnits layer offset n part = Reaches layer.fixed.unit layer.size offset n 
 
 -- each place of the part is left as this way of zeroing says
 abbrev pub IsLeftIn : {D St : Type 0} → Ghosts D St → Zeroing → D → ℕ × ℕ → Type 0
-IsLeftIn g how new part = (p : ℕ) → IsIn part.0 part.1 p → IsZeroedBy how (g.vacant new) (g.zeroed new) p
+IsLeftIn g how new part = (p : ℕ) → IsIn part.0 part.1 p → IsZeroedBy how (g.unallocated new) (g.zeroed new) p
 
 -- P, where this range is part of a call that was begun and that the driver has no cause of its own to decline
 abbrev pub UnlessDeclined : {D St : Type 0} → PartCall → Ghosts D St → List Layer → ℕ → ℕ → D → Type 0 → Type 0
@@ -195,20 +195,20 @@ UnlessDeclined {D} part g below offset n old P = (d : D) (call : Call) → g.beg
 
 -- Then each whole unit of the range is given up by a discard,
 abbrev pub GivesUnitsUpAlone : {D St : Type 0} → Ghosts D St → Discarding → ℕ → ℕ → Result Unit Fault → D → D → Type 0
-GivesUnitsUpAlone g how offset n result old new = g.safe old → (below : List Layer)
+GivesUnitsUpAlone g how offset n result old new = g.well_formed old → (below : List Layer)
     → UnlessDeclined (discard_by how) g below offset n old
-    (OnOk result (IsGivenUp (g.vacant new) (g.layer old).fixed.unit (g.layer old).size offset n))
+    (OnOk result (IsGivenUp (g.unallocated new) (g.layer old).fixed.unit (g.layer old).size offset n))
 
 -- and left by a zeroing as its way says: by a driver alone between two places, so far up to a place, and in the whole range.
 abbrev pub LeavesUnitsBehind : {D St : Type 0} → Ghosts D St → Zeroing → ℕ → ℕ → Result (ℕ × ℕ) Fault → D → D → Type 0
-LeavesUnitsBehind g how offset n result old new = g.safe old → (below : List Layer) → UnlessDeclined (zero_by how) g below offset n old
-    (IfOk result (λ r. IsGivenUpBehind (IsZeroedBy how (g.vacant new) (g.zeroed new)) (g.layer old).fixed.unit (g.layer old).size
+LeavesUnitsBehind g how offset n result old new = g.well_formed old → (below : List Layer) → UnlessDeclined (zero_by how) g below offset n old
+    (IfOk result (λ r. IsGivenUpBehind (IsZeroedBy how (g.unallocated new) (g.zeroed new)) (g.layer old).fixed.unit (g.layer old).size
     offset n r.0 r.1))
 
 abbrev pub LeavesUnitsTo : {D St B : Type 0} → Ghosts D St → GhostsBelow B → Zeroing → ℕ → ℕ → Result ℕ Fault → D × B → D × B → Type 0
-LeavesUnitsTo g u how offset n result old new = IsIntact g u old.0 old.1 → UnlessDeclined (zero_by how) g (u.under old.1) offset n old.0
-    (IfOk result (IsGivenUpTo (IsZeroedBy how (g.vacant new.0) (g.zeroed new.0)) (g.layer old.0).fixed.unit (g.layer old.0).size offset n))
+LeavesUnitsTo g u how offset n result old new = IsIntact g u old.0 old.1 → UnlessDeclined (zero_by how) g (u.layers_below old.1) offset n old.0
+    (IfOk result (IsGivenUpTo (IsZeroedBy how (g.unallocated new.0) (g.zeroed new.0)) (g.layer old.0).fixed.unit (g.layer old.0).size offset n))
 
 abbrev pub LeavesUnits : {D St B : Type 0} → Ghosts D St → GhostsBelow B → Zeroing → ℕ → ℕ → Result Unit Fault → D × B → D × B → Type 0
-LeavesUnits g u how offset n result old new = IsIntact g u old.0 old.1 → UnlessDeclined (zero_by how) g (u.under old.1) offset n old.0
-    (OnOk result (IsGivenUp (IsZeroedBy how (g.vacant new.0) (g.zeroed new.0)) (g.layer old.0).fixed.unit (g.layer old.0).size offset n))
+LeavesUnits g u how offset n result old new = IsIntact g u old.0 old.1 → UnlessDeclined (zero_by how) g (u.layers_below old.1) offset n old.0
+    (OnOk result (IsGivenUp (IsZeroedBy how (g.unallocated new.0) (g.zeroed new.0)) (g.layer old.0).fixed.unit (g.layer old.0).size offset n))

@@ -2,24 +2,24 @@
 use Rattle.std.specs.Prelude.{◌≡◌, ◌≢◌, ◌⊎◌, ⊤, ℕ, Bool, false, eqb, not, Option, Some, None, IsTrue, IsFalse, Result, MatchResult, if◌then◌else◌}
 use Rattle.imago_storage.specs.declared.fault.Fault.{Fault}
 use Rattle.imago_storage.specs.declared.fault.Fault.TheVariants.{ReadOnly, Foreign, MissingData, Failed, DamagedTable, Counter, Memory, Storage}
-use Rattle.imago_access.specs.declared.seen.Seen.{Ghosts}
+use Rattle.imago_access.specs.declared.driver_model.DriverModel.{Ghosts}
 use Rattle.imago_access.specs.Layer.{Layer}
 use Rattle.imago_access.specs.Changes.{Run, run_at}
 use Rattle.imago_access.specs.declared.mapping.PreparedDataMapping.{PreparedDataMapping}
-use Rattle.imago_access.specs.Refusals.{barrier}
+use Rattle.imago_access.specs.Refusals.{unusable_fault}
 
-abbrev pub claim_of : {S : Type 0} → (S → ℕ) → Option S → Option ℕ
-claim_of claim None = None
-claim_of claim (Some s) = Some (claim s)
+abbrev pub mapping_id_of : {S : Type 0} → (S → ℕ) → Option S → Option ℕ
+mapping_id_of mapping_id None = None
+mapping_id_of mapping_id (Some s) = Some (mapping_id s)
 
 -- the run of a prepared mapping
 abbrev pub run_of : {D St : Type 0} → Ghosts D St → PreparedDataMapping St → Run
-run_of g m = run_at m.storage m.offset m.length (claim_of g.claim m.state)
+run_of g m = run_at m.storage m.offset m.length (mapping_id_of g.mapping_id m.state)
 
 -- the mapping is the one that the layer has prepared; one without state is no layer's
 abbrev pub IsMine : {D St : Type 0} → Ghosts D St → Option St → Layer → Type 0
 IsMine g None layer = ⊤
-IsMine g (Some s) layer = (g.tag s ≡ layer.fixed.number) × (layer.unspent ≡ Some (g.claim s))
+IsMine g (Some s) layer = (g.tag s ≡ layer.fixed.number) × (layer.unspent ≡ Some (g.mapping_id s))
 
 -- it was prepared under another number
 abbrev pub IsForeignTo : {S : Type 0} → (S → ℕ) → Option S → Layer → Type 0
@@ -30,11 +30,11 @@ IsForeignTo tag (Some s) layer = tag s ≢ layer.fixed.number
 -- prepared, does P.
 abbrev pub Spends : {D St : Type 0} → Ghosts D St → Option St → Layer → Layer → Type 0 → Type 0
 Spends g None old new P = new ≡ old
-Spends g (Some s) old new P = (g.tag s ≡ old.fixed.number) × (old.unspent ≡ Some (g.claim s) → P)
+Spends g (Some s) old new P = (g.tag s ≡ old.fixed.number) × (old.unspent ≡ Some (g.mapping_id s) → P)
 
 -- the first cause why a mapping that is to be committed is given back
 abbrev pub commit_refusal : {D St : Type 0} → Ghosts D St → Option St → Layer → Option Fault
-commit_refusal g None layer = barrier layer
+commit_refusal g None layer = unusable_fault layer
 commit_refusal g (Some s) layer =
     if layer.failed then Some Failed
     else if layer.fixed.missing then Some MissingData
@@ -52,8 +52,8 @@ IsSpending fault = ⊥
 
 -- why a mapping that is to be committed is given back
 abbrev pub GivenBack : {S : Type 0} → (S → ℕ) → Option S → Layer → Fault → Type 0
-GivenBack tag state layer Failed = barrier layer ≡ Some Failed
-GivenBack tag state layer MissingData = barrier layer ≡ Some MissingData
+GivenBack tag state layer Failed = unusable_fault layer ≡ Some Failed
+GivenBack tag state layer MissingData = unusable_fault layer ≡ Some MissingData
 GivenBack tag None layer fault = ⊥
 GivenBack tag (Some s) layer ReadOnly = IsFalse layer.fixed.writable
 GivenBack tag (Some s) layer Foreign = tag s ≢ layer.fixed.number

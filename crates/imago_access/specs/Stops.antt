@@ -1,13 +1,13 @@
 -- What a stop of the machine leaves in the image file of the top layer.
 use Rattle.std.specs.Prelude.{IsTrue, ◌≡◌, ◌⊎◌, ℕ, ◌+◌, ◌<◌, ◌≤◌, List, ◌∷◌, length, slice_index, if◌then◌else◌, ltb, Bool, true, false, Some, None}
 use Rattle.imago_storage.specs.State.{StorageState}
-use Rattle.imago_storage.specs.Passing.{Passes}
+use Rattle.imago_storage.specs.Passing.{UnrefusedCrashImages}
 use Rattle.imago_storage.specs.Disk.{Value, byte}
 use Rattle.imago_storage.specs.Steps.{IsIn, IsByte}
-use Rattle.imago_access.specs.declared.seen.Seen.{Ghosts}
+use Rattle.imago_access.specs.declared.driver_model.DriverModel.{Ghosts}
 use Rattle.imago_access.specs.Layer.{Layer, Meaning, Cell, Held, inside, through}
 use Rattle.imago_access.specs.Chain.{at}
-use Rattle.imago_access.specs.Changes.{Settles}
+use Rattle.imago_access.specs.Changes.{CommitsPlace}
 
 -- what a file shows through the layers below
 abbrev pub shown : List Layer → (List ℕ → Meaning) → List ℕ → ℕ → Value
@@ -28,17 +28,17 @@ pub record Left (below : List Layer) (entry : Layer) (entry_file : List ℕ) (so
       → May below entry entry_file gives p (shown below entry.fixed.means f p)
 
 -- what a call keeps at each stop, seen from its own entry, with the least and the greatest size that it passes through
-abbrev pub KeepsStopsTo : {D St : Type 0} → Ghosts D St → List Layer → (least most : ℕ) → (ℕ → Value → Type 0) → D → D → Type 0
-KeepsStopsTo g below least most gives old new =
-    Passes (Left below (g.layer old) (g.image old).bytes g.sound least most gives) (g.image old) (g.image new)
+abbrev pub KeepsCrashImagesTo : {D St : Type 0} → Ghosts D St → List Layer → (least most : ℕ) → (ℕ → Value → Type 0) → D → D → Type 0
+KeepsCrashImagesTo g below least most gives old new =
+    UnrefusedCrashImages (Left below (g.layer old) (g.image old).bytes g.sound least most gives) (g.image old) (g.image new)
 
 -- the same of a call that isn't a resize: the size of the disk stays
-abbrev pub KeepsStops : {D St : Type 0} → Ghosts D St → List Layer → (ℕ → Value → Type 0) → D → D → Type 0
-KeepsStops g below gives old new = KeepsStopsTo g below (g.layer old).size (g.layer old).size gives old new
+abbrev pub KeepsCrashImages : {D St : Type 0} → Ghosts D St → List Layer → (ℕ → Value → Type 0) → D → D → Type 0
+KeepsCrashImages g below gives old new = KeepsCrashImagesTo g below (g.layer old).size (g.layer old).size gives old new
 
 -- no request, and nothing else has changed in the file
 abbrev pub MakesNone : StorageState → StorageState → Type 0
-MakesNone old new = (new.stop ≡ old.stop) × (new.past ≡ old.past) × (new.bytes ≡ old.bytes) × (new.refusals ≡ old.refusals)
+MakesNone old new = (new.crash_image ≡ old.crash_image) × (new.past_crash_images ≡ old.past_crash_images) × (new.bytes ≡ old.bytes) × (new.refusals ≡ old.refusals)
 
 -- Values that calls give at a place: none;
 abbrev pub GivesNone : ℕ → Value → Type 0
@@ -70,7 +70,7 @@ GivesBelowPast below size p v = (size ≤ p) × (v ≡ at below p)
 
 -- what a place may become when the mapping that holds it is committed;
 abbrev pub GivesSettled : List Layer → Layer → ℕ → Value → Type 0
-GivesSettled below layer p v = (c : Cell) × Settles (layer.held p) (layer.cell p) c × (v ≡ through c (at below p))
+GivesSettled below layer p v = (c : Cell) × CommitsPlace (layer.held p) (layer.cell p) c × (v ≡ through c (at below p))
 
 -- what was written to a held place, and any byte where it was announced and is not yet written.
 abbrev pub MayTake : Held → Value → Type 0
@@ -99,7 +99,7 @@ IsWritten g d = IsMeant (g.layer d) (g.image d).bytes
 
 -- Nothing is pending: what each cluster is counted beyond what names it leaks in the file.
 abbrev pub IsCounted : {D St : Type 0} → Ghosts D St → D → Type 0
-IsCounted g d = (c : ℕ) → g.surplus d c ≡ (g.layer d).fixed.leaks (g.image d).bytes c
+IsCounted g d = (c : ℕ) → g.excess_refcount d c ≡ (g.layer d).fixed.leaks (g.image d).bytes c
 
 -- the file is sound, and not shorter than the disk
 pub record IsCovered (layer : Layer) (sound : ℕ → List ℕ → Type 0) (f : List ℕ) : Type 0 where

@@ -242,7 +242,7 @@ pub trait FormatDriverBuilder<S: Storage> {
 
     /// What it opens shows what its files mean by themselves; nothing waits in memory, nothing is prepared, and the image file is as it
     /// was. Where that is sound and its storage keeps what is written, the image is safe.
-    ghost opened: { (b : Self) → OpensOnly Self.Format.Seen (opens b) FORMAT (writable_of b) (number_of b) (S.state (image_of b)) };
+    ghost opened: { (b : Self) → OpensOnly Self.Format.DriverModel (opens b) FORMAT (writable_of b) (number_of b) (S.state (image_of b)) };
 }
 
 /// Makes the builder that opens an image file: each closure that takes the file and answers a builder does.

@@ -3,16 +3,16 @@ ghost use Rattle.std.specs.Prelude.{false, ◌≡◌, ◌<◌, ◌≤◌, ◌+�
 ghost use Rattle.imago_storage.specs.State.{IsAlignment};
 ghost use Rattle.imago_storage.specs.Steps.{Call};
 ghost use Rattle.imago_storage.specs.Disk.{byte};
-ghost use Rattle.imago_access.specs.Layer.{Layer, IsOneAt, own, unmapped, loose, IsFree, IsLike};
+ghost use Rattle.imago_access.specs.Layer.{Layer, IsOneAt, own, unmapped, loose, IsFree, KeepsLayerState};
 ghost use Rattle.imago_access.specs.Chain.{at};
-ghost use Rattle.imago_access.specs.Room.{SaysRoom};
-ghost use Rattle.imago_access.specs.Files.{AreRead, OverflowsIn, Pairs, IsKept, IsStorageAt, WasNotCutOff, IsStale, files};
+ghost use Rattle.imago_access.specs.Room.{AllocationOfPlace};
+ghost use Rattle.imago_access.specs.Files.{AreRead, OverflowsIn, Pairs, UnchangedButMoreFaults, IsStorageAt, HadNoResourceError, IsStale, files};
 ghost use Rattle.imago_access.specs.PartCalls.{IsPart, DoesPart, PartRefused, ensures_zero, discards_to_zero, discards_to_any, discards_to_backing};
-ghost use Rattle.imago_access.specs.Going.{AtOnce, RangeAtOnce, KeepsWhatIsFlushed, IsUnchanged, Marks, Looked, LookedUnder, Went, WentAnew};
-ghost use Rattle.imago_access.specs.Mappings.{IsRun, IsOneOf, IsMappedRun, LooksIn, NamesRoomIn, States};
-ghost use Rattle.imago_access.specs.Refusals.{barrier, own_refusal, IsOfStorages};
+ghost use Rattle.imago_access.specs.Going.{EarlyOutcome, RangeEarlyOutcome, KeepsWhatIsFlushed, IsUnchanged, MarksFailed, LookupCall, LookupCallBelow, MutatingCall, ReloadingCall};
+ghost use Rattle.imago_access.specs.Mappings.{IsRun, IsOneOf, IsMappedRun, LooksIn, ReportsAllocationIn, ReportsExplicitZero};
+ghost use Rattle.imago_access.specs.Refusals.{unusable_fault, own_refusal, IsOfStorages};
 ghost use Rattle.imago_access.specs.Changes.{asking};
-ghost use Rattle.imago_access.specs.Stops.{IsWritten, IsCounted, IsCovered, KeepsStops, MakesNone, GivesNone};
+ghost use Rattle.imago_access.specs.Stops.{IsWritten, IsCounted, IsCovered, KeepsCrashImages, MakesNone, GivesNone};
 ghost use Rattle.imago_storage.specs.declared.fault.Fault.{Fault};
 ghost use Rattle.imago_storage.specs.declared.fault.Fault.TheVariants.{Barred};
 ghost use Rattle.imago_access.specs.Failing.{Fails, RefusesLookup, RefusesRead, RefusesFlush, RefusesReload};
@@ -22,9 +22,9 @@ ghost use Rattle.imago_access.specs.declared.format.Format.TheVariants.{Qcow2};
 ghost use Rattle.imago_access.specs.Spending.{CommitCheck};
 
 use crate::below::ReadBelow;
+use crate::driver_model::DriverModel;
 use crate::format::{Format, PreallocateMode};
 use crate::mapping::{PreparedDataMapping, ShallowMapping};
-use crate::seen::Seen;
 use imago_storage::{Fault, Storage};
 use std::alloc::Global;
 
@@ -43,7 +43,7 @@ use std::alloc::Global;
 /// of it but counts of faults is as it was.
 ///
 /// `imago_formats::Raw`, `imago_formats::Vmdk`, `qcow2_image::Qcow2` and `qimg_chain::chain::ImageDriver` implement it.
-pub trait FormatDriverInstance: Seen {
+pub trait FormatDriverInstance: DriverModel {
     /// What its files are.
     type Storage: Storage;
 
@@ -88,8 +88,8 @@ pub trait FormatDriverInstance: Seen {
     /// It refuses with `Fault::Failed` after an earlier fault, else with `Fault::MissingData` where a file that is needed wasn't
     /// handed in.
     fn ready(&self) -> Result<(), Fault>
-        ensures ok { OnOk result (barrier (Self.layer self.now) ≡ None) }
-        ensures err { IfErr result (λ e. barrier (Self.layer self.now) ≡ Some e) };
+        ensures ok { OnOk result (unusable_fault (Self.layer self.now) ≡ None) }
+        ensures err { IfErr result (λ e. unusable_fault (Self.layer self.now) ≡ Some e) };
 
     /// Whether a mapping with state is prepared and not yet spent.
     fn prepared(&self) -> bool
@@ -109,20 +109,20 @@ pub trait FormatDriverInstance: Seen {
     ) -> Result<(ShallowMapping, u64), Fault>
         // What it answers.
         ensures run { IfOk result (λ r. IsRun (Self.layer self.old) offset max_length r.0 r.1) }
-        ensures looks { Self.sees self.old → IfOk result (LooksIn Self.Seen offset max_length self.old self.new) }
-        ensures room { Self.sees self.old → IfOk result (NamesRoomIn Self.Seen offset self.old) }
-        ensures stated { Self.sees self.old → IfOk result (States (Self.stated self.old) offset) }
-        ensures there { IfOk result (λ r. IsOneOf (length (files Self.Seen self.old)) r.0) }
+        ensures looks { Self.coherent self.old → IfOk result (LooksIn Self.DriverModel offset max_length self.old self.new) }
+        ensures room { Self.coherent self.old → IfOk result (ReportsAllocationIn Self.DriverModel offset self.old) }
+        ensures explicit_zero { Self.coherent self.old → IfOk result (ReportsExplicitZero (Self.explicit_zero self.old) offset) }
+        ensures storage_exists { IfOk result (λ r. IsOneOf (length (files Self.DriverModel self.old)) r.0) }
 
         // When it ends at once, and what it keeps.
-        ensures at_once { AtOnce Self.Seen (barrier (Self.layer self.old)) (max_length ≡ 0) result self.old self.new }
-        ensures looked { Looked Self.Seen (WasNotCutOff result) self.old self.new }
-        ensures began { OnOk result ((d : Self) (call : Call) → Self.began d call self.old → Self.began d call self.new) }
+        ensures early_outcome { EarlyOutcome Self.DriverModel (unusable_fault (Self.layer self.old)) (max_length ≡ 0) result self.old self.new }
+        ensures lookup_call { LookupCall Self.DriverModel (HadNoResourceError result) self.old self.new }
+        ensures stays_begun { OnOk result ((d : Self) (call : Call) → Self.began d call self.old → Self.began d call self.new) }
 
         // Why it is refused, and what that marks.
-        ensures failed { IfErr result (Fails Self.Seen self.old self.new) }
-        ensures marks { IfErr result (Marks Self.Seen self.old self.new) }
-        ensures cause { Self.sees self.old → IfErr result (RefusesLookup Self.Seen offset max_length self.old self.new) };
+        ensures failed { IfErr result (Fails Self.DriverModel self.old self.new) }
+        ensures marks_failed { IfErr result (MarksFailed Self.DriverModel self.old self.new) }
+        ensures cause { Self.coherent self.old → IfErr result (RefusesLookup Self.DriverModel offset max_length self.old self.new) };
 
     /// Fills the buffer with the bytes of a storage from a place on, as a lookup has named them. Past its end it reads zeroes, and so does
     /// a number that no storage has.
@@ -137,30 +137,30 @@ pub trait FormatDriverInstance: Seen {
         buf: &mut [u8],
     ) -> Result<(), Fault>
         // What it answers.
-        ensures bytes { OnOk result (AreRead (files Self.Seen self.old) storage place (length buf.old) buf.new) }
+        ensures bytes { OnOk result (AreRead (files Self.DriverModel self.old) storage place (length buf.old) buf.new) }
 
         // When it ends at once, and what it keeps.
-        ensures at_once { AtOnce Self.Seen (barrier (Self.layer self.old)) (length buf.old ≡ 0) result self.old self.new }
-        ensures looked { Looked Self.Seen (WasNotCutOff result) self.old self.new }
-        ensures began { OnOk result ((d : Self) (call : Call) → Self.began d call self.old → Self.began d call self.new) }
+        ensures early_outcome { EarlyOutcome Self.DriverModel (unusable_fault (Self.layer self.old)) (length buf.old ≡ 0) result self.old self.new }
+        ensures lookup_call { LookupCall Self.DriverModel (HadNoResourceError result) self.old self.new }
+        ensures stays_begun { OnOk result ((d : Self) (call : Call) → Self.began d call self.old → Self.began d call self.new) }
         ensures none { MakesNone (Self.image self.old) (Self.image self.new) }
 
         // Why it is refused, and what that marks.
-        ensures overflow { barrier (Self.layer self.old) ≡ None → OverflowsIn (files Self.Seen self.old) storage place (length buf.old)
+        ensures overflow { unusable_fault (Self.layer self.old) ≡ None → OverflowsIn (files Self.DriverModel self.old) storage place (length buf.old)
             → IsErrOf result Fault.RangeOverflow }
-        ensures marks { IfErr result (Marks Self.Seen self.old self.new) }
-        ensures cause { IfErr result (RefusesRead Self.Seen place (length buf.old) self.old self.new) };
+        ensures marks_failed { IfErr result (MarksFailed Self.DriverModel self.old self.new) }
+        ensures cause { IfErr result (RefusesRead Self.DriverModel place (length buf.old) self.old self.new) };
 
     /// A read of places that can't be read as bytes of a storage: `Fault::Barred`, where the image can be used. It leaves all as it was,
     /// and the buffer too.
     fn read_special(&mut self, buf: &mut [u8], offset: u64) -> Result<(), Fault>
         // Why it is refused.
         ensures refused { IsErr result }
-        ensures err { IfErr result (λ e. (barrier (Self.layer self.old) ≡ Some e) ⊎ (e ≡ Barred)) }
-        ensures unusable { (f : Fault) → barrier (Self.layer self.old) ≡ Some f → IsErrOf result f }
+        ensures err { IfErr result (λ e. (unusable_fault (Self.layer self.old) ≡ Some e) ⊎ (e ≡ Barred)) }
+        ensures unusable { (f : Fault) → unusable_fault (Self.layer self.old) ≡ Some f → IsErrOf result f }
 
         // What it keeps.
-        ensures unchanged { IsUnchanged Self.Seen self.old self.new }
+        ensures unchanged { IsUnchanged Self.DriverModel self.old self.new }
         ensures buffer { buf.new ≡ buf.old };
 
     /// Maps a run from the offset on so that it can be written: at least one byte, and not more than asked. What the run shows is copied
@@ -183,17 +183,17 @@ pub trait FormatDriverInstance: Seen {
 
         // What it answers.
         ensures run { IfOk result (λ m. IsMappedRun (Self.layer self.old) offset length m.length × (m.offset + m.length < 2 ^ 64)) }
-        ensures mine { IfOk result (λ m. IsHeldBy Self.Seen m.state (Self.layer self.new)) }
+        ensures mine { IfOk result (λ m. IsHeldBy Self.DriverModel m.state (Self.layer self.new)) }
         ensures empty { length ≡ 0 → IfOk result (λ m. (m ≡ nowhere) × (Self.layer self.new ≡ Self.layer self.old)) }
         ensures size { (Self.layer self.new).size ≡ (Self.layer self.old).size }
         ensures free { IsErr result → IsFree (Self.layer self.new) }
 
         // What it does.
-        ensures does { Prepares Self.Seen B.SeenBelow (asking offset length overwrite) result (self.old, below.old) (self.new, below.new) }
-        ensures below { LookedUnder B.SeenBelow (WasNotCutOff result) below.old below.new }
+        ensures does { Prepares Self.DriverModel B.LayersBelowModel (asking offset length overwrite) result (self.old, below.old) (self.new, below.new) }
+        ensures below { LookupCallBelow B.LayersBelowModel (HadNoResourceError result) below.old below.new }
 
         // When it ends at once.
-        ensures at_once { RangeAtOnce Self.Seen offset length result self.old self.new }
+        ensures early_outcome { RangeEarlyOutcome Self.DriverModel offset length result self.old self.new }
         ensures unread { (length ≡ 0) ⊎ IsSome (own_refusal (Self.layer self.old) offset length) → below.new ≡ below.old };
 
     /// Makes a prepared mapping part of the disk. One without state takes no memory and succeeds.
@@ -206,8 +206,8 @@ pub trait FormatDriverInstance: Seen {
         alloc: Global,
         mapping: PreparedDataMapping<Self::State>,
     ) -> Result<(), (Fault, Option<PreparedDataMapping<Self::State>>)>
-        ensures commits { Commits Self.Seen mapping.state result self.old self.new }
-        ensures refused { CommitRefused Self.Seen mapping result self.old self.new };
+        ensures commits { Commits Self.DriverModel mapping.state result self.old self.new }
+        ensures refused { CommitRefused Self.DriverModel mapping result self.old self.new };
 
     /// Gives a prepared mapping up: the disk is as it was before. It makes no request and takes no memory, also where the image has failed.
     /// One without state changes nothing.
@@ -217,7 +217,7 @@ pub trait FormatDriverInstance: Seen {
         &mut self,
         mapping: PreparedDataMapping<Self::State>,
     ) -> Result<(), (Fault, PreparedDataMapping<Self::State>)>
-        ensures cancels { Cancels Self.Seen mapping result self.old self.new };
+        ensures cancels { Cancels Self.DriverModel mapping result self.old self.new };
 
     /// Writes bytes to a range that is mapped and can be written from a place of its storage on: by the image, or by its unspent
     /// mapping, to which they are noted.
@@ -233,11 +233,11 @@ pub trait FormatDriverInstance: Seen {
         bytes: &[u8],
     ) -> Result<(), Fault>
         // What it does.
-        ensures writes { WritesMapped Self.Seen guest place bytes.now result self.old self.new }
+        ensures writes { WritesMapped Self.DriverModel guest place bytes.now result self.old self.new }
 
         // When it ends at once, and why it is refused.
-        ensures at_once { RangeAtOnce Self.Seen guest (length bytes.now) result self.old self.new }
-        ensures refused { WritingRefused Self.Seen guest place (length bytes.now) result self.old self.new };
+        ensures early_outcome { RangeEarlyOutcome Self.DriverModel guest (length bytes.now) result self.old self.new }
+        ensures refused { WritingRefused Self.DriverModel guest place (length bytes.now) result self.old self.new };
 
     /// Makes a part of the range read as 0 and keeps what is allocated for it. Nothing may be prepared.
     ///
@@ -256,11 +256,11 @@ pub trait FormatDriverInstance: Seen {
 
         // What it does.
         ensures part { IfOk result (IsPart offset length) }
-        ensures does { DoesPart ensures_zero Self.Seen offset length result self.old self.new }
+        ensures does { DoesPart ensures_zero Self.DriverModel offset length result self.old self.new }
 
         // When it ends at once, and why it is refused.
-        ensures at_once { RangeAtOnce Self.Seen offset length result self.old self.new }
-        ensures refused { PartRefused ensures_zero Self.Seen offset length result self.old self.new };
+        ensures early_outcome { RangeEarlyOutcome Self.DriverModel offset length result self.old self.new }
+        ensures refused { PartRefused ensures_zero Self.DriverModel offset length result self.old self.new };
 
     /// Makes a part of the range read as 0 and gives up what is allocated for it. Nothing may be prepared.
     ///
@@ -279,11 +279,11 @@ pub trait FormatDriverInstance: Seen {
 
         // What it does.
         ensures part { IfOk result (IsPart offset length) }
-        ensures does { DoesPart discards_to_zero Self.Seen offset length result self.old self.new }
+        ensures does { DoesPart discards_to_zero Self.DriverModel offset length result self.old self.new }
 
         // When it ends at once, and why it is refused.
-        ensures at_once { RangeAtOnce Self.Seen offset length result self.old self.new }
-        ensures refused { PartRefused discards_to_zero Self.Seen offset length result self.old self.new };
+        ensures early_outcome { RangeEarlyOutcome Self.DriverModel offset length result self.old self.new }
+        ensures refused { PartRefused discards_to_zero Self.DriverModel offset length result self.old self.new };
 
     /// Gives up a part of the range, whose bytes may then be any. Nothing may be prepared.
     ///
@@ -302,11 +302,11 @@ pub trait FormatDriverInstance: Seen {
 
         // What it does.
         ensures part { IfOk result (IsPart offset length) }
-        ensures does { DoesPart discards_to_any Self.Seen offset length result self.old self.new }
+        ensures does { DoesPart discards_to_any Self.DriverModel offset length result self.old self.new }
 
         // When it ends at once, and why it is refused.
-        ensures at_once { RangeAtOnce Self.Seen offset length result self.old self.new }
-        ensures refused { PartRefused discards_to_any Self.Seen offset length result self.old self.new };
+        ensures early_outcome { RangeEarlyOutcome Self.DriverModel offset length result self.old self.new }
+        ensures refused { PartRefused discards_to_any Self.DriverModel offset length result self.old self.new };
 
     /// Gives up a part of the range to the layer below. Nothing may be prepared.
     ///
@@ -325,11 +325,11 @@ pub trait FormatDriverInstance: Seen {
 
         // What it does.
         ensures part { IfOk result (IsPart offset length) }
-        ensures does { DoesPart discards_to_backing Self.Seen offset length result self.old self.new }
+        ensures does { DoesPart discards_to_backing Self.DriverModel offset length result self.old self.new }
 
         // When it ends at once, and why it is refused.
-        ensures at_once { RangeAtOnce Self.Seen offset length result self.old self.new }
-        ensures refused { PartRefused discards_to_backing Self.Seen offset length result self.old self.new };
+        ensures early_outcome { RangeEarlyOutcome Self.DriverModel offset length result self.old self.new }
+        ensures refused { PartRefused discards_to_backing Self.DriverModel offset length result self.old self.new };
 
     /// Hands all that waits in memory to its files, and flushes these. While nothing is prepared, its files alone then mean what the
     /// layer shows, and leak what each cluster is counted beyond what names it.
@@ -337,21 +337,21 @@ pub trait FormatDriverInstance: Seen {
     /// It refuses with `Fault::Memory` and `Fault::Storage`.
     fn flush(&mut self, alloc: Global) -> Result<(), Fault>
         // What it does.
-        ensures sees { Self.sees self.old → OnOk result ((Self.layer self.new ≡ Self.layer self.old) × Self.sees self.new) }
-        ensures still { OnOk result (Self.still self.new) }
-        ensures written { Self.safe self.old → IsFree (Self.layer self.old) → OnOk result (IsWritten Self.Seen self.new) }
-        ensures counted { Self.safe self.old → IsFree (Self.layer self.old) → OnOk result (IsCounted Self.Seen self.new) }
-        ensures stops { Self.safe self.old → (below : List Layer) → KeepsStops Self.Seen below GivesNone self.old self.new }
+        ensures coherent { Self.coherent self.old → OnOk result ((Self.layer self.new ≡ Self.layer self.old) × Self.coherent self.new) }
+        ensures has_no_dirty_data { OnOk result (Self.has_no_dirty_data self.new) }
+        ensures written { Self.well_formed self.old → IsFree (Self.layer self.old) → OnOk result (IsWritten Self.DriverModel self.new) }
+        ensures counted { Self.well_formed self.old → IsFree (Self.layer self.old) → OnOk result (IsCounted Self.DriverModel self.new) }
+        ensures crash_images { Self.well_formed self.old → (below : List Layer) → KeepsCrashImages Self.DriverModel below GivesNone self.old self.new }
 
         // When it ends at once, and what it keeps.
-        ensures at_once { AtOnce Self.Seen (barrier (Self.layer self.old)) ⊥ result self.old self.new }
-        ensures like { IsLike (Self.layer self.old) (Self.layer self.new) }
-        ensures went { Went Self.Seen (WasNotCutOff result) (WasNotCutOff result) self.old self.new }
+        ensures early_outcome { EarlyOutcome Self.DriverModel (unusable_fault (Self.layer self.old)) ⊥ result self.old self.new }
+        ensures keeps_layer_state { KeepsLayerState (Self.layer self.old) (Self.layer self.new) }
+        ensures mutating_call { MutatingCall Self.DriverModel (HadNoResourceError result) (HadNoResourceError result) self.old self.new }
 
         // Why it is refused, and what that marks.
-        ensures failed { IfErr result (Fails Self.Seen self.old self.new) }
-        ensures marks { IfErr result (Marks Self.Seen self.old self.new) }
-        ensures cause { Self.safe self.old → IfErr result (RefusesFlush Self.Seen self.old self.new) };
+        ensures failed { IfErr result (Fails Self.DriverModel self.old self.new) }
+        ensures marks_failed { IfErr result (MarksFailed Self.DriverModel self.old self.new) }
+        ensures cause { Self.well_formed self.old → IfErr result (RefusesFlush Self.DriverModel self.old self.new) };
 
     /// Makes what was handed to its files durable.
     ///
@@ -359,18 +359,18 @@ pub trait FormatDriverInstance: Seen {
     fn sync(&mut self) -> Result<(), Fault>
         // What it does.
         ensures same { OnOk result (Self.layer self.new ≡ Self.layer self.old) }
-        ensures kept { Pairs IsKept (files Self.Seen self.old) (files Self.Seen self.new) }
-        ensures sees { Self.sees self.old → Self.sees self.new }
-        ensures still { Self.still self.old → Self.still self.new }
+        ensures unchanged_but_faults { Pairs UnchangedButMoreFaults (files Self.DriverModel self.old) (files Self.DriverModel self.new) }
+        ensures coherent { Self.coherent self.old → Self.coherent self.new }
+        ensures has_no_dirty_data { Self.has_no_dirty_data self.old → Self.has_no_dirty_data self.new }
 
         // When it ends at once, and what it keeps.
-        ensures at_once { AtOnce Self.Seen (barrier (Self.layer self.old)) ⊥ result self.old self.new }
-        ensures like { IsLike (Self.layer self.old) (Self.layer self.new) }
-        ensures went { Went Self.Seen (WasNotCutOff result) (WasNotCutOff result) self.old self.new }
+        ensures early_outcome { EarlyOutcome Self.DriverModel (unusable_fault (Self.layer self.old)) ⊥ result self.old self.new }
+        ensures keeps_layer_state { KeepsLayerState (Self.layer self.old) (Self.layer self.new) }
+        ensures mutating_call { MutatingCall Self.DriverModel (HadNoResourceError result) (HadNoResourceError result) self.old self.new }
 
         // Why it is refused, and what that marks.
-        ensures marks { IfErr result (Marks Self.Seen self.old self.new) }
-        ensures cause { IfErr result (RefusesFlush Self.Seen self.old self.new) };
+        ensures marks_failed { IfErr result (MarksFailed Self.DriverModel self.old self.new) }
+        ensures cause { IfErr result (RefusesFlush Self.DriverModel self.old self.new) };
 
     /// Drops what it holds in memory, written or not, and reads what it needs of its files again. Nothing may be prepared. Where it
     /// succeeds right after a flush, lookups were true and its storages keep what is written, it changes no value, and they stay true.
@@ -381,19 +381,19 @@ pub trait FormatDriverInstance: Seen {
         requires free { IsFree (Self.layer self.old) }
 
         // What it does.
-        ensures same { KeepsWhatIsFlushed Self.Seen result self.old self.new }
-        ensures kept { Pairs IsKept (files Self.Seen self.old) (files Self.Seen self.new) }
-        ensures still { OnOk result (Self.still self.new) }
+        ensures same { KeepsWhatIsFlushed Self.DriverModel result self.old self.new }
+        ensures unchanged_but_faults { Pairs UnchangedButMoreFaults (files Self.DriverModel self.old) (files Self.DriverModel self.new) }
+        ensures has_no_dirty_data { OnOk result (Self.has_no_dirty_data self.new) }
         ensures free { IsFree (Self.layer self.new) }
 
         // When it ends at once, and what it keeps.
-        ensures at_once { AtOnce Self.Seen (barrier (Self.layer self.old)) ⊥ result self.old self.new }
-        ensures went { WentAnew Self.Seen (IsOk result) (IsOk result) self.old self.new }
+        ensures early_outcome { EarlyOutcome Self.DriverModel (unusable_fault (Self.layer self.old)) ⊥ result self.old self.new }
+        ensures mutating_call { ReloadingCall Self.DriverModel (IsOk result) (IsOk result) self.old self.new }
 
         // Why it is refused, and what that marks.
         ensures failed { IfErr result (λ e. IsStale e → IsTrue (Self.layer self.new).failed) }
-        ensures marks { IfErr result (Marks Self.Seen self.old self.new) }
-        ensures cause { IfErr result (RefusesReload Self.Seen self.old self.new) };
+        ensures marks_failed { IfErr result (MarksFailed Self.DriverModel self.old self.new) }
+        ensures cause { IfErr result (RefusesReload Self.DriverModel self.old self.new) };
 
     /// Makes the disk longer, to a size in bytes. Nothing may be prepared. To a size that isn't above it does nothing.
     ///
@@ -409,15 +409,15 @@ pub trait FormatDriverInstance: Seen {
         requires free { IsFree (Self.layer self.old) }
 
         // What it does.
-        ensures resizes { Resizes Self.Seen size (Self.layer self.old).size result self.old self.new }
-        ensures grows { Grows Self.Seen B.SeenBelow size mode result (self.old, below.old) (self.new, below.new) }
+        ensures resizes { Resizes Self.DriverModel size (Self.layer self.old).size result self.old self.new }
+        ensures grows { Grows Self.DriverModel B.LayersBelowModel size mode result (self.old, below.old) (self.new, below.new) }
 
         // What it does to the layers below.
         ensures unread { IsUngrown (Self.layer self.old) size → below.new ≡ below.old }
-        ensures below { LookedUnder B.SeenBelow (WasNotCutOff result) below.old below.new }
+        ensures below { LookupCallBelow B.LayersBelowModel (HadNoResourceError result) below.old below.new }
 
         // Why it is refused.
-        ensures refused { GrowthRefused Self.Seen B.SeenBelow size mode result (self.old, below.old) (self.new, below.new) };
+        ensures refused { GrowthRefused Self.DriverModel B.LayersBelowModel size mode result (self.old, below.old) (self.new, below.new) };
 
     /// Makes the disk shorter, to a size in bytes. Nothing may be prepared. To a size that isn't below it does nothing.
     ///
@@ -427,26 +427,26 @@ pub trait FormatDriverInstance: Seen {
         requires free { IsFree (Self.layer self.old) }
 
         // What it does.
-        ensures resizes { Resizes Self.Seen (Self.layer self.old).size size result self.old self.new }
-        ensures shrinks { Shrinks Self.Seen size result self.old self.new }
+        ensures resizes { Resizes Self.DriverModel (Self.layer self.old).size size result self.old self.new }
+        ensures shrinks { Shrinks Self.DriverModel size result self.old self.new }
 
         // Why it is refused.
-        ensures refused { ShrinkRefused Self.Seen size result self.old self.new };
+        ensures refused { ShrinkRefused Self.DriverModel size result self.old self.new };
 
     /// A driver that is safe sees.
-    ghost safe_sees: { (d : Self) → Self.safe d → Self.sees d };
+    ghost well_formed_is_coherent: { (d : Self) → Self.well_formed d → Self.coherent d };
 
     /// It has not failed.
-    ghost safe_runs: { (d : Self) → Self.safe d → (Self.layer d).failed ≡ false };
+    ghost well_formed_is_usable: { (d : Self) → Self.well_formed d → (Self.layer d).failed ≡ false };
 
     /// Its storages keep what is written.
-    ghost safe_keeps: { (d : Self) → Self.safe d → IsTrue (Self.layer d).fixed.keeps };
+    ghost well_formed_keeps_writes: { (d : Self) → Self.well_formed d → IsTrue (Self.layer d).fixed.keeps };
 
     /// Its file is sound and not shorter than the disk.
-    ghost safe_sound: { (d : Self) → Self.safe d → IsCovered (Self.layer d) Self.sound (Self.image d).bytes };
+    ghost well_formed_is_sound: { (d : Self) → Self.well_formed d → IsCovered (Self.layer d) Self.sound (Self.image d).bytes };
 
     /// No two places can be written at one place of a storage.
-    ghost one_home: { (d : Self) (p q : ℕ) (at : ℕ × ℕ) → Self.safe d → IsOneAt (Self.layer d) at p q };
+    ghost one_writable_location: { (d : Self) (p q : ℕ) (at : ℕ × ℕ) → Self.well_formed d → IsOneAt (Self.layer d) at p q };
 
     /// A place that is given up shows the layer below, or is 0.
     ghost blanks: { (d : Self) → ((Self.layer d).fixed.blank ≡ unmapped) ⊎ ((Self.layer d).fixed.blank ≡ own (byte 0)) };
@@ -459,10 +459,10 @@ pub trait FormatDriverInstance: Seen {
     ghost of_storages: { (d : Self) → IsOfStorages (Self.layer d) (Self.image d) (Self.extras d) };
 
     /// A qcow2 image marks failures.
-    ghost marked: { (d : Self) → (Self.layer d).fixed.format ≡ Qcow2 → IsTrue (Self.layer d).fixed.marks };
+    ghost marked: { (d : Self) → (Self.layer d).fixed.format ≡ Qcow2 → IsTrue (Self.layer d).fixed.marks_failed };
 
     /// A qcow2 image says of each place what room it has.
-    ghost says_room: { (d : Self) → (Self.layer d).fixed.format ≡ Qcow2 → IsTrue (Self.layer d).fixed.states_room };
+    ghost reports_allocations: { (d : Self) → (Self.layer d).fixed.format ≡ Qcow2 → IsTrue (Self.layer d).fixed.reports_allocation };
 
     /// It allocates and gives up by at least a byte.
     ghost units: { (d : Self) → 0 < (Self.layer d).fixed.unit };
@@ -474,11 +474,11 @@ pub trait FormatDriverInstance: Seen {
     ghost free_loose: { (d : Self) → IsFree (Self.layer d) → (p : ℕ) → (Self.layer d).held p ≡ loose };
 
     /// A place that has room isn't vacant.
-    ghost bare: { (d : Self) (p : ℕ) → Self.vacant d p → Self.has_room d p → ⊥ };
+    ghost bare: { (d : Self) (p : ℕ) → Self.unallocated d p → Self.has_allocation d p → ⊥ };
 
     /// While nothing is prepared, a vacant or zeroed place can't be written where it is, and one that can has room, if the format says of
     /// places what room they have.
-    ghost rooms: { (d : Self) (p : ℕ) → IsFree (Self.layer d) → IsTrue (Self.layer d).fixed.states_room → SaysRoom Self.Seen d p };
+    ghost rooms: { (d : Self) (p : ℕ) → IsFree (Self.layer d) → IsTrue (Self.layer d).fixed.reports_allocation → AllocationOfPlace Self.DriverModel d p };
 }
 
 /// Why a mapping with state that is to be committed is given back, if it is: what `ready` says of the driver, else `Fault::ReadOnly` where

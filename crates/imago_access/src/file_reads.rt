@@ -1,6 +1,6 @@
 // The files of a layer, as they stand: protocol nodes, in qemu.
 ghost use Rattle.std.specs.Prelude.{◌≡◌, ◌≤◌, length, OnOk, IfErr, IsOk, IsErrOf};
-ghost use Rattle.imago_access.specs.Files.{AreRead, OverflowsIn, WasNotCutOff, files};
+ghost use Rattle.imago_access.specs.Files.{AreRead, OverflowsIn, HadNoResourceError, files};
 ghost use Rattle.imago_access.specs.FileReads.{FilesRead, FileReadCause};
 
 use crate::drivers::FormatDriverInstance;
@@ -28,15 +28,15 @@ pub trait ReadFiles: FormatDriverInstance {
         buf: &mut [u8],
     ) -> Result<(), Fault>
         // What it answers.
-        ensures bytes { OnOk result (AreRead (files Self.Seen self.old) file offset (length buf.old) buf.new) }
-        ensures overflow { OverflowsIn (files Self.Seen self.old) file offset (length buf.old) → IsErrOf result Fault.RangeOverflow }
+        ensures bytes { OnOk result (AreRead (files Self.DriverModel self.old) file offset (length buf.old) buf.new) }
+        ensures overflow { OverflowsIn (files Self.DriverModel self.old) file offset (length buf.old) → IsErrOf result Fault.RangeOverflow }
         ensures empty { length buf.old ≡ 0 → IsOk result }
-        ensures beyond { length (files Self.Seen self.old) ≤ file → IsOk result }
+        ensures beyond { length (files Self.DriverModel self.old) ≤ file → IsOk result }
 
         // What it keeps.
-        ensures read { FilesRead Self.Seen (WasNotCutOff result) self.old self.new }
+        ensures read { FilesRead Self.DriverModel (HadNoResourceError result) self.old self.new }
 
         // Why it is refused.
-        ensures cause { let overflows = OverflowsIn (files Self.Seen self.old) file offset (length buf.old) in
-            IfErr result (FileReadCause overflows (files Self.Seen self.old) (files Self.Seen self.new)) };
+        ensures cause { let overflows = OverflowsIn (files Self.DriverModel self.old) file offset (length buf.old) in
+            IfErr result (FileReadCause overflows (files Self.DriverModel self.old) (files Self.DriverModel self.new)) };
 }

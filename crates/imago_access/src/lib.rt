@@ -8,13 +8,13 @@
 mod access;
 mod below;
 mod builders;
+mod driver_model;
 mod drivers;
 mod file_reads;
 mod format;
 mod gate;
 mod mapping;
 mod ranges;
-mod seen;
 
 pub use access::FormatAccess;
 pub use below::{NoBelow, ReadBelow};
@@ -22,10 +22,10 @@ pub use builders::{
     FormatCreateBuilder, FormatCreateBuilderBase, FormatDriverBuilder, FormatDriverBuilderBase,
     MakeOpenBuilder,
 };
+pub use driver_model::{DriverModel, LayersBelowModel};
 pub use drivers::{FormatDriverInstance, check_commit};
 pub use file_reads::ReadFiles;
 pub use format::{Format, PreallocateMode};
 pub use gate::{DenyImplicitOpenGate, ImplicitOpenGate};
 pub use mapping::{Mapping, PreparedDataMapping, ShallowMapping};
 pub use ranges::check_range;
-pub use seen::{Seen, SeenBelow};

@@ -1,7 +1,7 @@
 // The ranges of a disk that may be changed. The unit is the request alignment in qemu, and `req_align` in imago.
 ghost use Rattle.std.specs.Prelude.{◌≡◌, ◌<◌, ◌≤◌, ◌+◌, ◌∷◌, List, IsTrue, IfErr, OnOk, Some, None};
 ghost use Rattle.imago_storage.specs.State.{StorageState};
-ghost use Rattle.imago_access.specs.Files.{IsMild, ImageCause};
+ghost use Rattle.imago_access.specs.Files.{IsNotResourceError, ImageCause};
 ghost use Rattle.imago_access.specs.Refusals.{range_refusal};
 
 use imago_storage::{Fault, padded_end};
@@ -25,7 +25,7 @@ pub fn check_range(
     ensures err { IfErr result (λ e. range_refusal writable unit size offset length ≡ Some e) }
     ensures writing { 0 < length → OnOk result (IsTrue writable) }
     ensures inside { 0 < length → OnOk result (offset + length ≤ size) }
-    ensures mild { IfErr result IsMild }
+    ensures not_resource_error { IfErr result IsNotResourceError }
     ensures failed { (olds news : List StorageState) → IfErr result (ImageCause olds news) }
 {
     if length == 0 {

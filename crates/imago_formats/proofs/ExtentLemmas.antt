@@ -94,8 +94,8 @@ module _ {N : Type 0} where
         high = omega (arith, at.low);
         end = omega (arith, at.begins);
         last = (i + 1, let more = size_more xs i x h is in omega (arith, at.begins, more));
-        some = at.some;
-        there = λ asks. let one : ◌≡◌ {A = ℕ} (cond (has_file x) 1 0) 1 = ap (λ t. cond t 1 0) asks in omega (arith, at.count, asked_within xs i x h is, one);
+        number_nonzero = at.some;
+        file_exists = λ asks. let one : ◌≡◌ {A = ℕ} (cond (has_file x) 1 0) 1 = ap (λ t. cond t 1 0) asks in omega (arith, at.count, asked_within xs i x h is, one);
         shows = λ files q low. at.shows files q ∙ ap (λ ys. in_extents files ys k q) rest ∙ in_first files x (drop (i + 1) xs) k q low;
         reach = λ unit all. let r : AreInReach unit (x ∷ drop (i + 1) xs) = rw rest at (at.reach unit all) in r.0;
       }

@@ -338,17 +338,17 @@ made x line l =
 -- ---- From what a line says to what it is made of.
 
 sector_made : (text : List ℕ) (sector : ℕ) → sector_of text ≡ Ok sector → (AreBlanks text × (sector ≡ 0)) ⊎ IsSectorText sector text
-sector_made text sector e = at_rest (is_empty (past_blanks text)) refl e
+sector_made text sector e = all_flushed (is_empty (past_blanks text)) refl e
   where
-    at_rest : (t : Bool) → is_empty (past_blanks text) ≡ t →
+    all_flushed : (t : Bool) → is_empty (past_blanks text) ≡ t →
         cond t (Ok 0) (cond (is_blank (get_or text 0 0) && is_empty (past_word (past_blanks text))) (decimal (word (past_blanks text))) (Err DamagedDescriptor)) ≡ Ok sector →
         (AreBlanks text × (sector ≡ 0)) ⊎ IsSectorText sector text
-    at_rest true none told =
+    all_flushed true none told =
         let rest : past_blanks text ≡ [] = empty_is (past_blanks text) none in
         let whole : text ≡ gap_of text = gap_whole text ∙ ap (λ l. gap_of text ++ l) rest ∙ append-nil (gap_of text) in
         let same : ◌≡◌ {A = Result ℕ Fault} (Ok sector) (Ok 0) = sym told in
         inl (subst (λ (l : List ℕ). AreBlanks l) (sym whole) (gap_blanks text), cc same)
-    at_rest false some told =
+    all_flushed false some told =
         let parts = from_test (is_blank (get_or text 0 0) && is_empty (past_word (past_blanks text))) (decimal (word (past_blanks text))) DamagedDescriptor sector told in
         let tests = both (is_blank (get_or text 0 0)) (is_empty (past_word (past_blanks text))) parts.0 in
         let number = number_from (word (past_blanks text)) sector parts.1 in

@@ -7,7 +7,7 @@ use Rattle.std.proofs.lemmas.Grind.{common_steps}
 use Rattle.std.proofs.lemmas.List.{get_or-take, take-take, length-take, length-take-le}
 use Rattle.std.proofs.lemmas.List.Sums.{take_while-cons, position_or_len_is, fails_before_first, passes_at_first, prefix_len-le-length}
 use Rattle.std.proofs.lemmas.Slice.Eq.{bytes_eq-Decides}
-use Rattle.imago_storage.specs.Calls.{Cause, Kept, Reads}
+use Rattle.imago_storage.specs.Calls.{Cause, UnchangedButFaults, Reads}
 use Rattle.imago_storage.specs.State.{StorageState}
 use Rattle.imago_storage.specs.declared.fault.Fault.{Fault}
 use Rattle.imago_formats.specs.DescriptorView.{NotRead}
@@ -150,12 +150,12 @@ not_read (Err e) said old new same why = elim why [
 ]
 
 -- a storage in which nothing changed but the count of faults is the same where that hasn't either
-pub same_state : (s s' : StorageState) → Kept s s' → s'.faults ≡ s.faults → s' ≡ s
+pub same_state : (s s' : StorageState) → UnchangedButFaults s s' → s'.faults ≡ s.faults → s' ≡ s
 same_state s s' kept faults = λ i. record {
   shape = kept.shape i;
   bytes = kept.bytes i;
   faults = faults i;
   refusals = kept.refusals i;
-  stop = kept.stop i;
-  past = kept.past i;
+  crash_image = kept.crash_image i;
+  past_crash_images = kept.past_crash_images i;
 }

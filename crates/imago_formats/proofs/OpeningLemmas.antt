@@ -100,9 +100,9 @@ module _ {G S : Type 0} (answers : G → List ℕ → Result S Fault → G → T
   pub opened_more : (old : List S × G) (files : List S) (mid now : G) (file : S) → OpensNext answers names old (files, mid) →
       length files < length names → answers mid (get_or names (length files) []) (Ok file) now → OpensNext answers names old (files ++ file ∷ [], now)
   opened_more old files mid now file opens named given =
-      let long : length files ≡ length old.0 + length opens.opened = ap length opens.behind ∙ length-append old.0 opens.opened in record {
+      let long : length files ≡ length old.0 + length opens.opened = ap length opens.appended ∙ length-append old.0 opens.opened in record {
         opened = opens.opened ++ file ∷ [];
-        behind = ap (λ fs. fs ++ file ∷ []) opens.behind ∙ append_assoc old.0 opens.opened (file ∷ []);
+        appended = ap (λ fs. fs ++ file ∷ []) opens.appended ∙ append_assoc old.0 opens.opened (file ∷ []);
         given = opens_more (length old.0) old.1 mid now opens.opened file opens.given (omega (arith, named, long))
             (subst (λ (n : ℕ). answers mid (get_or names n []) (Ok file) now) long given);
       }

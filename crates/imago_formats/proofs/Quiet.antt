@@ -6,23 +6,23 @@ use Rattle.imago_storage.specs.Calls.{IsFaultless}
 use Rattle.imago_storage.specs.Steps.{IsIn}
 use Rattle.imago_storage.specs.declared.fault.Fault.{Fault}
 use Rattle.imago_storage.specs.declared.fault.Fault.TheVariants.{ReadOnly, MissingData, Failed, Memory, Storage}
-use Rattle.imago_access.specs.declared.seen.Seen.{Ghosts}
-use Rattle.imago_access.specs.Layer.{Layer, Held, IsFree, IsLike, loose, unit_of_layer}
-use Rattle.imago_access.specs.Files.{ImageCause, Pairs, IsKept, IsLater, IsMild, IsStale, files}
-use Rattle.imago_access.specs.Going.{AtOnce, IsUnchanged, Looked, Marks, Went}
+use Rattle.imago_access.specs.declared.driver_model.DriverModel.{Ghosts}
+use Rattle.imago_access.specs.Layer.{Layer, Held, IsFree, KeepsLayerState, loose, unit_of_layer}
+use Rattle.imago_access.specs.Files.{ImageCause, Pairs, UnchangedButMoreFaults, IsLater, IsNotResourceError, IsStale, files}
+use Rattle.imago_access.specs.Going.{EarlyOutcome, IsUnchanged, LookupCall, MarksFailed, MutatingCall}
 use Rattle.imago_access.specs.Parts.{PlainCause}
-use Rattle.imago_access.specs.Refusals.{InvalidateCause, barrier, own_refusal, range_refusal}
+use Rattle.imago_access.specs.Refusals.{InvalidateCause, unusable_fault, own_refusal, range_refusal}
 use Rattle.imago_access.specs.Room.{IsWholeUnit, Takes}
-use Rattle.imago_access.specs.Stops.{Left, KeepsStops, KeepsStopsTo, GivesNone, GivesBytes, GivesPast, GivesBelowPast, GivesSettled}
+use Rattle.imago_access.specs.Stops.{Left, KeepsCrashImages, KeepsCrashImagesTo, GivesNone, GivesBytes, GivesPast, GivesBelowPast, GivesSettled}
 use Rattle.imago_storage.specs.Disk.{Value}
-use Rattle.imago_access.specs.declared.seen.SeenBelow.{Ghosts as GhostsBelow}
+use Rattle.imago_access.specs.declared.driver_model.LayersBelowModel.{Ghosts as GhostsBelow}
 use Rattle.imago_access.specs.declared.format.PreallocateMode.{PreallocateMode}
 use Rattle.imago_access.specs.declared.mapping.PreparedDataMapping.{PreparedDataMapping}
 use Rattle.imago_access.specs.Chain.{at}
 use Rattle.imago_access.specs.Changes.{Asked, IsHolding, Committed}
 use Rattle.imago_access.specs.PreparingCalls.{Prepares, RunRefused, WritesMapped, WritingRefused, Commits}
 use Rattle.imago_access.specs.ResizeCalls.{Grows, GrowthRefused, Resizes, ShrinkRefused, Shrinks}
-use Rattle.imago_access.specs.Spending.{Spends, IsMine, claim_of}
+use Rattle.imago_access.specs.Spending.{Spends, IsMine, mapping_id_of}
 use Rattle.imago_access.specs.PartCalls.{PartCall, ensures_zero, LeavesPart, DoesPart, PartRefused, PartGives}
 use Rattle.imago_access.proofs.Answers.{handed_on}
 use Rattle.imago_access.proofs.FilePairs.{kept_all_same, later_all_same, faultless_all_same}
@@ -30,14 +30,14 @@ use Rattle.imago_access.proofs.Stopping.{passes_none}
 use Rattle.imago_formats.specs.VmdkFiles.{Keeps, Refuses}
 use borrow.Author.Tests.{ne_eqb}
 
-kept_later : (xs ys : List StorageState) → Pairs IsKept xs ys → Pairs IsLater xs ys
+kept_later : (xs ys : List StorageState) → Pairs UnchangedButMoreFaults xs ys → Pairs IsLater xs ys
 kept_later [] [] kept = tt
 kept_later [] (y ∷ ys) kept = absurd kept
 kept_later (x ∷ xs) [] kept = absurd kept
 kept_later (x ∷ xs) (y ∷ ys) kept =
     ((kept.0.0.shape, record { faults = kept.0.1; refusals = omega (arith, kept.0.0.refusals) }), kept_later xs ys kept.1)
 
-pub like_same : (l l' : Layer) → l' ≡ l → IsLike l l'
+pub like_same : (l l' : Layer) → l' ≡ l → KeepsLayerState l l'
 like_same l l' e = record {
   fixed = ap (λ (x : Layer). x.fixed) e;
   size = ap (λ (x : Layer). x.size) e;
@@ -46,40 +46,40 @@ like_same l l' e = record {
 }
 
 module _ {D St : Type 0} (g : Ghosts D St) where
-  pub quiet_looked : (whole : Type 0) (old new : D) → Keeps g old new → (whole → Pairs IsFaultless (files g old) (files g new)) → Looked g whole old new
+  pub quiet_looked : (whole : Type 0) (old new : D) → Keeps g old new → (whole → Pairs IsFaultless (files g old) (files g new)) → LookupCall g whole old new
   quiet_looked whole old new keeps sound = record {
-    like = like_same (g.layer old) (g.layer new) keeps.layer;
-    later = kept_later (files g old) (files g new) keeps.kept;
+    keeps_layer_state = like_same (g.layer old) (g.layer new) keeps.layer;
+    counts_not_fallen = kept_later (files g old) (files g new) keeps.unchanged_but_faults;
     faults = sound;
-    stays = λ w see. (keeps.layer, keeps.sees see);
+    stays = λ w see. (keeps.layer, keeps.coherent see);
     safely = λ w s. keeps.safely s;
-    cut = inr (record { seen = λ see. (keeps.layer, keeps.sees see); safely = keeps.safely });
-    lasting = keeps.lasting;
-    surplus = λ w. keeps.surplus;
-    kept = λ s. (keeps.kept, keeps.stilled s);
-    stops = λ s below. let k = keeps.kept.0.0 in
-        passes_none (Left below (g.layer old) (g.image old).bytes g.sound (g.layer old).size (g.layer old).size GivesNone) (g.image old) (g.image new) k.shape (k.stop, k.past, k.bytes, k.refusals);
+    cut = inr (record { seen = λ see. (keeps.layer, keeps.coherent see); safely = keeps.safely });
+    stays_stable = keeps.stays_stable;
+    excess_refcount = λ w. keeps.excess_refcount;
+    unchanged_but_faults = λ s. (keeps.unchanged_but_faults, keeps.stilled s);
+    crash_images = λ s below. let k = keeps.unchanged_but_faults.0.0 in
+        passes_none (Left below (g.layer old) (g.image old).bytes g.sound (g.layer old).size (g.layer old).size GivesNone) (g.image old) (g.image new) k.shape (k.crash_image, k.past_crash_images, k.bytes, k.refusals);
   }
 
-  pub quiet_went : (ok whole : Type 0) (old new : D) → Keeps g old new → (ok → Pairs IsFaultless (files g old) (files g new)) → Went g ok whole old new
+  pub quiet_went : (ok whole : Type 0) (old new : D) → Keeps g old new → (ok → Pairs IsFaultless (files g old) (files g new)) → MutatingCall g ok whole old new
   quiet_went ok whole old new keeps sound = record {
     fixed = ap (λ (x : Layer). x.fixed) keeps.layer;
     failed = λ f. subst (λ (x : Layer). IsTrue x.failed) (sym keeps.layer) f;
-    later = kept_later (files g old) (files g new) keeps.kept;
+    counts_not_fallen = kept_later (files g old) (files g new) keeps.unchanged_but_faults;
     faults = sound;
     safely = λ w s. keeps.safely s;
-    lasting = keeps.lasting;
-    surplus = λ w. keeps.surplus;
+    stays_stable = keeps.stays_stable;
+    excess_refcount = λ w. keeps.excess_refcount;
   }
 
-  stops_to : (below : List Layer) (least most : ℕ) (gives : ℕ → Value → Type 0) (d : D) → KeepsStopsTo g below least most gives d d
+  stops_to : (below : List Layer) (least most : ℕ) (gives : ℕ → Value → Type 0) (d : D) → KeepsCrashImagesTo g below least most gives d d
   stops_to below least most gives d = passes_none (Left below (g.layer d) (g.image d).bytes g.sound least most gives) (g.image d) (g.image d) refl (refl, refl, refl, refl)
 
-  pub went_same : (ok whole : Type 0) (d : D) → Went g ok whole d d
-  went_same ok whole d = record { fixed = refl; failed = λ f. f; later = later_all_same (files g d); faults = λ h. faultless_all_same (files g d); safely = λ h s. s; lasting = λ l. l; surplus = λ h s c. refl }
+  pub went_same : (ok whole : Type 0) (d : D) → MutatingCall g ok whole d d
+  went_same ok whole d = record { fixed = refl; failed = λ f. f; counts_not_fallen = later_all_same (files g d); faults = λ h. faultless_all_same (files g d); safely = λ h s. s; stays_stable = λ l. l; excess_refcount = λ h s c. refl }
 
   takes_same : (d : D) → Takes g (λ _. ⊤) d d
-  takes_same d = record { kept = λ p l h. h; free = λ p s h. h; zeroes = λ p l s h. h }
+  takes_same d = record { stays_allocated = λ p l h. h; free = λ p s h. h; zeroes = λ p l s h. h }
 
   -- all is as it was
   pub unchanged_same : (d : D) → IsUnchanged g d d
@@ -89,28 +89,28 @@ module _ {D St : Type 0} (g : Ghosts D St) where
     seen = λ s. s;
     safely = λ s. s;
     stilled = λ s. s;
-    lasting = λ l. l;
-    surplus = λ s c. refl;
-    room = λ safe. takes_same d;
-    began = λ x call b. b;
+    stays_stable = λ l. l;
+    excess_refcount = λ s c. refl;
+    room = λ well_formed. takes_same d;
+    stays_begun = λ x call b. b;
   }
 
   pub keeps_same : (d : D) → Keeps g d d
   keeps_same d = record {
     layer = refl;
-    kept = kept_all_same (files g d);
-    sees = λ s. s;
+    unchanged_but_faults = kept_all_same (files g d);
+    coherent = λ s. s;
     safely = λ s. s;
     stilled = λ s. s;
-    lasting = λ l. l;
-    surplus = λ s c. refl;
+    stays_stable = λ l. l;
+    excess_refcount = λ s c. refl;
   }
 
   leaves_same : (call : PartCall) (offset n : ℕ) (d : D) → LeavesPart call g offset n d d
-  leaves_same ensures_zero offset n d = record { kept = λ p l h. h; free = λ p s h. h; zeroes = λ p l s h. h }
-  leaves_same call offset n d = record { kept = λ p l h. h; free = λ p s h. h; zeroes = λ p l s h. h }
+  leaves_same ensures_zero offset n d = record { stays_allocated = λ p l h. h; free = λ p s h. h; zeroes = λ p l s h. h }
+  leaves_same call offset n d = record { stays_allocated = λ p l h. h; free = λ p s h. h; zeroes = λ p l s h. h }
 
-  stops_same : (below : List Layer) (gives : ℕ → Value → Type 0) (d : D) → KeepsStops g below gives d d
+  stops_same : (below : List Layer) (gives : ℕ → Value → Type 0) (d : D) → KeepsCrashImages g below gives d d
   stops_same below gives d = passes_none (Left below (g.layer d) (g.image d).bytes g.sound (g.layer d).size (g.layer d).size gives) (g.image d) (g.image d) refl (refl, refl, refl, refl)
 
   none_in : (offset p : ℕ) → IsIn offset 0 p → ⊥
@@ -123,19 +123,19 @@ module _ {D St : Type 0} (g : Ghosts D St) where
   -- a part of an empty range is done
   pub does_nothing : (call : PartCall) (offset n : ℕ) (d : D) → n ≡ 0 → (g.layer d).fixed.unit ≡ 1 → DoesPart call g offset n (Ok (offset, 0)) d d
   does_nothing call offset n d none unit = record {
-    ok = λ safe. record { like = like_same (g.layer d) (g.layer d) refl; range = λ p inside. absurd (none_in offset p inside); others = λ p out. refl };
-    err = λ safe. tt;
-    reach = λ safe. record {
+    ok = λ well_formed. record { keeps_layer_state = like_same (g.layer d) (g.layer d) refl; range = λ p inside. absurd (none_in offset p inside); others = λ p out. refl };
+    err = λ well_formed. tt;
+    reach = λ well_formed. record {
       none_before = λ u w. absurd (whole_none u w);
-      some = λ u w. absurd (whole_none u w);
+      nonempty = λ u w. absurd (whole_none u w);
       none_cut = λ u w low. absurd (whole_none u w);
     };
-    given = λ safe p inside. absurd (none_in offset p inside);
-    room = λ safe w. leaves_same call offset n d;
-    like = like_same (g.layer d) (g.layer d) refl;
-    went = went_same ⊤ ⊤ d;
-    began = λ x whole b part w. b;
-    stops = λ safe below told. stops_same below (PartGives call below offset n) d;
+    given = λ well_formed p inside. absurd (none_in offset p inside);
+    room = λ well_formed w. leaves_same call offset n d;
+    keeps_layer_state = like_same (g.layer d) (g.layer d) refl;
+    mutating_call = went_same ⊤ ⊤ d;
+    stays_begun = λ x whole b part w. b;
+    crash_images = λ well_formed below told. stops_same below (PartGives call below offset n) d;
   }
     where
       whole_none : (u : ℕ) → IsWholeUnit (g.layer d).fixed.unit (g.layer d).size offset n u → ⊥
@@ -145,20 +145,20 @@ module _ {D St : Type 0} (g : Ghosts D St) where
   -- one that is refused
   pub does_refused : (call : PartCall) (offset n : ℕ) (e : Fault) (d : D) → DoesPart call g offset n (Err e) d d
   does_refused call offset n e d = record {
-    ok = λ safe. tt;
-    err = λ safe mild. record { like = like_same (g.layer d) (g.layer d) refl; range = λ p inside. inl refl; others = λ p out. refl };
-    reach = λ safe. tt;
-    given = λ safe. tt;
-    room = λ safe w. leaves_same call offset n d;
-    like = like_same (g.layer d) (g.layer d) refl;
-    went = went_same (IsMild e) (IsMild e) d;
-    began = λ x whole b part w. b;
-    stops = λ safe below told. stops_same below (PartGives call below offset n) d;
+    ok = λ well_formed. tt;
+    err = λ well_formed not_resource_error. record { keeps_layer_state = like_same (g.layer d) (g.layer d) refl; range = λ p inside. inl refl; others = λ p out. refl };
+    reach = λ well_formed. tt;
+    given = λ well_formed. tt;
+    room = λ well_formed w. leaves_same call offset n d;
+    keeps_layer_state = like_same (g.layer d) (g.layer d) refl;
+    mutating_call = went_same (IsNotResourceError e) (IsNotResourceError e) d;
+    stays_begun = λ x whole b part w. b;
+    crash_images = λ well_formed below told. stops_same below (PartGives call below offset n) d;
   }
 
   pub part_refused : (call : PartCall) (offset n : ℕ) (e : Fault) (d : D) → IsFalse (g.layer d).fixed.writable → Refuses (g.layer d) n e → PartRefused call g offset n (Err e) d d
-  part_refused call offset n MissingData d closed why = record { failed = tt; marks = tt; cause = λ safe below x whole b part is_for. inl why }
-  part_refused call offset n ReadOnly d closed why = record { failed = tt; marks = tt; cause = λ safe below x whole b part is_for. (why.1, closed) }
+  part_refused call offset n MissingData d closed why = record { failed = tt; marks_failed = tt; cause = λ well_formed below x whole b part is_for. inl why }
+  part_refused call offset n ReadOnly d closed why = record { failed = tt; marks_failed = tt; cause = λ well_formed below x whole b part is_for. (why.1, closed) }
   part_refused call offset n e d closed why = absurd why
 
 -- ---- Calls without a range.
@@ -201,7 +201,7 @@ at_barrier false true rest x e = e
 at_barrier false false rest x e = absurd cc
 
 -- an empty range isn't refused for itself
-pub refuses_none : (layer : Layer) (offset n : ℕ) → barrier layer ≡ None → n ≡ 0 → own_refusal layer offset n ≡ None
+pub refuses_none : (layer : Layer) (offset n : ℕ) → unusable_fault layer ≡ None → n ≡ 0 → own_refusal layer offset n ≡ None
 refuses_none layer offset n runs none =
     behind_barrier layer.failed layer.fixed.missing (range_refusal layer.fixed.writable (unit_of_layer layer) layer.size offset n) runs ∙ rw none refl
 
@@ -215,23 +215,23 @@ refuses_some layer offset n e closed why = absurd why
 
 module _ {D St T : Type 0} (g : Ghosts D St) where
   -- a format that marks no failures
-  pub unmarked : (r : Result T Fault) (old new : D) → IsFalse (g.layer old).fixed.marks → IfErr r (Marks g old new)
+  pub unmarked : (r : Result T Fault) (old new : D) → IsFalse (g.layer old).fixed.marks_failed → IfErr r (MarksFailed g old new)
   unmarked (Ok v) old new never_marks = tt
   unmarked (Err Storage) old new never_marks = λ marks. absurd (cc (marks, never_marks))
   unmarked (Err Memory) old new never_marks = λ marks. absurd (cc (marks, never_marks))
   unmarked (Err e) old new never_marks = tt
 
   -- a call of an image that can be used, and one of another
-  pub at_once_runs : (nothing : Type 0) (r : Result T Fault) (old new : D) → barrier (g.layer old) ≡ None →
-      (nothing → IsOk r × IsUnchanged g old new) → AtOnce g (barrier (g.layer old)) nothing r old new
+  pub at_once_runs : (nothing : Type 0) (r : Result T Fault) (old new : D) → unusable_fault (g.layer old) ≡ None →
+      (nothing → IsOk r × IsUnchanged g old new) → EarlyOutcome g (unusable_fault (g.layer old)) nothing r old new
   at_once_runs nothing r old new runs idle = record {
     refused = λ f is. absurd (cc (runs, is));
     idle = λ none b. (idle none).0;
     unchanged = λ h. elim h [ inl none ↦ (idle none).1 | inr is ↦ absurd (cc (runs, is)) ];
   }
 
-  pub at_once_unusable : (nothing : Type 0) (e : Fault) (d : D) → barrier (g.layer d) ≡ Some e →
-      AtOnce {T = T} g (barrier (g.layer d)) nothing (Err e) d d
+  pub at_once_unusable : (nothing : Type 0) (e : Fault) (d : D) → unusable_fault (g.layer d) ≡ Some e →
+      EarlyOutcome {T = T} g (unusable_fault (g.layer d)) nothing (Err e) d d
   at_once_unusable nothing e d barred = record {
     refused = λ f is. let same : Some e ≡ Some f = sym barred ∙ is in cc same;
     idle = λ none runs. absurd (cc (runs, barred));
@@ -239,12 +239,12 @@ module _ {D St T : Type 0} (g : Ghosts D St) where
   }
 
   -- the same of what a `?` hands on
-  pub at_once_handed : (nothing : Type 0) (result : Result T Fault) (e : Fault) (d : D) → IsErrAnd result (λ x. x ≡ e) → barrier (g.layer d) ≡ Some e →
-      AtOnce g (barrier (g.layer d)) nothing result d d
+  pub at_once_handed : (nothing : Type 0) (result : Result T Fault) (e : Fault) (d : D) → IsErrAnd result (λ x. x ≡ e) → unusable_fault (g.layer d) ≡ Some e →
+      EarlyOutcome g (unusable_fault (g.layer d)) nothing result d d
   at_once_handed nothing result e d is_err barred =
-      subst (λ (r : Result T Fault). AtOnce g (barrier (g.layer d)) nothing r d d) (sym (handed_on result e is_err)) (at_once_unusable nothing e d barred)
+      subst (λ (r : Result T Fault). EarlyOutcome g (unusable_fault (g.layer d)) nothing r d d) (sym (handed_on result e is_err)) (at_once_unusable nothing e d barred)
 
-  pub at_once_none : (offset n : ℕ) (v : T) (d : D) → barrier (g.layer d) ≡ None → n ≡ 0 → AtOnce g (own_refusal (g.layer d) offset n) (n ≡ 0) (Ok v) d d
+  pub at_once_none : (offset n : ℕ) (v : T) (d : D) → unusable_fault (g.layer d) ≡ None → n ≡ 0 → EarlyOutcome g (own_refusal (g.layer d) offset n) (n ≡ 0) (Ok v) d d
   at_once_none offset n v d runs none = record {
     refused = λ f is. let no = refuses_none (g.layer d) offset n runs none in absurd (cc (is, no));
     idle = λ z b. refl;
@@ -252,7 +252,7 @@ module _ {D St T : Type 0} (g : Ghosts D St) where
   }
 
   pub at_once_some : (offset n : ℕ) (e : Fault) (d : D) → (g.layer d).fixed.writable ≡ false → Refuses (g.layer d) n e →
-      AtOnce {T = T} g (own_refusal (g.layer d) offset n) (n ≡ 0) (Err e) d d
+      EarlyOutcome {T = T} g (own_refusal (g.layer d) offset n) (n ≡ 0) (Err e) d d
   at_once_some offset n e d closed why = let some = refuses_some (g.layer d) offset n e closed why in record {
     refused = λ f is. let same : Some e ≡ Some f = sym some ∙ is in cc same;
     idle = λ z b. let none = refuses_none (g.layer d) offset n b z in absurd (cc (some, none));
@@ -260,8 +260,8 @@ module _ {D St T : Type 0} (g : Ghosts D St) where
   }
 
   pub at_once_same : (offset n : ℕ) (r : Result T Fault) (d : D) → (g.layer d).fixed.writable ≡ false →
-      OnOk r ((barrier (g.layer d) ≡ None) × (n ≡ 0)) → IfErr r (Refuses (g.layer d) n) →
-      AtOnce g (own_refusal (g.layer d) offset n) (n ≡ 0) r d d
+      OnOk r ((unusable_fault (g.layer d) ≡ None) × (n ≡ 0)) → IfErr r (Refuses (g.layer d) n) →
+      EarlyOutcome g (own_refusal (g.layer d) offset n) (n ≡ 0) r d d
   at_once_same offset n (Ok v) d closed done why = at_once_none offset n v d done.0 done.1
   at_once_same offset n (Err e) d closed done why = at_once_some offset n e d closed why
 
@@ -271,126 +271,126 @@ module _ {D St B : Type 0} (g : Ghosts D St) (u : GhostsBelow B) where
   pub prepares_none : (asked : Asked) (m : PreparedDataMapping St) (d : D) (b : B) → asked.length ≡ 0 → m.length ≡ 0 → m.state ≡ None →
       (g.layer d).fixed.unit ≡ 1 → (g.layer d).unspent ≡ None → ((p : ℕ) → (g.layer d).held p ≡ loose) → Prepares g u asked (Ok m) (d, b) (d, b)
   prepares_none asked m d b none short stateless unit free held = record {
-    ok = λ safe see. record {
+    ok = λ well_formed see. record {
       fixed = refl;
       size = refl;
       cell = refl;
-      home = λ i low. let bad : i < 0 = subst (λ (k : ℕ). i < k) short low in absurd (omega (arith, bad));
-      unspent = free ∙ sym (ap (claim_of g.claim) stateless);
-      holds = λ p. subst (λ (h : Held). IsHolding (at (u.under b)) (g.layer d) asked.offset m.length asked.overwrite p h) (sym (held p)) tt;
-      some_held = λ c is. let bad : None ≡ Some c = sym (ap (claim_of g.claim) stateless) ∙ is in absurd (cc bad);
+      writable_location = λ i low. let bad : i < 0 = subst (λ (k : ℕ). i < k) short low in absurd (omega (arith, bad));
+      unspent = free ∙ sym (ap (mapping_id_of g.mapping_id) stateless);
+      holds = λ p. subst (λ (h : Held). IsHolding (at (u.layers_below b)) (g.layer d) asked.offset m.length asked.overwrite p h) (sym (held p)) tt;
+      some_held = λ c is. let bad : None ≡ Some c = sym (ap (mapping_id_of g.mapping_id) stateless) ∙ is in absurd (cc bad);
     };
-    err = λ safe see. tt;
-    uncut = λ safe see k w. absurd (none_whole g (g.layer d).size asked.offset k
+    err = λ well_formed see. tt;
+    uncut = λ well_formed see k w. absurd (none_whole g (g.layer d).size asked.offset k
         (subst (λ (n : ℕ). IsWholeUnit 1 (g.layer d).size asked.offset n k) none (subst (λ (n : ℕ). IsWholeUnit n (g.layer d).size asked.offset asked.length k) unit w)));
-    near = λ safe see p apart. held p;
-    room = λ safe see w. takes_same g d;
-    stops = λ safe see. stops_same g (u.under b) GivesNone d;
-    went = went_same g ⊤ (⊤ × u.sees_under b) d;
-    began = λ x call begun part w. begun;
-    refused = record { failed = tt; marks = tt; cause = λ safe see x call begun part over. tt };
+    no_range_overflow = λ well_formed see p apart. held p;
+    room = λ well_formed see w. takes_same g d;
+    crash_images = λ well_formed see. stops_same g (u.layers_below b) GivesNone d;
+    mutating_call = went_same g ⊤ (⊤ × u.coherent_below b) d;
+    stays_begun = λ x call begun part w. begun;
+    refused = record { failed = tt; marks_failed = tt; cause = λ well_formed see x call begun part over. tt };
   }
 
   run_refused : (asked : Asked) (e : Fault) (d : D) (b : B) → IsFalse (g.layer d).fixed.writable → Refuses (g.layer d) asked.length e →
       RunRefused {T = PreparedDataMapping St} g u asked (Err e) (d, b) (d, b)
-  run_refused asked MissingData d b closed why = record { failed = tt; marks = tt; cause = λ safe see x call begun part over. inl why }
-  run_refused asked ReadOnly d b closed why = record { failed = tt; marks = tt; cause = λ safe see x call begun part over. (why.1, closed) }
+  run_refused asked MissingData d b closed why = record { failed = tt; marks_failed = tt; cause = λ well_formed see x call begun part over. inl why }
+  run_refused asked ReadOnly d b closed why = record { failed = tt; marks_failed = tt; cause = λ well_formed see x call begun part over. (why.1, closed) }
   run_refused asked e d b closed why = absurd why
 
   pub prepares_refused : (asked : Asked) (e : Fault) (d : D) (b : B) → IsFalse (g.layer d).fixed.writable → Refuses (g.layer d) asked.length e →
       Prepares g u asked (Err e) (d, b) (d, b)
   prepares_refused asked e d b closed why = record {
-    ok = λ safe see. tt;
-    err = λ safe see mild. record { like = like_same (g.layer d) (g.layer d) refl; cell = refl; held = refl };
-    uncut = λ safe see. tt;
-    near = λ safe see. tt;
-    room = λ safe see w. takes_same g d;
-    stops = λ safe see. stops_same g (u.under b) GivesNone d;
-    went = went_same g (IsMild e) (IsMild e × u.sees_under b) d;
-    began = λ x call begun part w. begun;
+    ok = λ well_formed see. tt;
+    err = λ well_formed see not_resource_error. record { keeps_layer_state = like_same (g.layer d) (g.layer d) refl; cell = refl; held = refl };
+    uncut = λ well_formed see. tt;
+    no_range_overflow = λ well_formed see. tt;
+    room = λ well_formed see w. takes_same g d;
+    crash_images = λ well_formed see. stops_same g (u.layers_below b) GivesNone d;
+    mutating_call = went_same g (IsNotResourceError e) (IsNotResourceError e × u.coherent_below b) d;
+    stays_begun = λ x call begun part w. begun;
     refused = run_refused asked e d b closed why;
   }
 
   pub grows_none : (size : ℕ) (mode : PreallocateMode) (d : D) (b : B) → size ≤ (g.layer d).size → Grows g u size mode (Ok tt) (d, b) (d, b)
   grows_none size mode d b low = record {
-    ok = λ safe see high. absurd (omega (arith, low, high));
-    err = λ safe see. tt;
-    stops = λ safe see. stops_to g (u.under b) (g.layer d).size (max (g.layer d).size size) (GivesPast (g.layer d).size) d;
-    went = went_same g ⊤ (⊤ × u.sees_under b) d;
+    ok = λ well_formed see high. absurd (omega (arith, low, high));
+    err = λ well_formed see. tt;
+    crash_images = λ well_formed see. stops_to g (u.layers_below b) (g.layer d).size (max (g.layer d).size size) (GivesPast (g.layer d).size) d;
+    mutating_call = went_same g ⊤ (⊤ × u.coherent_below b) d;
   }
 
   pub grows_refused : (size : ℕ) (mode : PreallocateMode) (e : Fault) (d : D) (b : B) → Grows g u size mode (Err e) (d, b) (d, b)
   grows_refused size mode e d b = record {
-    ok = λ safe see high. tt;
-    err = λ safe see mild. record { like = like_same (g.layer d) (g.layer d) refl; kept = λ p low. refl };
-    stops = λ safe see. stops_to g (u.under b) (g.layer d).size (max (g.layer d).size size) (GivesPast (g.layer d).size) d;
-    went = went_same g (IsMild e) (IsMild e × u.sees_under b) d;
+    ok = λ well_formed see high. tt;
+    err = λ well_formed see not_resource_error. record { keeps_layer_state = like_same (g.layer d) (g.layer d) refl; data_unchanged = λ p low. refl };
+    crash_images = λ well_formed see. stops_to g (u.layers_below b) (g.layer d).size (max (g.layer d).size size) (GivesPast (g.layer d).size) d;
+    mutating_call = went_same g (IsNotResourceError e) (IsNotResourceError e × u.coherent_below b) d;
   }
 
   -- a growth by n bytes, which is refused but where n is 0
   pub grows_same : (size n : ℕ) (mode : PreallocateMode) (r : Result Unit Fault) (d : D) (b : B) → n ≡ size - (g.layer d).size →
-      OnOk r ((barrier (g.layer d) ≡ None) × (n ≡ 0)) → Grows g u size mode r (d, b) (d, b)
+      OnOk r ((unusable_fault (g.layer d) ≡ None) × (n ≡ 0)) → Grows g u size mode r (d, b) (d, b)
   grows_same size n mode (Ok v) d b more done = grows_none size mode d b (omega (arith, more, done.1))
   grows_same size n mode (Err e) d b more done = grows_refused size mode e d b
 
   pub growth_refused : (size n : ℕ) (mode : PreallocateMode) (r : Result Unit Fault) (d : D) (b : B) → n ≡ size - (g.layer d).size →
       IsFalse (g.layer d).fixed.writable → IfErr r (Refuses (g.layer d) n) → GrowthRefused g u size mode r (d, b) (d, b)
-  growth_refused size n mode (Ok v) d b more closed why = record { failed = tt; marks = tt; cause = λ safe see. tt }
-  growth_refused size n mode (Err MissingData) d b more closed why = record { failed = tt; marks = tt; cause = λ safe see. inl why }
+  growth_refused size n mode (Ok v) d b more closed why = record { failed = tt; marks_failed = tt; cause = λ well_formed see. tt }
+  growth_refused size n mode (Err MissingData) d b more closed why = record { failed = tt; marks_failed = tt; cause = λ well_formed see. inl why }
   growth_refused size n mode (Err ReadOnly) d b more closed why =
-      record { failed = tt; marks = tt; cause = λ safe see. (omega (arith, more, why.1), closed) }
+      record { failed = tt; marks_failed = tt; cause = λ well_formed see. (omega (arith, more, why.1), closed) }
   growth_refused size n mode (Err e) d b more closed why = absurd why
 
 module _ {D St : Type 0} (g : Ghosts D St) where
   pub shrinks_none : (size : ℕ) (d : D) → (g.layer d).size ≤ size → Shrinks g size (Ok tt) d d
   shrinks_none size d high = record {
-    ok = λ safe low. absurd (omega (arith, low, high));
-    err = λ safe. tt;
-    stops = λ safe below backed. stops_to g below size (g.layer d).size (GivesBelowPast below size) d;
-    went = went_same g ⊤ ⊤ d;
+    ok = λ well_formed low. absurd (omega (arith, low, high));
+    err = λ well_formed. tt;
+    crash_images = λ well_formed below backed. stops_to g below size (g.layer d).size (GivesBelowPast below size) d;
+    mutating_call = went_same g ⊤ ⊤ d;
   }
 
   pub shrinks_refused : (size : ℕ) (e : Fault) (d : D) → Shrinks g size (Err e) d d
   shrinks_refused size e d = record {
-    ok = λ safe low. tt;
-    err = λ safe mild. record { like = like_same (g.layer d) (g.layer d) refl; kept = λ p low. refl };
-    stops = λ safe below backed. stops_to g below size (g.layer d).size (GivesBelowPast below size) d;
-    went = went_same g (IsMild e) (IsMild e) d;
+    ok = λ well_formed low. tt;
+    err = λ well_formed not_resource_error. record { keeps_layer_state = like_same (g.layer d) (g.layer d) refl; data_unchanged = λ p low. refl };
+    crash_images = λ well_formed below backed. stops_to g below size (g.layer d).size (GivesBelowPast below size) d;
+    mutating_call = went_same g (IsNotResourceError e) (IsNotResourceError e) d;
   }
 
   -- a shrink by n bytes, which is refused but where n is 0
   pub shrinks_same : (size n : ℕ) (r : Result Unit Fault) (d : D) → n ≡ (g.layer d).size - size →
-      OnOk r ((barrier (g.layer d) ≡ None) × (n ≡ 0)) → Shrinks g size r d d
+      OnOk r ((unusable_fault (g.layer d) ≡ None) × (n ≡ 0)) → Shrinks g size r d d
   shrinks_same size n (Ok v) d less done = shrinks_none size d (omega (arith, less, done.1))
   shrinks_same size n (Err e) d less done = shrinks_refused size e d
 
   pub shrink_refused : (size n : ℕ) (r : Result Unit Fault) (d : D) → n ≡ (g.layer d).size - size → IsFalse (g.layer d).fixed.writable →
       IfErr r (Refuses (g.layer d) n) → ShrinkRefused g size r d d
-  shrink_refused size n (Ok v) d less closed why = record { failed = tt; marks = tt; cause = λ safe below. tt }
-  shrink_refused size n (Err MissingData) d less closed why = record { failed = tt; marks = tt; cause = λ safe below. inl why }
+  shrink_refused size n (Ok v) d less closed why = record { failed = tt; marks_failed = tt; cause = λ well_formed below. tt }
+  shrink_refused size n (Err MissingData) d less closed why = record { failed = tt; marks_failed = tt; cause = λ well_formed below. inl why }
   shrink_refused size n (Err ReadOnly) d less closed why =
-      record { failed = tt; marks = tt; cause = λ safe below. (omega (arith, less, why.1), closed) }
+      record { failed = tt; marks_failed = tt; cause = λ well_formed below. (omega (arith, less, why.1), closed) }
   shrink_refused size n (Err e) d less closed why = absurd why
 
   -- what either does at once
   pub resizes_same : (first second n : ℕ) (r : Result Unit Fault) (d : D) → n ≡ first - second → IsFree (g.layer d) →
-      OnOk r ((barrier (g.layer d) ≡ None) × (n ≡ 0)) → IfErr r (Refuses (g.layer d) n) → Resizes g first second r d d
+      OnOk r ((unusable_fault (g.layer d) ≡ None) × (n ≡ 0)) → IfErr r (Refuses (g.layer d) n) → Resizes g first second r d d
   resizes_same first second n (Ok v) d apart free done why = record {
     nothing = λ le. refl;
     free = free;
-    at_once = record { refused = λ f is. absurd (cc (done.0, is)); idle = λ le runs. refl; unchanged = λ h. unchanged_same g d };
+    early_outcome = record { refused = λ f is. absurd (cc (done.0, is)); idle = λ le runs. refl; unchanged = λ h. unchanged_same g d };
     read_only = λ runs lt closed. absurd (omega (arith, apart, done.1, lt));
   }
   resizes_same first second n (Err MissingData) d apart free done why = record {
     nothing = λ le. tt;
     free = free;
-    at_once = at_once_unusable g (first ≤ second) MissingData d why;
+    early_outcome = at_once_unusable g (first ≤ second) MissingData d why;
     read_only = λ runs lt closed. absurd (cc (runs, why));
   }
   resizes_same first second n (Err ReadOnly) d apart free done why = record {
     nothing = λ le. tt;
     free = free;
-    at_once = record {
+    early_outcome = record {
       refused = λ f is. absurd (cc (why.0, is));
       idle = λ le runs. absurd (omega (arith, apart, why.1, le));
       unchanged = λ h. unchanged_same g d;
@@ -403,59 +403,59 @@ module _ {D St : Type 0} (g : Ghosts D St) where
   writes_none guest place bytes d none = record {
     mapped = λ see some. absurd (omega (arith, some, none));
     empty = λ z. refl;
-    like = like_same (g.layer d) (g.layer d) refl;
-    ok = λ safe. record {
-      like = like_same (g.layer d) (g.layer d) refl;
-      home = refl;
+    keeps_layer_state = like_same (g.layer d) (g.layer d) refl;
+    ok = λ well_formed. record {
+      keeps_layer_state = like_same (g.layer d) (g.layer d) refl;
+      writable_location = refl;
       range = λ i low. absurd (omega (arith, low, none));
       others = λ p out. (refl, refl);
     };
-    err = λ safe. tt;
-    room = λ safe w. takes_same g d;
-    stops = λ safe below. stops_same g below (GivesBytes guest bytes) d;
-    went = went_same g ⊤ ⊤ d;
-    began = λ x call begun. begun;
+    err = λ well_formed. tt;
+    room = λ well_formed w. takes_same g d;
+    crash_images = λ well_formed below. stops_same g below (GivesBytes guest bytes) d;
+    mutating_call = went_same g ⊤ ⊤ d;
+    stays_begun = λ x call begun. begun;
   }
 
   pub writes_refused : (guest place : ℕ) (bytes : List ℕ) (e : Fault) (d : D) → WritesMapped g guest place bytes (Err e) d d
   writes_refused guest place bytes e d = record {
     mapped = λ see. tt;
     empty = λ z. refl;
-    like = like_same (g.layer d) (g.layer d) refl;
-    ok = λ safe. tt;
-    err = λ safe mild. refl;
-    room = λ safe w. takes_same g d;
-    stops = λ safe below. stops_same g below (GivesBytes guest bytes) d;
-    went = went_same g (IsMild e) (IsMild e) d;
-    began = λ x call begun. tt;
+    keeps_layer_state = like_same (g.layer d) (g.layer d) refl;
+    ok = λ well_formed. tt;
+    err = λ well_formed not_resource_error. refl;
+    room = λ well_formed w. takes_same g d;
+    crash_images = λ well_formed below. stops_same g below (GivesBytes guest bytes) d;
+    mutating_call = went_same g (IsNotResourceError e) (IsNotResourceError e) d;
+    stays_begun = λ x call begun. tt;
   }
 
   pub writing_refused : (guest place n : ℕ) (e : Fault) (d : D) → IsFalse (g.layer d).fixed.writable → Refuses (g.layer d) n e → WritingRefused g guest place n (Err e) d d
-  writing_refused guest place n MissingData d closed why = record { failed = tt; marks = tt; cause = λ safe. inl why }
-  writing_refused guest place n ReadOnly d closed why = record { failed = tt; marks = tt; cause = λ safe. (why.1, closed) }
+  writing_refused guest place n MissingData d closed why = record { failed = tt; marks_failed = tt; cause = λ well_formed. inl why }
+  writing_refused guest place n ReadOnly d closed why = record { failed = tt; marks_failed = tt; cause = λ well_formed. (why.1, closed) }
   writing_refused guest place n e d closed why = absurd why
 
   pub writes_same : (guest place : ℕ) (bytes : List ℕ) (r : Result Unit Fault) (d : D) →
-      OnOk r ((barrier (g.layer d) ≡ None) × (length bytes ≡ 0)) → WritesMapped g guest place bytes r d d
+      OnOk r ((unusable_fault (g.layer d) ≡ None) × (length bytes ≡ 0)) → WritesMapped g guest place bytes r d d
   writes_same guest place bytes (Ok v) d done = writes_none guest place bytes d done.1
   writes_same guest place bytes (Err e) d done = writes_refused guest place bytes e d
 
   pub writing_same : (guest place n : ℕ) (r : Result Unit Fault) (d : D) → IsFalse (g.layer d).fixed.writable →
       IfErr r (Refuses (g.layer d) n) → WritingRefused g guest place n r d d
-  writing_same guest place n (Ok v) d closed why = record { failed = tt; marks = tt; cause = λ safe. tt }
+  writing_same guest place n (Ok v) d closed why = record { failed = tt; marks_failed = tt; cause = λ well_formed. tt }
   writing_same guest place n (Err e) d closed why = writing_refused guest place n e d closed why
 
   -- a commit that is given back, or has nothing to do
   pub commits_same : (state : Option St) (result : Result Unit (Fault × Option (PreparedDataMapping St))) (d : D) →
-      OnOk result (Spends g state (g.layer d) (g.layer d) (IsFree (g.layer d) × (g.safe d → Committed (g.layer d) (g.layer d)))) → Commits g state result d d
+      OnOk result (Spends g state (g.layer d) (g.layer d) (IsFree (g.layer d) × (g.well_formed d → Committed (g.layer d) (g.layer d)))) → Commits g state result d d
   commits_same state result d spends = record {
     ok = spends;
     size = refl;
-    room = λ safe mine. on_ok result (Takes g (λ p. (g.layer d).held p ≡ loose) d d) (record { kept = λ p l h. h; free = λ p s h. h; zeroes = λ p l s h. h });
-    stops = λ safe mine below. stops_same g below (GivesSettled below (g.layer d)) d;
-    went = went_same g (MatchResult result (λ _. ⊤) (λ e. IsMild e.0)) (IsOk result × IsMine g state (g.layer d)) d;
-    sees = λ none see. see;
-    began = λ x call begun mine. on_ok result (g.began x call d) begun;
+    room = λ well_formed mine. on_ok result (Takes g (λ p. (g.layer d).held p ≡ loose) d d) (record { stays_allocated = λ p l h. h; free = λ p s h. h; zeroes = λ p l s h. h });
+    crash_images = λ well_formed mine below. stops_same g below (GivesSettled below (g.layer d)) d;
+    mutating_call = went_same g (MatchResult result (λ _. ⊤) (λ e. IsNotResourceError e.0)) (IsOk result × IsMine g state (g.layer d)) d;
+    coherent = λ none see. see;
+    stays_begun = λ x call begun mine. on_ok result (g.began x call d) begun;
   }
     where
       on_ok : {T E : Type 0} (r : Result T E) (P : Type 0) → P → OnOk r P

@@ -4,19 +4,19 @@ use Rattle.std.specs.Prelude.{⊤, Bool, false, ◌&&◌, Some, None, Result, Ok
 use Rattle.std.proofs.Math.Nat.{le_refl}
 use Rattle.std.proofs.lemmas.List.{length-replicate, get_or-replicate}
 use Rattle.std.proofs.lemmas.Bool.{cases_lt, lt-ltb}
-use Rattle.imago_storage.specs.State.{Shape, StorageState, Rose, InStep, unit_of}
-use Rattle.imago_storage.specs.Passing.{Passes}
+use Rattle.imago_storage.specs.State.{Shape, StorageState, HasRisen, CrashImageIsBytes, unit_of}
+use Rattle.imago_storage.specs.Passing.{UnrefusedCrashImages}
 use Rattle.imago_storage.specs.Disk.{Value, byte}
 use Rattle.imago_storage.specs.Steps.{IsIn, IsOut}
-use Rattle.imago_storage.specs.Calls.{Mixed, Resized, IsFaultless}
-use Rattle.imago_storage.specs.Through.{Stops, StopsAsLong, WrittenThrough, NotWrittenThrough, HasWhole, GivenUp, NotGivenUp, discard_unit, whole_start, whole_size}
+use Rattle.imago_storage.specs.Calls.{OldOrNewBytes, Resized, IsFaultless}
+use Rattle.imago_storage.specs.Through.{EachCrashImage, CrashImagesNoShorter, WriteSucceeded, WriteFailed, HasWholeUnits, GivenUp, NotGivenUp, discard_unit, whole_start, whole_size}
 use Rattle.imago_storage.specs.declared.fault.Fault.{Fault}
 use Rattle.imago_storage.specs.declared.fault.Fault.TheVariants.{RangeOverflow, Unsupported, Memory, Storage}
 use Rattle.imago_storage.proofs.Composing.{tells_on, keeps_on, no_stops, one_stop, stops_and, stops_weaker}
 use Rattle.imago_storage.proofs.Rounding.{le_round_up}
 use Rattle.imago_storage.proofs.Wholes.{round_down-le}
-use Rattle.imago_access.specs.Files.{IsMild}
-use Rattle.imago_access.specs.Layer.{Layer, own, unmapped, loose, IsLike}
+use Rattle.imago_access.specs.Files.{IsNotResourceError}
+use Rattle.imago_access.specs.Layer.{Layer, own, unmapped, loose, KeepsLayerState}
 use Rattle.imago_access.specs.Chain.{at, IsBacked}
 use Rattle.imago_access.specs.Changes.{Rewrites, PartRewrites, ToZero, ToAny, ToBelow}
 use Rattle.imago_access.specs.Stops.{Left, GivesZero, GivesAny, GivesBelow, GivesBytes}
@@ -26,12 +26,12 @@ use Rattle.imago_formats.specs.Growing.{HasFirst, NotLengthened}
 use Rattle.imago_formats.specs.RawHome.{never}
 
 -- a storage of the same shape
-pub raw_like : (old new : StorageState) (size : ℕ) (w : Bool) → new.shape ≡ old.shape → IsLike (raw_layer old size w) (raw_layer new size w)
+pub raw_like : (old new : StorageState) (size : ℕ) (w : Bool) → new.shape ≡ old.shape → KeepsLayerState (raw_layer old size w) (raw_layer new size w)
 raw_like old new size w shape = record { fixed = ap (λ (s : Shape). raw_fixed s w) shape; size = refl; unspent = refl; failed = λ f. f }
 
 -- what a call keeps at each stop of the storage of a raw image, with the least and the greatest size that it passes through
 abbrev pub RawStops : List Layer → ℕ → Bool → (least most : ℕ) → (ℕ → Value → Type 0) → StorageState → StorageState → Type 0
-RawStops below size w least most gives old new = Passes (Left below (raw_layer old size w) old.bytes (λ kind file. ⊤) least most gives) old new
+RawStops below size w least most gives old new = UnrefusedCrashImages (Left below (raw_layer old size w) old.bytes (λ kind file. ⊤) least most gives) old new
 
 -- a file that a stop leaves: no shorter than asked, and below the disk's size each byte was there or is given
 pub raw_left : (below : List Layer) (old : StorageState) (size : ℕ) (w : Bool) (least most : ℕ) (gives : ℕ → Value → Type 0) (f : List ℕ) → size ≤ length old.bytes → least ≤ length f
@@ -55,7 +55,7 @@ raw_same old new size w shape bytes = λ i. record {
   size = size;
   failed = false;
   cell = λ p. own (byte (slice_index (bytes i) p));
-  home = λ p. if ltb p size && w then Some (0, p) else None;
+  writable_location = λ p. if ltb p size && w then Some (0, p) else None;
   held = λ p. loose;
   unspent = None;
 }
@@ -78,29 +78,29 @@ backed_stops below old new size w at n backed =
     (left_weaker below (λ kind file. ⊤) l old.bytes size size (GivesZero at n) (GivesBelow below at n) (λ p v inside gave. inr (inr (gave.0, gave.1 ∙ sym (backed_zero below old size w backed p)))))
 
 -- A refused call for another cause than want of memory and a storage's fault has changed nothing.
-pub unwritten_same : (old new : StorageState) (at : ℕ) (bytes : List ℕ) (fault : Fault) → NotWrittenThrough old new at bytes fault → IsMild fault → new ≡ old
-unwritten_same old new at bytes RangeOverflow h mild = h.1
-unwritten_same old new at bytes Memory h mild = absurd mild
-unwritten_same old new at bytes Storage h mild = absurd mild
-unwritten_same old new at bytes _ h mild = absurd h.cause
+pub unwritten_same : (old new : StorageState) (at : ℕ) (bytes : List ℕ) (fault : Fault) → WriteFailed old new at bytes fault → IsNotResourceError fault → new ≡ old
+unwritten_same old new at bytes RangeOverflow h not_resource_error = h.1
+unwritten_same old new at bytes Memory h not_resource_error = absurd not_resource_error
+unwritten_same old new at bytes Storage h not_resource_error = absurd not_resource_error
+unwritten_same old new at bytes _ h not_resource_error = absurd h.cause
 
-pub ungiven_same : (old new : StorageState) (at n : ℕ) (fault : Fault) → NotGivenUp old new at n fault → IsMild fault → new ≡ old
-ungiven_same old new at n RangeOverflow h mild = h.1
-ungiven_same old new at n Memory h mild = absurd mild
-ungiven_same old new at n Storage h mild = absurd mild
-ungiven_same old new at n _ h mild = absurd h.1.refused.cause
+pub ungiven_same : (old new : StorageState) (at n : ℕ) (fault : Fault) → NotGivenUp old new at n fault → IsNotResourceError fault → new ≡ old
+ungiven_same old new at n RangeOverflow h not_resource_error = h.1
+ungiven_same old new at n Memory h not_resource_error = absurd not_resource_error
+ungiven_same old new at n Storage h not_resource_error = absurd not_resource_error
+ungiven_same old new at n _ h not_resource_error = absurd h.1.refused.cause
 
-pub ungrown_faultless : (old new : StorageState) (from : ℕ) (fault : Fault) → NotLengthened old new from fault → IsMild fault → IsFaultless old new
-ungrown_faultless old new from Unsupported h mild = h.cause
-ungrown_faultless old new from Memory h mild = absurd mild
-ungrown_faultless old new from Storage h mild = absurd mild
-ungrown_faultless old new from _ h mild = absurd h.cause
+pub ungrown_faultless : (old new : StorageState) (from : ℕ) (fault : Fault) → NotLengthened old new from fault → IsNotResourceError fault → IsFaultless old new
+ungrown_faultless old new from Unsupported h not_resource_error = h.cause
+ungrown_faultless old new from Memory h not_resource_error = absurd not_resource_error
+ungrown_faultless old new from Storage h not_resource_error = absurd not_resource_error
+ungrown_faultless old new from _ h not_resource_error = absurd h.cause
 
 pub same_faultless : (old new : StorageState) → new ≡ old → IsFaultless old new
 same_faultless old new same = (ap (λ (s : StorageState). s.faults) same, ap (λ (s : StorageState). s.refusals) same)
 
 -- the storage gets no shorter
-pub unwritten_long : (old new : StorageState) (at : ℕ) (bytes : List ℕ) (fault : Fault) → NotWrittenThrough old new at bytes fault → length old.bytes ≤ length new.bytes
+pub unwritten_long : (old new : StorageState) (at : ℕ) (bytes : List ℕ) (fault : Fault) → WriteFailed old new at bytes fault → length old.bytes ≤ length new.bytes
 unwritten_long old new at bytes RangeOverflow h = rw h.1 (le_refl _)
 unwritten_long old new at bytes _ h = h.no_shorter
 
@@ -110,40 +110,40 @@ ungiven_long old new at n _ h = h.1.size
 
 -- A zeroing is a discard to the layer below.
 pub zeroed_below : (result : Result (ℕ × ℕ) Fault) (old new : Layer) → IfOk result (λ r. Rewrites ToZero old new r.0 r.1) → IfOk result (λ r. Rewrites (ToBelow (own (byte 0))) old new r.0 r.1)
-zeroed_below (Ok r) old new h = record { like = h.like; range = λ p within. inr (h.range p within); others = h.others }
+zeroed_below (Ok r) old new h = record { keeps_layer_state = h.keeps_layer_state; range = λ p within. inr (h.range p within); others = h.others }
 zeroed_below (Err fault) old new h = tt
 
-pub partly_below : (result : Result (ℕ × ℕ) Fault) (old new : Layer) (at n : ℕ) → IfErr result (λ e. IsMild e → PartRewrites ToZero old new at n)
-    → IfErr result (λ e. IsMild e → PartRewrites (ToBelow (own (byte 0))) old new at n)
+pub partly_below : (result : Result (ℕ × ℕ) Fault) (old new : Layer) (at n : ℕ) → IfErr result (λ e. IsNotResourceError e → PartRewrites ToZero old new at n)
+    → IfErr result (λ e. IsNotResourceError e → PartRewrites (ToBelow (own (byte 0))) old new at n)
 partly_below (Ok r) old new at n h = tt
-partly_below (Err fault) old new at n h = λ mild.
-    let part = h mild in
+partly_below (Err fault) old new at n h = λ not_resource_error.
+    let part = h not_resource_error in
     record {
-      like = part.like;
+      keeps_layer_state = part.keeps_layer_state;
       range = λ p within. ⊎_elim (λ same. inl same) (λ zero. inr (inr zero)) (part.range p within);
       others = part.others;
     }
 
-unwritten_step : (old new : StorageState) (at : ℕ) (bytes : List ℕ) (fault : Fault) → NotWrittenThrough old new at bytes fault → (Rose old.refusals new.refusals → ⊥) → InStep old → InStep new
-unwritten_step old new at bytes RangeOverflow h calm = subst (λ (s : StorageState). InStep old → InStep s) (sym h.1) (λ same. same)
-unwritten_step old new at bytes _ h calm = ⊎_elim (λ rose. absurd (calm rose)) (λ on. on) h.in_step
+unwritten_step : (old new : StorageState) (at : ℕ) (bytes : List ℕ) (fault : Fault) → WriteFailed old new at bytes fault → (HasRisen old.refusals new.refusals → ⊥) → CrashImageIsBytes old → CrashImageIsBytes new
+unwritten_step old new at bytes RangeOverflow h no_change_refused = subst (λ (s : StorageState). CrashImageIsBytes old → CrashImageIsBytes s) (sym h.1) (λ same. same)
+unwritten_step old new at bytes _ h no_change_refused = ⊎_elim (λ rose. absurd (no_change_refused rose)) (λ on. on) h.crash_image_is_bytes
 
 -- A write of a range, whatever it answered.
-module _ {T : Type 0} (result : Result T Fault) (old new : StorageState) (at : ℕ) (bytes : List ℕ) (ok : OnOk result (WrittenThrough old new at bytes)) (err : IfErr result (NotWrittenThrough old new at bytes)) where
-  pub written_step : (Rose old.refusals new.refusals → ⊥) → InStep old → InStep new
+module _ {T : Type 0} (result : Result T Fault) (old new : StorageState) (at : ℕ) (bytes : List ℕ) (ok : OnOk result (WriteSucceeded old new at bytes)) (err : IfErr result (WriteFailed old new at bytes)) where
+  pub written_step : (HasRisen old.refusals new.refusals → ⊥) → CrashImageIsBytes old → CrashImageIsBytes new
   written_step = from result ok err where
-    from : (r : Result T Fault) → OnOk r (WrittenThrough old new at bytes) → IfErr r (NotWrittenThrough old new at bytes) → (Rose old.refusals new.refusals → ⊥) → InStep old → InStep new
-    from (Ok x) done refused = λ calm. done.in_step
+    from : (r : Result T Fault) → OnOk r (WriteSucceeded old new at bytes) → IfErr r (WriteFailed old new at bytes) → (HasRisen old.refusals new.refusals → ⊥) → CrashImageIsBytes old → CrashImageIsBytes new
+    from (Ok x) done refused = λ no_change_refused. done.crash_image_is_bytes
     from (Err fault) done refused = unwritten_step old new at bytes fault refused
 
-  pub written_stops : (below : List Layer) (size : ℕ) (w : Bool) (gives : ℕ → Value → Type 0) → size ≤ length old.bytes → Stops (Mixed old.bytes at bytes) old new → StopsAsLong old new
-      → ((f : List ℕ) → Mixed old.bytes at bytes f → (p : ℕ) → p < size → (slice_index f p ≡ slice_index old.bytes p) ⊎ gives p (byte (slice_index f p)))
+  pub written_stops : (below : List Layer) (size : ℕ) (w : Bool) (gives : ℕ → Value → Type 0) → size ≤ length old.bytes → EachCrashImage (OldOrNewBytes old.bytes at bytes) old new → CrashImagesNoShorter old new
+      → ((f : List ℕ) → OldOrNewBytes old.bytes at bytes f → (p : ℕ) → p < size → (slice_index f p ≡ slice_index old.bytes p) ⊎ gives p (byte (slice_index f p)))
       → RawStops below size w size size gives old new
-  written_stops below size w gives fits stops long each calm = (
-    written_step calm,
-    stops_weaker (λ f. Mixed old.bytes at bytes f × (length old.bytes ≤ length f)) (Left below (raw_layer old size w) old.bytes (λ kind file. ⊤) size size gives) old new
+  written_stops below size w gives fits stops long each no_change_refused = (
+    written_step no_change_refused,
+    stops_weaker (λ f. OldOrNewBytes old.bytes at bytes f × (length old.bytes ≤ length f)) (Left below (raw_layer old size w) old.bytes (λ kind file. ⊤) size size gives) old new
         (λ keeps f both. raw_left below old size w size size gives f fits (omega (arith, fits, both.1)) (λ p lt inside. each f both.0 p lt))
-        (stops_and (Mixed old.bytes at bytes) (λ f. length old.bytes ≤ length f) old new stops long),
+        (stops_and (OldOrNewBytes old.bytes at bytes) (λ f. length old.bytes ≤ length f) old new stops long),
   )
 
 -- a place lies outside of a range or in it
@@ -156,7 +156,7 @@ in_or_out at n p = elim (cases_lt p at) [
 -- Bytes of a range.
 
 -- a byte of a file that is mixed of old bytes and these
-pub mixed_place : (old : List ℕ) (at : ℕ) (bytes f : List ℕ) → Mixed old at bytes f → (p : ℕ) → (slice_index f p ≡ slice_index old p) ⊎ (IsIn at (length bytes) p × (slice_index f p ≡ slice_index bytes (p - at)))
+pub mixed_place : (old : List ℕ) (at : ℕ) (bytes f : List ℕ) → OldOrNewBytes old at bytes f → (p : ℕ) → (slice_index f p ≡ slice_index old p) ⊎ (IsIn at (length bytes) p × (slice_index f p ≡ slice_index bytes (p - at)))
 mixed_place old at bytes f mixed p = elim (cases_lt p at) [
   | inl lt ↦ inl (mixed.before p lt)
   | inr from ↦ elim (cases_lt p (at + length bytes)) [
@@ -165,11 +165,11 @@ mixed_place old at bytes f mixed p = elim (cases_lt p at) [
   ]
 ]
 
-pub mixed_bytes : (old : List ℕ) (at : ℕ) (bytes f : List ℕ) → Mixed old at bytes f → (p : ℕ) → (slice_index f p ≡ slice_index old p) ⊎ GivesBytes at bytes p (byte (slice_index f p))
+pub mixed_bytes : (old : List ℕ) (at : ℕ) (bytes f : List ℕ) → OldOrNewBytes old at bytes f → (p : ℕ) → (slice_index f p ≡ slice_index old p) ⊎ GivesBytes at bytes p (byte (slice_index f p))
 mixed_bytes old at bytes f mixed p =
     ⊎_elim (λ same. inl same) (λ new. inr (p - at, omega (arith, new.0.0, new.0.1), omega (arith, new.0.0), ap byte new.1)) (mixed_place old at bytes f mixed p)
 
-pub mixed_zeroes : (old : List ℕ) (at n : ℕ) (f : List ℕ) → Mixed old at (replicate n 0) f → (p : ℕ) → (slice_index f p ≡ slice_index old p) ⊎ GivesZero at n p (byte (slice_index f p))
+pub mixed_zeroes : (old : List ℕ) (at n : ℕ) (f : List ℕ) → OldOrNewBytes old at (replicate n 0) f → (p : ℕ) → (slice_index f p ≡ slice_index old p) ⊎ GivesZero at n p (byte (slice_index f p))
 mixed_zeroes old at n f mixed p =
     let long : length {A = ℕ} (replicate n 0) ≡ n = length-replicate n 0 in
     ⊎_elim
@@ -191,18 +191,18 @@ first_left below old size from most w gives f fits first past =
 -- one that shrinks has no place past its new size
 pub shrunk_stops : (below : List Layer) (old new : StorageState) (size to : ℕ) (w : Bool) (gives : ℕ → Value → Type 0) → size ≤ length old.bytes → Resized old new to
     → RawStops below size w to size gives old new
-shrunk_stops below old new size to w gives fits resized calm = (
-  resized.changed.in_step,
+shrunk_stops below old new size to w gives fits resized no_change_refused = (
+  resized.changed.crash_image_is_bytes,
   one_stop (Left below (raw_layer old size w) old.bytes (λ kind file. ⊤) to size gives) old new resized.changed.mark
       (λ step tells keeps.
       subst (Left below (raw_layer old size w) old.bytes (λ kind file. ⊤) to size gives)
-      (sym (resized.changed.in_step step (tells_on old new resized.changed.shape tells) (keeps_on old new resized.changed.shape keeps)))
+      (sym (resized.changed.crash_image_is_bytes step (tells_on old new resized.changed.shape tells) (keeps_on old new resized.changed.shape keeps)))
       (first_left below old size to size w gives new.bytes fits (record { long = omega (arith, resized.size); same = resized.content keeps }) (λ p from lt inside. absurd (omega (arith, from, inside, resized.size))))),
 )
 
 -- Discards.
 module _ (old new : StorageState) (size : ℕ) (w : Bool) (at n : ℕ) (positive : 0 < unit_of old.shape) (bytes : EachIndex new.bytes (λ k. slice_index new.bytes k < 256)) where
-  whole_inside : HasWhole (discard_unit old) at n → (at ≤ whole_start old at) × (whole_start old at + whole_size old at n ≤ at + n)
+  whole_inside : HasWholeUnits (discard_unit old) at n → (at ≤ whole_start old at) × (whole_start old at + whole_size old at n ≤ at + n)
   whole_inside has = (le_round_up (discard_unit old) at (omega (arith, positive)), omega (arith, has, round_down-le (discard_unit old) (at + n)))
 
   -- what lies outside of the range stays
@@ -223,21 +223,21 @@ module _ (old new : StorageState) (size : ℕ) (w : Bool) (at n : ℕ) (positive
 
   pub given_any : size ≤ length old.bytes → at + n ≤ size → IsTrue old.shape.keeps → GivenUp old new at n → Rewrites ToAny (raw_layer old size w) (raw_layer new size w) at n
   given_any fits inside keeps given = record {
-    like = raw_like old new size w (given_shape given);
+    keeps_layer_state = raw_like old new size w (given_shape given);
     range = λ p within. inr (byte (slice_index new.bytes p), (slice_index new.bytes p, bytes p (omega (arith, within.1, inside, fits, given_long given)), refl), refl);
     others = λ p out. ap (λ (b : ℕ). own (byte b)) (given_outside keeps given p out);
   }
 
   pub given_stops : (below : List Layer) → size ≤ length old.bytes → GivenUp old new at n → RawStops below size w size size (GivesAny at n) old new
-  given_stops below fits given calm =
+  given_stops below fits given no_change_refused =
       let P : List ℕ → Type 0 = Left below (raw_layer old size w) old.bytes (λ kind file. ⊤) size size (GivesAny at n) in
       ⊎_elim
-      (λ same. (subst (λ (s : StorageState). InStep old → InStep s) (sym same) (λ step. step), no_stops P old new (ap (λ (s : StorageState). s.stop) same) (ap (λ (s : StorageState). s.past) same)))
+      (λ same. (subst (λ (s : StorageState). CrashImageIsBytes old → CrashImageIsBytes s) (sym same) (λ step. step), no_stops P old new (ap (λ (s : StorageState). s.crash_image) same) (ap (λ (s : StorageState). s.past_crash_images) same)))
       (λ done. (
-        done.1.changed.in_step,
+        done.1.changed.crash_image_is_bytes,
         one_stop P old new done.1.changed.mark
             (λ step tells keeps.
-            subst P (sym (done.1.changed.in_step step (tells_on old new done.1.changed.shape tells) (keeps_on old new done.1.changed.shape keeps)))
+            subst P (sym (done.1.changed.crash_image_is_bytes step (tells_on old new done.1.changed.shape tells) (keeps_on old new done.1.changed.shape keeps)))
             (raw_left below old size w size size (GivesAny at n) new.bytes fits (omega (arith, fits, done.1.size))
             (λ p lt inside. ⊎_elim
             (λ out. inl (given_outside keeps given p out))

@@ -43,7 +43,7 @@ other_type : (n : ℕ) (kind rest : List ℕ) → IsOtherType kind → by_type n
 other_type n kind rest o = at_flat (bytes_eq kind (codes "FLAT")) refl
   where
     at_none : (t : Bool) → is_empty kind ≡ t → ◌≡◌ {A = Result (Source (List ℕ)) Fault} (Err (cond t DamagedDescriptor Unsupported)) (Err Unsupported)
-    at_none true is = let size : length kind ≡ 0 = ap length (empty_is kind is) in absurd (omega (arith, size, o.some))
+    at_none true is = let size : length kind ≡ 0 = ap length (empty_is kind is) in absurd (omega (arith, size, o.nonempty))
     at_none false is = refl
 
     at_zero : (t : Bool) → bytes_eq kind (codes "ZERO") ≡ t →
@@ -61,17 +61,17 @@ uncarried line o =
     let n = digits_value 10 o.digits in
     let number : AreDigitsOf n o.digits = (o.digits_are, refl) in
     let bare = number_bare n o.digits number in
-    let kind : List ℕ = o.kind ++ o.rest in
+    let kind : List ℕ = o.kind ++ o.remainder in
     let count : List ℕ = o.digits ++ (o.second_gap ++ kind) in
     let behind : past_word (access_word o.access ++ (o.gap ++ count)) ≡ count =
     next_word (access_word o.access) o.gap count (by_access o.access) o.gap_is
     (bare_starts o.digits (o.second_gap ++ kind) bare (number_some n o.digits number)) in
     let later : past_word count ≡ kind =
-    next_word o.digits o.second_gap kind bare o.second_gap_is (bare_starts o.kind o.rest o.kind_is.one_word o.kind_is.some) in
+    next_word o.digits o.second_gap kind bare o.second_gap_is (bare_starts o.kind o.remainder o.kind_is.one_word o.kind_is.nonempty) in
     let read_count : decimal (word count) ≡ Ok n =
     ap decimal (word_is o.digits (o.second_gap ++ kind) bare (gap_ends o.second_gap kind o.second_gap_is)) ∙ number_read n o.digits number in
     let read_kind : source_of n kind ≡ Err Unsupported =
-    ap (λ w. by_type n w (past_word kind)) (word_is o.kind o.rest o.kind_is.one_word (ends o.rest o.rest_is))
+    ap (λ w. by_type n w (past_word kind)) (word_is o.kind o.remainder o.kind_is.one_word (ends o.remainder o.rest_is))
     ∙ other_type n o.kind (past_word kind) o.kind_is in
     access_line o.start o.access (o.gap ++ count) line o.made o.start_is (gap_ends o.gap count o.gap_is)
     ∙ ap (λ l. by_count o.access l (decimal (word l))) behind
@@ -137,7 +137,7 @@ source_refused n text fault e = at_flat (bytes_eq (word text) (codes "FLAT")) re
         ◌≡◌ {A = Result (Source (List ℕ)) Fault} (Err (cond t DamagedDescriptor Unsupported)) (Err fault) → (fault ≡ DamagedDescriptor) ⊎ IsOtherType (word text)
     at_none true is no_flat no_zero told = let same : DamagedDescriptor ≡ fault = cc told in inl (sym same)
     at_none false is no_flat no_zero told = inr (record {
-      some = is_some (word text) is;
+      nonempty = is_some (word text) is;
       one_word = front_passes (λ b. not (is_blank b)) text;
       no_flat = differs (codes "FLAT") refl no_flat;
       no_zero = differs (codes "ZERO") refl no_zero;
@@ -156,26 +156,26 @@ source_refused n text fault e = at_flat (bytes_eq (word text) (codes "FLAT")) re
     at_flat false is told = at_zero (bytes_eq (word text) (codes "ZERO")) refl is told
 
 -- a line that has another type behind its number is one that isn't carried
-other_made : (line : List ℕ) (a : IsAccessLine line) (rest : List ℕ) → rest ≡ past_word (access_word a.access ++ a.rest) → is_decimal (word rest) ≡ true →
+other_made : (line : List ℕ) (a : IsAccessLine line) (rest : List ℕ) → rest ≡ past_word (access_word a.access ++ a.remainder) → is_decimal (word rest) ≡ true →
     IsOtherType (word (past_word rest)) → IsOtherExtent line
 other_made line a rest is digits kind =
-    let text : List ℕ = access_word a.access ++ a.rest in
+    let text : List ℕ = access_word a.access ++ a.remainder in
     let third = past_word rest in
     let place = position_or_len is_blank third in
     let number : AreDigitsOf (digits_value 10 (word rest)) (word rest) = (digits, refl) in
     let first = split text in
     let second = split rest in
-    let access : word text ≡ access_word a.access = word_is (access_word a.access) a.rest (by_access a.access) (ends a.rest a.rest_is) in
+    let access : word text ≡ access_word a.access = word_is (access_word a.access) a.remainder (by_access a.access) (ends a.remainder a.rest_is) in
     let whole : third ≡ word third ++ drop place third = sym (take-append-drop place third) in
     let some_rest : 0 < length rest = longer (word rest) (second.gap ++ third) rest second.whole (number_some _ (word rest) number) in
-    let some_third : 0 < length third = longer (word third) (drop place third) third whole kind.some in record {
+    let some_third : 0 < length third = longer (word third) (drop place third) third whole kind.nonempty in record {
       start = a.start;
       access = a.access;
       gap = first.gap;
       digits = word rest;
       second_gap = second.gap;
       kind = word third;
-      rest = drop place third;
+      remainder = drop place third;
       made = a.made ∙ ap (λ l. a.start ++ l) (first.whole ∙ (λ i. access i ++ (first.gap ++ sym is i))
           ∙ ap (λ l. access_word a.access ++ (first.gap ++ l)) (second.whole ∙ ap (λ l. word rest ++ (second.gap ++ l)) whole));
       start_is = a.start_is;
@@ -194,10 +194,10 @@ pub damaged : (line : List ℕ) → IsAccessLine line → ((x : Extent (List ℕ
 damaged line a no_extent no_type = said ∙ at_count (is_decimal (word rest)) refl
   where
     rest : List ℕ
-    rest = past_word (access_word a.access ++ a.rest)
+    rest = past_word (access_word a.access ++ a.remainder)
 
     said : said_by line ≡ by_count a.access rest (decimal (word rest))
-    said = access_line a.start a.access a.rest line a.made a.start_is (ends a.rest a.rest_is)
+    said = access_line a.start a.access a.remainder line a.made a.start_is (ends a.remainder a.rest_is)
 
     at_fault : (fault : Fault) → is_decimal (word rest) ≡ true → (fault ≡ DamagedDescriptor) ⊎ IsOtherType (word (past_word rest)) →
         ◌≡◌ {A = Result (Option (Extent (List ℕ))) Fault} (Err fault) (Err DamagedDescriptor)

@@ -202,7 +202,7 @@ unsigned_read text none =
 other_said : (text line : List ℕ) → IsOtherLine text line → said_by line ≡ setting_of text
 other_said text line o =
     ap said_from (ap past_blanks o.made ∙ blanks_off o.start text o.start_is starts)
-    ∙ ap said_from o.begins ∙ unskipped o.first o.rest o.no_comment ∙ ap (λ l. said_with (access_of (word l)) l) (sym o.begins)
+    ∙ ap said_from o.begins ∙ unskipped o.first o.remainder o.no_comment ∙ ap (λ l. said_with (access_of (word l)) l) (sym o.begins)
     ∙ ap (λ a. said_with a text) (no_access (access_of (word text)) refl)
   where
     starts : Starts text

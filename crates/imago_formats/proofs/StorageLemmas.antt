@@ -4,8 +4,8 @@ use Rattle.std.specs.Prelude.{map, replicate, MatchOption, Option, Some, None, R
 use Rattle.std.specs.Slice.{IsItemAt}
 use denote.Ref.{Bor}
 use Rattle.std.proofs.lemmas.List.{length-map, take_more}
-use Rattle.imago_storage.specs.State.{StorageState, IsAlignment, IsAligned, Rose, unit_of}
-use Rattle.imago_storage.specs.Calls.{Cause, Kept, IsFaultless}
+use Rattle.imago_storage.specs.State.{StorageState, IsAlignment, IsAligned, HasRisen, unit_of}
+use Rattle.imago_storage.specs.Calls.{Cause, UnchangedButFaults, IsFaultless}
 use Rattle.imago_storage.specs.declared.fault.Fault.{Fault}
 use Rattle.imago_storage.specs.declared.fault.Fault.TheVariants.{Memory, Storage, RangeOverflow}
 use Rattle.imago_formats.specs.VmdkFiles.{IsStopped, unit_of_all}
@@ -16,7 +16,7 @@ use Rattle.imago_access.proofs.FilePairs.{is_kept_same, is_kept_both, kept_all_s
 use Rattle.imago_access.specs.FileReads.{FileReadCause}
 use Rattle.imago_access.specs.Layer.{Layer, unit_of_layer}
 use Rattle.imago_access.specs.Refusals.{ReadMappedCause}
-use Rattle.imago_access.specs.Files.{IsKept, IsStorageAt, Pairs, OverflowsIn, SomeRose, WasNotCutOff, byte_in, greatest}
+use Rattle.imago_access.specs.Files.{UnchangedButMoreFaults, IsStorageAt, Pairs, OverflowsIn, SomeRose, HadNoResourceError, byte_in, greatest}
 use Rattle.imago_access.proofs.Units.{alignment_max, overflows_more}
 
 module _ {A : Type 0} (state : A → StorageState) (measure : StorageState → ℕ) where
@@ -40,11 +40,11 @@ module _ {A : Type 0} (state : A → StorageState) where
   pairs_at R (o ∷ os) (z ∷ zs) (suc i) d y h step pairs = (pairs.0, pairs_at R os zs i d y (omega arith) step pairs.1)
 
   pub rose_at : (olds : List StorageState) (xs : List A) (i : ℕ) (d y : A) → i < length xs →
-      Rose (state (get_or xs i d)).faults (state y).faults → Pairs IsFaultless olds (map state xs) → SomeRose olds (map state (set xs i y))
+      HasRisen (state (get_or xs i d)).faults (state y).faults → Pairs IsFaultless olds (map state xs) → SomeRose olds (map state (set xs i y))
   rose_at olds [] i d y h rose pairs = absurd (omega arith)
   rose_at [] (z ∷ zs) i d y h rose pairs = absurd pairs
   rose_at (o ∷ os) (z ∷ zs) zero d y h rose pairs =
-      inl (subst (λ (n : ℕ). Rose n (state y).faults) pairs.0.0 rose)
+      inl (subst (λ (n : ℕ). HasRisen n (state y).faults) pairs.0.0 rose)
   rose_at (o ∷ os) (z ∷ zs) (suc i) d y h rose pairs = inr (rose_at os zs i d y (omega arith) rose pairs.1)
 
 -- a call that was stopped at one of them, before which none had failed
@@ -60,18 +60,18 @@ faultless_both a b c later first = (later.0 ∙ first.0, later.1 ∙ first.1)
 pub faultless_step : (x y : StorageState) → IsFaultless x y → (a : StorageState) → IsFaultless a x → IsFaultless a y
 faultless_step x y step a first = faultless_both a x y step first
 
-pub kept_step : (x y : StorageState) → IsKept x y → (a : StorageState) → IsKept a x → IsKept a y
+pub kept_step : (x y : StorageState) → UnchangedButMoreFaults x y → (a : StorageState) → UnchangedButMoreFaults a x → UnchangedButMoreFaults a y
 kept_step x y step a first = is_kept_both a x y first step
 
 -- the first was kept, and the others are as they were
-pub kept_first : (x y : StorageState) (xs : List StorageState) → IsKept x y → Pairs IsKept (x ∷ xs) (y ∷ xs)
+pub kept_first : (x y : StorageState) (xs : List StorageState) → UnchangedButMoreFaults x y → Pairs UnchangedButMoreFaults (x ∷ xs) (y ∷ xs)
 kept_first x y xs kept = (kept, kept_all_same xs)
 
 -- ---- Reads of one of several storages.
 
 -- a read that wasn't cut off has met no fault
-pub read_faultless : {T : Type 0} (r : Result T Fault) (a b : StorageState) (place n : ℕ) → Kept a b → OnOk r (b.faults ≡ a.faults) → IfErr r (NotRead a b place n) →
-    WasNotCutOff r → IsFaultless a b
+pub read_faultless : {T : Type 0} (r : Result T Fault) (a b : StorageState) (place n : ℕ) → UnchangedButFaults a b → OnOk r (b.faults ≡ a.faults) → IfErr r (NotRead a b place n) →
+    HadNoResourceError r → IsFaultless a b
 read_faultless (Ok v) a b place n kept same why whole = (same, kept.refusals)
 read_faultless (Err RangeOverflow) a b place n kept same why whole = (ap (λ (s : StorageState). s.faults) why.1, kept.refusals)
 read_faultless (Err Memory) a b place n kept same why whole = absurd whole
@@ -91,24 +91,24 @@ module _ {A : Type 0} (state : A → StorageState) where
   all_aligned aligned s xs = let both = aligned_files state aligned s xs in alignment_max _ _ both.0 both.1
 
   pub read_at_whole : {T : Type 0} (r : Result T Fault) (s : StorageState) (xs : List A) (i : ℕ) (d y : A) (place n : ℕ) → i < length xs →
-      Kept (state (get_or xs i d)) (state y) → OnOk r ((state y).faults ≡ (state (get_or xs i d)).faults) →
-      IfErr r (NotRead (state (get_or xs i d)) (state y) place n) → WasNotCutOff r → Pairs IsFaultless (s ∷ map state xs) (s ∷ map state (set xs i y))
+      UnchangedButFaults (state (get_or xs i d)) (state y) → OnOk r ((state y).faults ≡ (state (get_or xs i d)).faults) →
+      IfErr r (NotRead (state (get_or xs i d)) (state y) place n) → HadNoResourceError r → Pairs IsFaultless (s ∷ map state xs) (s ∷ map state (set xs i y))
   read_at_whole r s xs i d y place n h kept same why whole = (
     (refl, refl),
     pairs_at state IsFaultless (map state xs) xs i d y h
         (faultless_step (state (get_or xs i d)) (state y) (read_faultless r (state (get_or xs i d)) (state y) place n kept same why whole)) (faultless_all_same (map state xs)),
   )
 
-  pub read_at_kept : (s : StorageState) (xs : List A) (i : ℕ) (d y : A) → i < length xs → IsKept (state (get_or xs i d)) (state y) →
-      Pairs IsKept (s ∷ map state xs) (s ∷ map state (set xs i y))
+  pub read_at_kept : (s : StorageState) (xs : List A) (i : ℕ) (d y : A) → i < length xs → UnchangedButMoreFaults (state (get_or xs i d)) (state y) →
+      Pairs UnchangedButMoreFaults (s ∷ map state xs) (s ∷ map state (set xs i y))
   read_at_kept s xs i d y h kept = (
     is_kept_same s,
-    pairs_at state IsKept (map state xs) xs i d y h
+    pairs_at state UnchangedButMoreFaults (map state xs) xs i d y h
         (kept_step (state (get_or xs i d)) (state y) kept) (kept_all_same (map state xs)),
   )
 
   pub read_at_cause : (s : StorageState) (xs : List A) (i : ℕ) (d y : A) (offset n : ℕ) (e : Fault) → i < length xs →
-      Kept (state (get_or xs i d)) (state y) → NotRead (state (get_or xs i d)) (state y) offset n e →
+      UnchangedButFaults (state (get_or xs i d)) (state y) → NotRead (state (get_or xs i d)) (state y) offset n e →
       FileReadCause (Overflows (unit_of (state (get_or xs i d)).shape) offset n) (s ∷ map state xs) (s ∷ map state (set xs i y)) e
   read_at_cause s xs i d y offset n RangeOverflow h kept why = why.0
   read_at_cause s xs i d y offset n Memory h kept why = (
@@ -163,8 +163,8 @@ module _ {A : Type 0} (state : A → StorageState) where
   same_at (z ∷ zs) zero d y h e = ap (λ s. s ∷ map state zs) e
   same_at (z ∷ zs) (suc i) d y h e = ap (λ ss. state z ∷ ss) (same_at zs i d y (omega arith) e)
 
-pub read_first_whole : {T : Type 0} (r : Result T Fault) (a b : StorageState) (fs : List StorageState) (place n : ℕ) → Kept a b → OnOk r (b.faults ≡ a.faults) →
-    IfErr r (NotRead a b place n) → WasNotCutOff r → Pairs IsFaultless (a ∷ fs) (b ∷ fs)
+pub read_first_whole : {T : Type 0} (r : Result T Fault) (a b : StorageState) (fs : List StorageState) (place n : ℕ) → UnchangedButFaults a b → OnOk r (b.faults ≡ a.faults) →
+    IfErr r (NotRead a b place n) → HadNoResourceError r → Pairs IsFaultless (a ∷ fs) (b ∷ fs)
 read_first_whole r a b fs place n kept same why whole = (read_faultless r a b place n kept same why whole, faultless_all_same fs)
 
 pub mapped_cause : (layer : Layer) (overflows : Type 0) (olds news : List StorageState) (place n : ℕ) (e : Fault) → (overflows → Overflows (unit_of_layer layer) place n) →

@@ -5,7 +5,7 @@ use Rattle.imago_storage.specs.State.{StorageState, Shape}
 use Rattle.imago_storage.specs.Disk.{byte, barred}
 use Rattle.imago_storage.specs.Through.{Overflows, round_up}
 use Rattle.imago_storage.proofs.Rounding.{round_up-le, le_round_up}
-use Rattle.imago_access.specs.Mappings.{EachIs, IsOneOf, Looks, States}
+use Rattle.imago_access.specs.Mappings.{EachIs, IsOneOf, Looks, ReportsExplicitZero}
 use Rattle.imago_access.specs.declared.mapping.ShallowMapping.TheVariants as shallow
 use Rattle.imago_formats.specs.RawHome.{never}
 use Rattle.imago_storage.specs.declared.fault.Fault.{Fault}
@@ -15,7 +15,7 @@ use Rattle.imago_access.specs.Layer.{Layer, Cell, own, loose, unit_of_layer}
 use Rattle.std.specs.declared.string.String.{String}
 use Rattle.std.specs.declared.alloc.Global.{Global}
 use Rattle.std.proofs.lemmas.Grind.{common_steps}
-use Rattle.imago_access.specs.Files.{Pairs, IsKept, WasNotCutOff, byte_in, greatest, keep_all}
+use Rattle.imago_access.specs.Files.{Pairs, UnchangedButMoreFaults, HadNoResourceError, byte_in, greatest, keep_all}
 use Rattle.imago_access.specs.declared.format.Format.TheVariants as format
 use Rattle.imago_formats.specs.Descriptor.{descriptor_of, size_of}
 use Rattle.imago_formats.specs.DescriptorView.{kept_extents}
@@ -26,7 +26,7 @@ use Rattle.imago_formats.specs.declared.vmdk.descriptor.Source.TheVariants.{Flat
 use Rattle.imago_formats.specs.VmdkLayer.{AreInReach, IsExtentAt, IsZeroByDescriptor, ReadsReach, asks_file, end_in_file, mapping_of, in_source, in_extents, files_asked, meaning_of, vmdk_layer}
 use Rattle.imago_formats.specs.declared.vmdk.descriptor.Extent.{Extent}
 
-greatest_kept : (part : Shape → ℕ) (s s' : StorageState) (ss ss' : List StorageState) → IsKept s s' → Pairs IsKept ss ss' →
+greatest_kept : (part : Shape → ℕ) (s s' : StorageState) (ss ss' : List StorageState) → UnchangedButMoreFaults s s' → Pairs UnchangedButMoreFaults ss ss' →
     greatest (λ t. part t.shape) s' ss' ≡ greatest (λ t. part t.shape) s ss
 greatest_kept part s s' [] [] kept pairs = ap part kept.0.shape
 greatest_kept part s s' [] (y ∷ ys) kept pairs = absurd pairs
@@ -34,20 +34,20 @@ greatest_kept part s s' (x ∷ xs) [] kept pairs = absurd pairs
 greatest_kept part s s' (x ∷ xs) (y ∷ ys) kept pairs =
     ap (λ n. max n (greatest (λ t. part t.shape) y ys)) (ap part kept.0.shape) ∙ ap (λ n. max (part s.shape) n) (greatest_kept part x y xs ys pairs.0 pairs.1)
 
-keeps_kept : (s s' : StorageState) (ss ss' : List StorageState) → IsKept s s' → Pairs IsKept ss ss' → keep_all s' ss' ≡ keep_all s ss
+keeps_kept : (s s' : StorageState) (ss ss' : List StorageState) → UnchangedButMoreFaults s s' → Pairs UnchangedButMoreFaults ss ss' → keep_all s' ss' ≡ keep_all s ss
 keeps_kept s s' [] [] kept pairs = ap (λ (h : Shape). h.keeps) kept.0.shape
 keeps_kept s s' [] (y ∷ ys) kept pairs = absurd pairs
 keeps_kept s s' (x ∷ xs) [] kept pairs = absurd pairs
 keeps_kept s s' (x ∷ xs) (y ∷ ys) kept pairs =
     ap (λ b. b && keep_all y ys) (ap (λ (h : Shape). h.keeps) kept.0.shape) ∙ ap (λ b. s.shape.keeps && b) (keeps_kept x y xs ys pairs.0 pairs.1)
 
-length_kept : (ss ss' : List StorageState) → Pairs IsKept ss ss' → length ss' ≡ length ss
+length_kept : (ss ss' : List StorageState) → Pairs UnchangedButMoreFaults ss ss' → length ss' ≡ length ss
 length_kept [] [] pairs = refl
 length_kept [] (y ∷ ys) pairs = absurd pairs
 length_kept (x ∷ xs) [] pairs = absurd pairs
 length_kept (x ∷ xs) (y ∷ ys) pairs = ap (λ n. suc n) (length_kept xs ys pairs.1)
 
-bytes_kept : (ss ss' : List StorageState) → Pairs IsKept ss ss' → (k p : ℕ) → byte_in ss' k p ≡ byte_in ss k p
+bytes_kept : (ss ss' : List StorageState) → Pairs UnchangedButMoreFaults ss ss' → (k p : ℕ) → byte_in ss' k p ≡ byte_in ss k p
 bytes_kept [] [] pairs k p = refl
 bytes_kept [] (y ∷ ys) pairs k p = absurd pairs
 bytes_kept (x ∷ xs) [] pairs k p = absurd pairs
@@ -56,7 +56,7 @@ bytes_kept (x ∷ xs) (y ∷ ys) pairs (suc k) p = bytes_kept xs ys pairs.1 k p
 
 -- The layer is what it was.
 pub layer_kept : {N : Type 0} (extents : List (Extent N)) (image image' : StorageState) (files files' : List StorageState) →
-    Pairs IsKept (image ∷ files) (image' ∷ files') → vmdk_layer extents image' files' ≡ vmdk_layer extents image files
+    Pairs UnchangedButMoreFaults (image ∷ files) (image' ∷ files') → vmdk_layer extents image' files' ≡ vmdk_layer extents image files
 layer_kept extents image image' files files' kept =
     let keeps = keeps_kept image image' files files' kept.0 kept.1 in
     let few = length_kept files files' kept.1 in
@@ -79,14 +79,14 @@ layer_kept extents image image' files files' kept =
         means = λ f. meaning_of (descriptor_of f) (λ k p. bytes k p i);
         leaks = λ f c. 0;
         exact = true;
-        marks = false;
-        states_room = false;
+        marks_failed = false;
+        reports_allocation = false;
         unit = 1;
       };
       size = size_of extents;
       failed = false;
       cell = in_extents (λ k p. bytes k p i) extents 1;
-      home = λ p. None;
+      writable_location = λ p. None;
       held = λ p. loose;
       unspent = None;
     }
@@ -103,31 +103,31 @@ written_back n xs ys h = grind (arith, common_steps)
 -- A VMDK image whose storages are kept: what its layer is, and what reads and changes rest on.
 pub record IsKeptImage {A : Type 0} (state : A → StorageState) (extents : List (Extent (String Global))) (old new : A × List A) : Type 0 where
   pub layer : vmdk_layer extents (state new.0) (map state new.1) ≡ vmdk_layer extents (state old.0) (map state old.1)
-  pub kept : Pairs IsKept (state old.0 ∷ map state old.1) (state new.0 ∷ map state new.1)
-  pub sees : ReadsReach extents (state old.0) (map state old.1) → ReadsReach extents (state new.0) (map state new.1)
+  pub kept : Pairs UnchangedButMoreFaults (state old.0 ∷ map state old.1) (state new.0 ∷ map state new.1)
+  pub coherent : ReadsReach extents (state old.0) (map state old.1) → ReadsReach extents (state new.0) (map state new.1)
   pub keeps : IsTrue (keep_all (state old.0) (map state old.1)) → IsTrue (keep_all (state new.0) (map state new.1))
   pub said : descriptor_of (state old.0).bytes ≡ Ok (kept_extents extents) → descriptor_of (state new.0).bytes ≡ Ok (kept_extents extents)
 
 module _ {A : Type 0} (state : A → StorageState) (extents : List (Extent (String Global))) where
-  pub kept_image : (image image' : A) (files files' : List A) → Pairs IsKept (state image ∷ map state files) (state image' ∷ map state files') →
+  pub kept_image : (image image' : A) (files files' : List A) → Pairs UnchangedButMoreFaults (state image ∷ map state files) (state image' ∷ map state files') →
       IsKeptImage state extents (image, files) (image', files')
   kept_image image image' files files' kept =
       let same = layer_kept extents (state image) (state image') (map state files) (map state files') kept in record {
         layer = same;
         kept = kept;
-        sees = λ reach. subst (λ (l : Layer). AreInReach (unit_of_layer l) extents) (sym same) reach;
+        coherent = λ reach. subst (λ (l : Layer). AreInReach (unit_of_layer l) extents) (sym same) reach;
         keeps = λ keeps. subst (λ (b : Bool). IsTrue b) (sym (ap (λ (l : Layer). l.fixed.keeps) same)) keeps;
         said = λ says. ap descriptor_of kept.0.0.bytes ∙ says;
       }
 
   -- the same of files that a call has written back, as many as there were
-  pub kept_back : (image image' : A) (files now : List A) (n : ℕ) → length now ≡ n → Pairs IsKept (state image ∷ map state files) (state image' ∷ map state now) →
+  pub kept_back : (image image' : A) (files now : List A) (n : ℕ) → length now ≡ n → Pairs UnchangedButMoreFaults (state image ∷ map state files) (state image' ∷ map state now) →
       IsKeptImage state extents (image, files) (image', take n (now ++ drop (length now) files))
   kept_back image image' files now n many kept =
       let back : take n (now ++ drop (length now) files) ≡ now = written_back n now files many in
       subst (λ (fs : List A). IsKeptImage state extents (image, files) (image', fs)) (sym back) (kept_image image image' files now kept)
 
-pub ok_whole : {T : Type 0} (r : Result T Fault) → IsOk r → WasNotCutOff r
+pub ok_whole : {T : Type 0} (r : Result T Fault) → IsOk r → HadNoResourceError r
 ok_whole (Ok v) is = tt
 ok_whole (Err e) is = absurd (cc is)
 
@@ -171,7 +171,7 @@ module _ (extents : List (Extent (String Global))) (image : StorageState) (files
           λ w. never w,
         );
         reach = λ over. absurd (within_reach (unit_of_layer here) (512 * (sector + sectors)) (512 * sector + (offset - start)) n unit_some reach (omega arith) over);
-        home = λ free some storage at is. absurd (cc is);
+        writable_location = λ free some storage at is. absurd (cc is);
       })
     where
       regroup : (a b i : ℕ) → a + (b + i) ≡ a + b + i
@@ -179,11 +179,11 @@ module _ (extents : List (Extent (String Global))) (image : StorageState) (files
 
   in_zero : ((q : ℕ) → q < 512 * sectors → in_extents (byte_in (image ∷ files)) extents 1 (start + q) ≡ own (byte 0)) →
       Looks here (byte_in (image ∷ files)) offset asked (shallow.Zero true) n
-  in_zero shows = record { names = (λ i below. places (λ q. own (byte 0)) shows i below, λ is. absurd (cc is)); reach = tt; home = λ free some storage at is. absurd (cc is) }
+  in_zero shows = record { names = (λ i below. places (λ q. own (byte 0)) shows i below, λ is. absurd (cc is)); reach = tt; writable_location = λ free some storage at is. absurd (cc is) }
 
   in_barred : ((q : ℕ) → q < 512 * sectors → in_extents (byte_in (image ∷ files)) extents 1 (start + q) ≡ own barred) →
       Looks here (byte_in (image ∷ files)) offset asked (shallow.Special offset) n
-  in_barred shows = record { names = (λ i below. places (λ q. own barred) shows i below, refl); reach = tt; home = λ free some storage at is. absurd (cc is) }
+  in_barred shows = record { names = (λ i below. places (λ q. own barred) shows i below, refl); reach = tt; writable_location = λ free some storage at is. absurd (cc is) }
 
   -- what a lookup answers
   looks_in : (a : Access) (s : Source (String Global)) → round_up (unit_of_layer here) (end_in_file a s sectors) < 2 ^ 64 →
@@ -227,13 +227,13 @@ module _ (extents : List (Extent (String Global))) (offset start k sectors n : �
       ap (λ p. in_extents files extents 1 p) q ∙ shows files (offset - start + i) (omega arith)
 
   states_in : (a : Access) (s : Source (String Global)) → ((files : ℕ → ℕ → ℕ) (q : ℕ) → q < 512 * sectors → in_extents files extents 1 (start + q) ≡ in_source a s (files k) q) →
-      States (IsZeroByDescriptor extents) offset (mapping_of a s k offset (offset - start), n)
-  states_in NoAccess s shows = λ i below stated. cc (sym (shown NoAccess s shows (λ k p. 1) i below) ∙ stated (λ k p. 1))
-  states_in ReadWrite (Flat name sector) shows = λ i below stated. cc (sym (shown ReadWrite (Flat name sector) shows (λ k p. 1) i below) ∙ stated (λ k p. 1))
+      ReportsExplicitZero (IsZeroByDescriptor extents) offset (mapping_of a s k offset (offset - start), n)
+  states_in NoAccess s shows = λ i below explicit_zero. cc (sym (shown NoAccess s shows (λ k p. 1) i below) ∙ explicit_zero (λ k p. 1))
+  states_in ReadWrite (Flat name sector) shows = λ i below explicit_zero. cc (sym (shown ReadWrite (Flat name sector) shows (λ k p. 1) i below) ∙ explicit_zero (λ k p. 1))
   states_in ReadWrite Zero shows = λ i below files. shown ReadWrite Zero shows files i below
-  states_in ReadOnly (Flat name sector) shows = λ i below stated. cc (sym (shown ReadOnly (Flat name sector) shows (λ k p. 1) i below) ∙ stated (λ k p. 1))
+  states_in ReadOnly (Flat name sector) shows = λ i below explicit_zero. cc (sym (shown ReadOnly (Flat name sector) shows (λ k p. 1) i below) ∙ explicit_zero (λ k p. 1))
   states_in ReadOnly Zero shows = λ i below files. shown ReadOnly Zero shows files i below
 
 pub states_at : (extents : List (Extent (String Global))) (offset n : ℕ) (x : Extent (String Global)) (start k : ℕ) → IsExtentAt extents offset x start k → n ≤ 512 * x.sectors - (offset - start) →
-    States (IsZeroByDescriptor extents) offset (mapping_of x.access x.source k offset (offset - start), n)
+    ReportsExplicitZero (IsZeroByDescriptor extents) offset (mapping_of x.access x.source k offset (offset - start), n)
 states_at extents offset n x start k at short = states_in extents offset start k x.sectors n at.low at.high short x.access x.source at.shows

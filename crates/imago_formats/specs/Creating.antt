@@ -1,6 +1,6 @@
 -- What a created raw image is.
 use Rattle.std.specs.Prelude.{◌≡◌, ⊤, ℕ, length, slice_index, IsTrue}
-use Rattle.imago_storage.specs.State.{StorageState, InStep}
+use Rattle.imago_storage.specs.State.{StorageState, CrashImageIsBytes}
 use Rattle.imago_storage.specs.declared.fault.Fault.{Fault}
 use Rattle.imago_storage.specs.declared.fault.Fault.TheVariants.{Unsupported, Memory, Storage}
 
@@ -10,7 +10,7 @@ pub record IsNewRaw (old new : StorageState) (asked : ℕ) : Type 0 where
   pub faults : new.faults ≡ old.faults
   pub size : length new.bytes ≡ asked
   pub bytes : IsTrue old.shape.keeps → (k : ℕ) → slice_index new.bytes k ≡ 0
-  pub in_step : InStep old → InStep new
+  pub crash_image_is_bytes : CrashImageIsBytes old → CrashImageIsBytes new
 
 -- why a raw image isn't created: by a storage that can't be resized so, for want of memory or by a storage that failed
 abbrev pub NotCreated : Fault → Type 0

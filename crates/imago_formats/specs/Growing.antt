@@ -1,8 +1,8 @@
 -- How a storage is made longer for a disk that it is no shorter than.
 use Rattle.std.specs.Prelude.{◌≡◌, ◌⊎◌, ◌<◌, ◌≤◌, ℕ, List, length, slice_index, IsTrue}
-use Rattle.imago_storage.specs.State.{StorageState, Rose, InStep}
+use Rattle.imago_storage.specs.State.{StorageState, HasRisen, CrashImageIsBytes}
 use Rattle.imago_storage.specs.Calls.{Cause, NotResized, UnlessUnsupported}
-use Rattle.imago_storage.specs.Through.{Stops}
+use Rattle.imago_storage.specs.Through.{EachCrashImage}
 use Rattle.imago_storage.specs.declared.fault.Fault.{Fault}
 use Rattle.imago_storage.specs.declared.fault.Fault.TheVariants.{Unsupported}
 
@@ -17,19 +17,19 @@ pub record CutTo (old new : StorageState) (from : ℕ) : Type 0 where
   pub faults : new.faults ≡ old.faults
   pub refusals : new.refusals ≡ old.refusals
   pub size : length new.bytes ≡ from
-  pub kept : IsTrue old.shape.keeps → (k : ℕ) → k < from → slice_index new.bytes k ≡ slice_index old.bytes k
-  pub in_step : InStep old → InStep new
-  pub stops : Stops (HasFirst old.bytes from) old new
+  pub prefix_unchanged : IsTrue old.shape.keeps → (k : ℕ) → k < from → slice_index new.bytes k ≡ slice_index old.bytes k
+  pub crash_image_is_bytes : CrashImageIsBytes old → CrashImageIsBytes new
+  pub crash_images : EachCrashImage (HasFirst old.bytes from) old new
 
 -- the first bytes are left, and those behind them are 0
 pub record GrownTo (old new : StorageState) (from to : ℕ) : Type 0 where
   pub faults : new.faults ≡ old.faults
   pub refusals : new.refusals ≡ old.refusals
   pub size : length new.bytes ≡ to
-  pub kept : IsTrue old.shape.keeps → (k : ℕ) → k < from → slice_index new.bytes k ≡ slice_index old.bytes k
+  pub prefix_unchanged : IsTrue old.shape.keeps → (k : ℕ) → k < from → slice_index new.bytes k ≡ slice_index old.bytes k
   pub filled : IsTrue old.shape.keeps → (k : ℕ) → from ≤ k → k < to → slice_index new.bytes k ≡ 0
-  pub in_step : InStep old → InStep new
-  pub stops : Stops (HasFirst old.bytes from) old new
+  pub crash_image_is_bytes : CrashImageIsBytes old → CrashImageIsBytes new
+  pub crash_images : EachCrashImage (HasFirst old.bytes from) old new
 
 -- why a storage isn't resized
 abbrev pub StorageResizeCause : StorageState → StorageState → Fault → Type 0
@@ -40,9 +40,9 @@ StorageResizeCause old new fault = Cause old.faults new.faults fault
 pub record NotLengthened (old new : StorageState) (from : ℕ) (fault : Fault) : Type 0 where
   pub cause : StorageResizeCause old new fault
   pub long : from ≤ length old.bytes → from ≤ length new.bytes
-  pub kept : IsTrue old.shape.keeps → (k : ℕ) → k < from → slice_index new.bytes k ≡ slice_index old.bytes k
-  pub in_step : Rose old.refusals new.refusals ⊎ (InStep old → InStep new)
-  pub stops : Stops (HasFirst old.bytes from) old new
+  pub prefix_unchanged : IsTrue old.shape.keeps → (k : ℕ) → k < from → slice_index new.bytes k ≡ slice_index old.bytes k
+  pub crash_image_is_bytes : HasRisen old.refusals new.refusals ⊎ (CrashImageIsBytes old → CrashImageIsBytes new)
+  pub crash_images : EachCrashImage (HasFirst old.bytes from) old new
 
 -- a storage that isn't cut off: all is as it was where it can't be, and else its bytes are
 abbrev pub NotCut : StorageState → StorageState → Fault → Type 0

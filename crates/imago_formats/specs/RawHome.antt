@@ -3,10 +3,10 @@ use Rattle.std.proofs.Common.{◌≡◌, ℕ, ap}
 use Rattle.std.specs.Prelude.{Bool, true, false, ◌&&◌, Some, None, if◌then◌else◌, ltb, IsTrue}
 
 -- a place can be written at its own number alone
-pub one_home : (size : ℕ) (writable : Bool) (p q : ℕ) (at : ℕ × ℕ)
+pub one_writable_location : (size : ℕ) (writable : Bool) (p q : ℕ) (at : ℕ × ℕ)
     → (if ltb p size && writable then Some (0, p) else None) ≡ Some at
     → (if ltb q size && writable then Some (0, q) else None) ≡ Some at → p ≡ q
-one_home size writable p q at first second = from (ltb p size && writable) (ltb q size && writable) first second where
+one_writable_location size writable p q at first second = from (ltb p size && writable) (ltb q size && writable) first second where
   from : (a b : Bool) → (if a then Some (0, p) else None) ≡ Some at → (if b then Some (0, q) else None) ≡ Some at → p ≡ q
   from true true first second = let is : ◌≡◌ {A = ℕ × ℕ} (0, p) (0, q) = cc in ap (λ (x : ℕ × ℕ). x.1) is
   from true false first second = absurd (cc second)

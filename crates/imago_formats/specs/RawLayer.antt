@@ -29,8 +29,8 @@ raw_fixed shape writable = record {
   means = raw_meaning;
   leaks = λ f c. 0;
   exact = false;
-  marks = false;
-  states_room = false;
+  marks_failed = false;
+  reports_allocation = false;
   unit = 1;
 }
 
@@ -41,7 +41,7 @@ raw_layer state size writable = record {
   size = size;
   failed = false;
   cell = λ p. own (byte (slice_index state.bytes p));
-  home = λ p. if ltb p size && writable then Some (0, p) else None;
+  writable_location = λ p. if ltb p size && writable then Some (0, p) else None;
   held = λ p. loose;
   unspent = None;
 }

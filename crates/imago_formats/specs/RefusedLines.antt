@@ -15,14 +15,14 @@ EndsWord (b ∷ rest) = IsTrue (is_blank b)
 pub record IsAccessLine (line : List ℕ) : Type 0 where
   pub start : List ℕ
   pub access : Access
-  pub rest : List ℕ
-  pub made : line ≡ start ++ (access_word access ++ rest)
+  pub remainder : List ℕ
+  pub made : line ≡ start ++ (access_word access ++ remainder)
   pub start_is : AreBlanks start
-  pub rest_is : EndsWord rest
+  pub rest_is : EndsWord remainder
 
 -- the name of a type that isn't carried: a word that is neither FLAT nor ZERO
 pub record IsOtherType (kind : List ℕ) : Type 0 where
-  pub some : 0 < length kind
+  pub nonempty : 0 < length kind
   pub one_word : IsTrue (list_all (λ b. not (is_blank b)) kind)
   pub no_flat : kind ≡ codes "FLAT" → ⊥
   pub no_zero : kind ≡ codes "ZERO" → ⊥
@@ -35,11 +35,11 @@ pub record IsOtherExtent (line : List ℕ) : Type 0 where
   pub digits : List ℕ
   pub second_gap : List ℕ
   pub kind : List ℕ
-  pub rest : List ℕ
-  pub made : line ≡ start ++ (access_word access ++ (gap ++ (digits ++ (second_gap ++ (kind ++ rest)))))
+  pub remainder : List ℕ
+  pub made : line ≡ start ++ (access_word access ++ (gap ++ (digits ++ (second_gap ++ (kind ++ remainder)))))
   pub start_is : AreBlanks start
   pub gap_is : IsGap gap
   pub digits_are : IsTrue (is_decimal digits)
   pub second_gap_is : IsGap second_gap
   pub kind_is : IsOtherType kind
-  pub rest_is : EndsWord rest
+  pub rest_is : EndsWord remainder

@@ -22,10 +22,10 @@ IsSilent line = AreBlanks line ⊎ IsComment line
 pub record IsOtherLine (text line : List ℕ) : Type 0 where
   pub start : List ℕ
   pub first : ℕ
-  pub rest : List ℕ
+  pub remainder : List ℕ
   pub made : line ≡ start ++ text
   pub start_is : AreBlanks start
-  pub begins : text ≡ first ∷ rest
+  pub begins : text ≡ first ∷ remainder
   pub no_blank : IsFalse (is_blank first)
   pub no_comment : IsFalse (first == 35)
   pub no_access : (access : Access) → word text ≡ access_word access → ⊥

@@ -4,10 +4,10 @@ use Rattle.imago_storage.specs.State.{StorageState}
 use Rattle.imago_storage.specs.declared.fault.Fault.{Fault}
 use Rattle.imago_storage.specs.declared.fault.Fault.TheVariants.{Memory, Storage, MissingData, ReadOnly}
 use Rattle.imago_access.specs.Layer.{Layer}
-use Rattle.imago_access.specs.Going.{KeepsSurplus}
-use Rattle.imago_access.specs.Refusals.{barrier}
-use Rattle.imago_access.specs.Files.{IsKept, Pairs, SomeRose, files, greatest}
-use Rattle.imago_access.specs.declared.seen.Seen.{Ghosts}
+use Rattle.imago_access.specs.Going.{KeepsExcessRefcounts}
+use Rattle.imago_access.specs.Refusals.{unusable_fault}
+use Rattle.imago_access.specs.Files.{UnchangedButMoreFaults, Pairs, SomeRose, files, greatest}
+use Rattle.imago_access.specs.declared.driver_model.DriverModel.{Ghosts}
 
 -- the states of an image file and of others
 abbrev pub states : {A : Type 0} → (A → StorageState) → A → List A → List StorageState
@@ -26,16 +26,16 @@ unit_of_all (s ∷ ss) = max (greatest (λ t. t.shape.req_align) s ss) (greatest
 
 -- why a change is refused of a layer that is never written: a file is missing, or there is something to change
 abbrev pub Refuses : Layer → ℕ → Fault → Type 0
-Refuses layer n MissingData = barrier layer ≡ Some MissingData
-Refuses layer n ReadOnly = (barrier layer ≡ None) × (0 < n)
+Refuses layer n MissingData = unusable_fault layer ≡ Some MissingData
+Refuses layer n ReadOnly = (unusable_fault layer ≡ None) × (0 < n)
 Refuses layer n fault = ⊥
 
 -- what a call keeps of a driver that changes nothing but counts of faults
 pub record Keeps {D St : Type 0} (g : Ghosts D St) (old new : D) : Type 0 where
   pub layer : g.layer new ≡ g.layer old
-  pub kept : Pairs IsKept (files g old) (files g new)
-  pub sees : g.sees old → g.sees new
-  pub safely : g.safe old → g.safe new
-  pub stilled : g.still old → g.still new
-  pub lasting : g.lasts old → g.lasts new
-  pub surplus : g.safe old → KeepsSurplus g old new
+  pub unchanged_but_faults : Pairs UnchangedButMoreFaults (files g old) (files g new)
+  pub coherent : g.coherent old → g.coherent new
+  pub safely : g.well_formed old → g.well_formed new
+  pub stilled : g.has_no_dirty_data old → g.has_no_dirty_data new
+  pub stays_stable : g.stable old → g.stable new
+  pub excess_refcount : g.well_formed old → KeepsExcessRefcounts g old new

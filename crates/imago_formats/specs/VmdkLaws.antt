@@ -3,7 +3,7 @@ use Rattle.std.proofs.Common.{◌-◌, ◌≡◌, ℕ, ◌+◌, ◌*◌, ◌∙�
 use Rattle.std.specs.Prelude.{Bool, true, false, cond, ltb, map, Option, Some, None, List, [], ◌∷◌, Ok, ⊤}
 use Rattle.std.proofs.Math.Nat.{le_refl}
 use Rattle.imago_storage.specs.State.{StorageState, IsAlignment, IsAligned}
-use Rattle.imago_access.specs.Files.{IsKept, byte_in, greatest}
+use Rattle.imago_access.specs.Files.{UnchangedButMoreFaults, byte_in, greatest}
 use Rattle.imago_access.specs.Stops.{IsCovered, IsMeant}
 use Rattle.imago_access.proofs.Units.{alignment_max}
 use Rattle.std.specs.declared.string.String.{String}
@@ -92,6 +92,6 @@ pub as_stated : (extents : List (Extent (String Global))) (image : StorageState)
 as_stated extents image files said = sym ((written extents image files said).exactly refl)
 
 -- An image that was just opened is safe where its storages keep what is written.
-pub said_still : (before image : StorageState) (extents : List (Extent (String Global))) → IsKept before image →
+pub said_still : (before image : StorageState) (extents : List (Extent (String Global))) → UnchangedButMoreFaults before image →
     descriptor_of before.bytes ≡ Ok (kept_extents extents) → descriptor_of image.bytes ≡ Ok (kept_extents extents)
 said_still before image extents kept said = ap descriptor_of kept.0.bytes ∙ said

@@ -89,8 +89,8 @@ vmdk_fixed extents image files = record {
   means = λ f. meaning_of (descriptor_of f) (byte_in (image ∷ files));
   leaks = λ f c. 0;
   exact = true;
-  marks = false;
-  states_room = false;
+  marks_failed = false;
+  reports_allocation = false;
   unit = 1;
 }
 
@@ -101,7 +101,7 @@ vmdk_layer extents image files = record {
   size = size_of extents;
   failed = false;
   cell = in_extents (byte_in (image ∷ files)) extents 1;
-  home = λ p. None;
+  writable_location = λ p. None;
   held = λ p. loose;
   unspent = None;
 }
@@ -132,8 +132,8 @@ pub record IsExtentAt {N : Type 0} (extents : List (Extent N)) (p : ℕ) (x : Ex
   pub high : p < start + 512 * x.sectors
   pub end : start + 512 * x.sectors ≤ size_of extents
   pub last : (i : ℕ) × (start + 512 * x.sectors ≡ size_of (take i extents))
-  pub some : 0 < k
-  pub there : IsTrue (has_file x) → k ≤ files_asked extents
+  pub number_nonzero : 0 < k
+  pub file_exists : IsTrue (has_file x) → k ≤ files_asked extents
   pub shows : (files : ℕ → ℕ → ℕ) (q : ℕ) → q < 512 * x.sectors
       → in_extents files extents 1 (start + q) ≡ in_source x.access x.source (files k) q
   pub reach : (unit : ℕ) → AreInReach unit extents → round_up unit (end_in_file x.access x.source x.sectors) < 2 ^ 64

@@ -20,7 +20,7 @@ Opens {G} answers names k gate (file ∷ files) now =
 pub record OpensNext {G S : Type 0} (answers : G → List ℕ → Result S Fault → G → Type 0) (names : List (List ℕ))
     (old new : List S × G) : Type 0 where
   pub opened : List S
-  pub behind : new.0 ≡ old.0 ++ opened
+  pub appended : new.0 ≡ old.0 ++ opened
   pub given : Opens answers names (length old.0) old.1 opened new.1
 
 -- why the file of the k-th name isn't opened: for want of memory, and then the gate isn't asked, or as the gate answers

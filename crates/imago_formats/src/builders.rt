@@ -2,7 +2,7 @@
 ghost use Rattle.std.specs.Prelude.{refl, map, ◌≡◌, [], true, false, Ok, Err, None, IsTrue, IfOk, IfErr};
 ghost use Rattle.std.proofs.Common.{sym};
 ghost use Rattle.imago_storage.specs.declared.fault.Fault.TheVariants.{Unsupported};
-ghost use Rattle.imago_access.specs.Refusals.{barrier};
+ghost use Rattle.imago_access.specs.Refusals.{unusable_fault};
 ghost use Rattle.imago_formats.specs.Descriptor.{descriptor_of};
 ghost use Rattle.imago_formats.specs.DescriptorView.{kept_extents, kept_names};
 ghost use Rattle.imago_formats.specs.VmdkOpening.{MayRefuse, NotBuilt, OpensNext};
@@ -19,8 +19,8 @@ ghost use Rattle.imago_formats.specs.Creating.{IsNewRaw, NotCreated};
 use crate::raw::{Raw, grow_storage, storage_mode};
 use crate::vmdk::Vmdk;
 use imago_access::{
-    Format, FormatCreateBuilder, FormatCreateBuilderBase, FormatDriverBuilder,
-    FormatDriverBuilderBase, ImplicitOpenGate, MakeOpenBuilder, PreallocateMode, Seen,
+    DriverModel, Format, FormatCreateBuilder, FormatCreateBuilderBase, FormatDriverBuilder,
+    FormatDriverBuilderBase, ImplicitOpenGate, MakeOpenBuilder, PreallocateMode,
 };
 use imago_storage::{Fault, Storage, StorageOpenOptions};
 use std::alloc::Global;
@@ -48,7 +48,7 @@ impl<S: Storage> FormatDriverBuilder<S> for RawOpenBuilder<S> {
 
     ghost with_writable = { λ b writable. record b { base = record b.base { writable = writable } } };
 
-    ghost opens = { λ b d. (d.storage ≡ b.base.image) × IsRaw ⟦<Raw<S> as Seen>⟧ (S.state b.base.image) b.base.writable d };
+    ghost opens = { λ b d. (d.storage ≡ b.base.image) × IsRaw ⟦<Raw<S> as DriverModel>⟧ (S.state b.base.image) b.base.writable d };
 
     ghost refuses = { λ b fault. ⊥ };
 
@@ -62,10 +62,10 @@ impl<S: Storage> FormatDriverBuilder<S> for RawOpenBuilder<S> {
       kept = kept_same (S.state b.base.image) (S.state d.storage) (ap S.state opens.0);
       free = refl;
       usable = refl;
-      sees = tt;
-      still = tt;
-      lasting = opens.1.1;
-      safe = λ keeps sound. (keeps, opens.1.1);
+      coherent = tt;
+      has_no_dirty_data = tt;
+      stays_stable = opens.1.1;
+      well_formed = λ keeps sound. (keeps, opens.1.1);
     } };
 
     fn new(image: S) -> Self {
@@ -133,7 +133,7 @@ impl<S: Storage> FormatDriverBuilder<S> for VmdkOpenBuilder<S> {
 
     ghost opens = { λ b d. (b.base.writable ≡ false) × (S.state d.image ≡ S.state b.base.image)
         × (descriptor_of (S.state b.base.image).bytes ≡ Ok (kept_extents d.disk.extents.items))
-        × (barrier (⟦<Vmdk<S> as Seen>⟧.layer d) ≡ None) × ⟦<Vmdk<S> as Seen>⟧.sees d };
+        × (unusable_fault (⟦<Vmdk<S> as DriverModel>⟧.layer d) ≡ None) × ⟦<Vmdk<S> as DriverModel>⟧.coherent d };
 
     ghost refuses = { λ b fault. MayRefuse S.state b.base.writable (descriptor_of (S.state b.base.image).bytes) fault };
 
@@ -149,10 +149,10 @@ impl<S: Storage> FormatDriverBuilder<S> for VmdkOpenBuilder<S> {
           kept = kept;
           free = refl;
           usable = opens.3;
-          sees = opens.4;
-          still = tt;
-          lasting = tt;
-          safe = λ keeps sound. (keeps, opens.4, said);
+          coherent = opens.4;
+          has_no_dirty_data = tt;
+          stays_stable = tt;
+          well_formed = λ keeps sound. (keeps, opens.4, said);
         } };
 
     fn new(image: S) -> Self {
@@ -278,8 +278,8 @@ impl<S: Storage> FormatCreateBuilder<S> for RawCreateBuilder<S> {
         requires { let c = ⟦<RawCreateBuilder<S> as FormatCreateBuilder<S>>⟧ in (s : S) → c.hands self s → F.takes open_builder s }
         ensures ok { let c = ⟦<RawCreateBuilder<S> as FormatCreateBuilder<S>>⟧ in let o = ⟦<RawOpenBuilder<S> as FormatDriverBuilder<S>>⟧ in
             IfOk result (λ d. OpensCreated (c.hands self) (F.makes open_builder) (c.opens_with self) (λ b. o.opens b d)) }
-        ensures format { IfOk result (λ d. (⟦<Raw<S> as Seen>⟧.layer d).fixed.format ≡ format.Raw) }
-        ensures writable { IfOk result (λ d. IsTrue (⟦<Raw<S> as Seen>⟧.layer d).fixed.writable) }
+        ensures format { IfOk result (λ d. (⟦<Raw<S> as DriverModel>⟧.layer d).fixed.format ≡ format.Raw) }
+        ensures writable { IfOk result (λ d. IsTrue (⟦<Raw<S> as DriverModel>⟧.layer d).fixed.writable) }
         ensures err { let c = ⟦<RawCreateBuilder<S> as FormatCreateBuilder<S>>⟧ in
             let o = ⟦<RawOpenBuilder<S> as FormatDriverBuilder<S>>⟧ in
             IfErr result (NotOpened (c.refuses self) (c.hands self) (F.makes open_builder) (c.opens_with self) o.refuses) }

@@ -2,18 +2,18 @@
 ghost use Rattle.std.specs.Prelude.{◌≡◌, min, ◌-◌, ◌+◌, ◌≤◌, ◌<◌, ◌^◌, [], ⊤, refl, length, replicate, ◌⊎◌, OnOk, IfOk, IfErr, IsErr, IsSome, IsTrue, None, Some, true};
 ghost use Rattle.std.proofs.Common.{inr};
 ghost use Rattle.std.proofs.Math.Nat.{le_refl};
-ghost use Rattle.imago_storage.specs.Calls.{Mixed, Later, Resized};
-ghost use Rattle.imago_storage.specs.Through.{WrittenThrough, NotWrittenThrough, Stops, StopsAsLong};
+ghost use Rattle.imago_storage.specs.Calls.{OldOrNewBytes, CountsNotFallen, Resized};
+ghost use Rattle.imago_storage.specs.Through.{WriteSucceeded, WriteFailed, EachCrashImage, CrashImagesNoShorter};
 ghost use Rattle.imago_storage.specs.declared.fault.Fault.{Fault};
 ghost use Rattle.imago_storage.specs.declared.fault.Fault.TheVariants.{ReadOnly, Unsupported};
-ghost use Rattle.imago_access.specs.Files.{WasNotCutOff, files};
-ghost use Rattle.imago_access.specs.Going.{AtOnce, RangeAtOnce, Looked, LookedUnder, Marks};
+ghost use Rattle.imago_access.specs.Files.{HadNoResourceError, files};
+ghost use Rattle.imago_access.specs.Going.{EarlyOutcome, RangeEarlyOutcome, LookupCall, LookupCallBelow, MarksFailed};
 ghost use Rattle.imago_access.specs.PartCalls.{IsPart, DoesPart, PartCall, PartRefused, ensures_zero, discards_to_zero, discards_to_any, discards_to_backing};
 ghost use Rattle.imago_access.specs.Changes.{Rewrites, ToZero, asking};
 ghost use Rattle.imago_access.specs.Layer.{IsFree};
-ghost use Rattle.imago_access.specs.Refusals.{own_refusal, barrier};
+ghost use Rattle.imago_access.specs.Refusals.{own_refusal, unusable_fault};
 ghost use Rattle.imago_access.specs.declared.mapping.ShallowMapping.TheVariants as shallow;
-ghost use Rattle.imago_access.specs.Mappings.{IsMappedRun, IsOneOf, IsRun, LooksIn, NamesRoomIn, States};
+ghost use Rattle.imago_access.specs.Mappings.{IsMappedRun, IsOneOf, IsRun, LooksIn, ReportsAllocationIn, ReportsExplicitZero};
 ghost use Rattle.imago_access.specs.Failing.{Fails, RefusesLookup};
 ghost use Rattle.imago_access.specs.PreparingCalls.{IsHeldBy, Prepares, Commits, CommitRefused, Cancels, nowhere};
 ghost use Rattle.imago_access.specs.ResizeCalls.{Resizes, Grows, GrowthRefused, IsUngrown, Shrinks, ShrinkRefused};
@@ -22,12 +22,12 @@ ghost use Rattle.imago_access.specs.Chain.{at};
 ghost use Rattle.std.specs.Borrow.{Lends, sem};
 ghost use Rattle.imago_formats.specs.contracts.raw.Raw.{the_row};
 ghost use Rattle.imago_formats.specs.RawLayer.{raw_layer, raw_text, RawCause};
-ghost use Rattle.imago_formats.specs.RawHome.{one_home, never};
+ghost use Rattle.imago_formats.specs.RawHome.{one_writable_location, never};
 ghost use Rattle.imago_formats.specs.Growing.{CutTo, GrownTo, NotCut, NotLengthened};
 
 use imago_access::{
-    Format, FormatDriverInstance, PreallocateMode, PreparedDataMapping, ReadBelow, ReadFiles, Seen,
-    ShallowMapping, check_range,
+    DriverModel, Format, FormatDriverInstance, PreallocateMode, PreparedDataMapping, ReadBelow,
+    ReadFiles, ShallowMapping, check_range,
 };
 use imago_storage::{
     Fault, PreallocateMode as StorageMode, Storage, StorageExt, larger_alignment, write_full_zeroes,
@@ -57,9 +57,9 @@ pub struct Raw<S> {
 impl<S: Storage> Raw<S> {
     /// Opens a storage as a raw image, for reading alone or also for writing.
     pub fn open_image(storage: S, writable: bool) -> Self
-        ensures layer { ⟦<Raw<S> as Seen>⟧.layer result ≡ raw_layer (S.state storage) (length (S.state storage).bytes) writable }
-        ensures safe { IsTrue (S.state storage).shape.keeps → ⟦<Raw<S> as Seen>⟧.safe result }
-        ensures lasts { ⟦<Raw<S> as Seen>⟧.lasts result }
+        ensures layer { ⟦<Raw<S> as DriverModel>⟧.layer result ≡ raw_layer (S.state storage) (length (S.state storage).bytes) writable }
+        ensures well_formed { IsTrue (S.state storage).shape.keeps → ⟦<Raw<S> as DriverModel>⟧.well_formed result }
+        ensures stable { ⟦<Raw<S> as DriverModel>⟧.stable result }
         ensures storage { result.storage ≡ storage }
     {
         let size = storage.size();
@@ -140,10 +140,10 @@ impl<S: Storage> Raw<S> {
     // Why a change of a range that isn't empty is refused before anything is done.
     fn check_change(&self, offset: u64, length: u64) -> Result<(), Fault>
         requires { 0 < length }
-        ensures ok { let d = ⟦<Raw<S> as Seen>⟧ in OnOk result (own_refusal (d.layer self.now) offset length ≡ None) }
+        ensures ok { let d = ⟦<Raw<S> as DriverModel>⟧ in OnOk result (own_refusal (d.layer self.now) offset length ≡ None) }
         ensures inside { OnOk result (offset + length ≤ self.now.size) }
         ensures fits { OnOk result (offset + length < 2 ^ 64) }
-        ensures err { let d = ⟦<Raw<S> as Seen>⟧ in IfErr result (λ e. own_refusal (d.layer self.now) offset length ≡ Some e) }
+        ensures err { let d = ⟦<Raw<S> as DriverModel>⟧ in IfErr result (λ e. own_refusal (d.layer self.now) offset length ≡ Some e) }
     {
         let unit = larger_alignment(self.storage.req_align(), self.storage.mem_align());
         check_range(self.writable, unit as u64, self.size, offset, length)
@@ -158,9 +158,9 @@ impl<S: Storage> Raw<S> {
         length: u64,
     ) -> Result<(u64, u64), Fault>
         ensures all { IfOk result (λ r. r ≡ (offset, length)) }
-        ensures does { DoesPart ensures_zero ⟦<Raw<S> as Seen>⟧ offset length result self.old self.new }
-        ensures at_once { RangeAtOnce ⟦<Raw<S> as Seen>⟧ offset length result self.old self.new }
-        ensures refused { (call : PartCall) → PartRefused call ⟦<Raw<S> as Seen>⟧ offset length result self.old self.new }
+        ensures does { DoesPart ensures_zero ⟦<Raw<S> as DriverModel>⟧ offset length result self.old self.new }
+        ensures early_outcome { RangeEarlyOutcome ⟦<Raw<S> as DriverModel>⟧ offset length result self.old self.new }
+        ensures refused { (call : PartCall) → PartRefused call ⟦<Raw<S> as DriverModel>⟧ offset length result self.old self.new }
     {
         if length == 0 {
             return Ok((offset, 0));
@@ -194,9 +194,9 @@ impl<S: Storage> Raw<S> {
         ensures ok { OnOk result (GrownTo (S.state self.old.storage) (S.state self.new.storage) self.old.size size) }
         ensures size { OnOk result (self.new.size ≡ size) }
         ensures err { IfErr result (NotLengthened (S.state self.old.storage) (S.state self.new.storage) self.old.size) }
-        ensures kept { IfErr result (λ e. self.new.size ≡ self.old.size) }
+        ensures same_size_on_error { IfErr result (λ e. self.new.size ≡ self.old.size) }
         ensures shape { (S.state self.new.storage).shape ≡ (S.state self.old.storage).shape }
-        ensures later { Later (S.state self.old.storage) (S.state self.new.storage) }
+        ensures counts_not_fallen { CountsNotFallen (S.state self.old.storage) (S.state self.new.storage) }
         ensures writable { self.new.writable ≡ self.old.writable }
     {
         grow_storage(&mut self.storage, self.size, size, mode)?;
@@ -209,9 +209,9 @@ impl<S: Storage> Raw<S> {
         ensures ok { OnOk result (Resized (S.state self.old.storage) (S.state self.new.storage) size) }
         ensures size { OnOk result (self.new.size ≡ size) }
         ensures err { IfErr result (NotCut (S.state self.old.storage) (S.state self.new.storage)) }
-        ensures kept { IfErr result (λ e. self.new.size ≡ self.old.size) }
+        ensures same_size_on_error { IfErr result (λ e. self.new.size ≡ self.old.size) }
         ensures shape { (S.state self.new.storage).shape ≡ (S.state self.old.storage).shape }
-        ensures later { Later (S.state self.old.storage) (S.state self.new.storage) }
+        ensures counts_not_fallen { CountsNotFallen (S.state self.old.storage) (S.state self.new.storage) }
         ensures writable { self.new.writable ≡ self.old.writable }
     {
         self.storage.resize(size, StorageMode::None)?;
@@ -237,12 +237,12 @@ fn zero_range<S: Storage>(
     offset: u64,
     length: u64,
 ) -> Result<(), Fault>
-    ensures ok { OnOk result (WrittenThrough (S.state storage.old) (S.state storage.new) offset (replicate length 0)) }
-    ensures err { IfErr result (NotWrittenThrough (S.state storage.old) (S.state storage.new) offset (replicate length 0)) }
+    ensures ok { OnOk result (WriteSucceeded (S.state storage.old) (S.state storage.new) offset (replicate length 0)) }
+    ensures err { IfErr result (WriteFailed (S.state storage.old) (S.state storage.new) offset (replicate length 0)) }
     ensures shape { (S.state storage.new).shape ≡ (S.state storage.old).shape }
-    ensures later { Later (S.state storage.old) (S.state storage.new) }
-    ensures stops { Stops (Mixed (S.state storage.old).bytes offset (replicate length 0)) (S.state storage.old) (S.state storage.new) }
-    ensures as_long { StopsAsLong (S.state storage.old) (S.state storage.new) }
+    ensures counts_not_fallen { CountsNotFallen (S.state storage.old) (S.state storage.new) }
+    ensures crash_images { EachCrashImage (OldOrNewBytes (S.state storage.old).bytes offset (replicate length 0)) (S.state storage.old) (S.state storage.new) }
+    ensures as_long { CrashImagesNoShorter (S.state storage.old) (S.state storage.new) }
 {
     match zeroes {
         Zeroes::GivenUp => storage.write_zeroes(alloc, offset, length),
@@ -256,7 +256,7 @@ fn zero_range<S: Storage>(
     }
 }
 
-impl<S: Storage> Seen for Raw<S> {
+impl<S: Storage> DriverModel for Raw<S> {
     type State = NoState;
 
     ghost layer = { λ r. raw_layer (S.state r.storage) r.size r.writable };
@@ -265,25 +265,25 @@ impl<S: Storage> Seen for Raw<S> {
 
     ghost extras = { λ _. [] };
 
-    ghost sees = { λ _. ⊤ };
+    ghost coherent = { λ _. ⊤ };
 
-    ghost safe = { λ r. IsTrue (S.state r.storage).shape.keeps × (r.size ≤ length (S.state r.storage).bytes) };
+    ghost well_formed = { λ r. IsTrue (S.state r.storage).shape.keeps × (r.size ≤ length (S.state r.storage).bytes) };
 
-    ghost still = { λ _. ⊤ };
+    ghost has_no_dirty_data = { λ _. ⊤ };
 
-    ghost lasts = { λ r. r.size ≤ length (S.state r.storage).bytes };
+    ghost stable = { λ r. r.size ≤ length (S.state r.storage).bytes };
 
-    ghost surplus = { λ _ c. 0 };
+    ghost excess_refcount = { λ _ c. 0 };
 
-    ghost vacant = { λ d p. ⊤ };
+    ghost unallocated = { λ d p. ⊤ };
 
-    ghost has_room = { λ d p. ⊥ };
+    ghost has_allocation = { λ d p. ⊥ };
 
     ghost zeroed = { λ d p. ⊤ };
 
-    ghost stated = { λ d p. ⊥ };
+    ghost explicit_zero = { λ d p. ⊥ };
 
-    ghost claim = { λ _. 0 };
+    ghost mapping_id = { λ _. 0 };
 
     ghost tag = { λ _. 0 };
 
@@ -299,15 +299,15 @@ impl<S: Storage> Seen for Raw<S> {
 impl<S: Storage> FormatDriverInstance for Raw<S> {
     type Storage = S;
 
-    ghost safe_sees = { λ d safe. tt };
+    ghost well_formed_is_coherent = { λ d well_formed. tt };
 
-    ghost safe_runs = { λ d safe. refl };
+    ghost well_formed_is_usable = { λ d well_formed. refl };
 
-    ghost safe_keeps = { λ d safe. safe.0 };
+    ghost well_formed_keeps_writes = { λ d well_formed. well_formed.0 };
 
-    ghost safe_sound = { λ d safe. record { is_sound = tt; size = safe.1 } };
+    ghost well_formed_is_sound = { λ d well_formed. record { is_sound = tt; size = well_formed.1 } };
 
-    ghost one_home = { λ d p q at safe. one_home d.size d.writable p q at };
+    ghost one_writable_location = { λ d p q at well_formed. one_writable_location d.size d.writable p q at };
 
     ghost blanks = { λ d. inr refl };
 
@@ -317,7 +317,7 @@ impl<S: Storage> FormatDriverInstance for Raw<S> {
 
     ghost marked = { λ d is. absurd (cc is) };
 
-    ghost says_room = { λ d is. absurd (cc is) };
+    ghost reports_allocations = { λ d is. absurd (cc is) };
 
     ghost units = { λ d. le_refl 1 };
 
@@ -380,17 +380,17 @@ impl<S: Storage> FormatDriverInstance for Raw<S> {
         offset: u64,
         max_length: u64,
     ) -> Result<(ShallowMapping, u64), Fault>
-        ensures run { let d = ⟦<Raw<S> as Seen>⟧ in IfOk result (λ r. IsRun (d.layer self.old) offset max_length r.0 r.1) }
-        ensures looks { let d = ⟦<Raw<S> as Seen>⟧ in d.sees self.old → IfOk result (LooksIn d offset max_length self.old self.new) }
-        ensures room { let d = ⟦<Raw<S> as Seen>⟧ in d.sees self.old → IfOk result (NamesRoomIn d offset self.old) }
-        ensures stated { let d = ⟦<Raw<S> as Seen>⟧ in d.sees self.old → IfOk result (States (d.stated self.old) offset) }
-        ensures at_once { let d = ⟦<Raw<S> as Seen>⟧ in AtOnce d (barrier (d.layer self.old)) (max_length ≡ 0) result self.old self.new }
-        ensures looked { let d = ⟦<Raw<S> as Seen>⟧ in Looked d (WasNotCutOff result) self.old self.new }
-        ensures there { let d = ⟦<Raw<S> as Seen>⟧ in IfOk result (λ r. IsOneOf (length (files d self.old)) r.0) }
-        ensures began { let d = ⟦<Raw<S> as Seen>⟧ in OnOk result ((e : _) (call : _) → d.began e call self.old → d.began e call self.new) }
-        ensures failed { let d = ⟦<Raw<S> as Seen>⟧ in IfErr result (Fails d self.old self.new) }
-        ensures marks { let d = ⟦<Raw<S> as Seen>⟧ in IfErr result (Marks d self.old self.new) }
-        ensures cause { let d = ⟦<Raw<S> as Seen>⟧ in d.sees self.old → IfErr result (RefusesLookup d offset max_length self.old self.new) }
+        ensures run { let d = ⟦<Raw<S> as DriverModel>⟧ in IfOk result (λ r. IsRun (d.layer self.old) offset max_length r.0 r.1) }
+        ensures looks { let d = ⟦<Raw<S> as DriverModel>⟧ in d.coherent self.old → IfOk result (LooksIn d offset max_length self.old self.new) }
+        ensures room { let d = ⟦<Raw<S> as DriverModel>⟧ in d.coherent self.old → IfOk result (ReportsAllocationIn d offset self.old) }
+        ensures explicit_zero { let d = ⟦<Raw<S> as DriverModel>⟧ in d.coherent self.old → IfOk result (ReportsExplicitZero (d.explicit_zero self.old) offset) }
+        ensures early_outcome { let d = ⟦<Raw<S> as DriverModel>⟧ in EarlyOutcome d (unusable_fault (d.layer self.old)) (max_length ≡ 0) result self.old self.new }
+        ensures lookup_call { let d = ⟦<Raw<S> as DriverModel>⟧ in LookupCall d (HadNoResourceError result) self.old self.new }
+        ensures storage_exists { let d = ⟦<Raw<S> as DriverModel>⟧ in IfOk result (λ r. IsOneOf (length (files d self.old)) r.0) }
+        ensures stays_begun { let d = ⟦<Raw<S> as DriverModel>⟧ in OnOk result ((e : _) (call : _) → d.began e call self.old → d.began e call self.new) }
+        ensures failed { let d = ⟦<Raw<S> as DriverModel>⟧ in IfErr result (Fails d self.old self.new) }
+        ensures marks_failed { let d = ⟦<Raw<S> as DriverModel>⟧ in IfErr result (MarksFailed d self.old self.new) }
+        ensures cause { let d = ⟦<Raw<S> as DriverModel>⟧ in d.coherent self.old → IfErr result (RefusesLookup d offset max_length self.old self.new) }
         // All of the range that lies in the disk is one run.
         ensures whole { offset < self.old.size → IfOk result (λ r. r.1 ≡ min max_length (self.old.size - offset)) }
     {
@@ -423,18 +423,18 @@ impl<S: Storage> FormatDriverInstance for Raw<S> {
         length: u64,
         _overwrite: bool,
     ) -> Result<PreparedDataMapping<NoState>, Fault>
-        ensures run { let d = ⟦<Raw<S> as Seen>⟧ in
+        ensures run { let d = ⟦<Raw<S> as DriverModel>⟧ in
             IfOk result (λ m. IsMappedRun (d.layer self.old) offset length m.length × (m.offset + m.length < 2 ^ 64)) }
-        ensures mine { let d = ⟦<Raw<S> as Seen>⟧ in IfOk result (λ m. IsHeldBy d m.state (d.layer self.new)) }
-        ensures empty { let d = ⟦<Raw<S> as Seen>⟧ in
+        ensures mine { let d = ⟦<Raw<S> as DriverModel>⟧ in IfOk result (λ m. IsHeldBy d m.state (d.layer self.new)) }
+        ensures empty { let d = ⟦<Raw<S> as DriverModel>⟧ in
             length ≡ 0 → IfOk result (λ m. (m ≡ nowhere) × (d.layer self.new ≡ d.layer self.old)) }
-        ensures size { let d = ⟦<Raw<S> as Seen>⟧ in (d.layer self.new).size ≡ (d.layer self.old).size }
-        ensures free { IsErr result → IsFree (⟦<Raw<S> as Seen>⟧.layer self.new) }
-        ensures does { let d = ⟦<Raw<S> as Seen>⟧ in
-            Prepares d B.SeenBelow (asking offset length _overwrite) result (self.old, _below.old) (self.new, _below.new) }
-        ensures below { LookedUnder B.SeenBelow (WasNotCutOff result) _below.old _below.new }
-        ensures at_once { RangeAtOnce ⟦<Raw<S> as Seen>⟧ offset length result self.old self.new }
-        ensures unread { let d = ⟦<Raw<S> as Seen>⟧ in
+        ensures size { let d = ⟦<Raw<S> as DriverModel>⟧ in (d.layer self.new).size ≡ (d.layer self.old).size }
+        ensures free { IsErr result → IsFree (⟦<Raw<S> as DriverModel>⟧.layer self.new) }
+        ensures does { let d = ⟦<Raw<S> as DriverModel>⟧ in
+            Prepares d B.LayersBelowModel (asking offset length _overwrite) result (self.old, _below.old) (self.new, _below.new) }
+        ensures below { LookupCallBelow B.LayersBelowModel (HadNoResourceError result) _below.old _below.new }
+        ensures early_outcome { RangeEarlyOutcome ⟦<Raw<S> as DriverModel>⟧ offset length result self.old self.new }
+        ensures unread { let d = ⟦<Raw<S> as DriverModel>⟧ in
             (length ≡ 0) ⊎ IsSome (own_refusal (d.layer self.old) offset length) → _below.new ≡ _below.old }
         // All of the range is mapped.
         ensures whole { IfOk result (λ m. m.length ≡ length) }
@@ -451,8 +451,8 @@ impl<S: Storage> FormatDriverInstance for Raw<S> {
         _alloc: Global,
         mapping: PreparedDataMapping<NoState>,
     ) -> Result<(), (Fault, Option<PreparedDataMapping<NoState>>)>
-        ensures commits { Commits ⟦<Raw<S> as Seen>⟧ mapping.state result self.old self.new }
-        ensures refused { CommitRefused ⟦<Raw<S> as Seen>⟧ mapping result self.old self.new }
+        ensures commits { Commits ⟦<Raw<S> as DriverModel>⟧ mapping.state result self.old self.new }
+        ensures refused { CommitRefused ⟦<Raw<S> as DriverModel>⟧ mapping result self.old self.new }
     {
         match mapping.into_state() {
             None => Ok(()),
@@ -464,7 +464,7 @@ impl<S: Storage> FormatDriverInstance for Raw<S> {
         &mut self,
         mapping: PreparedDataMapping<NoState>,
     ) -> Result<(), (Fault, PreparedDataMapping<NoState>)>
-        ensures cancels { Cancels ⟦<Raw<S> as Seen>⟧ mapping result self.old self.new }
+        ensures cancels { Cancels ⟦<Raw<S> as DriverModel>⟧ mapping result self.old self.new }
     {
         match mapping.into_state() {
             None => Ok(()),
@@ -500,9 +500,9 @@ impl<S: Storage> FormatDriverInstance for Raw<S> {
         length: u64,
     ) -> Result<(u64, u64), Fault>
         ensures part { IfOk result (IsPart offset length) }
-        ensures does { DoesPart ensures_zero ⟦<Raw<S> as Seen>⟧ offset length result self.old self.new }
-        ensures at_once { RangeAtOnce ⟦<Raw<S> as Seen>⟧ offset length result self.old self.new }
-        ensures refused { PartRefused ensures_zero ⟦<Raw<S> as Seen>⟧ offset length result self.old self.new }
+        ensures does { DoesPart ensures_zero ⟦<Raw<S> as DriverModel>⟧ offset length result self.old self.new }
+        ensures early_outcome { RangeEarlyOutcome ⟦<Raw<S> as DriverModel>⟧ offset length result self.old self.new }
+        ensures refused { PartRefused ensures_zero ⟦<Raw<S> as DriverModel>⟧ offset length result self.old self.new }
         // All of the range is done.
         ensures whole { IfOk result (λ r. r ≡ (offset, length)) }
     {
@@ -516,9 +516,9 @@ impl<S: Storage> FormatDriverInstance for Raw<S> {
         length: u64,
     ) -> Result<(u64, u64), Fault>
         ensures part { IfOk result (IsPart offset length) }
-        ensures does { DoesPart discards_to_zero ⟦<Raw<S> as Seen>⟧ offset length result self.old self.new }
-        ensures at_once { RangeAtOnce ⟦<Raw<S> as Seen>⟧ offset length result self.old self.new }
-        ensures refused { PartRefused discards_to_zero ⟦<Raw<S> as Seen>⟧ offset length result self.old self.new }
+        ensures does { DoesPart discards_to_zero ⟦<Raw<S> as DriverModel>⟧ offset length result self.old self.new }
+        ensures early_outcome { RangeEarlyOutcome ⟦<Raw<S> as DriverModel>⟧ offset length result self.old self.new }
+        ensures refused { PartRefused discards_to_zero ⟦<Raw<S> as DriverModel>⟧ offset length result self.old self.new }
         // All of the range is done.
         ensures whole { IfOk result (λ r. r ≡ (offset, length)) }
     {
@@ -532,9 +532,9 @@ impl<S: Storage> FormatDriverInstance for Raw<S> {
         length: u64,
     ) -> Result<(u64, u64), Fault>
         ensures part { IfOk result (IsPart offset length) }
-        ensures does { DoesPart discards_to_any ⟦<Raw<S> as Seen>⟧ offset length result self.old self.new }
-        ensures at_once { RangeAtOnce ⟦<Raw<S> as Seen>⟧ offset length result self.old self.new }
-        ensures refused { PartRefused discards_to_any ⟦<Raw<S> as Seen>⟧ offset length result self.old self.new }
+        ensures does { DoesPart discards_to_any ⟦<Raw<S> as DriverModel>⟧ offset length result self.old self.new }
+        ensures early_outcome { RangeEarlyOutcome ⟦<Raw<S> as DriverModel>⟧ offset length result self.old self.new }
+        ensures refused { PartRefused discards_to_any ⟦<Raw<S> as DriverModel>⟧ offset length result self.old self.new }
         // All of the range is done.
         ensures whole { IfOk result (λ r. r ≡ (offset, length)) }
     {
@@ -559,13 +559,13 @@ impl<S: Storage> FormatDriverInstance for Raw<S> {
         length: u64,
     ) -> Result<(u64, u64), Fault>
         ensures part { IfOk result (IsPart offset length) }
-        ensures does { DoesPart discards_to_backing ⟦<Raw<S> as Seen>⟧ offset length result self.old self.new }
-        ensures at_once { RangeAtOnce ⟦<Raw<S> as Seen>⟧ offset length result self.old self.new }
-        ensures refused { PartRefused discards_to_backing ⟦<Raw<S> as Seen>⟧ offset length result self.old self.new }
+        ensures does { DoesPart discards_to_backing ⟦<Raw<S> as DriverModel>⟧ offset length result self.old self.new }
+        ensures early_outcome { RangeEarlyOutcome ⟦<Raw<S> as DriverModel>⟧ offset length result self.old self.new }
+        ensures refused { PartRefused discards_to_backing ⟦<Raw<S> as DriverModel>⟧ offset length result self.old self.new }
         // All of the range is done, and is 0 then.
         ensures whole { IfOk result (λ r. r ≡ (offset, length)) }
-        ensures zeroed { let d = ⟦<Raw<S> as Seen>⟧ in
-            d.safe self.old → OnOk result (Rewrites ToZero (d.layer self.old) (d.layer self.new) offset length) }
+        ensures zeroed { let d = ⟦<Raw<S> as DriverModel>⟧ in
+            d.well_formed self.old → OnOk result (Rewrites ToZero (d.layer self.old) (d.layer self.new) offset length) }
     {
         self.zero(alloc, Zeroes::GivenUp, offset, length)
     }
@@ -589,15 +589,15 @@ impl<S: Storage> FormatDriverInstance for Raw<S> {
         size: u64,
         mode: PreallocateMode,
     ) -> Result<(), Fault>
-        ensures resizes { let d = ⟦<Raw<S> as Seen>⟧ in Resizes d size (d.layer self.old).size result self.old self.new }
-        ensures grows { Grows ⟦<Raw<S> as Seen>⟧ B.SeenBelow size mode result (self.old, _below.old) (self.new, _below.new) }
-        ensures unread { let d = ⟦<Raw<S> as Seen>⟧ in IsUngrown (d.layer self.old) size → _below.new ≡ _below.old }
-        ensures below { LookedUnder B.SeenBelow (WasNotCutOff result) _below.old _below.new }
-        ensures refused { GrowthRefused ⟦<Raw<S> as Seen>⟧ B.SeenBelow size mode result (self.old, _below.old) (self.new, _below.new) }
+        ensures resizes { let d = ⟦<Raw<S> as DriverModel>⟧ in Resizes d size (d.layer self.old).size result self.old self.new }
+        ensures grows { Grows ⟦<Raw<S> as DriverModel>⟧ B.LayersBelowModel size mode result (self.old, _below.old) (self.new, _below.new) }
+        ensures unread { let d = ⟦<Raw<S> as DriverModel>⟧ in IsUngrown (d.layer self.old) size → _below.new ≡ _below.old }
+        ensures below { LookupCallBelow B.LayersBelowModel (HadNoResourceError result) _below.old _below.new }
+        ensures refused { GrowthRefused ⟦<Raw<S> as DriverModel>⟧ B.LayersBelowModel size mode result (self.old, _below.old) (self.new, _below.new) }
         // The storage is then as long as the disk; refused, the disk has its size, and its storage is no shorter than it.
         ensures exact { self.old.size < size → OnOk result ((length (S.state self.new.storage).bytes ≡ size) × (self.new.size ≡ size)) }
-        ensures kept { IfErr result (λ e. self.new.size ≡ self.old.size) }
-        ensures within { let d = ⟦<Raw<S> as Seen>⟧ in d.safe self.old → d.safe self.new }
+        ensures same_size_on_error { IfErr result (λ e. self.new.size ≡ self.old.size) }
+        ensures within { let d = ⟦<Raw<S> as DriverModel>⟧ in d.well_formed self.old → d.well_formed self.new }
     {
         if size <= self.size {
             return Ok(());
@@ -610,13 +610,13 @@ impl<S: Storage> FormatDriverInstance for Raw<S> {
     }
 
     fn resize_shrink(&mut self, _alloc: Global, size: u64) -> Result<(), Fault>
-        ensures resizes { let d = ⟦<Raw<S> as Seen>⟧ in Resizes d (d.layer self.old).size size result self.old self.new }
-        ensures shrinks { Shrinks ⟦<Raw<S> as Seen>⟧ size result self.old self.new }
-        ensures refused { ShrinkRefused ⟦<Raw<S> as Seen>⟧ size result self.old self.new }
+        ensures resizes { let d = ⟦<Raw<S> as DriverModel>⟧ in Resizes d (d.layer self.old).size size result self.old self.new }
+        ensures shrinks { Shrinks ⟦<Raw<S> as DriverModel>⟧ size result self.old self.new }
+        ensures refused { ShrinkRefused ⟦<Raw<S> as DriverModel>⟧ size result self.old self.new }
         // The storage is then as long as the disk; refused, the disk has its size, and its storage is no shorter than it.
         ensures exact { size < self.old.size → OnOk result ((length (S.state self.new.storage).bytes ≡ size) × (self.new.size ≡ size)) }
-        ensures kept { IfErr result (λ e. self.new.size ≡ self.old.size) }
-        ensures within { let d = ⟦<Raw<S> as Seen>⟧ in d.safe self.old → d.safe self.new }
+        ensures same_size_on_error { IfErr result (λ e. self.new.size ≡ self.old.size) }
+        ensures within { let d = ⟦<Raw<S> as DriverModel>⟧ in d.well_formed self.old → d.well_formed self.new }
     {
         if size >= self.size {
             return Ok(());
@@ -650,7 +650,7 @@ fn cut_storage<S: Storage>(storage: &mut S, from: u64) -> Result<(), Fault>
     ensures ok { OnOk result (CutTo (S.state storage.old) (S.state storage.new) from) }
     ensures err { IfErr result (NotLengthened (S.state storage.old) (S.state storage.new) from) }
     ensures shape { (S.state storage.new).shape ≡ (S.state storage.old).shape }
-    ensures later { Later (S.state storage.old) (S.state storage.new) }
+    ensures counts_not_fallen { CountsNotFallen (S.state storage.old) (S.state storage.new) }
 {
     if storage.size() == from {
         return Ok(());
@@ -670,7 +670,7 @@ pub(crate) fn grow_storage<S: Storage>(
     ensures ok { OnOk result (GrownTo (S.state storage.old) (S.state storage.new) from to) }
     ensures err { IfErr result (NotLengthened (S.state storage.old) (S.state storage.new) from) }
     ensures shape { (S.state storage.new).shape ≡ (S.state storage.old).shape }
-    ensures later { Later (S.state storage.old) (S.state storage.new) }
+    ensures counts_not_fallen { CountsNotFallen (S.state storage.old) (S.state storage.new) }
 {
     cut_storage(storage, from)?;
     storage.resize(to, mode)

@@ -2,9 +2,9 @@
 use Rattle.std.proofs.Common.{◌≡◌, refl, inl, inr, ℕ, ◌+◌, ◌-◌, ◌%◌, ◌^◌, ◌<◌, ◌≤◌, max, List, length, arith, sym, ◌∙◌, ap, subst}
 use Rattle.std.specs.Prelude.{IsTrue, Result, OnOk, IfErr, IsErrAnd}
 use Rattle.std.proofs.lemmas.Result.{on_ok_weaker, IfErr-weaker, err_from_is_err_and}
-use Rattle.imago_storage.specs.State.{StorageState, IsWhole, unit_of}
-use Rattle.imago_storage.specs.Calls.{Spliced, Mixed, Cause, Kept, Changed, Refused, Written, NotWritten}
-use Rattle.imago_storage.specs.Through.{round_up, Halted, NotThrough, OneRequest, NoRequest, UnlessOverflow}
+use Rattle.imago_storage.specs.State.{StorageState, IsUnitRange, unit_of}
+use Rattle.imago_storage.specs.Calls.{Spliced, OldOrNewBytes, Cause, UnchangedButFaults, Changed, Refused, Written, NotWritten}
+use Rattle.imago_storage.specs.Through.{round_up, PaddedWriteFailed, PaddedWriteRefused, OneRequest, NoRequest, UnlessOverflow}
 use Rattle.imago_storage.specs.declared.fault.Fault.{Fault}
 use Rattle.imago_storage.specs.declared.fault.Fault.TheVariants.{Memory}
 use Rattle.imago_storage.proofs.Rounding.{round_up_whole, le_round_up, sum_of_whole, start_whole, mod_self, round_up_unit}
@@ -20,17 +20,17 @@ one_request unit old new at bytes changed some content size = record {
     nothing = λ none. absurd (omega arith);
     content = content;
     size = λ _. size;
-    in_step = changed.in_step;
-    stops = one_stop _ old new changed.mark (λ in_step tells keeps. subst (Mixed old.bytes at bytes) (sym (changed.in_step in_step (tells_on old new changed.shape tells) (keeps_on old new changed.shape keeps))) (spliced-mixed old.bytes at bytes new.bytes (content keeps)));
-    as_long = long_stop old new changed.mark changed.shape changed.in_step (omega (arith, size));
+    crash_image_is_bytes = changed.crash_image_is_bytes;
+    crash_images = one_stop _ old new changed.mark (λ in_step tells keeps. subst (OldOrNewBytes old.bytes at bytes) (sym (changed.crash_image_is_bytes in_step (tells_on old new changed.shape tells) (keeps_on old new changed.shape keeps))) (spliced-mixed old.bytes at bytes new.bytes (content keeps)));
+    as_long = long_stop old new changed.mark changed.shape changed.crash_image_is_bytes (omega (arith, size));
   };
   mark = λ _. changed.mark;
 }
 
 -- a request that was refused
-pub no_request : (unit : ℕ) (old new : StorageState) (at : ℕ) (bytes : List ℕ) (fault : Fault) → 0 < length bytes → Refused old new fault → (IsTrue old.shape.keeps → Mixed old.bytes at bytes new.bytes) → length old.bytes ≤ length new.bytes → length new.bytes ≤ max (length old.bytes) (round_up unit (at + length bytes)) → NoRequest unit old new at bytes fault
+pub no_request : (unit : ℕ) (old new : StorageState) (at : ℕ) (bytes : List ℕ) (fault : Fault) → 0 < length bytes → Refused old new fault → (IsTrue old.shape.keeps → OldOrNewBytes old.bytes at bytes new.bytes) → length old.bytes ≤ length new.bytes → length new.bytes ≤ max (length old.bytes) (round_up unit (at + length bytes)) → NoRequest unit old new at bytes fault
 no_request unit old new at bytes fault some refused content no_shorter no_longer = record {
-  some = some;
+  nonempty = some;
   halted = record {
     shape = refused.shape;
     cause = refused.cause;
@@ -38,41 +38,41 @@ no_request unit old new at bytes fault some refused content no_shorter no_longer
     content = content;
     no_shorter = no_shorter;
     no_longer = no_longer;
-    stops = no_stops _ old new refused.stop refused.past;
-    as_long = no_stops _ old new refused.stop refused.past;
+    crash_images = no_stops _ old new refused.crash_image refused.past_crash_images;
+    as_long = no_stops _ old new refused.crash_image refused.past_crash_images;
   };
-  stop = refused.stop;
-  past = refused.past;
+  crash_image = refused.crash_image;
+  past_crash_images = refused.past_crash_images;
 }
 
 -- a call of which a request was refused
-pub halted-not : (unit : ℕ) (old new : StorageState) (at : ℕ) (bytes : List ℕ) (fault : Fault) → Halted unit old new at bytes fault → NotThrough unit old new at bytes fault
+pub halted-not : (unit : ℕ) (old new : StorageState) (at : ℕ) (bytes : List ℕ) (fault : Fault) → PaddedWriteFailed unit old new at bytes fault → PaddedWriteRefused unit old new at bytes fault
 halted-not unit old new at bytes fault halted = record {
   shape = halted.shape;
   cause = halted.cause;
-  kept = inl halted.refusals;
+  refused_or_unchanged = inl halted.refusals;
   content = halted.content;
   no_shorter = halted.no_shorter;
   no_longer = halted.no_longer;
-  later = halted.refusals.kept;
-  in_step = inl halted.refusals;
-  stops = halted.stops;
+  counts_not_fallen = halted.refusals.not_fallen;
+  crash_image_is_bytes = inl halted.refusals;
+  crash_images = halted.crash_images;
   as_long = halted.as_long;
 }
 
 -- a call that was refused before its first request
-pub kept-not : (unit : ℕ) (old new : StorageState) (at : ℕ) (bytes : List ℕ) (fault : Fault) → Kept old new → Cause old.faults new.faults fault → NotThrough unit old new at bytes fault
+pub kept-not : (unit : ℕ) (old new : StorageState) (at : ℕ) (bytes : List ℕ) (fault : Fault) → UnchangedButFaults old new → Cause old.faults new.faults fault → PaddedWriteRefused unit old new at bytes fault
 kept-not unit old new at bytes fault kept cause = record {
   shape = kept.shape;
   cause = cause;
-  kept = inr kept;
+  refused_or_unchanged = inr kept;
   content = λ _. same-mixed old.bytes at bytes new.bytes kept.bytes;
   no_shorter = omega (arith, ap (length {A = ℕ}) kept.bytes);
   no_longer = omega (arith, ap (length {A = ℕ}) kept.bytes);
-  later = omega (arith, kept.refusals);
-  in_step = inr (λ in_step tells keeps. kept.stop ∙ in_step (tells_on new old (sym kept.shape) tells) (keeps_on new old (sym kept.shape) keeps) ∙ sym kept.bytes);
-  stops = no_stops _ old new kept.stop kept.past;
-  as_long = no_stops _ old new kept.stop kept.past;
+  counts_not_fallen = omega (arith, kept.refusals);
+  crash_image_is_bytes = inr (λ in_step tells keeps. kept.crash_image ∙ in_step (tells_on new old (sym kept.shape) tells) (keeps_on new old (sym kept.shape) keeps) ∙ sym kept.bytes);
+  crash_images = no_stops _ old new kept.crash_image kept.past_crash_images;
+  as_long = no_stops _ old new kept.crash_image kept.past_crash_images;
 }
 
 -- nothing to write
@@ -85,15 +85,15 @@ none_written unit s at bytes none = record {
     nothing = λ _. refl;
     content = λ _. record { before = λ k lt. refl; inside = λ k from to. absurd (omega arith); after = λ k from. refl };
     size = λ some. absurd (omega arith);
-    in_step = λ same. same;
-    stops = no_stops _ s s refl refl;
+    crash_image_is_bytes = λ same. same;
+    crash_images = no_stops _ s s refl refl;
     as_long = no_stops _ s s refl refl;
   };
   mark = λ some. absurd (omega arith);
 }
 
 -- whole units, as the storage writes them
-pub whole_written : (old new : StorageState) (at : ℕ) (bytes : List ℕ) → 0 < unit_of old.shape → 0 < length bytes → IsWhole (unit_of old.shape) at (length bytes) → Written old new at bytes → OneRequest (unit_of old.shape) old new at bytes
+pub whole_written : (old new : StorageState) (at : ℕ) (bytes : List ℕ) → 0 < unit_of old.shape → 0 < length bytes → IsUnitRange (unit_of old.shape) at (length bytes) → Written old new at bytes → OneRequest (unit_of old.shape) old new at bytes
 whole_written old new at bytes positive some whole written =
     let sum_whole : (at + length bytes) % unit_of old.shape ≡ 0 = sum_of_whole (unit_of old.shape) at (length bytes) positive whole.start whole.size in
     one_request (unit_of old.shape) old new at bytes written.changed some written.content (written.size ∙ ap (λ (n : ℕ). max (length old.bytes) n) (sym (round_up_whole _ _ positive sum_whole)))
@@ -103,14 +103,14 @@ whole_refused old new at bytes fault positive some refused =
     no_request (unit_of old.shape) old new at bytes fault some refused.refused refused.content refused.no_shorter (omega (arith, refused.no_longer, le_round_up (unit_of old.shape) (at + length bytes) positive))
 
 -- the unit that a range lies in
-pub one_unit : (unit long at n : ℕ) → long ≡ unit → 0 < unit → 0 < n → at % unit + n ≤ unit → round_up unit (at + n) < 2 ^ 64 → IsWhole unit (at - at % unit) long
+pub one_unit : (unit long at n : ℕ) → long ≡ unit → 0 < unit → 0 < n → at % unit + n ≤ unit → round_up unit (at + n) < 2 ^ 64 → IsUnitRange unit (at - at % unit) long
 one_unit unit long at n is positive some inside fits = record {
   start = start_whole unit at positive;
   size = ap (λ (u : ℕ). u % unit) is ∙ mod_self unit positive;
   fits = omega (arith, fits, is, round_up_unit unit at n some inside);
 }
 
-module _ (old new : StorageState) (at : ℕ) (bytes : List ℕ) (positive : 0 < unit_of old.shape) (some : 0 < length bytes) (whole : IsWhole (unit_of old.shape) at (length bytes)) where
+module _ (old new : StorageState) (at : ℕ) (bytes : List ℕ) (positive : 0 < unit_of old.shape) (some : 0 < length bytes) (whole : IsUnitRange (unit_of old.shape) at (length bytes)) where
   pub whole_ok : {T : Type 0} (result : Result T Fault) → OnOk result (Written old new at bytes) → OnOk result (OneRequest (unit_of old.shape) old new at bytes)
   whole_ok result h = on_ok_weaker result (whole_written old new at bytes positive some whole) h
 
@@ -118,9 +118,9 @@ module _ (old new : StorageState) (at : ℕ) (bytes : List ℕ) (positive : 0 < 
   whole_err result h = IfErr-weaker result (NotWritten old new at bytes) (NoRequest (unit_of old.shape) old new at bytes) (λ fault refused. whole_refused old new at bytes fault positive some refused) h
 
 -- want of memory before any request
-pub no_room : {T : Type 0} (unit : ℕ) (s : StorageState) (at : ℕ) (bytes : List ℕ) (P : Type 0) (result : Result T Fault) → IsErrAnd result (λ e. e ≡ Memory) → IfErr result (UnlessOverflow P s s (NotThrough unit s s at bytes))
+pub no_room : {T : Type 0} (unit : ℕ) (s : StorageState) (at : ℕ) (bytes : List ℕ) (P : Type 0) (result : Result T Fault) → IsErrAnd result (λ e. e ≡ Memory) → IfErr result (UnlessOverflow P s s (PaddedWriteRefused unit s s at bytes))
 no_room unit s at bytes P result is_err =
     let p = err_from_is_err_and result is_err in
-    let Q : Fault → Type 0 = UnlessOverflow P s s (NotThrough unit s s at bytes) in
-    let kept : Kept s s = record { shape = refl; bytes = refl; refusals = refl; stop = refl; past = refl } in
+    let Q : Fault → Type 0 = UnlessOverflow P s s (PaddedWriteRefused unit s s at bytes) in
+    let kept : UnchangedButFaults s s = record { shape = refl; bytes = refl; refusals = refl; crash_image = refl; past_crash_images = refl } in
     subst (λ r. IfErr r Q) (sym p.1) (subst Q (sym p.2) (kept-not unit s s at bytes Memory kept refl))

@@ -6,9 +6,9 @@ use Rattle.std.proofs.lemmas.Bool.Decides.{nat_tests}
 use Rattle.std.proofs.lemmas.List.{append_cancel_right, get_or_append_left, get_or-append_right, ext_get_or}
 use Rattle.std.proofs.lemmas.List.Elements.{All-nil, All-cons, All-append, All-weaker}
 use Rattle.std.proofs.Math.Path.{fun_ext}
-use Rattle.imago_storage.specs.State.{Shape, StorageState, Rose, InStep}
-use Rattle.imago_storage.specs.Calls.{Spliced, Mixed, Cause, CountsFaults, Kept, Later, RequestsOne, UnlessUnsupported}
-use Rattle.imago_storage.specs.Through.{Stops, StopsAsLong, Through}
+use Rattle.imago_storage.specs.State.{Shape, StorageState, HasRisen, CrashImageIsBytes}
+use Rattle.imago_storage.specs.Calls.{Spliced, OldOrNewBytes, Cause, CountsFaults, UnchangedButFaults, CountsNotFallen, RequestsOne, UnlessUnsupported}
+use Rattle.imago_storage.specs.Through.{EachCrashImage, CrashImagesNoShorter, PaddedWrite}
 use Rattle.imago_storage.specs.MemStorage.{mem_state}
 use Rattle.imago_storage.specs.declared.memory.MemStorage.{MemStorage}
 use Rattle.imago_storage.specs.declared.fault.Fault.{Fault}
@@ -25,42 +25,42 @@ pub keeps_on : (old new : StorageState) → new.shape ≡ old.shape → IsTrue o
 keeps_on old new shape keeps = subst (λ (s : Shape). IsTrue s.keeps) (sym shape) keeps
 
 -- a state with equal fields is the state
-pub kept_same : (old new : StorageState) → Kept old new → new.faults ≡ old.faults → new ≡ old
+pub kept_same : (old new : StorageState) → UnchangedButFaults old new → new.faults ≡ old.faults → new ≡ old
 kept_same old new kept faults = λ i. record {
   shape = kept.shape i;
   bytes = kept.bytes i;
   faults = faults i;
   refusals = kept.refusals i;
-  stop = kept.stop i;
-  past = kept.past i;
+  crash_image = kept.crash_image i;
+  past_crash_images = kept.past_crash_images i;
 }
 
 -- Stops.
 
 -- a call that makes no request has no stops
-pub no_stops : (P : List ℕ → Type 0) (old new : StorageState) → new.stop ≡ old.stop → new.past ≡ old.past → Stops P old new
+pub no_stops : (P : List ℕ → Type 0) (old new : StorageState) → new.crash_image ≡ old.crash_image → new.past_crash_images ≡ old.past_crash_images → EachCrashImage P old new
 no_stops P old new stop past in_step tells keeps = record { files = []; told = cc; each = All-nil P }
 
 -- one request
-pub one_stop : (P : List ℕ → Type 0) (old new : StorageState) → (IsTrue old.shape.tells → new.past ≡ old.stop ∷ old.past) → (InStep old → IsTrue old.shape.tells → IsTrue old.shape.keeps → P new.stop) → Stops P old new
+pub one_stop : (P : List ℕ → Type 0) (old new : StorageState) → (IsTrue old.shape.tells → new.past_crash_images ≡ old.crash_image ∷ old.past_crash_images) → (CrashImageIsBytes old → IsTrue old.shape.tells → IsTrue old.shape.keeps → P new.crash_image) → EachCrashImage P old new
 one_stop P old new mark here in_step tells keeps = record {
-  files = new.stop ∷ [];
+  files = new.crash_image ∷ [];
   told = let m = mark tells in cc;
-  each = All-cons P new.stop [] (here in_step tells keeps) (All-nil P);
+  each = All-cons P new.crash_image [] (here in_step tells keeps) (All-nil P);
 }
 
 -- what is said of each stop may be weakened
-pub stops_weaker : (P Q : List ℕ → Type 0) (a b : StorageState) → (IsTrue a.shape.keeps → (f : List ℕ) → P f → Q f) → Stops P a b → Stops Q a b
+pub stops_weaker : (P Q : List ℕ → Type 0) (a b : StorageState) → (IsTrue a.shape.keeps → (f : List ℕ) → P f → Q f) → EachCrashImage P a b → EachCrashImage Q a b
 stops_weaker P Q a b weaker stops same tells keeps =
     let told = stops same tells keeps in
     record { files = told.files; told = told.told; each = All-weaker P Q (weaker keeps) told.files told.each }
 
 -- what two clauses say of each stop
-pub stops_and : (P Q : List ℕ → Type 0) (a b : StorageState) → Stops P a b → Stops Q a b → Stops (λ f. P f × Q f) a b
+pub stops_and : (P Q : List ℕ → Type 0) (a b : StorageState) → EachCrashImage P a b → EachCrashImage Q a b → EachCrashImage (λ f. P f × Q f) a b
 stops_and P Q a b first second same tells keeps =
     let one = first same tells keeps in
     let two = second same tells keeps in
-    let files : two.files ≡ one.files = append_cancel_right two.files one.files (a.stop ∷ a.past) (sym two.told ∙ one.told) in
+    let files : two.files ≡ one.files = append_cancel_right two.files one.files (a.crash_image ∷ a.past_crash_images) (sym two.told ∙ one.told) in
     record {
       files = one.files;
       told = one.told;
@@ -68,30 +68,30 @@ stops_and P Q a b first second same tells keeps =
     }
 
 -- the stops of two calls, one behind the other
-pub stops_both : (P Q R : List ℕ → Type 0) (a b c : StorageState) → b.shape ≡ a.shape → (InStep a → InStep b)
-    → (IsTrue a.shape.keeps → (f : List ℕ) → P f → R f) → (IsTrue a.shape.keeps → (f : List ℕ) → Q f → R f) → Stops P a b → Stops Q b c → Stops R a c
+pub stops_both : (P Q R : List ℕ → Type 0) (a b c : StorageState) → b.shape ≡ a.shape → (CrashImageIsBytes a → CrashImageIsBytes b)
+    → (IsTrue a.shape.keeps → (f : List ℕ) → P f → R f) → (IsTrue a.shape.keeps → (f : List ℕ) → Q f → R f) → EachCrashImage P a b → EachCrashImage Q b c → EachCrashImage R a c
 stops_both P Q R a b c shape in_step weaker weaker' first second same tells keeps =
     let one = first same tells keeps in
     let two = second (in_step same) (tells_on a b shape tells) (keeps_on a b shape keeps) in
     record {
       files = two.files ++ one.files;
-      told = two.told ∙ ap (λ (l : List (List ℕ)). two.files ++ l) one.told ∙ sym (append_assoc two.files one.files (a.stop ∷ a.past));
+      told = two.told ∙ ap (λ (l : List (List ℕ)). two.files ++ l) one.told ∙ sym (append_assoc two.files one.files (a.crash_image ∷ a.past_crash_images));
       each = All-append R two.files one.files (All-weaker Q R (weaker' keeps) two.files two.each) (All-weaker P R (weaker keeps) one.files one.each);
     }
 
 -- one request that doesn't make the file shorter
-pub long_stop : (old new : StorageState) → (IsTrue old.shape.tells → new.past ≡ old.stop ∷ old.past) → new.shape ≡ old.shape → (InStep old → InStep new) → length old.bytes ≤ length new.bytes → StopsAsLong old new
+pub long_stop : (old new : StorageState) → (IsTrue old.shape.tells → new.past_crash_images ≡ old.crash_image ∷ old.past_crash_images) → new.shape ≡ old.shape → (CrashImageIsBytes old → CrashImageIsBytes new) → length old.bytes ≤ length new.bytes → CrashImagesNoShorter old new
 long_stop old new mark shape in_step longer =
     one_stop (λ f. length old.bytes ≤ length f) old new mark
     (λ same tells keeps. subst (λ (f : List ℕ). length old.bytes ≤ length f) (sym (in_step same (tells_on old new shape tells) (keeps_on old new shape keeps))) longer)
 
 -- files as long, of two calls one behind the other
-pub as_long_both : (a b c : StorageState) → b.shape ≡ a.shape → (InStep a → InStep b) → length a.bytes ≤ length b.bytes → StopsAsLong a b → StopsAsLong b c → StopsAsLong a c
+pub as_long_both : (a b c : StorageState) → b.shape ≡ a.shape → (CrashImageIsBytes a → CrashImageIsBytes b) → length a.bytes ≤ length b.bytes → CrashImagesNoShorter a b → CrashImagesNoShorter b c → CrashImagesNoShorter a c
 as_long_both a b c shape in_step longer first second =
     stops_both (λ f. length a.bytes ≤ length f) (λ f. length b.bytes ≤ length f) (λ f. length a.bytes ≤ length f) a b c shape in_step (λ _ f long. long) (λ _ f long. omega (arith, longer, long)) first second
 
 -- a write that succeeds doesn't make the file shorter
-pub through_longer : (unit : ℕ) (a b : StorageState) (at : ℕ) (xs : List ℕ) → Through unit a b at xs → length a.bytes ≤ length b.bytes
+pub through_longer : (unit : ℕ) (a b : StorageState) (at : ℕ) (xs : List ℕ) → PaddedWrite unit a b at xs → length a.bytes ≤ length b.bytes
 through_longer unit a b at xs through = elim (cases_eq (length xs) 0) [
   | inl none ↦ let stays = ap (λ (s : StorageState). length s.bytes) (through.nothing none) in omega arith
   | inr some ↦ omega (arith, through.size (omega arith))
@@ -100,28 +100,28 @@ through_longer unit a b at xs through = elim (cases_eq (length xs) 0) [
 -- Counts.
 
 -- a state that stays is a later one
-pub later_same : (s : StorageState) → Later s s
+pub later_same : (s : StorageState) → CountsNotFallen s s
 later_same s = record { faults = omega arith; refusals = omega arith }
 
 -- later than a later one
-pub later_both : (a b c : StorageState) → Later a b → Later b c → Later a c
+pub later_both : (a b c : StorageState) → CountsNotFallen a b → CountsNotFallen b c → CountsNotFallen a c
 later_both a b c first second = record { faults = omega (arith, first.faults, second.faults); refusals = omega (arith, first.refusals, second.refusals) }
 
 -- a count that rose has risen still after more calls
-pub rose_before : (a b c : ℕ) → Rose a b → b ≤ c → Rose a c
-rose_before a b c rose later = record { kept = omega (arith, rose.kept); rose = λ fits. omega (arith, rose.rose (omega arith)) }
+pub rose_before : (a b c : ℕ) → HasRisen a b → b ≤ c → HasRisen a c
+rose_before a b c rose later = record { not_fallen = omega (arith, rose.not_fallen); rose = λ fits. omega (arith, rose.rose (omega arith)) }
 
 -- a count that rose in a later call rose
-pub rose_behind : (a b c : ℕ) → a ≤ b → Rose b c → Rose a c
+pub rose_behind : (a b c : ℕ) → a ≤ b → HasRisen b c → HasRisen a c
 rose_behind a b c later rose = record {
-  kept = omega (arith, rose.kept);
+  not_fallen = omega (arith, rose.not_fallen);
   rose = λ fits. omega (arith, rose.rose fits);
 }
 
 -- whatever the cause of a refusal, the count of faults has not fallen
 pub cause_later : (before after : ℕ) (fault : Fault) → Cause before after fault → before ≤ after
 cause_later before after Memory cause = omega (arith, cause)
-cause_later before after Storage cause = cause.kept
+cause_later before after Storage cause = cause.not_fallen
 cause_later before after _ cause = absurd cause
 
 -- Refusals.
@@ -166,7 +166,7 @@ module _ (at : ℕ) (xs ys : List ℕ) where
   }
 
   -- a range that was spliced in its first part, and mixed in its second
-  pub mixed_behind : (a b c : List ℕ) → Spliced a at xs b → Mixed b (at + length xs) ys c → Mixed a at (xs ++ ys) c
+  pub mixed_behind : (a b c : List ℕ) → Spliced a at xs b → OldOrNewBytes b (at + length xs) ys c → OldOrNewBytes a at (xs ++ ys) c
   mixed_behind a b c first second = record {
     before = λ k lt. second.before k (omega arith) ∙ first.before k lt;
     inside = λ k from to. elim (cases_lt k (at + length xs)) [
@@ -180,7 +180,7 @@ module _ (at : ℕ) (xs ys : List ℕ) where
   }
 
   -- the range may be longer than what was written
-  pub mixed_longer : (a b : List ℕ) → Mixed a at xs b → Mixed a at (xs ++ ys) b
+  pub mixed_longer : (a b : List ℕ) → OldOrNewBytes a at xs b → OldOrNewBytes a at (xs ++ ys) b
   mixed_longer a b first = record {
     before = first.before;
     inside = λ k from to. elim (cases_lt k (at + length xs)) [
@@ -191,7 +191,7 @@ module _ (at : ℕ) (xs ys : List ℕ) where
   }
 
 -- new bytes in the whole range
-pub spliced-mixed : (a : List ℕ) (at : ℕ) (xs b : List ℕ) → Spliced a at xs b → Mixed a at xs b
+pub spliced-mixed : (a : List ℕ) (at : ℕ) (xs b : List ℕ) → Spliced a at xs b → OldOrNewBytes a at xs b
 spliced-mixed a at xs b spliced = record {
   before = spliced.before;
   inside = λ k from to. inr (spliced.inside k from to);
@@ -199,7 +199,7 @@ spliced-mixed a at xs b spliced = record {
 }
 
 -- old bytes in the whole range
-pub same-mixed : (a : List ℕ) (at : ℕ) (xs b : List ℕ) → b ≡ a → Mixed a at xs b
+pub same-mixed : (a : List ℕ) (at : ℕ) (xs b : List ℕ) → b ≡ a → OldOrNewBytes a at xs b
 same-mixed a at xs b same = record {
   before = λ k lt. ap (λ (l : List ℕ). get_or l k 0) same;
   inside = λ k from to. inl (ap (λ (l : List ℕ). get_or l k 0) same);

@@ -2,9 +2,9 @@
 use Rattle.std.proofs.Common.{◌≡◌, ◌⊎◌, inl, inr, ⊎_elim, ℕ, ◌+◌, ◌-◌, ◌*◌, ◌/◌, ◌%◌, ◌^◌, ◌<◌, ◌≤◌, List, ◌++◌, length, arith, sym, ◌∙◌, ap, subst, length-append}
 use Rattle.std.proofs.lemmas.Nat.{div-add-mod', mod_below, mul-le}
 use Rattle.std.proofs.lemmas.Bool.{cases_eq, cases_lt}
-use Rattle.imago_storage.specs.State.{IsWhole}
-use Rattle.imago_storage.specs.Through.{round_up, IsUnits, IsOnePart, Parts}
-use Rattle.imago_storage.specs.Edges.{IsEdge, Pads}
+use Rattle.imago_storage.specs.State.{IsUnitRange}
+use Rattle.imago_storage.specs.Through.{round_up, IsUnitAligned, IsOnePart, Parts}
+use Rattle.imago_storage.specs.Edges.{IsEdge, IsPaddedPart}
 use Rattle.imago_storage.proofs.Rounding.{round_up_whole, round_up_unit, sum_of_whole, start_whole, mod_self}
 use Rattle.imago_storage.proofs.Wholes.{difference-whole}
 use Rattle.imago_storage.proofs.Range.{mul_whole}
@@ -57,7 +57,7 @@ module _ (unit at h m t f l : ℕ) (positive : 0 < unit) (some : 0 < h + m + t) 
             (λ all. absurd (omega (arith, all, none, some)))
             ends
         | inr more ↦
-            let e = is-first.some (omega (arith, more)) in
+            let e = is-first.unit_if_nonempty (omega (arith, more)) in
             ⊎_elim
             (λ full. inl (omega (arith, full, e, low)))
             (λ all. inr (omega (arith, more), (omega (arith, all), omega (arith, all))))
@@ -68,13 +68,13 @@ module _ (unit at h m t f l : ℕ) (positive : 0 < unit) (some : 0 < h + m + t) 
   first-whole : f % unit ≡ 0
   first-whole = elim (cases_eq h 0) [
     | inl none ↦ ap (λ (n : ℕ). n % unit) (let e : f ≡ 0 * unit = omega (arith, is-first.none none) in e) ∙ mul_whole unit 0 positive
-    | inr more ↦ ap (λ (n : ℕ). n % unit) (is-first.some (omega (arith, more))) ∙ mod_self unit positive
+    | inr more ↦ ap (λ (n : ℕ). n % unit) (is-first.unit_if_nonempty (omega (arith, more))) ∙ mod_self unit positive
   ]
 
   last-whole : l % unit ≡ 0
   last-whole = elim (cases_eq t 0) [
     | inl none ↦ ap (λ (n : ℕ). n % unit) (let e : l ≡ 0 * unit = omega (arith, is-last.none none) in e) ∙ mul_whole unit 0 positive
-    | inr more ↦ ap (λ (n : ℕ). n % unit) (is-last.some (omega (arith, more))) ∙ mod_self unit positive
+    | inr more ↦ ap (λ (n : ℕ). n % unit) (is-last.unit_if_nonempty (omega (arith, more))) ∙ mod_self unit positive
   ]
 
   mid-whole : m % unit ≡ 0
@@ -102,21 +102,21 @@ module _ (unit at h m t f l : ℕ) (positive : 0 < unit) (some : 0 < h + m + t) 
         | inr more ↦
             let same : round_up unit (at + (h + m + t)) ≡ round_up unit (at + h + m + t) = ap (round_up unit) (let e : at + (h + m + t) ≡ at + h + m + t = omega arith in e) in
             let up = round_up_unit unit (at + h + m) t (omega (arith, more)) (omega (arith, parts.last, tail-is)) in
-            omega (arith, same, up, whole, third, is-last.some (omega (arith, more)))
+            omega (arith, same, up, whole, third, is-last.unit_if_nonempty (omega (arith, more)))
       ])
       (λ (more, (none, nothing)).
       let same : round_up unit (at + (h + m + t)) ≡ round_up unit (at + h) = ap (round_up unit) (let e : at + (h + m + t) ≡ at + h = omega (arith, none, nothing) in e) in
-      omega (arith, same, round_up_unit unit at h more parts.first, none, is-last.none nothing, is-first.some more))
+      omega (arith, same, round_up_unit unit at h more parts.first, none, is-last.none nothing, is-first.unit_if_nonempty more))
       joined
 
   module _ (fits : round_up unit (at + (h + m + t)) < 2 ^ 64) where
-    pub first-units : IsWhole unit (at - at % unit) f
+    pub first-units : IsUnitRange unit (at - at % unit) f
     first-units = record { start = start_whole unit at positive; size = first-whole; fits = omega (arith, end-is, fits) }
 
-    pub mid-units : IsWhole unit (at - at % unit + f) m
+    pub mid-units : IsUnitRange unit (at - at % unit + f) m
     mid-units = record { start = second-whole; size = mid-whole; fits = omega (arith, end-is, fits) }
 
-    pub last-units : IsWhole unit (at - at % unit + f + m) l
+    pub last-units : IsUnitRange unit (at - at % unit + f + m) l
     last-units = record { start = third-whole; size = last-whole; fits = omega (arith, end-is, fits) }
 
   -- the middle has all whole units of the range
@@ -126,20 +126,20 @@ module _ (unit at h m t f l : ℕ) (positive : 0 < unit) (some : 0 < h + m + t) 
       | inl none ↦ omega (arith, is-first.none none, from)
       | inr more ↦ ⊎_elim
           (λ (none, _). absurd (omega (arith, none, more)))
-          (λ (part, _). omega (arith, is-first.some (omega (arith, more)), next-multiple unit at a positive from a-whole part))
+          (λ (part, _). omega (arith, is-first.unit_if_nonempty (omega (arith, more)), next-multiple unit at a positive from a-whole part))
           parts.edge
     ],
     ⊎_elim
-        (λ joint. multiple-le unit b (at - at % unit + f + m) positive b-whole third-whole (omega (arith, joint, to, parts.rest, tail-is)))
-        (λ (more, (none, nothing)). omega (arith, to, none, nothing, is-first.some more, parts.first, low))
+        (λ joint. multiple-le unit b (at - at % unit + f + m) positive b-whole third-whole (omega (arith, joint, to, parts.tail_below_unit, tail-is)))
+        (λ (more, (none, nothing)). omega (arith, to, none, nothing, is-first.unit_if_nonempty more, parts.first, low))
         joined,
   )
 
   -- whole units have no other part
-  pub middle-alone : IsUnits unit at (h + m + t) → (f ≡ 0) × ((l ≡ 0) × (m ≡ h + m + t))
+  pub middle-alone : IsUnitAligned unit at (h + m + t) → (f ≡ 0) × ((l ≡ 0) × (m ≡ h + m + t))
   middle-alone units =
       let head : h ≡ 0 = ⊎_elim (λ (none, _). none) (λ (part, _). absurd (omega (arith, part, units.0))) parts.edge in
-      let all : h + m + t ≤ m = multiple-le unit (h + m + t) m positive units.1 mid-whole (omega (arith, parts.rest, head, tail-is)) in
+      let all : h + m + t ≤ m = multiple-le unit (h + m + t) m positive units.1 mid-whole (omega (arith, parts.tail_below_unit, head, tail-is)) in
       let tail : t ≡ 0 = omega (arith, head, all) in
       (is-first.none head, (is-last.none tail, omega (arith, head, tail)))
 
@@ -149,7 +149,7 @@ module _ (unit : ℕ) (bytes : List ℕ) (at : ℕ) (head mid tail first last : 
   abbrev begin : ℕ
   begin = at - at % unit
 
-  nothing-pads : (place : ℕ) (xs p : List ℕ) → length xs ≡ 0 → length p ≡ 0 → Pads bytes place xs place p
+  nothing-pads : (place : ℕ) (xs p : List ℕ) → length xs ≡ 0 → length p ≡ 0 → IsPaddedPart bytes place xs place p
   nothing-pads place xs p none none-put = record {
     low = omega arith;
     high = omega (arith, none);
@@ -158,31 +158,31 @@ module _ (unit : ℕ) (bytes : List ℕ) (at : ℕ) (head mid tail first last : 
     after = λ k from lt. absurd (omega (arith, from, lt, none-put));
   }
 
-  pub edges-pad : (0 < length head → Pads bytes at head (at - at % unit) first)
-      → (0 < length tail → Pads bytes (at + length head + length mid) tail (at + length head + length mid - (at + length head + length mid) % unit) last)
-      → Pads bytes at (head ++ mid ++ tail) (at - at % unit) (first ++ mid ++ last)
+  pub edges-pad : (0 < length head → IsPaddedPart bytes at head (at - at % unit) first)
+      → (0 < length tail → IsPaddedPart bytes (at + length head + length mid) tail (at + length head + length mid - (at + length head + length mid) % unit) last)
+      → IsPaddedPart bytes at (head ++ mid ++ tail) (at - at % unit) (first ++ mid ++ last)
   edges-pad pads-first pads-last = ⊎_elim
       (λ joint.
-      let one : Pads bytes at head begin first = elim (cases_eq (length head) 0) [
+      let one : IsPaddedPart bytes at head begin first = elim (cases_eq (length head) 0) [
         | inl none ↦
             let same : at ≡ begin = omega (arith, joint, none, is-first.none none) in
-            subst (λ (n : ℕ). Pads bytes at head n first) same (nothing-pads at head first none (is-first.none none))
+            subst (λ (n : ℕ). IsPaddedPart bytes at head n first) same (nothing-pads at head first none (is-first.none none))
         | inr more ↦ pads-first (omega (arith, more))
       ] in
-      let two : Pads bytes at (head ++ mid) begin (first ++ mid) =
-      pads-both bytes at head begin first mid mid one joint (subst (λ (n : ℕ). Pads bytes (at + length head) mid n mid) joint (pads-self bytes (at + length head) mid)) in
+      let two : IsPaddedPart bytes at (head ++ mid) begin (first ++ mid) =
+      pads-both bytes at head begin first mid mid one joint (subst (λ (n : ℕ). IsPaddedPart bytes (at + length head) mid n mid) joint (pads-self bytes (at + length head) mid)) in
       let third : at + length head + length mid ≡ begin + length first + length mid = omega (arith, joint) in
       let place : at + length head + length mid ≡ at + length (head ++ mid) = omega (arith, length-append head mid) in
       let from : at + length head + length mid ≡ begin + length (first ++ mid) = omega (arith, third, length-append first mid) in
-      let behind : Pads bytes (at + length head + length mid) tail (at + length head + length mid) last = elim (cases_eq (length tail) 0) [
+      let behind : IsPaddedPart bytes (at + length head + length mid) tail (at + length head + length mid) last = elim (cases_eq (length tail) 0) [
         | inl none ↦ nothing-pads (at + length head + length mid) tail last none (is-last.none none)
         | inr more ↦
             let whole : (at + length head + length mid) % unit ≡ 0 = ap (λ (n : ℕ). n % unit) third ∙ third-whole unit at (length head) (length mid) (length tail) (length first) (length last) positive some parts is-first is-last in
-            subst (λ (n : ℕ). Pads bytes (at + length head + length mid) tail n last)
+            subst (λ (n : ℕ). IsPaddedPart bytes (at + length head + length mid) tail n last)
             (let e : at + length head + length mid - (at + length head + length mid) % unit ≡ at + length head + length mid = omega (arith, whole) in e) (pads-last (omega (arith, more)))
       ] in
       pads-both bytes at (head ++ mid) begin (first ++ mid) tail last two (sym place ∙ from)
-      (subst (λ (n : ℕ). Pads bytes (at + length (head ++ mid)) tail n last) from (subst (λ (n : ℕ). Pads bytes n tail (at + length head + length mid) last) place behind)))
+      (subst (λ (n : ℕ). IsPaddedPart bytes (at + length (head ++ mid)) tail n last) from (subst (λ (n : ℕ). IsPaddedPart bytes n tail (at + length head + length mid) last) place behind)))
       (λ (more, (none, nothing)).
       pads-alone bytes at (head ++ mid) begin (first ++ mid) tail last
       (pads-alone bytes at head begin first mid mid (pads-first more) none none) nothing (is-last.none nothing))
@@ -210,11 +210,11 @@ module _ (unit at n i j h m t f g l k : ℕ) (some : 0 < n) (parts : Parts unit 
     fits-here : round_up unit (at + (h + m + t)) < 2 ^ 64
     fits-here = subst (λ (x : ℕ). round_up unit (at + x) < 2 ^ 64) (sym all-is) fits
 
-    pub first-laid : IsWhole unit (at - at % unit) f
+    pub first-laid : IsUnitRange unit (at - at % unit) f
     first-laid = first-units unit at h m t f l positive some-here parts-here first-here last-here fits-here
 
-    pub mid-laid : IsWhole unit (at - at % unit + f) m
+    pub mid-laid : IsUnitRange unit (at - at % unit + f) m
     mid-laid = mid-units unit at h m t f l positive some-here parts-here first-here last-here fits-here
 
-    pub last-laid : IsWhole unit (at - at % unit + f + m) l
+    pub last-laid : IsUnitRange unit (at - at % unit + f + m) l
     last-laid = last-units unit at h m t f l positive some-here parts-here first-here last-here fits-here

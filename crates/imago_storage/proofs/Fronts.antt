@@ -3,9 +3,9 @@ use Rattle.std.proofs.Common.{◌≡◌, refl, inl, inr, ⊎_elim, ℕ, ◌+◌,
 use Rattle.std.proofs.lemmas.List.{get_or_append_left, get_or-append_right}
 use Rattle.std.proofs.lemmas.List.Elements.{All-weaker}
 use Rattle.std.proofs.lemmas.Bool.{cases_eq, cases_lt}
-use Rattle.imago_storage.specs.State.{StorageState, Rose}
-use Rattle.imago_storage.specs.Calls.{Spliced, Mixed, Cause}
-use Rattle.imago_storage.specs.Through.{round_up, Through, Halted}
+use Rattle.imago_storage.specs.State.{StorageState, HasRisen}
+use Rattle.imago_storage.specs.Calls.{Spliced, OldOrNewBytes, Cause}
+use Rattle.imago_storage.specs.Through.{round_up, PaddedWrite, PaddedWriteFailed}
 use Rattle.imago_storage.specs.declared.fault.Fault.{Fault}
 use Rattle.imago_storage.proofs.Rounding.{round_up-le}
 use Rattle.imago_storage.proofs.Composing.{keeps_on, stops_both, as_long_both, through_longer}
@@ -33,7 +33,7 @@ module _ (at : ℕ) (xs ys : List ℕ) where
   }
 
   -- a range that was spliced in its second part, and mixed in its first
-  pub mixed_front : (a b c : List ℕ) → Spliced a (at + length xs) ys b → Mixed b at xs c → Mixed a at (xs ++ ys) c
+  pub mixed_front : (a b c : List ℕ) → Spliced a (at + length xs) ys b → OldOrNewBytes b at xs c → OldOrNewBytes a at (xs ++ ys) c
   mixed_front a b c first second = record {
     before = λ k lt. second.before k lt ∙ first.before k (omega arith);
     inside = λ k from to. elim (cases_lt k (at + length xs)) [
@@ -44,7 +44,7 @@ module _ (at : ℕ) (xs ys : List ℕ) where
   }
 
   -- the range may begin before what was written
-  pub mixed_before : (a b : List ℕ) → Mixed a (at + length xs) ys b → Mixed a at (xs ++ ys) b
+  pub mixed_before : (a b : List ℕ) → OldOrNewBytes a (at + length xs) ys b → OldOrNewBytes a at (xs ++ ys) b
   mixed_before a b first = record {
     before = λ k lt. first.before k (omega arith);
     inside = λ k from to. elim (cases_lt k (at + length xs)) [
@@ -65,7 +65,7 @@ module _ (unit : ℕ) (positive : 0 < unit) (a b c : StorageState) (at : ℕ) (x
   same-end : round_up unit (at + length xs + length ys) ≡ round_up unit (at + length (xs ++ ys))
   same-end = ap (round_up unit) (let e : at + length xs + length ys ≡ at + length (xs ++ ys) = omega (arith, both) in e)
 
-  size_front : Through unit a b (at + length xs) ys → Through unit b c at xs → 0 < length (xs ++ ys) → length c.bytes ≡ max (length a.bytes) (round_up unit (at + length (xs ++ ys)))
+  size_front : PaddedWrite unit a b (at + length xs) ys → PaddedWrite unit b c at xs → 0 < length (xs ++ ys) → length c.bytes ≡ max (length a.bytes) (round_up unit (at + length (xs ++ ys)))
   size_front first second some = elim (cases_eq (length xs) 0) [
     | inl none ↦
         let stays = ap (λ (s : StorageState). length s.bytes) (second.nothing none) in
@@ -79,7 +79,7 @@ module _ (unit : ℕ) (positive : 0 < unit) (a b c : StorageState) (at : ℕ) (x
     ]
   ]
 
-  pub through_front : Through unit a b (at + length xs) ys → Through unit b c at xs → Through unit a c at (xs ++ ys)
+  pub through_front : PaddedWrite unit a b (at + length xs) ys → PaddedWrite unit b c at xs → PaddedWrite unit a c at (xs ++ ys)
   through_front first second = record {
     shape = second.shape ∙ first.shape;
     faults = second.faults ∙ first.faults;
@@ -87,14 +87,14 @@ module _ (unit : ℕ) (positive : 0 < unit) (a b c : StorageState) (at : ℕ) (x
     nothing = λ none. second.nothing (omega (arith, both)) ∙ first.nothing (omega (arith, both));
     content = λ keeps. spliced_front at xs ys a.bytes b.bytes c.bytes (first.content keeps) (second.content (keeps_on a b first.shape keeps));
     size = size_front first second;
-    in_step = λ same. second.in_step (first.in_step same);
-    stops = stops_both (Mixed a.bytes (at + length xs) ys) (Mixed b.bytes at xs) (Mixed a.bytes at (xs ++ ys)) a b c first.shape first.in_step
-        (λ _ f mixed. mixed_before at xs ys a.bytes f mixed) (λ keeps f mixed. mixed_front at xs ys a.bytes b.bytes f (first.content keeps) mixed) first.stops second.stops;
-    as_long = as_long_both a b c first.shape first.in_step (through_longer unit a b (at + length xs) ys first) first.as_long second.as_long;
+    crash_image_is_bytes = λ same. second.crash_image_is_bytes (first.crash_image_is_bytes same);
+    crash_images = stops_both (OldOrNewBytes a.bytes (at + length xs) ys) (OldOrNewBytes b.bytes at xs) (OldOrNewBytes a.bytes at (xs ++ ys)) a b c first.shape first.crash_image_is_bytes
+        (λ _ f mixed. mixed_before at xs ys a.bytes f mixed) (λ keeps f mixed. mixed_front at xs ys a.bytes b.bytes f (first.content keeps) mixed) first.crash_images second.crash_images;
+    as_long = as_long_both a b c first.shape first.crash_image_is_bytes (through_longer unit a b (at + length xs) ys first) first.as_long second.as_long;
   }
 
   -- refused in the part in front
-  pub not_front : (fault : Fault) → Through unit a b (at + length xs) ys → Halted unit b c at xs fault → Halted unit a c at (xs ++ ys) fault
+  pub not_front : (fault : Fault) → PaddedWrite unit a b (at + length xs) ys → PaddedWriteFailed unit b c at xs fault → PaddedWriteFailed unit a c at (xs ++ ys) fault
   not_front fault first second =
       let size : length b.bytes ≤ max (length a.bytes) (round_up unit (at + length xs + length ys)) = elim (cases_eq (length ys) 0) [
         | inl none ↦ let stays = ap (λ (s : StorageState). length s.bytes) (first.nothing none) in omega arith
@@ -110,15 +110,15 @@ module _ (unit : ℕ) (positive : 0 < unit) (a b c : StorageState) (at : ℕ) (x
         content = λ keeps. mixed_front at xs ys a.bytes b.bytes c.bytes (first.content keeps) (second.content (keeps_on a b first.shape keeps));
         no_shorter = omega (arith, longer, second.no_shorter);
         no_longer = omega (arith, size, second.no_longer, inner, same-end);
-        refusals = subst (λ (n : ℕ). Rose n c.refusals) first.refusals second.refusals;
-        stops = stops_both (Mixed a.bytes (at + length xs) ys) (Mixed b.bytes at xs) (Mixed a.bytes at (xs ++ ys)) a b c first.shape first.in_step
-            (λ _ f mixed. mixed_before at xs ys a.bytes f mixed) (λ keeps f mixed. mixed_front at xs ys a.bytes b.bytes f (first.content keeps) mixed) first.stops second.stops;
-        as_long = as_long_both a b c first.shape first.in_step longer first.as_long second.as_long;
+        refusals = subst (λ (n : ℕ). HasRisen n c.refusals) first.refusals second.refusals;
+        crash_images = stops_both (OldOrNewBytes a.bytes (at + length xs) ys) (OldOrNewBytes b.bytes at xs) (OldOrNewBytes a.bytes at (xs ++ ys)) a b c first.shape first.crash_image_is_bytes
+            (λ _ f mixed. mixed_before at xs ys a.bytes f mixed) (λ keeps f mixed. mixed_front at xs ys a.bytes b.bytes f (first.content keeps) mixed) first.crash_images second.crash_images;
+        as_long = as_long_both a b c first.shape first.crash_image_is_bytes longer first.as_long second.as_long;
       }
 
 module _ (unit : ℕ) (a b : StorageState) (at : ℕ) (xs ys : List ℕ) (fault : Fault) where
   -- refused before the part in front
-  pub not_before : Halted unit a b (at + length xs) ys fault → Halted unit a b at (xs ++ ys) fault
+  pub not_before : PaddedWriteFailed unit a b (at + length xs) ys fault → PaddedWriteFailed unit a b at (xs ++ ys) fault
   not_before first =
       let end : round_up unit (at + length xs + length ys) ≡ round_up unit (at + length (xs ++ ys)) = ap (round_up unit) (let e : at + length xs + length ys ≡ at + length (xs ++ ys) = omega (arith, length-append xs ys) in e) in
       record {
@@ -128,7 +128,7 @@ module _ (unit : ℕ) (a b : StorageState) (at : ℕ) (xs ys : List ℕ) (fault 
         no_shorter = first.no_shorter;
         no_longer = omega (arith, first.no_longer, end);
         refusals = first.refusals;
-        stops = λ same tells keeps. let told = first.stops same tells keeps in
-            record { files = told.files; told = told.told; each = All-weaker (Mixed a.bytes (at + length xs) ys) (Mixed a.bytes at (xs ++ ys)) (λ f mixed. mixed_before at xs ys a.bytes f mixed) told.files told.each };
+        crash_images = λ same tells keeps. let told = first.crash_images same tells keeps in
+            record { files = told.files; told = told.told; each = All-weaker (OldOrNewBytes a.bytes (at + length xs) ys) (OldOrNewBytes a.bytes at (xs ++ ys)) (λ f mixed. mixed_before at xs ys a.bytes f mixed) told.files told.each };
         as_long = first.as_long;
       }

@@ -1,8 +1,8 @@
 -- What a storage with a fuse does, from what its inner storage does.
 use Rattle.std.proofs.Common.{◌≡◌, refl, ℕ, ◌+◌, ◌-◌, List, [], length, arith, sym, ap, subst}
 use Rattle.std.specs.Prelude.{◌≢◌, ◌^◌, min, Result, Ok, Err, OnOk, IfErr}
-use Rattle.imago_storage.specs.State.{StorageState, Rose}
-use Rattle.imago_storage.specs.Calls.{Cause, Changed, Discarded, DiscardRefused, Later, NotDiscarded, NotResized, NotWritten, Refused, RequestsOne, Resized, ResizeRefused, UnlessUnsupported, Written, ZeroingRefused}
+use Rattle.imago_storage.specs.State.{StorageState, HasRisen}
+use Rattle.imago_storage.specs.Calls.{Cause, Changed, Discarded, DiscardRefused, CountsNotFallen, NotDiscarded, NotResized, NotWritten, Refused, RequestsOne, Resized, ResizeRefused, UnlessUnsupported, Written, ZeroingRefused}
 use Rattle.imago_storage.specs.Fuse.{fuse_call, fuse_count, fuse_faults, fuse_inner, fuse_refusals, Counted}
 use Rattle.imago_storage.specs.declared.fault.Fault.{Fault}
 use Rattle.imago_storage.specs.declared.fault.Fault.TheVariants.{Memory, Storage, Unsupported}
@@ -16,31 +16,31 @@ fused n m s = record {
   bytes = s.bytes;
   faults = s.faults + n;
   refusals = s.refusals + m;
-  stop = s.stop;
-  past = s.past;
+  crash_image = s.crash_image;
+  past_crash_images = s.past_crash_images;
 }
 
 -- The call that the fuse fails.
 
 -- a part of a sum that rose
-rose_part : (a a' k k' : ℕ) → a' ≡ a → Rose k k' → Rose (a + k) (a' + k')
-rose_part a a' k k' same rose = record { kept = omega (arith, same, rose.kept); rose = λ fits. omega (arith, same, rose.rose (omega (arith, same))) }
+rose_part : (a a' k k' : ℕ) → a' ≡ a → HasRisen k k' → HasRisen (a + k) (a' + k')
+rose_part a a' k k' same rose = record { not_fallen = omega (arith, same, rose.not_fallen); rose = λ fits. omega (arith, same, rose.rose (omega (arith, same))) }
 
-module _ (n n' m m' : ℕ) (s s' : StorageState) (same : s' ≡ s) (faults : Rose n n') (refusals : Rose m m') where
+module _ (n n' m m' : ℕ) (s s' : StorageState) (same : s' ≡ s) (faults : HasRisen n n') (refusals : HasRisen m m') where
   tripped : Refused (fused n m s) (fused n' m' s') Storage
   tripped = record {
     shape = ap (λ (z : StorageState). z.shape) same;
     cause = rose_part s.faults s'.faults n n' (ap (λ (z : StorageState). z.faults) same) faults;
     refusals = rose_part s.refusals s'.refusals m m' (ap (λ (z : StorageState). z.refusals) same) refusals;
-    stop = ap (λ (z : StorageState). z.stop) same;
-    past = ap (λ (z : StorageState). z.past) same;
+    crash_image = ap (λ (z : StorageState). z.crash_image) same;
+    past_crash_images = ap (λ (z : StorageState). z.past_crash_images) same;
   }
 
-  pub tripped-later : Later (fused n m s) (fused n' m' s')
-  tripped-later = record { faults = tripped.cause.kept; refusals = tripped.refusals.kept }
+  pub tripped-later : CountsNotFallen (fused n m s) (fused n' m' s')
+  tripped-later = record { faults = tripped.cause.kept; refusals = tripped.refusals.not_fallen }
 
-  pub tripped-once : (s'.stop ≡ s.stop) × (s'.past ≡ s.past)
-  tripped-once = (tripped.stop, tripped.past)
+  pub tripped-once : (s'.crash_image ≡ s.crash_image) × (s'.past_crash_images ≡ s.past_crash_images)
+  tripped-once = (tripped.crash_image, tripped.past_crash_images)
 
   pub tripped-not_written : (at : ℕ) (bytes : List ℕ) → NotWritten (fused n m s) (fused n' m' s') at bytes Storage
   tripped-not_written at bytes =
@@ -67,8 +67,8 @@ module _ (n n' m m' : ℕ) (s s' : StorageState) (same : s' ≡ s) (faults : Ros
 -- A call that is passed on.
 
 module _ (n m : ℕ) (s s' : StorageState) where
-  rose_more : (a b k : ℕ) → Rose a b → Rose (a + k) (b + k)
-  rose_more a b k rose = record { kept = omega (arith, rose.kept); rose = λ fits. omega (arith, rose.rose (omega arith)) }
+  rose_more : (a b k : ℕ) → HasRisen a b → HasRisen (a + k) (b + k)
+  rose_more a b k rose = record { not_fallen = omega (arith, rose.not_fallen); rose = λ fits. omega (arith, rose.rose (omega arith)) }
 
   changed : Changed s s' → Changed (fused n m s) (fused n m s')
   changed h = record {
@@ -76,7 +76,7 @@ module _ (n m : ℕ) (s s' : StorageState) where
     faults = ap (λ (k : ℕ). k + n) h.faults;
     refusals = ap (λ (k : ℕ). k + m) h.refusals;
     mark = h.mark;
-    in_step = h.in_step;
+    crash_image_is_bytes = h.crash_image_is_bytes;
   }
 
   caused : (fault : Fault) → Cause s.faults s'.faults fault → Cause (s.faults + n) (s'.faults + n) fault
@@ -89,8 +89,8 @@ module _ (n m : ℕ) (s s' : StorageState) where
     shape = h.shape;
     cause = caused fault h.cause;
     refusals = rose_more s.refusals s'.refusals m h.refusals;
-    stop = h.stop;
-    past = h.past;
+    crash_image = h.crash_image;
+    past_crash_images = h.past_crash_images;
   }
 
   not_written : (at : ℕ) (bytes : List ℕ) (fault : Fault) → NotWritten s s' at bytes fault → NotWritten (fused n m s) (fused n m s') at bytes fault
@@ -126,8 +126,8 @@ module _ (n n' m m' : ℕ) (s s0 s' : StorageState) (same : s0 ≡ s) (faults : 
       (subst (λ (k : ℕ). Q (fused n m s) (fused n k s')) (sym refusals)
       (lift (subst (λ (z : StorageState). P z s') same holds)))
 
-  pub passed-later : Later s0 s' → Later (fused n m s) (fused n' m' s')
-  passed-later = passed Later Later (λ h. record { faults = omega (arith, h.faults); refusals = omega (arith, h.refusals) })
+  pub passed-later : CountsNotFallen s0 s' → CountsNotFallen (fused n m s) (fused n' m' s')
+  passed-later = passed CountsNotFallen CountsNotFallen (λ h. record { faults = omega (arith, h.faults); refusals = omega (arith, h.refusals) })
 
   module _ {T : Type 0} (r : Result T Fault) where
     pub passed-once : RequestsOne s0 s' r → RequestsOne (fused n m s) (fused n' m' s') r

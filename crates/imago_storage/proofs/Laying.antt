@@ -3,8 +3,8 @@ use Rattle.std.proofs.Common.{◌≡◌, refl, ℕ, ◌+◌, ◌-◌, ◌%◌, �
 use Rattle.std.specs.Prelude.{slice_index, Result, Ok, Err, OnOk}
 use Rattle.std.proofs.lemmas.List.{replicate-append-replicate, take-append-le, take_all}
 use Rattle.imago_storage.specs.State.{StorageState}
-use Rattle.imago_storage.specs.Through.{round_up, Parts, Through, Halted, NotThrough}
-use Rattle.imago_storage.specs.Edges.{IsEdge, Pads, ZeroesLaid}
+use Rattle.imago_storage.specs.Through.{round_up, Parts, PaddedWrite, PaddedWriteFailed, PaddedWriteRefused}
+use Rattle.imago_storage.specs.Edges.{IsEdge, IsPaddedPart, ZeroesPrepared}
 use Rattle.imago_storage.specs.Zeroings.{UnlessLeft}
 use Rattle.imago_storage.specs.declared.fault.Fault.{Fault}
 use Rattle.imago_storage.specs.declared.fault.Fault.TheVariants.{Unsupported}
@@ -57,7 +57,7 @@ module _ (unit : ℕ) (bytes : List ℕ) (at n i j : ℕ) (first last zeroes : L
   head-is = zeroes-taken zeroes i none (omega (arith, room, parts.within, parts.first))
 
   tail-is : take (n - i - j) zeroes ≡ tail
-  tail-is = zeroes-taken zeroes (n - i - j) none (omega (arith, room, parts.rest))
+  tail-is = zeroes-taken zeroes (n - i - j) none (omega (arith, room, parts.tail_below_unit))
 
   -- what is written, as long as it is
   end-laid : at - at % unit + length (first ++ replicate j 0 ++ last) ≡ round_up unit (at + n)
@@ -72,9 +72,9 @@ module _ (unit : ℕ) (bytes : List ℕ) (at n i j : ℕ) (first last zeroes : L
         ap (λ (m : ℕ). round_up unit (at + m)) sum,
       )
 
-  pub zeroes-laid : (0 < length (take i zeroes) → Pads bytes at (take i zeroes) (at - at % unit) first)
-      → (0 < length (take (n - i - j) zeroes) → Pads bytes (at + i + j) (take (n - i - j) zeroes) (at + i + j - (at + i + j) % unit) last)
-      → ZeroesLaid unit bytes at n first last zeroes j
+  pub zeroes-laid : (0 < length (take i zeroes) → IsPaddedPart bytes at (take i zeroes) (at - at % unit) first)
+      → (0 < length (take (n - i - j) zeroes) → IsPaddedPart bytes (at + i + j) (take (n - i - j) zeroes) (at + i + j - (at + i + j) % unit) last)
+      → ZeroesPrepared unit bytes at n first last zeroes j
   zeroes-laid pads-first pads-last =
       let parts-n : Parts unit at (i + j + (n - i - j)) i j = subst (λ (m : ℕ). Parts unit at m i j) (sym sum) parts in
       let behind : at + i + j ≡ at + length head + length mid = omega (arith, length_of_zeroes i, length_of_zeroes j) in
@@ -83,10 +83,10 @@ module _ (unit : ℕ) (bytes : List ℕ) (at n i j : ℕ) (first last zeroes : L
         mid_units = mid-laid unit at n i j i j (n - i - j) (length first) (length first) (length last) (length last) some parts is-first is-last refl refl refl refl refl positive fits;
         last_units = last-laid unit at n i j i j (n - i - j) (length first) (length first) (length last) (length last) some parts is-first is-last refl refl refl refl refl positive fits;
         most = omega (arith, parts.within);
-        pads = subst (λ (l : List ℕ). Pads bytes at l (at - at % unit) (first ++ mid ++ last)) all-zeroes
+        pads = subst (λ (l : List ℕ). IsPaddedPart bytes at l (at - at % unit) (first ++ mid ++ last)) all-zeroes
             (edges-pad unit bytes at head mid tail first last positive some-lists parts-lists first-lists last-lists
-            (subst (λ (l : List ℕ). 0 < length l → Pads bytes at l (at - at % unit) first) head-is pads-first)
-            (subst (λ (p : ℕ). 0 < length tail → Pads bytes p tail (p - p % unit) last) behind (subst (λ (l : List ℕ). 0 < length l → Pads bytes (at + i + j) l (at + i + j - (at + i + j) % unit) last) tail-is pads-last)));
+            (subst (λ (l : List ℕ). 0 < length l → IsPaddedPart bytes at l (at - at % unit) first) head-is pads-first)
+            (subst (λ (p : ℕ). 0 < length tail → IsPaddedPart bytes p tail (p - p % unit) last) behind (subst (λ (l : List ℕ). 0 < length l → IsPaddedPart bytes (at + i + j) l (at + i + j - (at + i + j) % unit) last) tail-is pads-last)));
         end = end-laid;
         holds = λ a b from lt to a-whole b-whole. middle-holds unit at i j (n - i - j) (length first) (length last) positive (omega (arith, sum, some)) parts-n is-first is-last a b from lt (omega (arith, to, sum)) a-whole b-whole;
         alone = λ units.
@@ -102,24 +102,24 @@ both-ok (Ok x) A B C both first second = both first second
 both-ok (Err fault) A B C both first second = first
 
 -- a range that was zeroed as it was laid
-module _ (unit : ℕ) (positive : 0 < unit) (s a b : StorageState) (same : a ≡ s) (at n : ℕ) (first last zeroes : List ℕ) (mid : ℕ) (some : 0 < n) (laid : ZeroesLaid unit s.bytes at n first last zeroes mid) where
-  pads-here : Pads a.bytes at (replicate n 0) (at - at % unit) (first ++ replicate mid 0 ++ last)
-  pads-here = subst (λ (f : StorageState). Pads f.bytes at (replicate n 0) (at - at % unit) (first ++ replicate mid 0 ++ last)) (sym same) laid.pads
+module _ (unit : ℕ) (positive : 0 < unit) (s a b : StorageState) (same : a ≡ s) (at n : ℕ) (first last zeroes : List ℕ) (mid : ℕ) (some : 0 < n) (prepared_zeroes : ZeroesPrepared unit s.bytes at n first last zeroes mid) where
+  pads-here : IsPaddedPart a.bytes at (replicate n 0) (at - at % unit) (first ++ replicate mid 0 ++ last)
+  pads-here = subst (λ (f : StorageState). IsPaddedPart f.bytes at (replicate n 0) (at - at % unit) (first ++ replicate mid 0 ++ last)) (sym same) prepared_zeroes.pads
 
   some-zeroes : 0 < length {A = ℕ} (replicate n 0)
   some-zeroes = omega (arith, length_of_zeroes n, some)
 
   end-here : at - at % unit + length (first ++ replicate mid 0 ++ last) ≡ round_up unit (at + length {A = ℕ} (replicate n 0))
-  end-here = laid.end ∙ ap (λ (m : ℕ). round_up unit (at + m)) (sym (length_of_zeroes n))
+  end-here = prepared_zeroes.end ∙ ap (λ (m : ℕ). round_up unit (at + m)) (sym (length_of_zeroes n))
 
-  pub laid-through : Through unit a b (at - at % unit) (first ++ replicate mid 0 ++ last) → Through unit s b at (replicate n 0)
+  pub laid-through : PaddedWrite unit a b (at - at % unit) (first ++ replicate mid 0 ++ last) → PaddedWrite unit s b at (replicate n 0)
   laid-through through =
-      subst (λ (f : StorageState). Through unit f b at (replicate n 0)) same
+      subst (λ (f : StorageState). PaddedWrite unit f b at (replicate n 0)) same
       (through-narrow unit positive a b at (replicate n 0) (at - at % unit) (first ++ replicate mid 0 ++ last) pads-here some-zeroes end-here through)
 
-  pub laid-not : (fault : Fault) → Halted unit a b (at - at % unit) (first ++ replicate mid 0 ++ last) fault → NotThrough unit s b at (replicate n 0) fault
+  pub laid-not : (fault : Fault) → PaddedWriteFailed unit a b (at - at % unit) (first ++ replicate mid 0 ++ last) fault → PaddedWriteRefused unit s b at (replicate n 0) fault
   laid-not fault halted =
-      subst (λ (f : StorageState). NotThrough unit f b at (replicate n 0) fault) same
+      subst (λ (f : StorageState). PaddedWriteRefused unit f b at (replicate n 0) fault) same
       (halted-not unit a b at (replicate n 0) fault (halted-narrow unit positive a b at (replicate n 0) (at - at % unit) (first ++ replicate mid 0 ++ last) pads-here some-zeroes end-here fault halted))
 
   -- by the ends of the whole units between
@@ -130,24 +130,24 @@ module _ (unit : ℕ) (positive : 0 < unit) (s a b : StorageState) (same : a ≡
     mid-is : high - low ≡ mid
     mid-is = omega (arith, high-is)
 
-    pub wholes-through : Through unit a b (low - length first) (first ++ replicate (high - low) 0 ++ last) → Through unit s b at (replicate n 0)
+    pub wholes-through : PaddedWrite unit a b (low - length first) (first ++ replicate (high - low) 0 ++ last) → PaddedWrite unit s b at (replicate n 0)
     wholes-through through =
-        laid-through (subst (λ (p : ℕ). Through unit a b p (first ++ replicate mid 0 ++ last)) start-is
-        (subst (λ (m : ℕ). Through unit a b (low - length first) (first ++ replicate m 0 ++ last)) mid-is through))
+        laid-through (subst (λ (p : ℕ). PaddedWrite unit a b p (first ++ replicate mid 0 ++ last)) start-is
+        (subst (λ (m : ℕ). PaddedWrite unit a b (low - length first) (first ++ replicate m 0 ++ last)) mid-is through))
 
-    wholes-not : (fault : Fault) → Halted unit a b (low - length first) (first ++ replicate (high - low) 0 ++ last) fault → NotThrough unit s b at (replicate n 0) fault
+    wholes-not : (fault : Fault) → PaddedWriteFailed unit a b (low - length first) (first ++ replicate (high - low) 0 ++ last) fault → PaddedWriteRefused unit s b at (replicate n 0) fault
     wholes-not fault halted =
-        laid-not fault (subst (λ (p : ℕ). Halted unit a b p (first ++ replicate mid 0 ++ last) fault) start-is
-        (subst (λ (m : ℕ). Halted unit a b (low - length first) (first ++ replicate m 0 ++ last) fault) mid-is halted))
+        laid-not fault (subst (λ (p : ℕ). PaddedWriteFailed unit a b p (first ++ replicate mid 0 ++ last) fault) start-is
+        (subst (λ (m : ℕ). PaddedWriteFailed unit a b (low - length first) (first ++ replicate m 0 ++ last) fault) mid-is halted))
 
-    pub wholes-left : (zeroing : Zeroing) (fault : Fault) → UnlessLeft zeroing a b (Halted unit a b (low - length first) (first ++ replicate (high - low) 0 ++ last)) fault → UnlessLeft zeroing s b (NotThrough unit s b at (replicate n 0)) fault
+    pub wholes-left : (zeroing : Zeroing) (fault : Fault) → UnlessLeft zeroing a b (PaddedWriteFailed unit a b (low - length first) (first ++ replicate (high - low) 0 ++ last)) fault → UnlessLeft zeroing s b (PaddedWriteRefused unit s b at (replicate n 0)) fault
     wholes-left Any fault halted = wholes-not fault halted
     wholes-left Allocated Unsupported left = left ∙ same
     wholes-left Allocated fault halted = wholes-not fault halted
 
 -- the buffers, as they are handed on
-pub laid-as : (unit : ℕ) (bytes : List ℕ) (at n : ℕ) (first last zeroes first' last' zeroes' : List ℕ) (mid : ℕ) → first' ≡ first → last' ≡ last → zeroes' ≡ zeroes → ZeroesLaid unit bytes at n first last zeroes mid → ZeroesLaid unit bytes at n first' last' zeroes' mid
-laid-as unit bytes at n first last zeroes first' last' zeroes' mid f l z laid =
-    subst (λ (x : List ℕ). ZeroesLaid unit bytes at n x last' zeroes' mid) (sym f)
-    (subst (λ (x : List ℕ). ZeroesLaid unit bytes at n first x zeroes' mid) (sym l)
-    (subst (λ (x : List ℕ). ZeroesLaid unit bytes at n first last x mid) (sym z) laid))
+pub laid-as : (unit : ℕ) (bytes : List ℕ) (at n : ℕ) (first last zeroes first' last' zeroes' : List ℕ) (mid : ℕ) → first' ≡ first → last' ≡ last → zeroes' ≡ zeroes → ZeroesPrepared unit bytes at n first last zeroes mid → ZeroesPrepared unit bytes at n first' last' zeroes' mid
+laid-as unit bytes at n first last zeroes first' last' zeroes' mid f l z prepared_zeroes =
+    subst (λ (x : List ℕ). ZeroesPrepared unit bytes at n x last' zeroes' mid) (sym f)
+    (subst (λ (x : List ℕ). ZeroesPrepared unit bytes at n first x zeroes' mid) (sym l)
+    (subst (λ (x : List ℕ). ZeroesPrepared unit bytes at n first last x mid) (sym z) prepared_zeroes))

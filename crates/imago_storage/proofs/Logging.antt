@@ -1,8 +1,8 @@
 -- What a call of a storage with a log does, from what its inner storage does.
 use Rattle.std.proofs.Common.{◌≡◌, ◌⊎◌, refl, inl, inr, ℕ, List, [], ◌∷◌, ◌++◌, arith, sym, ◌∙◌, ap, subst}
 use Rattle.std.specs.Prelude.{◌+◌, true, length, Result, Ok, Err, OnOk, IfErr, IsErrAnd}
-use Rattle.imago_storage.specs.State.{Shape, StorageState, Rose}
-use Rattle.imago_storage.specs.Calls.{Later, NotResized, NotWritten, Refused, RequestsOne, ResizeRefused, UnlessUnsupported, ZeroingRefused}
+use Rattle.imago_storage.specs.State.{Shape, StorageState, HasRisen}
+use Rattle.imago_storage.specs.Calls.{CountsNotFallen, NotResized, NotWritten, Refused, RequestsOne, ResizeRefused, UnlessUnsupported, ZeroingRefused}
 use Rattle.imago_storage.specs.Log.{files_before, log_base, log_inner, log_requests, log_state, logged, Noted, replay}
 use Rattle.imago_storage.specs.declared.fault.Fault.{Fault}
 use Rattle.imago_storage.specs.declared.fault.Fault.TheVariants.{Memory, Unsupported}
@@ -19,20 +19,20 @@ pub handed-ok : {T : Type 0} (r : Result T Fault) (fault : Fault) (P : Type 0) �
 handed-ok r fault P is = subst (λ z. OnOk z P) (sym is) tt
 
 -- The request had no room in the log: nothing was passed on.
-module _ (base base' : List ℕ) (requests requests' : List Request) (n n' : ℕ) (s s' : StorageState) (same_base : base' ≡ base) (same_requests : requests' ≡ requests) (rose : Rose n n') (same : s' ≡ s) where
+module _ (base base' : List ℕ) (requests requests' : List Request) (n n' : ℕ) (s s' : StorageState) (same_base : base' ≡ base) (same_requests : requests' ≡ requests) (rose : HasRisen n n') (same : s' ≡ s) where
   full : Refused (logged base requests n s) (logged base' requests' n' s') Memory
   full =
       let count : s'.refusals ≡ s.refusals = ap (λ (z : StorageState). z.refusals) same in
       record {
         shape = ap (λ (z : StorageState). record z.shape { tells = true }) same;
         cause = ap (λ (z : StorageState). z.faults) same;
-        refusals = record { kept = omega (arith, count, rose.kept); rose = λ fits. omega (arith, count, rose.rose (omega (arith, count))) };
-        stop = ap (λ (b : List ℕ). replay b requests') same_base ∙ ap (replay base) same_requests;
-        past = ap (λ (b : List ℕ). files_before b requests') same_base ∙ ap (files_before base) same_requests;
+        refusals = record { not_fallen = omega (arith, count, rose.not_fallen); rose = λ fits. omega (arith, count, rose.rose (omega (arith, count))) };
+        crash_image = ap (λ (b : List ℕ). replay b requests') same_base ∙ ap (replay base) same_requests;
+        past_crash_images = ap (λ (b : List ℕ). files_before b requests') same_base ∙ ap (files_before base) same_requests;
       }
 
-  pub full-later : Later (logged base requests n s) (logged base' requests' n' s')
-  full-later = record { faults = omega (arith, ap (λ (z : StorageState). z.faults) same); refusals = full.refusals.kept }
+  pub full-later : CountsNotFallen (logged base requests n s) (logged base' requests' n' s')
+  full-later = record { faults = omega (arith, ap (λ (z : StorageState). z.faults) same); refusals = full.refusals.not_fallen }
 
   full-not_written : (at : ℕ) (bytes : List ℕ) → NotWritten (logged base requests n s) (logged base' requests' n' s') at bytes Memory
   full-not_written at bytes =
@@ -57,17 +57,17 @@ module _ (base base' : List ℕ) (requests requests' : List Request) (n n' : ℕ
         subst (λ (z : Result T Fault). IfErr z (ResizeRefused (logged base requests n s) (logged base' requests' n' s'))) (sym is) here
 
     pub full-once : RequestsOne (logged base requests n s) (logged base' requests' n' s') r
-    full-once = subst (λ (z : Result T Fault). RequestsOne (logged base requests n s) (logged base' requests' n' s') z) (sym is) (full.stop, full.past)
+    full-once = subst (λ (z : Result T Fault). RequestsOne (logged base requests n s) (logged base' requests' n' s') z) (sym is) (full.crash_image, full.past_crash_images)
 
 -- The call was passed on: s0 is the inner storage's state before it, s' after it.
-pub logged-later : (base base' : List ℕ) (requests requests' : List Request) (n n' : ℕ) (s s0 s' s'' : StorageState) → n' ≡ n → s0 ≡ s → s'' ≡ s' → Later s0 s' → Later (logged base requests n s) (logged base' requests' n' s'')
+pub logged-later : (base base' : List ℕ) (requests requests' : List Request) (n n' : ℕ) (s s0 s' s'' : StorageState) → n' ≡ n → s0 ≡ s → s'' ≡ s' → CountsNotFallen s0 s' → CountsNotFallen (logged base requests n s) (logged base' requests' n' s'')
 logged-later base base' requests requests' n n' s s0 s' s'' same_n before after later = record {
   faults = omega (arith, later.faults, ap (λ (z : StorageState). z.faults) before, ap (λ (z : StorageState). z.faults) after);
   refusals = omega (arith, later.refusals, ap (λ (z : StorageState). z.refusals) before, ap (λ (z : StorageState). z.refusals) after, same_n);
 }
 
-pub rose-from : (a b k : ℕ) → b ≡ a → Rose b k → Rose a k
-rose-from a b k same rose = subst (λ (z : ℕ). Rose z k) same rose
+pub rose-from : (a b k : ℕ) → b ≡ a → HasRisen b k → HasRisen a k
+rose-from a b k same rose = subst (λ (z : ℕ). HasRisen z k) same rose
 
 -- The inner storage refused the change, and the log has forgotten the request.
 module _ (base : List ℕ) (requests : List Request) (n : ℕ) (s s' : StorageState) where
@@ -75,9 +75,9 @@ module _ (base : List ℕ) (requests : List Request) (n : ℕ) (s s' : StorageSt
   refused fault h = record {
     shape = ap (λ (shape : Shape). record shape { tells = true }) h.shape;
     cause = h.cause;
-    refusals = record { kept = omega (arith, h.refusals.kept); rose = λ fits. omega (arith, h.refusals.rose (omega arith)) };
-    stop = refl;
-    past = refl;
+    refusals = record { not_fallen = omega (arith, h.refusals.not_fallen); rose = λ fits. omega (arith, h.refusals.rose (omega arith)) };
+    crash_image = refl;
+    past_crash_images = refl;
   }
 
   not_written : (at : ℕ) (bytes : List ℕ) (fault : Fault) → NotWritten s s' at bytes fault → NotWritten (logged base requests n s) (logged base requests n s') at bytes fault
@@ -116,11 +116,11 @@ replayed-same base base' requests requests' same_base same_requests = (
 
 -- What a refusal of the inner storage counts.
 
-pub rose-zeroing : (a b : StorageState) (at k : ℕ) (fault : Fault) → ZeroingRefused a b at k fault → Rose a.refusals b.refusals ⊎ (b ≡ a)
+pub rose-zeroing : (a b : StorageState) (at k : ℕ) (fault : Fault) → ZeroingRefused a b at k fault → HasRisen a.refusals b.refusals ⊎ (b ≡ a)
 rose-zeroing a b at k Unsupported h = inr h
 rose-zeroing a b at k fault h = inl h.refused.refusals
 
-pub rose-resize : (a b : StorageState) (fault : Fault) → ResizeRefused a b fault → Rose a.refusals b.refusals ⊎ (b ≡ a)
+pub rose-resize : (a b : StorageState) (fault : Fault) → ResizeRefused a b fault → HasRisen a.refusals b.refusals ⊎ (b ≡ a)
 rose-resize a b Unsupported h = inr h
 rose-resize a b fault h = inl h.refused.refusals
 
@@ -132,8 +132,8 @@ only_refusals state old new same_base requests stays = λ i. record {
   bytes = (stays i).bytes;
   faults = (stays i).faults;
   refusals = (state new.inner).refusals + new.refusals;
-  stop = replay (same_base i).items (requests i);
-  past = files_before (same_base i).items (requests i);
+  crash_image = replay (same_base i).items (requests i);
+  past_crash_images = files_before (same_base i).items (requests i);
 }
 
 module _ {S T : Type 0} (state : S → StorageState) (IsSo : Request → Type 0) (old new : LogStorage S) (same_base : new.base ≡ old.base) where
@@ -143,14 +143,14 @@ module _ {S T : Type 0} (state : S → StorageState) (IsSo : Request → Type 0)
   noted-ok x request so pushed = record { base = ap (λ b. b.items) same_base; requests = (request, so, pushed); refused = tt }
 
   -- the inner storage refused the change
-  pub noted-refused : (s0 s' : StorageState) (fault : Fault) → s0 ≡ state old.inner → state new.inner ≡ s' → new.requests.items ≡ old.requests.items → (Rose s0.refusals s'.refusals ⊎ (s' ≡ s0))
+  pub noted-refused : (s0 s' : StorageState) (fault : Fault) → s0 ≡ state old.inner → state new.inner ≡ s' → new.requests.items ≡ old.requests.items → (HasRisen s0.refusals s'.refusals ⊎ (s' ≡ s0))
       → Noted {S = S} {T = T} state IsSo old new (Err fault)
   unfolding log_base log_inner log_requests log_state
   noted-refused s0 s' fault before after requests rose = record {
     base = ap (λ b. b.items) same_base;
     requests = requests;
     refused = elim rose [
-      | inl more ↦ inl (subst (λ (z : StorageState). Rose z.refusals (state new.inner).refusals) before (subst (λ (z : StorageState). Rose s0.refusals z.refusals) (sym after) more))
+      | inl more ↦ inl (subst (λ (z : StorageState). HasRisen z.refusals (state new.inner).refusals) before (subst (λ (z : StorageState). HasRisen s0.refusals z.refusals) (sym after) more))
       | inr stays ↦ inr (only_refusals state old new same_base requests (after ∙ stays ∙ before))
     ];
   }

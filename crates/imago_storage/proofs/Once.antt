@@ -5,8 +5,8 @@ use Rattle.std.proofs.Math.Nat.{div-mul-le_self}
 use Rattle.std.proofs.lemmas.Bool.{cases_lt}
 use Rattle.std.specs.Prelude.{List, length, Result, Ok, Err, OnOk, IfErr}
 use Rattle.imago_storage.specs.State.{StorageState, IsAlignment, unit_of}
-use Rattle.imago_storage.specs.Calls.{Mixed, Later, Cause, CountsFaults}
-use Rattle.imago_storage.specs.Through.{round_up, Overflows, IsAtOnce, Stops, UnlessOverflow, WrittenThrough, NotBegun, NotThrough, NotWrittenThrough, WriteRefused, RequestsOnce, NotRead, Put, PutAtOnce}
+use Rattle.imago_storage.specs.Calls.{OldOrNewBytes, CountsNotFallen, Cause, CountsFaults}
+use Rattle.imago_storage.specs.Through.{round_up, Overflows, FitsOneRequest, EachCrashImage, UnlessOverflow, WriteSucceeded, NotBegun, PaddedWriteRefused, WriteFailed, WriteRefused, RequestsOnce, NotRead, WriteOutcome, AtomicWriteOutcome}
 use Rattle.imago_storage.specs.declared.fault.Fault.{Fault}
 use Rattle.imago_storage.specs.declared.fault.Fault.TheVariants.{RangeOverflow}
 use Rattle.imago_storage.specs.declared.padding.WriteFault.TheVariants.{Before}
@@ -37,7 +37,7 @@ room-for m part at some units whole =
     omega (arith, rows, top)
 
 -- a range of a power of two bytes at a multiple of it is one request at every alignment
-pub power-at-once : (unit at b : ℕ) → IsAlignment unit → at % 2 ^ b ≡ 0 → IsAtOnce unit at (2 ^ b)
+pub power-at-once : (unit at b : ℕ) → IsAlignment unit → at % 2 ^ b ≡ 0 → FitsOneRequest unit at (2 ^ b)
 power-at-once unit at b alignment whole =
     let power = alignment_power unit alignment in
     elim (cases_lt b power.0) [
@@ -73,22 +73,22 @@ not-begun-below old new at bytes fault alignment low refused =
     unless-overflow _ old new (NotBegun old new) (NotBegun old new) (overflows-not (unit_of old.shape) at (length bytes) alignment low) (λ e n. n) fault refused
 
 -- what `write` says of a range well below 2^64
-pub put-below : (result : Result (Unit {0}) Fault) (old new : StorageState) (at : ℕ) (bytes : List ℕ) → IsAlignment (unit_of old.shape) → at + length bytes ≤ 2 ^ 63 → OnOk result (WrittenThrough old new at bytes) → IfErr result (NotWrittenThrough old new at bytes)
-    → Stops (Mixed old.bytes at bytes) old new → new.shape ≡ old.shape → Later old new → Put old new at bytes result
-put-below (Ok u) old new at bytes alignment low ok err stops shape later = record { answer = ok; stops = stops; shape = shape; later = later }
+pub put-below : (result : Result (Unit {0}) Fault) (old new : StorageState) (at : ℕ) (bytes : List ℕ) → IsAlignment (unit_of old.shape) → at + length bytes ≤ 2 ^ 63 → OnOk result (WriteSucceeded old new at bytes) → IfErr result (WriteFailed old new at bytes)
+    → EachCrashImage (OldOrNewBytes old.bytes at bytes) old new → new.shape ≡ old.shape → CountsNotFallen old new → WriteOutcome old new at bytes result
+put-below (Ok u) old new at bytes alignment low ok err stops shape later = record { answer = ok; crash_images = stops; shape = shape; counts_not_fallen = later }
 put-below (Err fault) old new at bytes alignment low ok err stops shape later = record {
-  answer = unless-overflow _ old new _ (NotThrough (unit_of old.shape) old new at bytes) (overflows-not (unit_of old.shape) at (length bytes) alignment low) (λ e n. n) fault err;
-  stops = stops;
+  answer = unless-overflow _ old new _ (PaddedWriteRefused (unit_of old.shape) old new at bytes) (overflows-not (unit_of old.shape) at (length bytes) alignment low) (λ e n. n) fault err;
+  crash_images = stops;
   shape = shape;
-  later = later;
+  counts_not_fallen = later;
 }
 
 -- the same of a power of two bytes, at a multiple of it
-pub put-at-once : (result : Result (Unit {0}) Fault) (old new : StorageState) (at b : ℕ) (bytes : List ℕ) → IsAlignment (unit_of old.shape) → at + length bytes ≤ 2 ^ 63 → length bytes ≡ 2 ^ b → at % 2 ^ b ≡ 0 → OnOk result (WrittenThrough old new at bytes)
-    → IfErr result (NotWrittenThrough old new at bytes) → (IsAtOnce (unit_of old.shape) at (length bytes) → RequestsOnce old new (length bytes) result) → Stops (Mixed old.bytes at bytes) old new → new.shape ≡ old.shape → Later old new → PutAtOnce old new at bytes result
+pub put-at-once : (result : Result (Unit {0}) Fault) (old new : StorageState) (at b : ℕ) (bytes : List ℕ) → IsAlignment (unit_of old.shape) → at + length bytes ≤ 2 ^ 63 → length bytes ≡ 2 ^ b → at % 2 ^ b ≡ 0 → OnOk result (WriteSucceeded old new at bytes)
+    → IfErr result (WriteFailed old new at bytes) → (FitsOneRequest (unit_of old.shape) at (length bytes) → RequestsOnce old new (length bytes) result) → EachCrashImage (OldOrNewBytes old.bytes at bytes) old new → new.shape ≡ old.shape → CountsNotFallen old new → AtomicWriteOutcome old new at bytes result
 put-at-once result old new at b bytes alignment low long whole ok err once stops shape later = record {
   put = put-below result old new at bytes alignment low ok err stops shape later;
-  once = once (subst (IsAtOnce (unit_of old.shape) at) (sym long) (power-at-once (unit_of old.shape) at b alignment whole));
+  single_request = once (subst (FitsOneRequest (unit_of old.shape) at) (sym long) (power-at-once (unit_of old.shape) at b alignment whole));
 }
 
 -- the cause of a refused read of a range well below 2^64

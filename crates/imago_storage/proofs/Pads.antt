@@ -3,15 +3,15 @@ use Rattle.std.proofs.Common.{◌≡◌, refl, inl, inr, ⊎_elim, ℕ, ◌+◌,
 use Rattle.std.proofs.lemmas.Bool.{cases_lt}
 use Rattle.std.proofs.lemmas.List.{get_or_append_left, get_or-append_right}
 use Rattle.imago_storage.specs.State.{StorageState}
-use Rattle.imago_storage.specs.Calls.{Spliced, Mixed}
-use Rattle.imago_storage.specs.Through.{round_up, Through, Halted}
-use Rattle.imago_storage.specs.Edges.{Pads}
+use Rattle.imago_storage.specs.Calls.{Spliced, OldOrNewBytes}
+use Rattle.imago_storage.specs.Through.{round_up, PaddedWrite, PaddedWriteFailed}
+use Rattle.imago_storage.specs.Edges.{IsPaddedPart}
 use Rattle.imago_storage.specs.declared.fault.Fault.{Fault}
 use Rattle.imago_storage.proofs.Rounding.{round_up_whole}
 use Rattle.imago_storage.proofs.Wholes.{round_up_is_whole}
 use Rattle.imago_storage.proofs.Composing.{stops_weaker}
 
-module _ (old : List ℕ) (at : ℕ) (bytes : List ℕ) (start : ℕ) (put : List ℕ) (pads : Pads old at bytes start put) where
+module _ (old : List ℕ) (at : ℕ) (bytes : List ℕ) (start : ℕ) (put : List ℕ) (pads : IsPaddedPart old at bytes start put) where
   pub spliced-narrow : (file : List ℕ) → Spliced old start put file → Spliced old at bytes file
   spliced-narrow file written = record {
     before = λ k lt. elim (cases_lt k start) [
@@ -25,7 +25,7 @@ module _ (old : List ℕ) (at : ℕ) (bytes : List ℕ) (start : ℕ) (put : Lis
     ];
   }
 
-  pub mixed-narrow : (file : List ℕ) → Mixed old start put file → Mixed old at bytes file
+  pub mixed-narrow : (file : List ℕ) → OldOrNewBytes old start put file → OldOrNewBytes old at bytes file
   mixed-narrow file written = record {
     before = λ k lt. elim (cases_lt k start) [
       | inl below ↦ written.before k below
@@ -40,11 +40,11 @@ module _ (old : List ℕ) (at : ℕ) (bytes : List ℕ) (start : ℕ) (put : Lis
 
 -- a padded call, by the whole units that it wrote
 module _ (unit : ℕ) (positive : 0 < unit) (a b : StorageState) (at : ℕ) (bytes : List ℕ) (start : ℕ) (put : List ℕ)
-    (pads : Pads a.bytes at bytes start put) (some : 0 < length bytes) (end : start + length put ≡ round_up unit (at + length bytes)) where
+    (pads : IsPaddedPart a.bytes at bytes start put) (some : 0 < length bytes) (end : start + length put ≡ round_up unit (at + length bytes)) where
   end-same : round_up unit (start + length put) ≡ round_up unit (at + length bytes)
   end-same = ap (round_up unit) end ∙ round_up_whole unit (round_up unit (at + length bytes)) positive (round_up_is_whole unit (at + length bytes))
 
-  pub through-narrow : Through unit a b start put → Through unit a b at bytes
+  pub through-narrow : PaddedWrite unit a b start put → PaddedWrite unit a b at bytes
   through-narrow through = record {
     shape = through.shape;
     faults = through.faults;
@@ -52,12 +52,12 @@ module _ (unit : ℕ) (positive : 0 < unit) (a b : StorageState) (at : ℕ) (byt
     nothing = λ none. absurd (omega (arith, some, none));
     content = λ keeps. spliced-narrow a.bytes at bytes start put pads b.bytes (through.content keeps);
     size = λ _. through.size (omega (arith, pads.low, pads.high, some)) ∙ ap (λ (n : ℕ). max (length a.bytes) n) end-same;
-    in_step = through.in_step;
-    stops = stops_weaker (Mixed a.bytes start put) (Mixed a.bytes at bytes) a b (λ _ f mixed. mixed-narrow a.bytes at bytes start put pads f mixed) through.stops;
+    crash_image_is_bytes = through.crash_image_is_bytes;
+    crash_images = stops_weaker (OldOrNewBytes a.bytes start put) (OldOrNewBytes a.bytes at bytes) a b (λ _ f mixed. mixed-narrow a.bytes at bytes start put pads f mixed) through.crash_images;
     as_long = through.as_long;
   }
 
-  pub halted-narrow : (fault : Fault) → Halted unit a b start put fault → Halted unit a b at bytes fault
+  pub halted-narrow : (fault : Fault) → PaddedWriteFailed unit a b start put fault → PaddedWriteFailed unit a b at bytes fault
   halted-narrow fault halted = record {
     shape = halted.shape;
     cause = halted.cause;
@@ -65,12 +65,12 @@ module _ (unit : ℕ) (positive : 0 < unit) (a b : StorageState) (at : ℕ) (byt
     content = λ keeps. mixed-narrow a.bytes at bytes start put pads b.bytes (halted.content keeps);
     no_shorter = halted.no_shorter;
     no_longer = omega (arith, halted.no_longer, end-same);
-    stops = stops_weaker (Mixed a.bytes start put) (Mixed a.bytes at bytes) a b (λ _ f mixed. mixed-narrow a.bytes at bytes start put pads f mixed) halted.stops;
+    crash_images = stops_weaker (OldOrNewBytes a.bytes start put) (OldOrNewBytes a.bytes at bytes) a b (λ _ f mixed. mixed-narrow a.bytes at bytes start put pads f mixed) halted.crash_images;
     as_long = halted.as_long;
   }
 
 -- bytes that pad themselves
-pub pads-self : (bytes : List ℕ) (at : ℕ) (xs : List ℕ) → Pads bytes at xs at xs
+pub pads-self : (bytes : List ℕ) (at : ℕ) (xs : List ℕ) → IsPaddedPart bytes at xs at xs
 pads-self bytes at xs = record {
   low = omega arith;
   high = omega arith;
@@ -79,7 +79,7 @@ pads-self bytes at xs = record {
   after = λ k from lt. absurd (omega arith);
 }
 
-module _ (bytes : List ℕ) (at : ℕ) (xs : List ℕ) (start : ℕ) (p ys q : List ℕ) (first : Pads bytes at xs start p) where
+module _ (bytes : List ℕ) (at : ℕ) (xs : List ℕ) (start : ℕ) (p ys q : List ℕ) (first : IsPaddedPart bytes at xs start p) where
   long : length (xs ++ ys) ≡ length xs + length ys
   long = length-append xs ys
 
@@ -100,7 +100,7 @@ module _ (bytes : List ℕ) (at : ℕ) (xs : List ℕ) (start : ℕ) (p ys q : L
   of-right k ge = ap (λ (j : ℕ). get_or ys j 0) (let e : k - (at + length xs) ≡ k - at - length xs = omega arith in e) ∙ sym (get_or-append_right xs ys (length xs) (k - at) 0 refl (omega arith))
 
   -- a part right behind another
-  pub pads-both : at + length xs ≡ start + length p → Pads bytes (at + length xs) ys (start + length p) q → Pads bytes at (xs ++ ys) start (p ++ q)
+  pub pads-both : at + length xs ≡ start + length p → IsPaddedPart bytes (at + length xs) ys (start + length p) q → IsPaddedPart bytes at (xs ++ ys) start (p ++ q)
   pads-both joint second = record {
     low = first.low;
     high = omega (arith, long, long-put, second.high);
@@ -113,7 +113,7 @@ module _ (bytes : List ℕ) (at : ℕ) (xs : List ℕ) (start : ℕ) (p ys q : L
   }
 
   -- nothing behind it
-  pub pads-alone : length ys ≡ 0 → length q ≡ 0 → Pads bytes at (xs ++ ys) start (p ++ q)
+  pub pads-alone : length ys ≡ 0 → length q ≡ 0 → IsPaddedPart bytes at (xs ++ ys) start (p ++ q)
   pads-alone none none-put = record {
     low = first.low;
     high = omega (arith, long, long-put, first.high, none);

@@ -4,9 +4,9 @@ use Rattle.std.specs.Prelude.{Result, Ok, Err, OnOk, IfErr, IsErrAnd, MatchResul
 use Rattle.std.proofs.lemmas.Result.{on_ok_weaker, IfErr-weaker, err_from_is_err_and}
 use Rattle.std.proofs.lemmas.List.Elements.{All-weaker}
 use Rattle.std.proofs.lemmas.Bool.{cases_eq}
-use Rattle.imago_storage.specs.State.{StorageState, Rose, unit_of}
-use Rattle.imago_storage.specs.Calls.{Mixed, Cause, Kept, Later}
-use Rattle.imago_storage.specs.Through.{round_up, Stops, StopsAsLong, Through, Halted, NotThrough, OneRequest, NoRequest, UnlessOverflow, NotRead}
+use Rattle.imago_storage.specs.State.{StorageState, HasRisen, unit_of}
+use Rattle.imago_storage.specs.Calls.{OldOrNewBytes, Cause, UnchangedButFaults, CountsNotFallen}
+use Rattle.imago_storage.specs.Through.{round_up, EachCrashImage, CrashImagesNoShorter, PaddedWrite, PaddedWriteFailed, PaddedWriteRefused, OneRequest, NoRequest, UnlessOverflow, NotRead}
 use Rattle.imago_storage.specs.declared.fault.Fault.TheVariants.{RangeOverflow}
 use Rattle.imago_storage.specs.declared.fault.Fault.{Fault}
 use Rattle.imago_storage.proofs.Rounding.{round_up-le}
@@ -16,7 +16,7 @@ module _ (unit : ℕ) (positive : 0 < unit) (a b c : StorageState) (at : ℕ) (x
   both : length (xs ++ ys) ≡ length xs + length ys
   both = length-append xs ys
 
-  size_both : Through unit a b at xs → Through unit b c (at + length xs) ys → 0 < length (xs ++ ys) → length c.bytes ≡ max (length a.bytes) (round_up unit (at + length (xs ++ ys)))
+  size_both : PaddedWrite unit a b at xs → PaddedWrite unit b c (at + length xs) ys → 0 < length (xs ++ ys) → length c.bytes ≡ max (length a.bytes) (round_up unit (at + length (xs ++ ys)))
   size_both first second some =
       let long = both in
       let up = round_up-le unit (at + length xs) (at + length xs + length ys) positive (omega arith) in
@@ -35,7 +35,7 @@ module _ (unit : ℕ) (positive : 0 < unit) (a b c : StorageState) (at : ℕ) (x
         ]
       ]
 
-  pub through_both : Through unit a b at xs → Through unit b c (at + length xs) ys → Through unit a c at (xs ++ ys)
+  pub through_both : PaddedWrite unit a b at xs → PaddedWrite unit b c (at + length xs) ys → PaddedWrite unit a c at (xs ++ ys)
   through_both first second =
       let long = both in
       record {
@@ -45,14 +45,14 @@ module _ (unit : ℕ) (positive : 0 < unit) (a b c : StorageState) (at : ℕ) (x
         nothing = λ none. second.nothing (omega arith) ∙ first.nothing (omega arith);
         content = λ keeps. spliced_both at xs ys a.bytes b.bytes c.bytes (first.content keeps) (second.content (keeps_on a b first.shape keeps));
         size = size_both first second;
-        in_step = λ same. second.in_step (first.in_step same);
-        stops = stops_both (Mixed a.bytes at xs) (Mixed b.bytes (at + length xs) ys) (Mixed a.bytes at (xs ++ ys)) a b c first.shape first.in_step
-            (λ _ f mixed. mixed_longer at xs ys a.bytes f mixed) (λ keeps f mixed. mixed_behind at xs ys a.bytes b.bytes f (first.content keeps) mixed) first.stops second.stops;
-        as_long = as_long_both a b c first.shape first.in_step (through_longer unit a b at xs first) first.as_long second.as_long;
+        crash_image_is_bytes = λ same. second.crash_image_is_bytes (first.crash_image_is_bytes same);
+        crash_images = stops_both (OldOrNewBytes a.bytes at xs) (OldOrNewBytes b.bytes (at + length xs) ys) (OldOrNewBytes a.bytes at (xs ++ ys)) a b c first.shape first.crash_image_is_bytes
+            (λ _ f mixed. mixed_longer at xs ys a.bytes f mixed) (λ keeps f mixed. mixed_behind at xs ys a.bytes b.bytes f (first.content keeps) mixed) first.crash_images second.crash_images;
+        as_long = as_long_both a b c first.shape first.crash_image_is_bytes (through_longer unit a b at xs first) first.as_long second.as_long;
       }
 
   -- refused in the second part
-  pub not_behind : (fault : Fault) → Through unit a b at xs → Halted unit b c (at + length xs) ys fault → Halted unit a c at (xs ++ ys) fault
+  pub not_behind : (fault : Fault) → PaddedWrite unit a b at xs → PaddedWriteFailed unit b c (at + length xs) ys fault → PaddedWriteFailed unit a c at (xs ++ ys) fault
   not_behind fault first second =
       let long = both in
       let up = round_up-le unit (at + length xs) (at + length xs + length ys) positive (omega arith) in
@@ -72,10 +72,10 @@ module _ (unit : ℕ) (positive : 0 < unit) (a b c : StorageState) (at : ℕ) (x
         content = λ keeps. mixed_behind at xs ys a.bytes b.bytes c.bytes (first.content keeps) (second.content (keeps_on a b first.shape keeps));
         no_shorter = omega (arith, second.no_shorter);
         no_longer = omega (arith, second.no_longer);
-        refusals = subst (λ (n : ℕ). Rose n c.refusals) first.refusals second.refusals;
-        stops = stops_both (Mixed a.bytes at xs) (Mixed b.bytes (at + length xs) ys) (Mixed a.bytes at (xs ++ ys)) a b c first.shape first.in_step
-            (λ _ f mixed. mixed_longer at xs ys a.bytes f mixed) (λ keeps f mixed. mixed_behind at xs ys a.bytes b.bytes f (first.content keeps) mixed) first.stops second.stops;
-        as_long = as_long_both a b c first.shape first.in_step (through_longer unit a b at xs first) first.as_long second.as_long;
+        refusals = subst (λ (n : ℕ). HasRisen n c.refusals) first.refusals second.refusals;
+        crash_images = stops_both (OldOrNewBytes a.bytes at xs) (OldOrNewBytes b.bytes (at + length xs) ys) (OldOrNewBytes a.bytes at (xs ++ ys)) a b c first.shape first.crash_image_is_bytes
+            (λ _ f mixed. mixed_longer at xs ys a.bytes f mixed) (λ keeps f mixed. mixed_behind at xs ys a.bytes b.bytes f (first.content keeps) mixed) first.crash_images second.crash_images;
+        as_long = as_long_both a b c first.shape first.crash_image_is_bytes (through_longer unit a b at xs first) first.as_long second.as_long;
       }
 
   pub none_behind : (fault : Fault) → length xs ≡ 0 → OneRequest unit a b at xs → NoRequest unit b c (at + length xs) ys fault → NoRequest unit a c at (xs ++ ys) fault
@@ -83,15 +83,15 @@ module _ (unit : ℕ) (positive : 0 < unit) (a b c : StorageState) (at : ℕ) (x
       let stays = first.through.nothing none in
       let long = both in
       record {
-        some = omega (arith, second.some);
+        nonempty = omega (arith, second.nonempty);
         halted = not_behind fault first.through second.halted;
-        stop = second.stop ∙ ap (λ (s : StorageState). s.stop) stays;
-        past = second.past ∙ ap (λ (s : StorageState). s.past) stays;
+        crash_image = second.crash_image ∙ ap (λ (s : StorageState). s.crash_image) stays;
+        past_crash_images = second.past_crash_images ∙ ap (λ (s : StorageState). s.past_crash_images) stays;
       }
 
 module _ (unit : ℕ) (positive : 0 < unit) (a b : StorageState) (at : ℕ) (xs ys : List ℕ) (fault : Fault) where
   -- refused before the rest
-  pub not_longer : Halted unit a b at xs fault → Halted unit a b at (xs ++ ys) fault
+  pub not_longer : PaddedWriteFailed unit a b at xs fault → PaddedWriteFailed unit a b at (xs ++ ys) fault
   not_longer first =
       let long = length-append xs ys in
       let up = round_up-le unit (at + length xs) (at + length (xs ++ ys)) positive (omega arith) in
@@ -102,8 +102,8 @@ module _ (unit : ℕ) (positive : 0 < unit) (a b : StorageState) (at : ℕ) (xs 
         no_shorter = first.no_shorter;
         no_longer = omega (arith, first.no_longer);
         refusals = first.refusals;
-        stops = λ same tells keeps. let told = first.stops same tells keeps in
-            record { files = told.files; told = told.told; each = All-weaker (Mixed a.bytes at xs) (Mixed a.bytes at (xs ++ ys)) (λ f mixed. mixed_longer at xs ys a.bytes f mixed) told.files told.each };
+        crash_images = λ same tells keeps. let told = first.crash_images same tells keeps in
+            record { files = told.files; told = told.told; each = All-weaker (OldOrNewBytes a.bytes at xs) (OldOrNewBytes a.bytes at (xs ++ ys)) (λ f mixed. mixed_longer at xs ys a.bytes f mixed) told.files told.each };
         as_long = first.as_long;
       }
 
@@ -112,21 +112,21 @@ module _ (unit : ℕ) (positive : 0 < unit) (a b c d : StorageState) (at : ℕ) 
   third : (T : ℕ → Type 0) → T (at + length head + length mid) → T (at + length (head ++ mid))
   third T h = let e : at + length head + length mid ≡ at + length (head ++ mid) = omega (arith, length-append head mid) in subst T e h
 
-  pub parts_through : OneRequest unit a b at head → OneRequest unit b c (at + length head) mid → OneRequest unit c d (at + length head + length mid) tail → Through unit a d at (head ++ mid ++ tail)
+  pub parts_through : OneRequest unit a b at head → OneRequest unit b c (at + length head) mid → OneRequest unit c d (at + length head + length mid) tail → PaddedWrite unit a d at (head ++ mid ++ tail)
   parts_through one two three =
       through_both unit positive a c d at (head ++ mid) tail (through_both unit positive a b c at head mid one.through two.through)
-      (third (λ (n : ℕ). Through unit c d n tail) three.through)
+      (third (λ (n : ℕ). PaddedWrite unit c d n tail) three.through)
 
-  pub parts_not : (fault : Fault) → OneRequest unit a b at head → OneRequest unit b c (at + length head) mid → NoRequest unit c d (at + length head + length mid) tail fault → Halted unit a d at (head ++ mid ++ tail) fault
+  pub parts_not : (fault : Fault) → OneRequest unit a b at head → OneRequest unit b c (at + length head) mid → NoRequest unit c d (at + length head + length mid) tail fault → PaddedWriteFailed unit a d at (head ++ mid ++ tail) fault
   parts_not fault one two three =
       not_behind unit positive a c d at (head ++ mid) tail fault (through_both unit positive a b c at head mid one.through two.through)
-      (third (λ (n : ℕ). Halted unit c d n tail fault) three.halted)
+      (third (λ (n : ℕ). PaddedWriteFailed unit c d n tail fault) three.halted)
 
-  pub mid_not : (fault : Fault) → OneRequest unit a b at head → NoRequest unit b c (at + length head) mid fault → Halted unit a c at (head ++ mid ++ tail) fault
+  pub mid_not : (fault : Fault) → OneRequest unit a b at head → NoRequest unit b c (at + length head) mid fault → PaddedWriteFailed unit a c at (head ++ mid ++ tail) fault
   mid_not fault one two =
       not_longer unit positive a c at (head ++ mid) tail fault (not_behind unit positive a b c at head mid fault one.through two.halted)
 
-  pub head_not : (fault : Fault) → NoRequest unit a b at head fault → Halted unit a b at (head ++ mid ++ tail) fault
+  pub head_not : (fault : Fault) → NoRequest unit a b at head fault → PaddedWriteFailed unit a b at (head ++ mid ++ tail) fault
   head_not fault one =
       not_longer unit positive a b at (head ++ mid) tail fault (not_longer unit positive a b at head mid fault one.halted)
 
@@ -155,58 +155,58 @@ module _ (unit : ℕ) (positive : 0 < unit) (a b c d : StorageState) (same : uni
   second-of : OneRequest (unit_of a.shape) a b at head → OneRequest (unit_of b.shape) b c (at + length head) mid → OneRequest unit b c (at + length head) mid
   second-of one two = subst (λ (u : ℕ). OneRequest u b c (at + length head) mid) (second-unit one) two
 
-  pub parts_ok : {T : Type 0} (result : Result T Fault) → OneRequest (unit_of a.shape) a b at head → OneRequest (unit_of b.shape) b c (at + length head) mid → OnOk result (OneRequest (unit_of c.shape) c d (at + length head + length mid) tail) → OnOk result (Through unit a d at (head ++ mid ++ tail))
+  pub parts_ok : {T : Type 0} (result : Result T Fault) → OneRequest (unit_of a.shape) a b at head → OneRequest (unit_of b.shape) b c (at + length head) mid → OnOk result (OneRequest (unit_of c.shape) c d (at + length head + length mid) tail) → OnOk result (PaddedWrite unit a d at (head ++ mid ++ tail))
   parts_ok result one two three =
       on_ok_weaker result (λ third. parts_through unit positive a b c d at head mid tail (first-of one) (second-of one two) third)
       (subst (λ (u : ℕ). OnOk result (OneRequest u c d (at + length head + length mid) tail)) (third-unit one two) three)
 
-  pub parts_err : {T : Type 0} (result : Result T Fault) → OneRequest (unit_of a.shape) a b at head → OneRequest (unit_of b.shape) b c (at + length head) mid → IfErr result (NoRequest (unit_of c.shape) c d (at + length head + length mid) tail) → IfErr result (Halted unit a d at (head ++ mid ++ tail))
+  pub parts_err : {T : Type 0} (result : Result T Fault) → OneRequest (unit_of a.shape) a b at head → OneRequest (unit_of b.shape) b c (at + length head) mid → IfErr result (NoRequest (unit_of c.shape) c d (at + length head + length mid) tail) → IfErr result (PaddedWriteFailed unit a d at (head ++ mid ++ tail))
   parts_err result one two three =
-      IfErr-weaker result (NoRequest unit c d (at + length head + length mid) tail) (Halted unit a d at (head ++ mid ++ tail))
+      IfErr-weaker result (NoRequest unit c d (at + length head + length mid) tail) (PaddedWriteFailed unit a d at (head ++ mid ++ tail))
       (λ fault third. parts_not unit positive a b c d at head mid tail fault (first-of one) (second-of one two) third)
       (subst (λ (u : ℕ). IfErr result (NoRequest u c d (at + length head + length mid) tail)) (third-unit one two) three)
 
-  pub mid_err : {T : Type 0} (result : Result T Fault) (fault : Fault) → IsErrAnd result (λ e. e ≡ fault) → OneRequest (unit_of a.shape) a b at head → NoRequest (unit_of b.shape) b c (at + length head) mid fault → IfErr result (Halted unit a c at (head ++ mid ++ tail))
+  pub mid_err : {T : Type 0} (result : Result T Fault) (fault : Fault) → IsErrAnd result (λ e. e ≡ fault) → OneRequest (unit_of a.shape) a b at head → NoRequest (unit_of b.shape) b c (at + length head) mid fault → IfErr result (PaddedWriteFailed unit a c at (head ++ mid ++ tail))
   mid_err result fault is_err one two =
-      passed result (Halted unit a c at (head ++ mid ++ tail)) fault is_err
+      passed result (PaddedWriteFailed unit a c at (head ++ mid ++ tail)) fault is_err
       (mid_not unit positive a b c d at head mid tail fault (first-of one) (subst (λ (u : ℕ). NoRequest u b c (at + length head) mid fault) (second-unit one) two))
 
-  pub head_err : {T : Type 0} (result : Result T Fault) (fault : Fault) → IsErrAnd result (λ e. e ≡ fault) → NoRequest (unit_of a.shape) a b at head fault → IfErr result (Halted unit a b at (head ++ mid ++ tail))
+  pub head_err : {T : Type 0} (result : Result T Fault) (fault : Fault) → IsErrAnd result (λ e. e ≡ fault) → NoRequest (unit_of a.shape) a b at head fault → IfErr result (PaddedWriteFailed unit a b at (head ++ mid ++ tail))
   head_err result fault is_err one =
-      passed result (Halted unit a b at (head ++ mid ++ tail)) fault is_err
+      passed result (PaddedWriteFailed unit a b at (head ++ mid ++ tail)) fault is_err
       (head_not unit positive a b c d at head mid tail fault (subst (λ (u : ℕ). NoRequest u a b at head fault) (sym same) one))
 
 -- the stops of a call, whatever it answered
-refused_stops : (unit : ℕ) (a b : StorageState) (at : ℕ) (xs : List ℕ) (P : Type 0) (fault : Fault) → UnlessOverflow P a b (NotThrough unit a b at xs) fault → Stops (Mixed a.bytes at xs) a b
-refused_stops unit a b at xs P RangeOverflow h = no_stops (Mixed a.bytes at xs) a b (ap (λ (s : StorageState). s.stop) h.1) (ap (λ (s : StorageState). s.past) h.1)
-refused_stops unit a b at xs P _ h = h.stops
+refused_stops : (unit : ℕ) (a b : StorageState) (at : ℕ) (xs : List ℕ) (P : Type 0) (fault : Fault) → UnlessOverflow P a b (PaddedWriteRefused unit a b at xs) fault → EachCrashImage (OldOrNewBytes a.bytes at xs) a b
+refused_stops unit a b at xs P RangeOverflow h = no_stops (OldOrNewBytes a.bytes at xs) a b (ap (λ (s : StorageState). s.crash_image) h.1) (ap (λ (s : StorageState). s.past_crash_images) h.1)
+refused_stops unit a b at xs P _ h = h.crash_images
 
-pub stops_of : {T : Type 0} (unit : ℕ) (a b : StorageState) (at : ℕ) (xs : List ℕ) (P : Type 0) (result : Result T Fault) → OnOk result (Through unit a b at xs) → IfErr result (UnlessOverflow P a b (NotThrough unit a b at xs)) → Stops (Mixed a.bytes at xs) a b
-stops_of unit a b at xs P (Ok x) ok err = ok.stops
+pub stops_of : {T : Type 0} (unit : ℕ) (a b : StorageState) (at : ℕ) (xs : List ℕ) (P : Type 0) (result : Result T Fault) → OnOk result (PaddedWrite unit a b at xs) → IfErr result (UnlessOverflow P a b (PaddedWriteRefused unit a b at xs)) → EachCrashImage (OldOrNewBytes a.bytes at xs) a b
+stops_of unit a b at xs P (Ok x) ok err = ok.crash_images
 stops_of unit a b at xs P (Err fault) ok err = refused_stops unit a b at xs P fault err
 
-refused_long : (unit : ℕ) (a b : StorageState) (at : ℕ) (xs : List ℕ) (P : Type 0) (fault : Fault) → UnlessOverflow P a b (NotThrough unit a b at xs) fault → StopsAsLong a b
-refused_long unit a b at xs P RangeOverflow h = no_stops (λ f. length a.bytes ≤ length f) a b (ap (λ (s : StorageState). s.stop) h.1) (ap (λ (s : StorageState). s.past) h.1)
+refused_long : (unit : ℕ) (a b : StorageState) (at : ℕ) (xs : List ℕ) (P : Type 0) (fault : Fault) → UnlessOverflow P a b (PaddedWriteRefused unit a b at xs) fault → CrashImagesNoShorter a b
+refused_long unit a b at xs P RangeOverflow h = no_stops (λ f. length a.bytes ≤ length f) a b (ap (λ (s : StorageState). s.crash_image) h.1) (ap (λ (s : StorageState). s.past_crash_images) h.1)
 refused_long unit a b at xs P _ h = h.as_long
 
-pub as_long_of : {T : Type 0} (unit : ℕ) (a b : StorageState) (at : ℕ) (xs : List ℕ) (P : Type 0) (result : Result T Fault) → OnOk result (Through unit a b at xs) → IfErr result (UnlessOverflow P a b (NotThrough unit a b at xs)) → StopsAsLong a b
+pub as_long_of : {T : Type 0} (unit : ℕ) (a b : StorageState) (at : ℕ) (xs : List ℕ) (P : Type 0) (result : Result T Fault) → OnOk result (PaddedWrite unit a b at xs) → IfErr result (UnlessOverflow P a b (PaddedWriteRefused unit a b at xs)) → CrashImagesNoShorter a b
 as_long_of unit a b at xs P (Ok x) ok err = ok.as_long
 as_long_of unit a b at xs P (Err fault) ok err = refused_long unit a b at xs P fault err
 
 -- the shape and the counts after a call, whatever it answered
-refused_shape : (unit : ℕ) (a b : StorageState) (at : ℕ) (xs : List ℕ) (P : Type 0) (fault : Fault) → UnlessOverflow P a b (NotThrough unit a b at xs) fault → b.shape ≡ a.shape
+refused_shape : (unit : ℕ) (a b : StorageState) (at : ℕ) (xs : List ℕ) (P : Type 0) (fault : Fault) → UnlessOverflow P a b (PaddedWriteRefused unit a b at xs) fault → b.shape ≡ a.shape
 refused_shape unit a b at xs P RangeOverflow h = ap (λ (s : StorageState). s.shape) h.1
 refused_shape unit a b at xs P _ h = h.shape
 
-pub shape_of : {T : Type 0} (unit : ℕ) (a b : StorageState) (at : ℕ) (xs : List ℕ) (P : Type 0) (result : Result T Fault) → OnOk result (Through unit a b at xs) → IfErr result (UnlessOverflow P a b (NotThrough unit a b at xs)) → b.shape ≡ a.shape
+pub shape_of : {T : Type 0} (unit : ℕ) (a b : StorageState) (at : ℕ) (xs : List ℕ) (P : Type 0) (result : Result T Fault) → OnOk result (PaddedWrite unit a b at xs) → IfErr result (UnlessOverflow P a b (PaddedWriteRefused unit a b at xs)) → b.shape ≡ a.shape
 shape_of unit a b at xs P (Ok x) ok err = ok.shape
 shape_of unit a b at xs P (Err fault) ok err = refused_shape unit a b at xs P fault err
 
-refused_later : (unit : ℕ) (a b : StorageState) (at : ℕ) (xs : List ℕ) (P : Type 0) (fault : Fault) → UnlessOverflow P a b (NotThrough unit a b at xs) fault → Later a b
-refused_later unit a b at xs P RangeOverflow h = subst (λ (s : StorageState). Later a s) (sym h.1) (later_same a)
-refused_later unit a b at xs P fault h = record { faults = cause_later a.faults b.faults fault h.cause; refusals = h.later }
+refused_later : (unit : ℕ) (a b : StorageState) (at : ℕ) (xs : List ℕ) (P : Type 0) (fault : Fault) → UnlessOverflow P a b (PaddedWriteRefused unit a b at xs) fault → CountsNotFallen a b
+refused_later unit a b at xs P RangeOverflow h = subst (λ (s : StorageState). CountsNotFallen a s) (sym h.1) (later_same a)
+refused_later unit a b at xs P fault h = record { faults = cause_later a.faults b.faults fault h.cause; refusals = h.counts_not_fallen }
 
-pub later_of : {T : Type 0} (unit : ℕ) (a b : StorageState) (at : ℕ) (xs : List ℕ) (P : Type 0) (result : Result T Fault) → OnOk result (Through unit a b at xs) → IfErr result (UnlessOverflow P a b (NotThrough unit a b at xs)) → Later a b
+pub later_of : {T : Type 0} (unit : ℕ) (a b : StorageState) (at : ℕ) (xs : List ℕ) (P : Type 0) (result : Result T Fault) → OnOk result (PaddedWrite unit a b at xs) → IfErr result (UnlessOverflow P a b (PaddedWriteRefused unit a b at xs)) → CountsNotFallen a b
 later_of unit a b at xs P (Ok x) ok err = record { faults = omega (arith, ok.faults); refusals = omega (arith, ok.refusals) }
 later_of unit a b at xs P (Err fault) ok err = refused_later unit a b at xs P fault err
 
@@ -215,6 +215,6 @@ not_read_later : (old new : StorageState) (at n : ℕ) (fault : Fault) → NotRe
 not_read_later old new at n RangeOverflow h = omega (arith, ap (λ (s : StorageState). s.faults) h.1)
 not_read_later old new at n fault h = cause_later old.faults new.faults fault h
 
-pub read_later : {T : Type 0} (old new : StorageState) (at n : ℕ) (result : Result T Fault) → Kept old new → OnOk result (new.faults ≡ old.faults) → IfErr result (NotRead old new at n) → Later old new
+pub read_later : {T : Type 0} (old new : StorageState) (at n : ℕ) (result : Result T Fault) → UnchangedButFaults old new → OnOk result (new.faults ≡ old.faults) → IfErr result (NotRead old new at n) → CountsNotFallen old new
 read_later old new at n (Ok x) kept ok err = record { faults = omega (arith, ok); refusals = omega (arith, kept.refusals) }
 read_later old new at n (Err fault) kept ok err = record { faults = not_read_later old new at n fault err; refusals = omega (arith, kept.refusals) }

@@ -78,7 +78,7 @@ module _ (base : List ℕ) (requests after : List Request) (n : ℕ) (s s' : Sto
     faults = changed.faults;
     refusals = ap (λ (m : ℕ). m + n) changed.refusals;
     mark = λ _. ap (files_before base) pushed ∙ files_before-push base requests request;
-    in_step = λ in_step tells keeps.
+    crash_image_is_bytes = λ in_step tells keeps.
         let keeps' = subst (λ (shape : Shape). IsTrue shape.keeps) changed.shape keeps in
         let was = in_step tells keeps' in
         ap (replay base) pushed ∙ replay-push base requests request ∙ ap (apply request) was ∙ same keeps' was;
@@ -104,9 +104,9 @@ module _ (base : List ℕ) (requests : List Request) (n : ℕ) (s s' : StorageSt
   log_refused fault refused = record {
     shape = ap (λ (shape : Shape). record shape { tells = true }) refused.shape;
     cause = refused.cause;
-    refusals = record { kept = omega (arith, refused.refusals.kept); rose = λ fits. omega (arith, refused.refusals.rose (omega arith)) };
-    stop = refl;
-    past = refl;
+    refusals = record { not_fallen = omega (arith, refused.refusals.not_fallen); rose = λ fits. omega (arith, refused.refusals.rose (omega arith)) };
+    crash_image = refl;
+    past_crash_images = refl;
   }
 
 -- the same, for what a call of the log knows
@@ -178,6 +178,6 @@ log_begun s s' base requests same is none =
       bytes = (same i).bytes;
       faults = (same i).faults;
       refusals = refusals i;
-      stop = stop i;
-      past = past i;
+      crash_image = stop i;
+      past_crash_images = past i;
     }

@@ -1,13 +1,13 @@
 -- Want of memory.
 use Rattle.std.proofs.Common.{◌≡◌, inl, inr, ℕ, List}
-use Rattle.imago_storage.specs.State.{StorageState, Rose}
-use Rattle.imago_storage.specs.Through.{NotThrough}
+use Rattle.imago_storage.specs.State.{StorageState, HasRisen}
+use Rattle.imago_storage.specs.Through.{PaddedWriteRefused}
 use Rattle.imago_storage.specs.declared.fault.Fault.TheVariants.{Memory}
 use Rattle.imago_storage.proofs.Composing.{kept_same}
 
 -- a padded call that is refused for want of memory, and whose storage refused no change, leaves all as it was
-pub untouched : (unit : ℕ) (old new : StorageState) (at : ℕ) (bytes : List ℕ) → NotThrough unit old new at bytes Memory → (Rose old.refusals new.refusals → ⊥) → new ≡ old
-untouched unit old new at bytes refused calm = elim refused.kept [
-  | inl rose ↦ absurd (calm rose)
+pub untouched : (unit : ℕ) (old new : StorageState) (at : ℕ) (bytes : List ℕ) → PaddedWriteRefused unit old new at bytes Memory → (HasRisen old.refusals new.refusals → ⊥) → new ≡ old
+untouched unit old new at bytes refused no_change_refused = elim refused.refused_or_unchanged [
+  | inl rose ↦ absurd (no_change_refused rose)
   | inr kept ↦ kept_same old new kept refused.cause
 ]

@@ -5,9 +5,9 @@ use Rattle.std.proofs.lemmas.List.{ext_get_or, length-take, get_or-take, replica
 use Rattle.std.proofs.lemmas.Nat.{div-add-mod', mod_below}
 use Rattle.std.proofs.lemmas.Bool.{cases_lt}
 use Rattle.std.proofs.Math.Nat.{mul-mod_left}
-use Rattle.imago_storage.specs.State.{StorageState, IsWhole, unit_of}
+use Rattle.imago_storage.specs.State.{StorageState, IsUnitRange, unit_of}
 use Rattle.imago_storage.specs.Calls.{Cause, Written, NotWritten, RequestsOne}
-use Rattle.imago_storage.specs.Through.{HasWhole, RequestsOnce, Through, Halted, NotThrough, OneRequest, NoRequest, NotWrittenThrough}
+use Rattle.imago_storage.specs.Through.{HasWholeUnits, RequestsOnce, PaddedWrite, PaddedWriteFailed, PaddedWriteRefused, OneRequest, NoRequest, WriteFailed}
 use Rattle.imago_storage.specs.declared.fault.Fault.{Fault}
 use Rattle.imago_storage.specs.declared.fault.Fault.TheVariants.{Unsupported, RangeOverflow}
 use Rattle.imago_storage.specs.declared.zeroing.Zeroing.{Zeroing}
@@ -39,8 +39,8 @@ count-whole unit piece at left count divides whole rest low is =
       | inr ge ↦ ap (λ (m : ℕ). m % unit) (let e : count ≡ left = omega (arith, is, ge) in e) ∙ rest
     ]
 
-pub piece-units : (unit piece at n d count : ℕ) (zeroes : List ℕ) → 0 < unit → 0 < piece → piece % unit ≡ 0 → IsWhole unit at n → d % unit ≡ 0 → d ≤ n → count ≡ min (piece - (at + d) % piece) (n - d) → count ≤ length zeroes
-    → (count % unit ≡ 0) × IsWhole unit (at + d) (length (take count zeroes))
+pub piece-units : (unit piece at n d count : ℕ) (zeroes : List ℕ) → 0 < unit → 0 < piece → piece % unit ≡ 0 → IsUnitRange unit at n → d % unit ≡ 0 → d ≤ n → count ≡ min (piece - (at + d) % piece) (n - d) → count ≤ length zeroes
+    → (count % unit ≡ 0) × IsUnitRange unit (at + d) (length (take count zeroes))
 piece-units unit piece at n d count zeroes positive some divides whole done inside is room =
     let place : (at + d) % unit ≡ 0 = sum_of_whole unit at d positive whole.start done in
     let rest : (n - d) % unit ≡ 0 = difference-whole unit d n inside done whole.size in
@@ -54,31 +54,31 @@ piece-units unit piece at n d count zeroes positive some divides whole done insi
       },
     )
 
-module _ (unit : ℕ) (positive : 0 < unit) (a b c : StorageState) (at d count : ℕ) (zeroes : List ℕ) (none : (k : ℕ) → slice_index zeroes k ≡ 0) (room : count ≤ length zeroes) (done : Through unit a b at (replicate d 0)) where
+module _ (unit : ℕ) (positive : 0 < unit) (a b c : StorageState) (at d count : ℕ) (zeroes : List ℕ) (none : (k : ℕ) → slice_index zeroes k ≡ 0) (room : count ≤ length zeroes) (done : PaddedWrite unit a b at (replicate d 0)) where
   behind : (T : ℕ → List ℕ → Type 0) → T (at + d) (take count zeroes) → T (at + length {A = ℕ} (replicate d 0)) (replicate count 0)
   behind T h = subst (λ n. T n (replicate count 0)) (let e : at + d ≡ at + length {A = ℕ} (replicate d 0) = omega (arith, length_of_zeroes d) in e) (subst (T (at + d)) (zeroes-taken zeroes count none room) h)
 
   -- one piece more
-  pub piece-through : Through unit b c (at + d) (take count zeroes) → Through unit a c at (replicate (d + count) 0)
-  piece-through here = subst (Through unit a c at) (replicate-append-replicate d count 0) (through_both unit positive a b c at (replicate d 0) (replicate count 0) done (behind (Through unit b c) here))
+  pub piece-through : PaddedWrite unit b c (at + d) (take count zeroes) → PaddedWrite unit a c at (replicate (d + count) 0)
+  piece-through here = subst (PaddedWrite unit a c at) (replicate-append-replicate d count 0) (through_both unit positive a b c at (replicate d 0) (replicate count 0) done (behind (PaddedWrite unit b c) here))
 
   -- refused in this piece
-  pub piece-not : (n : ℕ) → d + count ≤ n → (fault : Fault) → Halted unit b c (at + d) (take count zeroes) fault → Halted unit a c at (replicate n 0) fault
+  pub piece-not : (n : ℕ) → d + count ≤ n → (fault : Fault) → PaddedWriteFailed unit b c (at + d) (take count zeroes) fault → PaddedWriteFailed unit a c at (replicate n 0) fault
   piece-not n inside fault here =
-      let so_far : Halted unit a c at (replicate (d + count) 0) fault = subst (λ l. Halted unit a c at l fault) (replicate-append-replicate d count 0) (not_behind unit positive a b c at (replicate d 0) (replicate count 0) fault done (behind (λ n l. Halted unit b c n l fault) here)) in
-      subst (λ l. Halted unit a c at l fault) (replicate-append-replicate (d + count) (n - (d + count)) 0 ∙ ap (λ m. replicate {A = ℕ} m 0) (let e : d + count + (n - (d + count)) ≡ n = omega arith in e))
+      let so_far : PaddedWriteFailed unit a c at (replicate (d + count) 0) fault = subst (λ l. PaddedWriteFailed unit a c at l fault) (replicate-append-replicate d count 0) (not_behind unit positive a b c at (replicate d 0) (replicate count 0) fault done (behind (λ n l. PaddedWriteFailed unit b c n l fault) here)) in
+      subst (λ l. PaddedWriteFailed unit a c at l fault) (replicate-append-replicate (d + count) (n - (d + count)) 0 ∙ ap (λ m. replicate {A = ℕ} m 0) (let e : d + count + (n - (d + count)) ≡ n = omega arith in e))
       (not_longer unit positive a c at (replicate (d + count) 0) (replicate (n - (d + count)) 0) fault so_far)
 
 -- a request for zeroes, as the bytes written
-module _ (unit : ℕ) (a b : StorageState) (at n : ℕ) (same : unit ≡ unit_of a.shape) (positive : 0 < unit) (some : 0 < n) (whole : IsWhole unit at n) where
-  whole-long : IsWhole (unit_of a.shape) at (length {A = ℕ} (replicate n 0))
-  whole-long = subst (IsWhole (unit_of a.shape) at) (sym (length_of_zeroes n)) (subst (λ u. IsWhole u at n) same whole)
+module _ (unit : ℕ) (a b : StorageState) (at n : ℕ) (same : unit ≡ unit_of a.shape) (positive : 0 < unit) (some : 0 < n) (whole : IsUnitRange unit at n) where
+  whole-long : IsUnitRange (unit_of a.shape) at (length {A = ℕ} (replicate n 0))
+  whole-long = subst (IsUnitRange (unit_of a.shape) at) (sym (length_of_zeroes n)) (subst (λ u. IsUnitRange u at n) same whole)
 
-  pub zeroes-through : Written a b at (replicate n 0) → Through unit a b at (replicate n 0)
-  zeroes-through written = subst (λ u. Through u a b at (replicate n 0)) (sym same) (whole_written a b at (replicate n 0) (omega (arith, same, positive)) (omega (arith, length_of_zeroes n, some)) whole-long written).through
+  pub zeroes-through : Written a b at (replicate n 0) → PaddedWrite unit a b at (replicate n 0)
+  zeroes-through written = subst (λ u. PaddedWrite u a b at (replicate n 0)) (sym same) (whole_written a b at (replicate n 0) (omega (arith, same, positive)) (omega (arith, length_of_zeroes n, some)) whole-long written).through
 
-  pub zeroes-not : (fault : Fault) → NotWritten a b at (replicate n 0) fault → Halted unit a b at (replicate n 0) fault
-  zeroes-not fault refused = subst (λ u. Halted u a b at (replicate n 0) fault) (sym same) (whole_refused a b at (replicate n 0) fault (omega (arith, same, positive)) (omega (arith, length_of_zeroes n, some)) refused).halted
+  pub zeroes-not : (fault : Fault) → NotWritten a b at (replicate n 0) fault → PaddedWriteFailed unit a b at (replicate n 0) fault
+  zeroes-not fault refused = subst (λ u. PaddedWriteFailed u a b at (replicate n 0) fault) (sym same) (whole_refused a b at (replicate n 0) fault (omega (arith, same, positive)) (omega (arith, length_of_zeroes n, some)) refused).halted
 
 -- `Unsupported` is no cause of a refused write
 pub never-unsupported : (zeroing : Zeroing) (a b : StorageState) (P : Fault → Type 0) (fault : Fault) → (P Unsupported → Cause a.faults b.faults Unsupported) → P fault → UnlessLeft zeroing a b P fault
@@ -86,8 +86,8 @@ never-unsupported Any a b P fault cause refused = refused
 never-unsupported Allocated a b P Unsupported cause refused = absurd (cause refused)
 never-unsupported Allocated a b P fault cause refused = refused
 
-pub halted-left : (zeroing : Zeroing) (unit : ℕ) (a b : StorageState) (at : ℕ) (bytes : List ℕ) (fault : Fault) → Halted unit a b at bytes fault → UnlessLeft zeroing a b (Halted unit a b at bytes) fault
-halted-left zeroing unit a b at bytes fault refused = never-unsupported zeroing a b (Halted unit a b at bytes) fault (λ (h : Halted unit a b at bytes Unsupported). h.cause) refused
+pub halted-left : (zeroing : Zeroing) (unit : ℕ) (a b : StorageState) (at : ℕ) (bytes : List ℕ) (fault : Fault) → PaddedWriteFailed unit a b at bytes fault → UnlessLeft zeroing a b (PaddedWriteFailed unit a b at bytes) fault
+halted-left zeroing unit a b at bytes fault refused = never-unsupported zeroing a b (PaddedWriteFailed unit a b at bytes) fault (λ (h : PaddedWriteFailed unit a b at bytes Unsupported). h.cause) refused
 
 -- the same refusal of a longer range
 pub left-longer : (zeroing : Zeroing) (a b : StorageState) (P Q : Fault → Type 0) → ((fault : Fault) → P fault → Q fault) → (fault : Fault) → UnlessLeft zeroing a b P fault → UnlessLeft zeroing a b Q fault
@@ -97,61 +97,61 @@ left-longer Allocated a b P Q weaker fault refused = weaker fault refused
 
 -- A unit, zeroes and a unit, one behind the other; each of the units may be none.
 module _ (unit : ℕ) (positive : 0 < unit) (a b c d : StorageState) (same : unit ≡ unit_of a.shape) (at : ℕ) (first : List ℕ) (n : ℕ) (last : List ℕ) where
-  first-of : OneRequest (unit_of a.shape) a b at first → Through unit a b at first
-  first-of one = subst (λ u. Through u a b at first) (sym same) one.through
+  first-of : OneRequest (unit_of a.shape) a b at first → PaddedWrite unit a b at first
+  first-of one = subst (λ u. PaddedWrite u a b at first) (sym same) one.through
 
-  behind-first : OneRequest (unit_of a.shape) a b at first → Through unit b c (at + length first) (replicate n 0) → Through unit a c at (first ++ replicate n 0)
+  behind-first : OneRequest (unit_of a.shape) a b at first → PaddedWrite unit b c (at + length first) (replicate n 0) → PaddedWrite unit a c at (first ++ replicate n 0)
   behind-first one two = through_both unit positive a b c at first (replicate n 0) (first-of one) two
 
-  last-unit : OneRequest (unit_of a.shape) a b at first → Through unit b c (at + length first) (replicate n 0) → unit_of c.shape ≡ unit
+  last-unit : OneRequest (unit_of a.shape) a b at first → PaddedWrite unit b c (at + length first) (replicate n 0) → unit_of c.shape ≡ unit
   last-unit one two = ap unit_of (two.shape ∙ one.through.shape) ∙ sym same
 
   last-at : at + length first + n ≡ at + length (first ++ replicate n 0)
   last-at = omega (arith, length-append first (replicate n 0), length_of_zeroes n)
 
-  pub edged-through : OneRequest (unit_of a.shape) a b at first → Through unit b c (at + length first) (replicate n 0) → OneRequest (unit_of c.shape) c d (at + length first + n) last → Through unit a d at (first ++ replicate n 0 ++ last)
+  pub edged-through : OneRequest (unit_of a.shape) a b at first → PaddedWrite unit b c (at + length first) (replicate n 0) → OneRequest (unit_of c.shape) c d (at + length first + n) last → PaddedWrite unit a d at (first ++ replicate n 0 ++ last)
   edged-through one two three =
       through_both unit positive a c d at (first ++ replicate n 0) last (behind-first one two)
-      (subst (λ p. Through unit c d p last) last-at (subst (λ u. Through u c d (at + length first + n) last) (last-unit one two) three.through))
+      (subst (λ p. PaddedWrite unit c d p last) last-at (subst (λ u. PaddedWrite u c d (at + length first + n) last) (last-unit one two) three.through))
 
-  pub last-refused : (fault : Fault) → OneRequest (unit_of a.shape) a b at first → Through unit b c (at + length first) (replicate n 0) → NoRequest (unit_of c.shape) c d (at + length first + n) last fault → Halted unit a d at (first ++ replicate n 0 ++ last) fault
+  pub last-refused : (fault : Fault) → OneRequest (unit_of a.shape) a b at first → PaddedWrite unit b c (at + length first) (replicate n 0) → NoRequest (unit_of c.shape) c d (at + length first + n) last fault → PaddedWriteFailed unit a d at (first ++ replicate n 0 ++ last) fault
   last-refused fault one two three =
       not_behind unit positive a c d at (first ++ replicate n 0) last fault (behind-first one two)
-      (subst (λ p. Halted unit c d p last fault) last-at (subst (λ u. Halted u c d (at + length first + n) last fault) (last-unit one two) three.halted))
+      (subst (λ p. PaddedWriteFailed unit c d p last fault) last-at (subst (λ u. PaddedWriteFailed u c d (at + length first + n) last fault) (last-unit one two) three.halted))
 
-  pub zeroes-refused : (fault : Fault) → OneRequest (unit_of a.shape) a b at first → Halted unit b c (at + length first) (replicate n 0) fault → Halted unit a c at (first ++ replicate n 0 ++ last) fault
+  pub zeroes-refused : (fault : Fault) → OneRequest (unit_of a.shape) a b at first → PaddedWriteFailed unit b c (at + length first) (replicate n 0) fault → PaddedWriteFailed unit a c at (first ++ replicate n 0 ++ last) fault
   zeroes-refused fault one two =
       not_longer unit positive a c at (first ++ replicate n 0) last fault (not_behind unit positive a b c at first (replicate n 0) fault (first-of one) two)
 
-  pub first-refused : (fault : Fault) → NoRequest (unit_of a.shape) a b at first fault → Halted unit a b at (first ++ replicate n 0 ++ last) fault
+  pub first-refused : (fault : Fault) → NoRequest (unit_of a.shape) a b at first fault → PaddedWriteFailed unit a b at (first ++ replicate n 0 ++ last) fault
   first-refused fault one =
       not_longer unit positive a b at (first ++ replicate n 0) last fault (not_longer unit positive a b at first (replicate n 0) fault
-      (subst (λ u. Halted u a b at first fault) (sym same) one.halted))
+      (subst (λ u. PaddedWriteFailed u a b at first fault) (sym same) one.halted))
 
 -- Bytes in three parts, of which the second is zeroed first, and then the first and the third are written.
 module _ (unit : ℕ) (positive : 0 < unit) (at start end : ℕ) (head mid tail all : List ℕ) (is : head ++ mid ++ tail ≡ all) (mid-at : start ≡ at + length head) (tail-at : end ≡ at + length (head ++ mid)) where
   -- the middle is refused
-  pub mid-left : (zeroing : Zeroing) (a b : StorageState) (fault : Fault) → UnlessLeft zeroing a b (Halted unit a b start mid) fault → UnlessLeft zeroing a b (Halted unit a b at all) fault
-  mid-left zeroing a b = left-longer zeroing a b (Halted unit a b start mid) (Halted unit a b at all) (λ fault refused.
-      subst (λ l. Halted unit a b at l fault) is (not_longer unit positive a b at (head ++ mid) tail fault (not_before unit a b at head mid fault (subst (λ p. Halted unit a b p mid fault) mid-at refused))))
+  pub mid-left : (zeroing : Zeroing) (a b : StorageState) (fault : Fault) → UnlessLeft zeroing a b (PaddedWriteFailed unit a b start mid) fault → UnlessLeft zeroing a b (PaddedWriteFailed unit a b at all) fault
+  mid-left zeroing a b = left-longer zeroing a b (PaddedWriteFailed unit a b start mid) (PaddedWriteFailed unit a b at all) (λ fault refused.
+      subst (λ l. PaddedWriteFailed unit a b at l fault) is (not_longer unit positive a b at (head ++ mid) tail fault (not_before unit a b at head mid fault (subst (λ p. PaddedWriteFailed unit a b p mid fault) mid-at refused))))
 
-  module _ (zeroing : Zeroing) (a b c : StorageState) (first : Through unit a b start mid) where
+  module _ (zeroing : Zeroing) (a b c : StorageState) (first : PaddedWrite unit a b start mid) where
     -- what lies before it is refused
-    pub head-left : (fault : Fault) → Halted unit b c at head fault → UnlessLeft zeroing a c (Halted unit a c at all) fault
+    pub head-left : (fault : Fault) → PaddedWriteFailed unit b c at head fault → UnlessLeft zeroing a c (PaddedWriteFailed unit a c at all) fault
     head-left fault refused = halted-left zeroing unit a c at all fault
-        (subst (λ l. Halted unit a c at l fault) is (not_longer unit positive a c at (head ++ mid) tail fault (not_front unit positive a b c at head mid fault (subst (λ p. Through unit a b p mid) mid-at first) refused)))
+        (subst (λ l. PaddedWriteFailed unit a c at l fault) is (not_longer unit positive a c at (head ++ mid) tail fault (not_front unit positive a b c at head mid fault (subst (λ p. PaddedWrite unit a b p mid) mid-at first) refused)))
 
-    module _ (d : StorageState) (second : Through unit b c at head) where
-      two : Through unit a c at (head ++ mid)
-      two = through_front unit positive a b c at head mid (subst (λ p. Through unit a b p mid) mid-at first) second
+    module _ (d : StorageState) (second : PaddedWrite unit b c at head) where
+      two : PaddedWrite unit a c at (head ++ mid)
+      two = through_front unit positive a b c at head mid (subst (λ p. PaddedWrite unit a b p mid) mid-at first) second
 
-      pub all-through : Through unit c d end tail → Through unit a d at all
-      all-through third = subst (Through unit a d at) is (through_both unit positive a c d at (head ++ mid) tail two (subst (λ p. Through unit c d p tail) tail-at third))
+      pub all-through : PaddedWrite unit c d end tail → PaddedWrite unit a d at all
+      all-through third = subst (PaddedWrite unit a d at) is (through_both unit positive a c d at (head ++ mid) tail two (subst (λ p. PaddedWrite unit c d p tail) tail-at third))
 
       -- what lies behind it is refused
-      pub tail-left : (fault : Fault) → Halted unit c d end tail fault → UnlessLeft zeroing a d (Halted unit a d at all) fault
+      pub tail-left : (fault : Fault) → PaddedWriteFailed unit c d end tail fault → UnlessLeft zeroing a d (PaddedWriteFailed unit a d at all) fault
       tail-left fault refused = halted-left zeroing unit a d at all fault
-          (subst (λ l. Halted unit a d at l fault) is (not_behind unit positive a c d at (head ++ mid) tail fault two (subst (λ p. Halted unit c d p tail fault) tail-at refused)))
+          (subst (λ l. PaddedWriteFailed unit a d at l fault) is (not_behind unit positive a c d at (head ++ mid) tail fault two (subst (λ p. PaddedWriteFailed unit c d p tail fault) tail-at refused)))
 
 -- the parts of a range whose whole units from start to end are zeroed first: what lies before them, and behind
 module _ (first last : List ℕ) (low high start end : ℕ) (before : low ≤ start) (some : start < end) (behind : end ≤ high) where
@@ -194,6 +194,6 @@ once-one old new n (Ok value) one = λ _. one
 once-one old new n (Err fault) one = one
 
 -- a refusal of a range that doesn't overflow, as callers see it
-pub not-overflowed : (a b : StorageState) (at : ℕ) (bytes : List ℕ) (fault : Fault) → NotThrough (unit_of a.shape) a b at bytes fault → NotWrittenThrough a b at bytes fault
+pub not-overflowed : (a b : StorageState) (at : ℕ) (bytes : List ℕ) (fault : Fault) → PaddedWriteRefused (unit_of a.shape) a b at bytes fault → WriteFailed a b at bytes fault
 not-overflowed a b at bytes RangeOverflow refused = absurd refused.cause
 not-overflowed a b at bytes fault refused = refused

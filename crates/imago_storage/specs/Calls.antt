@@ -1,6 +1,6 @@
 -- What the calls of a storage do. Places past a file's end read as 0.
 use Rattle.std.specs.Prelude.{◌≡◌, ◌⊎◌, ℕ, ◌+◌, ◌-◌, ◌<◌, ◌≤◌, max, List, ◌∷◌, length, slice_index, replicate, IsTrue, Result, MatchResult}
-use Rattle.imago_storage.specs.State.{StorageState, Rose, InStep}
+use Rattle.imago_storage.specs.State.{StorageState, HasRisen, CrashImageIsBytes}
 use Rattle.imago_storage.specs.declared.fault.Fault.{Fault}
 use Rattle.imago_storage.specs.declared.fault.Fault.TheVariants.{Unsupported, Memory, Storage}
 
@@ -11,7 +11,7 @@ pub record Spliced (old : List ℕ) (at : ℕ) (bytes new : List ℕ) : Type 0 w
   pub after : (k : ℕ) → at + length bytes ≤ k → slice_index new k ≡ slice_index old k
 
 -- the same, but in the range each byte is old or new
-pub record Mixed (old : List ℕ) (at : ℕ) (bytes new : List ℕ) : Type 0 where
+pub record OldOrNewBytes (old : List ℕ) (at : ℕ) (bytes new : List ℕ) : Type 0 where
   pub before : (k : ℕ) → k < at → slice_index new k ≡ slice_index old k
   pub inside : (k : ℕ) → at ≤ k → k < at + length bytes → (slice_index new k ≡ slice_index old k)
       ⊎ (slice_index new k ≡ slice_index bytes (k - at))
@@ -29,7 +29,7 @@ Reads bytes at buf = (k : ℕ) → k < length buf → slice_index buf k ≡ slic
 -- the cause of a refusal, by the count of faults: no other number comes
 abbrev pub Cause : ℕ → ℕ → Fault → Type 0
 Cause before after Memory = after ≡ before
-Cause before after Storage = Rose before after
+Cause before after Storage = HasRisen before after
 Cause before after fault = ⊥
 
 -- the count of faults after a call
@@ -37,15 +37,15 @@ abbrev pub CountsFaults : {T : Type 0} → ℕ → ℕ → Result T Fault → Ty
 CountsFaults before after result = MatchResult result (λ _. after ≡ before) (Cause before after)
 
 -- a call that changes nothing but the count of faults
-pub record Kept (old new : StorageState) : Type 0 where
+pub record UnchangedButFaults (old new : StorageState) : Type 0 where
   pub shape : new.shape ≡ old.shape
   pub bytes : new.bytes ≡ old.bytes
   pub refusals : new.refusals ≡ old.refusals
-  pub stop : new.stop ≡ old.stop
-  pub past : new.past ≡ old.past
+  pub crash_image : new.crash_image ≡ old.crash_image
+  pub past_crash_images : new.past_crash_images ≡ old.past_crash_images
 
 -- no count of faults or refusals has fallen
-pub record Later (old new : StorageState) : Type 0 where
+pub record CountsNotFallen (old new : StorageState) : Type 0 where
   pub faults : old.faults ≤ new.faults
   pub refusals : old.refusals ≤ new.refusals
 
@@ -55,24 +55,24 @@ IsFaultless old new = (new.faults ≡ old.faults) × (new.refusals ≡ old.refus
 
 -- one request where the call succeeds, and none where it is refused
 abbrev pub RequestsOne : {T : Type 0} → StorageState → StorageState → Result T Fault → Type 0
-RequestsOne old new result = MatchResult result (λ _. IsTrue old.shape.tells → new.past ≡ old.stop ∷ old.past) (λ _.
-    (new.stop ≡ old.stop) × (new.past ≡ old.past))
+RequestsOne old new result = MatchResult result (λ _. IsTrue old.shape.tells → new.past_crash_images ≡ old.crash_image ∷ old.past_crash_images) (λ _.
+    (new.crash_image ≡ old.crash_image) × (new.past_crash_images ≡ old.past_crash_images))
 
 -- a change: one request
 pub record Changed (old new : StorageState) : Type 0 where
   pub shape : new.shape ≡ old.shape
   pub faults : new.faults ≡ old.faults
   pub refusals : new.refusals ≡ old.refusals
-  pub mark : IsTrue old.shape.tells → new.past ≡ old.stop ∷ old.past
-  pub in_step : InStep old → InStep new
+  pub mark : IsTrue old.shape.tells → new.past_crash_images ≡ old.crash_image ∷ old.past_crash_images
+  pub crash_image_is_bytes : CrashImageIsBytes old → CrashImageIsBytes new
 
 -- a change that was refused: no request
 pub record Refused (old new : StorageState) (fault : Fault) : Type 0 where
   pub shape : new.shape ≡ old.shape
   pub cause : Cause old.faults new.faults fault
-  pub refusals : Rose old.refusals new.refusals
-  pub stop : new.stop ≡ old.stop
-  pub past : new.past ≡ old.past
+  pub refusals : HasRisen old.refusals new.refusals
+  pub crash_image : new.crash_image ≡ old.crash_image
+  pub past_crash_images : new.past_crash_images ≡ old.past_crash_images
 
 -- the range has these bytes, a gap before it zeroes, and the length reaches its end
 pub record Written (old new : StorageState) (at : ℕ) (bytes : List ℕ) : Type 0 where
@@ -83,7 +83,7 @@ pub record Written (old new : StorageState) (at : ℕ) (bytes : List ℕ) : Type
 -- a write that was refused: in the range each byte is old or new
 pub record NotWritten (old new : StorageState) (at : ℕ) (bytes : List ℕ) (fault : Fault) : Type 0 where
   pub refused : Refused old new fault
-  pub content : IsTrue old.shape.keeps → Mixed old.bytes at bytes new.bytes
+  pub content : IsTrue old.shape.keeps → OldOrNewBytes old.bytes at bytes new.bytes
   pub no_shorter : length old.bytes ≤ length new.bytes
   pub no_longer : length new.bytes ≤ max (length old.bytes) (at + length bytes)
 

@@ -32,8 +32,8 @@ fuse_state state f = record {
   bytes = (state f.inner).bytes;
   faults = (state f.inner).faults + f.faults;
   refusals = (state f.inner).refusals + f.refusals;
-  stop = (state f.inner).stop;
-  past = (state f.inner).past;
+  crash_image = (state f.inner).crash_image;
+  past_crash_images = (state f.inner).past_crash_images;
 }
 
 -- its alignments are the inner one's

@@ -1,6 +1,6 @@
 -- What a storage with a log is: requests, replayed over the bytes that it was made over.
 use Rattle.std.specs.Prelude.{◌≡◌, ◌⊎◌, ℕ, ◌+◌, ◌-◌, List, [], ◌∷◌, ◌++◌, length, take, drop, replicate, slice_get, true, refl, Option, Some, IsTrue, IfErr, Result, MatchResult}
-use Rattle.imago_storage.specs.State.{StorageState, Rose, InStep, IsAligned}
+use Rattle.imago_storage.specs.State.{StorageState, HasRisen, CrashImageIsBytes, IsAligned}
 use Rattle.imago_storage.specs.declared.fault.Fault.{Fault}
 use Rattle.imago_storage.specs.declared.fault.Fault.TheVariants.{Memory, Storage}
 use Rattle.imago_storage.specs.declared.log.Request.{Request}
@@ -38,8 +38,8 @@ logged base requests refusals s = record {
   bytes = s.bytes;
   faults = s.faults;
   refusals = s.refusals + refusals;
-  stop = replay base requests;
-  past = files_before base requests;
+  crash_image = replay base requests;
+  past_crash_images = files_before base requests;
 }
 
 -- the bytes that the log was made over
@@ -73,15 +73,15 @@ log_tells state log = refl
 
 -- a state that tells its stops from now on
 abbrev pub telling : StorageState → StorageState
-telling s = record s { shape = record s.shape { tells = true }; stop = s.bytes; past = [] }
+telling s = record s { shape = record s.shape { tells = true }; crash_image = s.bytes; past_crash_images = [] }
 
 -- the file that a stop leaves, so many requests before the last
 abbrev pub IsStop : StorageState → ℕ → List ℕ → Type 0
-IsStop s back file = slice_get (s.stop ∷ s.past) back ≡ Some file
+IsStop s back file = slice_get (s.crash_image ∷ s.past_crash_images) back ≡ Some file
 
 -- while no change was refused, a stop now has the bytes
 abbrev pub ShowsBytes : StorageState → List ℕ → Type 0
-ShowsBytes s file = InStep s → IsTrue s.shape.keeps → file ≡ s.bytes
+ShowsBytes s file = CrashImageIsBytes s → IsTrue s.shape.keeps → file ≡ s.bytes
 
 -- why no log can be made: want of memory, or a storage that failed
 abbrev pub NotLogged : Fault → Type 0
@@ -109,5 +109,5 @@ pub record Noted {S T : Type 0} (state : S → StorageState) (IsSo : Request →
       (λ _. log_requests new ≡ log_requests old)
   pub refused :
       IfErr result (λ _.
-      Rose (state (log_inner old)).refusals (state (log_inner new)).refusals ⊎
+      HasRisen (state (log_inner old)).refusals (state (log_inner new)).refusals ⊎
       (log_state state new ≡ record (log_state state old) { refusals = (log_state state new).refusals }))

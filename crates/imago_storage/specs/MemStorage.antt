@@ -22,8 +22,8 @@ memory bytes align refusals = record {
   bytes = bytes;
   faults = 0;
   refusals = refusals;
-  stop = [];
-  past = [];
+  crash_image = [];
+  past_crash_images = [];
 }
 
 -- what contracts see of a storage in memory

@@ -23,8 +23,8 @@ zeroes size = record {
   bytes = replicate size 0;
   faults = 0;
   refusals = 0;
-  stop = [];
-  past = [];
+  crash_image = [];
+  past_crash_images = [];
 }
 
 -- what contracts see of a storage that holds nothing

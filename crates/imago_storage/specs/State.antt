@@ -22,8 +22,8 @@ pub record StorageState : Type 0 where
   pub refusals : ℕ
   -- the file that a stop leaves now, and those that a stop left before each request, the newest first;
   -- of meaning where it tells its stops
-  pub stop : List ℕ
-  pub past : List (List ℕ)
+  pub crash_image : List ℕ
+  pub past_crash_images : List (List ℕ)
 
 -- a power of two, at most 2 ^ 20
 pub record IsAlignment (n : ℕ) : Type 0 where
@@ -43,19 +43,19 @@ abbrev pub unit_of : Shape → ℕ
 unit_of shape = max shape.req_align shape.mem_align
 
 -- a range of whole units, whose end fits 64 bits
-pub record IsWhole (unit at n : ℕ) : Type 0 where
+pub record IsUnitRange (unit at n : ℕ) : Type 0 where
   pub start : at % unit ≡ 0
   pub size : n % unit ≡ 0
   pub fits : at + n < 2 ^ 64
 
 -- a count that stays once it is at the greatest `u64`, and counts as risen there
-pub record Rose (before after : ℕ) : Type 0 where
-  pub kept : before ≤ after
+pub record HasRisen (before after : ℕ) : Type 0 where
+  pub not_fallen : before ≤ after
   pub rose : after + 1 < 2 ^ 64 → before < after
 
 -- where it tells its stops and keeps what is written: a stop leaves the bytes
-abbrev pub InStep : StorageState → Type 0
-InStep s = IsTrue s.shape.tells → IsTrue s.shape.keeps → s.stop ≡ s.bytes
+abbrev pub CrashImageIsBytes : StorageState → Type 0
+CrashImageIsBytes s = IsTrue s.shape.tells → IsTrue s.shape.keeps → s.crash_image ≡ s.bytes
 
 -- no request of a storage of this kind ever fails
 abbrev pub NeverFails : {S : Type 0} → (S → StorageState) → Type 0

@@ -86,7 +86,7 @@ ToBelow below p was is = (is ≡ was) ⊎ (is ≡ below p)
 -- the buffer holds the range's places below the size, which are bytes, and then 0
 pub record HoldsRange (disk : Disk) (offset : ℕ) (buffer : List ℕ) : Type 0 where
   pub below : (i : ℕ) → i < length buffer → offset + i < disk.size → disk.value (offset + i) ≡ byte (slice_index buffer i)
-  pub past : (i : ℕ) → i < length buffer → disk.size ≤ offset + i → slice_index buffer i ≡ 0
+  pub past_crash_images : (i : ℕ) → i < length buffer → disk.size ≤ offset + i → slice_index buffer i ≡ 0
 
 -- values stay
 pub record SameValues (old new : Disk) : Type 0 where
@@ -98,7 +98,7 @@ pub record SameValues (old new : Disk) : Type 0 where
 pub record Prepares (old new : Disk) (offset asked : ℕ) (overwrite : Bool) (n : ℕ) (state : Bool) : Type 0 where
   pub was_free : IsFree old
   pub values : SameValues old new
-  pub some : 0 < n
+  pub nonempty : 0 < n
   pub most : n ≤ asked
   pub inside : offset + n ≤ old.size
   pub holds : (p : ℕ) → p < old.size → (new.hold p ≡ free) ⊎ (IsIn offset n p × (new.hold p ≡ held None overwrite))
@@ -107,15 +107,15 @@ pub record Prepares (old new : Disk) (offset asked : ℕ) (overwrite : Bool) (n 
 
 -- What becomes of a place when its mapping is committed: the byte written to it, else its old value or, where that was announced,
 -- any byte.
-abbrev pub Settles : Hold → Value → Value → Type 0
-Settles free was is = is ≡ was
-Settles (held (Some b) announced) was is = is ≡ byte b
-Settles (held None true) was is = (is ≡ was) ⊎ IsByte is
-Settles (held None false) was is = is ≡ was
+abbrev pub CommitsValue : Hold → Value → Value → Type 0
+CommitsValue free was is = is ≡ was
+CommitsValue (held (Some b) announced) was is = is ≡ byte b
+CommitsValue (held None true) was is = (is ≡ was) ⊎ IsByte is
+CommitsValue (held None false) was is = is ≡ was
 
 pub record Commits (old new : Disk) : Type 0 where
   pub size : new.size ≡ old.size
-  pub value : (p : ℕ) → p < old.size → Settles (old.hold p) (old.value p) (new.value p)
+  pub value : (p : ℕ) → p < old.size → CommitsValue (old.hold p) (old.value p) (new.value p)
   pub is_free : IsFree new
 
 pub record Cancels (old new : Disk) : Type 0 where
@@ -141,13 +141,13 @@ IsFilled zeroes v = v ≡ byte 0
 
 pub record Grows (old new : Disk) (size : ℕ) (fill : Growth) : Type 0 where
   pub new_size : new.size ≡ size
-  pub kept : (p : ℕ) → p < old.size → new.value p ≡ old.value p
+  pub prefix_unchanged : (p : ℕ) → p < old.size → new.value p ≡ old.value p
   pub filled : (p : ℕ) → old.size ≤ p → p < size → IsFilled fill (new.value p)
   pub is_free : IsFree new
 
 pub record Shrinks (old new : Disk) (size : ℕ) : Type 0 where
   pub new_size : new.size ≡ size
-  pub kept : (p : ℕ) → p < size → new.value p ≡ old.value p
+  pub prefix_unchanged : (p : ℕ) → p < size → new.value p ≡ old.value p
   pub is_free : IsFree new
 
 -- P where the call has nothing to do, and else Q
@@ -167,7 +167,7 @@ pub record IsRun (below : ℕ → Value) (disk : Disk) (offset asked : ℕ) (kin
   pub most : n ≤ asked
   pub end : (kind ≡ at_end) ↔ (disk.size ≤ offset)
   pub none : disk.size ≤ offset → n ≡ 0
-  pub some : offset < disk.size → 0 < asked → 0 < n
+  pub nonempty : offset < disk.size → 0 < asked → 0 < n
   pub inside : offset < disk.size → offset + n ≤ disk.size
   pub range : (p : ℕ) → IsIn offset n p → IsOfKind below kind p (disk.value p)
 

@@ -1,9 +1,9 @@
 // Calls on any range, padded to whole units. A unit is the request alignment in qemu.
 ghost use Rattle.std.specs.Prelude.{◌≡◌, ℕ, ◌+◌, ◌-◌, ◌%◌, ◌<◌, ◌≤◌, ◌^◌, max, ◌++◌, length, slice_index, replicate, IsOk, OnOk, OnErr, IfErr, IsErrOf, IsTrue};
 ghost use Rattle.std.specs.Option.{SomeIff};
-ghost use Rattle.imago_storage.specs.State.{unit_of, IsAlignment, IsWhole};
-ghost use Rattle.imago_storage.specs.Calls.{Cause, CountsFaults, Kept, Later, Mixed, Reads};
-ghost use Rattle.imago_storage.specs.Through.{round_up, round_down, HasWhole, Overflows, Through, OneRequest, NoRequest, IsOnePart, Parts, WritesAtOnce, ZeroesAtOnce, Stops, StopsAsLong, WrittenThrough, NotWrittenThrough, WriteRefused, NotZeroed, GivenUp, NotGivenUp, GivesUpAtStops, NotRead};
+ghost use Rattle.imago_storage.specs.State.{unit_of, IsAlignment, IsUnitRange};
+ghost use Rattle.imago_storage.specs.Calls.{Cause, CountsFaults, UnchangedButFaults, CountsNotFallen, OldOrNewBytes, Reads};
+ghost use Rattle.imago_storage.specs.Through.{round_up, round_down, HasWholeUnits, Overflows, PaddedWrite, OneRequest, NoRequest, IsOnePart, Parts, WritesInOneRequest, ZeroesInOneRequest, EachCrashImage, CrashImagesNoShorter, WriteSucceeded, WriteFailed, WriteRefused, NotZeroed, GivenUp, NotGivenUp, CrashImagesOfDiscard, NotRead};
 
 use crate::discarding::discard_whole;
 use crate::edits::take_part;
@@ -34,7 +34,7 @@ pub fn padded_end(offset: u64, n: u64, unit: u64) -> Option<u64>
 pub fn whole_part(offset: u64, n: u64, align: u64) -> Option<(u64, u64)>
     requires positive { 0 < align }
     requires fits { offset + n < 2 ^ 64 }
-    ensures { SomeIff result (HasWhole align offset n) (round_up align offset, round_down align (offset + n)) }
+    ensures { SomeIff result (HasWholeUnits align offset n) (round_up align offset, round_down align (offset + n)) }
 {
     let start = padded_end(offset, 0, align)?;
     let end = (offset + n) / align * align;
@@ -60,11 +60,11 @@ fn write_padded<S: Storage>(
     data: &[u8],
     offset: u64,
 ) -> Result<(), WriteFault>
-    ensures ok { OnOk result (Through (unit_of (S.state storage.old).shape) (S.state storage.old) (S.state storage.new) offset «data».now) }
+    ensures ok { OnOk result (PaddedWrite (unit_of (S.state storage.old).shape) (S.state storage.old) (S.state storage.new) offset «data».now) }
     ensures err { IfErr result (WriteRefused (S.state storage.old) (S.state storage.new) offset «data».now) }
     ensures overflow { Overflows (unit_of (S.state storage.old).shape) offset (length «data».now)
         → IsErrOf result (WriteFault.Before Fault.RangeOverflow) }
-    ensures once { WritesAtOnce (S.state storage.old) (S.state storage.new) offset (length «data».now) result }
+    ensures single_request { WritesInOneRequest (S.state storage.old) (S.state storage.new) offset (length «data».now) result }
     ensures empty { length «data».now ≡ 0 → IsOk result × (S.state storage.new ≡ S.state storage.old) }
     ensures unit { IsAlignment (unit_of (S.state storage.old).shape) }
 {
@@ -91,10 +91,10 @@ fn read_around<S: Storage>(
     within: u64,
 ) -> Result<(), Fault>
     requires low { within ≤ offset }
-    requires whole { IsWhole (unit_of (S.state storage.old).shape) (offset - within) (length padded.old) }
+    requires whole { IsUnitRange (unit_of (S.state storage.old).shape) (offset - within) (length padded.old) }
     requires inside { within + length buf.old ≤ length padded.old }
     ensures ok { OnOk result (Reads (S.state storage.old).bytes offset buf.new) }
-    ensures kept { Kept (S.state storage.old) (S.state storage.new) }
+    ensures unchanged_but_faults { UnchangedButFaults (S.state storage.old) (S.state storage.new) }
     ensures faults { CountsFaults (S.state storage.old).faults (S.state storage.new).faults result }
 {
     storage.pure_read(padded, offset - within)?;
@@ -110,7 +110,7 @@ fn read_padded<S: Storage>(
     offset: u64,
 ) -> Result<(), Fault>
     ensures ok { OnOk result (Reads (S.state storage.old).bytes offset buf.new) }
-    ensures kept { Kept (S.state storage.old) (S.state storage.new) }
+    ensures unchanged_but_faults { UnchangedButFaults (S.state storage.old) (S.state storage.new) }
     ensures faults { OnOk result ((S.state storage.new).faults ≡ (S.state storage.old).faults) }
     ensures err { IfErr result (NotRead (S.state storage.old) (S.state storage.new) offset (length buf.old)) }
     ensures overflow { Overflows (unit_of (S.state storage.old).shape) offset (length buf.old) → IsErrOf result Fault.RangeOverflow }
@@ -163,11 +163,11 @@ pub trait StorageExt: Storage {
     /// and the buffer open.
     fn read(&mut self, alloc: Global, buf: &mut [u8], offset: u64) -> Result<(), Fault>
         ensures ok { OnOk result (Reads (Self.state self.old).bytes offset buf.new) }
-        ensures kept { Kept (Self.state self.old) (Self.state self.new) }
+        ensures unchanged_but_faults { UnchangedButFaults (Self.state self.old) (Self.state self.new) }
         ensures faults { OnOk result ((Self.state self.new).faults ≡ (Self.state self.old).faults) }
         ensures err { IfErr result (NotRead (Self.state self.old) (Self.state self.new) offset (length buf.old)) }
         ensures overflow { Overflows (unit_of (Self.state self.old).shape) offset (length buf.old) → IsErrOf result Fault.RangeOverflow }
-        ensures later { Later (Self.state self.old) (Self.state self.new) }
+        ensures counts_not_fallen { CountsNotFallen (Self.state self.old) (Self.state self.new) }
         // An empty range is never refused, and nothing is asked of the storage.
         ensures empty { length buf.old ≡ 0 → IsOk result × (Self.state self.new ≡ Self.state self.old) }
         // What is known of each storage: so a range below 2^63, say, never overflows.
@@ -183,17 +183,17 @@ pub trait StorageExt: Storage {
     /// changes anything; else with `Fault::Memory` and `Fault::Storage`, which leave each byte of the range old or new,
     /// and none changed outside, and all as it was where the storage refused no change.
     fn write(&mut self, alloc: Global, data: &[u8], offset: u64) -> Result<(), Fault>
-        ensures ok { OnOk result (WrittenThrough (Self.state self.old) (Self.state self.new) offset «data».now) }
-        ensures err { IfErr result (NotWrittenThrough (Self.state self.old) (Self.state self.new) offset «data».now) }
+        ensures ok { OnOk result (WriteSucceeded (Self.state self.old) (Self.state self.new) offset «data».now) }
+        ensures err { IfErr result (WriteFailed (Self.state self.old) (Self.state self.new) offset «data».now) }
         ensures overflow { Overflows (unit_of (Self.state self.old).shape) offset (length «data».now) → IsErrOf result Fault.RangeOverflow }
         ensures shape { (Self.state self.new).shape ≡ (Self.state self.old).shape }
-        ensures later { Later (Self.state self.old) (Self.state self.new) }
+        ensures counts_not_fallen { CountsNotFallen (Self.state self.old) (Self.state self.new) }
         // Whatever the answer: each file that a stop inside the call leaves has old or new bytes in the range,
         // and outside what was there, and it is no shorter.
-        ensures stops { Stops (Mixed (Self.state self.old).bytes offset «data».now) (Self.state self.old) (Self.state self.new) }
-        ensures as_long { StopsAsLong (Self.state self.old) (Self.state self.new) }
+        ensures crash_images { EachCrashImage (OldOrNewBytes (Self.state self.old).bytes offset «data».now) (Self.state self.old) (Self.state self.new) }
+        ensures as_long { CrashImagesNoShorter (Self.state self.old) (Self.state self.new) }
         // A range of whole units, or one in a single unit, is one request.
-        ensures once { WritesAtOnce (Self.state self.old) (Self.state self.new) offset (length «data».now) result }
+        ensures single_request { WritesInOneRequest (Self.state self.old) (Self.state self.new) offset (length «data».now) result }
         // An empty range is never refused, and nothing is asked of the storage.
         ensures empty { length «data».now ≡ 0 → IsOk result × (Self.state self.new ≡ Self.state self.old) }
         // What is known of each storage: so the range of a power of two bytes at a multiple of it is one request.
@@ -202,16 +202,16 @@ pub trait StorageExt: Storage {
     /// The same as `write`, and where it is refused it tells whether it had begun: `WriteFault::Before` where it had asked for
     /// no change, as for want of a buffer or of what is read before, and `WriteFault::Within` where the storage refused one.
     fn try_write(&mut self, alloc: Global, data: &[u8], offset: u64) -> Result<(), WriteFault>
-        ensures ok { OnOk result (WrittenThrough (Self.state self.old) (Self.state self.new) offset «data».now) }
+        ensures ok { OnOk result (WriteSucceeded (Self.state self.old) (Self.state self.new) offset «data».now) }
         // Before it had begun only the count of faults may have risen.
         ensures err { IfErr result (WriteRefused (Self.state self.old) (Self.state self.new) offset «data».now) }
         ensures overflow { Overflows (unit_of (Self.state self.old).shape) offset (length «data».now)
             → IsErrOf result (WriteFault.Before Fault.RangeOverflow) }
         ensures shape { (Self.state self.new).shape ≡ (Self.state self.old).shape }
-        ensures later { Later (Self.state self.old) (Self.state self.new) }
-        ensures stops { Stops (Mixed (Self.state self.old).bytes offset «data».now) (Self.state self.old) (Self.state self.new) }
-        ensures as_long { StopsAsLong (Self.state self.old) (Self.state self.new) }
-        ensures once { WritesAtOnce (Self.state self.old) (Self.state self.new) offset (length «data».now) result }
+        ensures counts_not_fallen { CountsNotFallen (Self.state self.old) (Self.state self.new) }
+        ensures crash_images { EachCrashImage (OldOrNewBytes (Self.state self.old).bytes offset «data».now) (Self.state self.old) (Self.state self.new) }
+        ensures as_long { CrashImagesNoShorter (Self.state self.old) (Self.state self.new) }
+        ensures single_request { WritesInOneRequest (Self.state self.old) (Self.state self.new) offset (length «data».now) result }
         ensures empty { length «data».now ≡ 0 → IsOk result × (Self.state self.new ≡ Self.state self.old) }
         ensures unit { IsAlignment (unit_of (Self.state self.old).shape) };
 
@@ -223,13 +223,13 @@ pub trait StorageExt: Storage {
     ///
     /// It is refused as `write` is, and leaves then what `write` leaves.
     fn write_zeroes(&mut self, alloc: Global, offset: u64, length: u64) -> Result<(), Fault>
-        ensures ok { OnOk result (WrittenThrough (Self.state self.old) (Self.state self.new) offset (replicate length 0)) }
-        ensures err { IfErr result (NotWrittenThrough (Self.state self.old) (Self.state self.new) offset (replicate length 0)) }
+        ensures ok { OnOk result (WriteSucceeded (Self.state self.old) (Self.state self.new) offset (replicate length 0)) }
+        ensures err { IfErr result (WriteFailed (Self.state self.old) (Self.state self.new) offset (replicate length 0)) }
         ensures overflow { Overflows (unit_of (Self.state self.old).shape) offset length → IsErrOf result Fault.RangeOverflow }
         ensures shape { (Self.state self.new).shape ≡ (Self.state self.old).shape }
-        ensures later { Later (Self.state self.old) (Self.state self.new) }
-        ensures stops { Stops (Mixed (Self.state self.old).bytes offset (replicate length 0)) (Self.state self.old) (Self.state self.new) }
-        ensures as_long { StopsAsLong (Self.state self.old) (Self.state self.new) }
+        ensures counts_not_fallen { CountsNotFallen (Self.state self.old) (Self.state self.new) }
+        ensures crash_images { EachCrashImage (OldOrNewBytes (Self.state self.old).bytes offset (replicate length 0)) (Self.state self.old) (Self.state self.new) }
+        ensures as_long { CrashImagesNoShorter (Self.state self.old) (Self.state self.new) }
         ensures empty { length ≡ 0 → IsOk result × (Self.state self.new ≡ Self.state self.old) }
         ensures unit { IsAlignment (unit_of (Self.state self.old).shape) };
 
@@ -244,15 +244,15 @@ pub trait StorageExt: Storage {
         offset: u64,
         length: u64,
     ) -> Result<(), Fault>
-        ensures ok { OnOk result (WrittenThrough (Self.state self.old) (Self.state self.new) offset (replicate length 0)) }
+        ensures ok { OnOk result (WriteSucceeded (Self.state self.old) (Self.state self.new) offset (replicate length 0)) }
         ensures err { IfErr result (NotZeroed (Self.state self.old) (Self.state self.new) offset length) }
         ensures overflow { Overflows (unit_of (Self.state self.old).shape) offset length → IsErrOf result Fault.RangeOverflow }
         ensures shape { (Self.state self.new).shape ≡ (Self.state self.old).shape }
-        ensures later { Later (Self.state self.old) (Self.state self.new) }
-        ensures stops { Stops (Mixed (Self.state self.old).bytes offset (replicate length 0)) (Self.state self.old) (Self.state self.new) }
-        ensures as_long { StopsAsLong (Self.state self.old) (Self.state self.new) }
+        ensures counts_not_fallen { CountsNotFallen (Self.state self.old) (Self.state self.new) }
+        ensures crash_images { EachCrashImage (OldOrNewBytes (Self.state self.old).bytes offset (replicate length 0)) (Self.state self.old) (Self.state self.new) }
+        ensures as_long { CrashImagesNoShorter (Self.state self.old) (Self.state self.new) }
         // A range of whole units of the alignment of zeroing is one request.
-        ensures once { ZeroesAtOnce (Self.state self.old) (Self.state self.new) offset length result }
+        ensures single_request { ZeroesInOneRequest (Self.state self.old) (Self.state self.new) offset length result }
         ensures empty { length ≡ 0 → IsOk result × (Self.state self.new ≡ Self.state self.old) }
         ensures unit { IsAlignment (unit_of (Self.state self.old).shape) };
 
@@ -267,10 +267,10 @@ pub trait StorageExt: Storage {
         ensures err { IfErr result (NotGivenUp (Self.state self.old) (Self.state self.new) offset length) }
         ensures overflow { Overflows (unit_of (Self.state self.old).shape) offset length → IsErrOf result Fault.RangeOverflow }
         ensures shape { (Self.state self.new).shape ≡ (Self.state self.old).shape }
-        ensures later { Later (Self.state self.old) (Self.state self.new) }
+        ensures counts_not_fallen { CountsNotFallen (Self.state self.old) (Self.state self.new) }
         // Each file that a stop inside the call leaves is the old one but for these units.
-        ensures stops { GivesUpAtStops (Self.state self.old) (Self.state self.new) offset length }
-        ensures as_long { StopsAsLong (Self.state self.old) (Self.state self.new) }
+        ensures crash_images { CrashImagesOfDiscard (Self.state self.old) (Self.state self.new) offset length }
+        ensures as_long { CrashImagesNoShorter (Self.state self.old) (Self.state self.new) }
         ensures empty { length ≡ 0 → IsOk result × (Self.state self.new ≡ Self.state self.old) }
         ensures unit { IsAlignment (unit_of (Self.state self.old).shape) };
 }

@@ -1,7 +1,7 @@
 // A storage that fails once: in qemu `blkdebug` injects such errors. imago has none.
 ghost use Rattle.std.specs.Prelude.{◌≡◌, ◌≢◌, ◌+◌, ◌^◌, ◌-◌, min, length, replicate, OnOk, IfErr, MatchBool};
-ghost use Rattle.imago_storage.specs.State.{Rose, IsWhole, unit_of};
-ghost use Rattle.imago_storage.specs.Calls.{CountsFaults, DiscardRefused, Discarded, Kept, Later, NotWritten, Reads, RequestsOne, ResizeRefused, Resized, Written, ZeroingRefused};
+ghost use Rattle.imago_storage.specs.State.{HasRisen, IsUnitRange, unit_of};
+ghost use Rattle.imago_storage.specs.Calls.{CountsFaults, DiscardRefused, Discarded, UnchangedButFaults, CountsNotFallen, NotWritten, Reads, RequestsOne, ResizeRefused, Resized, Written, ZeroingRefused};
 
 use crate::{Fault, PreallocateMode, StopStorage, Storage};
 use std::alloc::Global;
@@ -47,20 +47,20 @@ impl<S: Storage> FuseStorage<S> {
     }
 
     // Counts a call, and says whether it is the one that fails.
-    fn trips(&mut self) -> bool
+    fn fails_this_call(&mut self) -> bool
         ensures inner { self.new.inner ≡ self.old.inner }
         ensures call { self.new.n ≡ self.old.n }
         ensures count { self.new.count ≡ min (self.old.count + 1) (2 ^ 64 - 1) }
         ensures nth { MatchBool result (self.old.count + 1 ≡ self.old.n) (self.old.count + 1 ≢ self.old.n) }
         ensures refusals { self.new.refusals ≡ self.old.refusals }
-        ensures faults { MatchBool result (Rose self.old.faults self.new.faults) (self.new.faults ≡ self.old.faults) }
+        ensures faults { MatchBool result (HasRisen self.old.faults self.new.faults) (self.new.faults ≡ self.old.faults) }
     {
-        let trips = self.count < self.n && self.count == self.n - 1;
+        let fails_this_call = self.count < self.n && self.count == self.n - 1;
         self.count = self.count.saturating_add(1);
-        if trips {
+        if fails_this_call {
             self.faults = self.faults.saturating_add(1);
         }
-        trips
+        fails_this_call
     }
 
     // Counts a change, and says whether it is the one that fails, and is refused.
@@ -69,14 +69,14 @@ impl<S: Storage> FuseStorage<S> {
         ensures call { self.new.n ≡ self.old.n }
         ensures count { self.new.count ≡ min (self.old.count + 1) (2 ^ 64 - 1) }
         ensures nth { MatchBool result (self.old.count + 1 ≡ self.old.n) (self.old.count + 1 ≢ self.old.n) }
-        ensures refusals { MatchBool result (Rose self.old.refusals self.new.refusals) (self.new.refusals ≡ self.old.refusals) }
-        ensures faults { MatchBool result (Rose self.old.faults self.new.faults) (self.new.faults ≡ self.old.faults) }
+        ensures refusals { MatchBool result (HasRisen self.old.refusals self.new.refusals) (self.new.refusals ≡ self.old.refusals) }
+        ensures faults { MatchBool result (HasRisen self.old.faults self.new.faults) (self.new.faults ≡ self.old.faults) }
     {
-        let trips = self.trips();
-        if trips {
+        let fails_this_call = self.fails_this_call();
+        if fails_this_call {
             self.refusals = self.refusals.saturating_add(1);
         }
-        trips
+        fails_this_call
     }
 }
 
@@ -117,26 +117,26 @@ impl<S: Storage> Storage for FuseStorage<S> {
     }
 
     fn pure_read(&mut self, buf: &mut [u8], offset: u64) -> Result<(), Fault>
-        requires { IsWhole (unit_of (fuse_state S.state self.old).shape) offset (length buf.old) }
+        requires { IsUnitRange (unit_of (fuse_state S.state self.old).shape) offset (length buf.old) }
         ensures read { OnOk result (Reads (fuse_state S.state self.old).bytes offset buf.new) }
-        ensures kept { Kept (fuse_state S.state self.old) (fuse_state S.state self.new) }
+        ensures unchanged_but_faults { UnchangedButFaults (fuse_state S.state self.old) (fuse_state S.state self.new) }
         ensures faults { CountsFaults (fuse_state S.state self.old).faults (fuse_state S.state self.new).faults result }
-        ensures later { Later (fuse_state S.state self.old) (fuse_state S.state self.new) }
+        ensures counts_not_fallen { CountsNotFallen (fuse_state S.state self.old) (fuse_state S.state self.new) }
         ensures counted { Counted self.old self.new result }
     {
-        if self.trips() {
+        if self.fails_this_call() {
             return Err(Fault::Storage);
         }
         self.inner.pure_read(buf, offset)
     }
 
     fn pure_write(&mut self, data: &[u8], offset: u64) -> Result<(), Fault>
-        requires { IsWhole (unit_of (fuse_state S.state self.old).shape) offset (length «data».now) }
+        requires { IsUnitRange (unit_of (fuse_state S.state self.old).shape) offset (length «data».now) }
         ensures ok { OnOk result (Written (fuse_state S.state self.old) (fuse_state S.state self.new) offset «data».now) }
         ensures err { IfErr result (NotWritten (fuse_state S.state self.old) (fuse_state S.state self.new) offset «data».now) }
         ensures shape { (fuse_state S.state self.new).shape ≡ (fuse_state S.state self.old).shape }
-        ensures later { Later (fuse_state S.state self.old) (fuse_state S.state self.new) }
-        ensures once { RequestsOne (fuse_state S.state self.old) (fuse_state S.state self.new) result }
+        ensures counts_not_fallen { CountsNotFallen (fuse_state S.state self.old) (fuse_state S.state self.new) }
+        ensures single_request { RequestsOne (fuse_state S.state self.old) (fuse_state S.state self.new) result }
         ensures counted { Counted self.old self.new result }
     {
         if self.refuses() {
@@ -146,13 +146,13 @@ impl<S: Storage> Storage for FuseStorage<S> {
     }
 
     fn pure_write_zeroes(&mut self, offset: u64, length: u64) -> Result<(), Fault>
-        requires whole { IsWhole (unit_of (fuse_state S.state self.old).shape) offset length }
-        requires zeroes { IsWhole (fuse_state S.state self.old).shape.zero_align offset length }
+        requires whole { IsUnitRange (unit_of (fuse_state S.state self.old).shape) offset length }
+        requires zeroes { IsUnitRange (fuse_state S.state self.old).shape.zero_align offset length }
         ensures ok { OnOk result (Written (fuse_state S.state self.old) (fuse_state S.state self.new) offset (replicate length 0)) }
         ensures err { IfErr result (ZeroingRefused (fuse_state S.state self.old) (fuse_state S.state self.new) offset length) }
         ensures shape { (fuse_state S.state self.new).shape ≡ (fuse_state S.state self.old).shape }
-        ensures later { Later (fuse_state S.state self.old) (fuse_state S.state self.new) }
-        ensures once { RequestsOne (fuse_state S.state self.old) (fuse_state S.state self.new) result }
+        ensures counts_not_fallen { CountsNotFallen (fuse_state S.state self.old) (fuse_state S.state self.new) }
+        ensures single_request { RequestsOne (fuse_state S.state self.old) (fuse_state S.state self.new) result }
         ensures counted { Counted self.old self.new result }
     {
         if self.refuses() {
@@ -162,13 +162,13 @@ impl<S: Storage> Storage for FuseStorage<S> {
     }
 
     fn pure_write_allocated_zeroes(&mut self, offset: u64, length: u64) -> Result<(), Fault>
-        requires whole { IsWhole (unit_of (fuse_state S.state self.old).shape) offset length }
-        requires zeroes { IsWhole (fuse_state S.state self.old).shape.zero_align offset length }
+        requires whole { IsUnitRange (unit_of (fuse_state S.state self.old).shape) offset length }
+        requires zeroes { IsUnitRange (fuse_state S.state self.old).shape.zero_align offset length }
         ensures ok { OnOk result (Written (fuse_state S.state self.old) (fuse_state S.state self.new) offset (replicate length 0)) }
         ensures err { IfErr result (ZeroingRefused (fuse_state S.state self.old) (fuse_state S.state self.new) offset length) }
         ensures shape { (fuse_state S.state self.new).shape ≡ (fuse_state S.state self.old).shape }
-        ensures later { Later (fuse_state S.state self.old) (fuse_state S.state self.new) }
-        ensures once { RequestsOne (fuse_state S.state self.old) (fuse_state S.state self.new) result }
+        ensures counts_not_fallen { CountsNotFallen (fuse_state S.state self.old) (fuse_state S.state self.new) }
+        ensures single_request { RequestsOne (fuse_state S.state self.old) (fuse_state S.state self.new) result }
         ensures counted { Counted self.old self.new result }
     {
         if self.refuses() {
@@ -178,13 +178,13 @@ impl<S: Storage> Storage for FuseStorage<S> {
     }
 
     fn pure_discard(&mut self, offset: u64, length: u64) -> Result<(), Fault>
-        requires whole { IsWhole (unit_of (fuse_state S.state self.old).shape) offset length }
-        requires discards { IsWhole (fuse_state S.state self.old).shape.discard_align offset length }
+        requires whole { IsUnitRange (unit_of (fuse_state S.state self.old).shape) offset length }
+        requires discards { IsUnitRange (fuse_state S.state self.old).shape.discard_align offset length }
         ensures ok { OnOk result (Discarded (fuse_state S.state self.old) (fuse_state S.state self.new) offset length) }
         ensures err { IfErr result (DiscardRefused (fuse_state S.state self.old) (fuse_state S.state self.new) offset length) }
         ensures shape { (fuse_state S.state self.new).shape ≡ (fuse_state S.state self.old).shape }
-        ensures later { Later (fuse_state S.state self.old) (fuse_state S.state self.new) }
-        ensures once { RequestsOne (fuse_state S.state self.old) (fuse_state S.state self.new) result }
+        ensures counts_not_fallen { CountsNotFallen (fuse_state S.state self.old) (fuse_state S.state self.new) }
+        ensures single_request { RequestsOne (fuse_state S.state self.old) (fuse_state S.state self.new) result }
         ensures counted { Counted self.old self.new result }
     {
         if self.refuses() {
@@ -197,8 +197,8 @@ impl<S: Storage> Storage for FuseStorage<S> {
         ensures ok { OnOk result (Resized (fuse_state S.state self.old) (fuse_state S.state self.new) size) }
         ensures err { IfErr result (ResizeRefused (fuse_state S.state self.old) (fuse_state S.state self.new)) }
         ensures shape { (fuse_state S.state self.new).shape ≡ (fuse_state S.state self.old).shape }
-        ensures later { Later (fuse_state S.state self.old) (fuse_state S.state self.new) }
-        ensures once { RequestsOne (fuse_state S.state self.old) (fuse_state S.state self.new) result }
+        ensures counts_not_fallen { CountsNotFallen (fuse_state S.state self.old) (fuse_state S.state self.new) }
+        ensures single_request { RequestsOne (fuse_state S.state self.old) (fuse_state S.state self.new) result }
         ensures counted { Counted self.old self.new result }
     {
         if self.refuses() {
@@ -208,33 +208,33 @@ impl<S: Storage> Storage for FuseStorage<S> {
     }
 
     fn flush(&mut self) -> Result<(), Fault>
-        ensures kept { Kept (fuse_state S.state self.old) (fuse_state S.state self.new) }
+        ensures unchanged_but_faults { UnchangedButFaults (fuse_state S.state self.old) (fuse_state S.state self.new) }
         ensures faults { CountsFaults (fuse_state S.state self.old).faults (fuse_state S.state self.new).faults result }
-        ensures later { Later (fuse_state S.state self.old) (fuse_state S.state self.new) }
+        ensures counts_not_fallen { CountsNotFallen (fuse_state S.state self.old) (fuse_state S.state self.new) }
         ensures counted { Counted self.old self.new result }
     {
-        if self.trips() {
+        if self.fails_this_call() {
             return Err(Fault::Storage);
         }
         self.inner.flush()
     }
 
     fn sync(&mut self) -> Result<(), Fault>
-        ensures kept { Kept (fuse_state S.state self.old) (fuse_state S.state self.new) }
+        ensures unchanged_but_faults { UnchangedButFaults (fuse_state S.state self.old) (fuse_state S.state self.new) }
         ensures faults { CountsFaults (fuse_state S.state self.old).faults (fuse_state S.state self.new).faults result }
-        ensures later { Later (fuse_state S.state self.old) (fuse_state S.state self.new) }
+        ensures counts_not_fallen { CountsNotFallen (fuse_state S.state self.old) (fuse_state S.state self.new) }
         ensures counted { Counted self.old self.new result }
     {
-        if self.trips() {
+        if self.fails_this_call() {
             return Err(Fault::Storage);
         }
         self.inner.sync()
     }
 
     fn invalidate_cache(&mut self) -> Result<(), Fault>
-        ensures kept { Kept (fuse_state S.state self.old) (fuse_state S.state self.new) }
+        ensures unchanged_but_faults { UnchangedButFaults (fuse_state S.state self.old) (fuse_state S.state self.new) }
         ensures faults { CountsFaults (fuse_state S.state self.old).faults (fuse_state S.state self.new).faults result }
-        ensures later { Later (fuse_state S.state self.old) (fuse_state S.state self.new) }
+        ensures counts_not_fallen { CountsNotFallen (fuse_state S.state self.old) (fuse_state S.state self.new) }
         ensures uncounted { Uncounted self.old self.new }
     {
         self.inner.invalidate_cache()

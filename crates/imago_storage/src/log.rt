@@ -1,7 +1,7 @@
 // A storage that keeps a log of its requests: `blklogwrites` in qemu. imago has none.
 ghost use Rattle.std.specs.Prelude.{◌≡◌, ◌≤◌, ◌-◌, ◌∷◌, ◌++◌, [], List, length, take, replicate, true, OnOk, IfOk, IfErr, IsErrOf, IsOkUnless, IsTrue};
-ghost use Rattle.imago_storage.specs.State.{InStep, IsWhole, Rose, unit_of};
-ghost use Rattle.imago_storage.specs.Calls.{CountsFaults, Kept, Later, NotWritten, Reads, RequestsOne, ResizeRefused, Resized, Written, ZeroingRefused};
+ghost use Rattle.imago_storage.specs.State.{CrashImageIsBytes, IsUnitRange, HasRisen, unit_of};
+ghost use Rattle.imago_storage.specs.Calls.{CountsFaults, UnchangedButFaults, CountsNotFallen, NotWritten, Reads, RequestsOne, ResizeRefused, Resized, Written, ZeroingRefused};
 ghost use Rattle.imago_storage.specs.Log.{apply, IsStop, NotLogged, replay, ShowsBytes};
 
 use crate::edits::{splice, splice_zeroes};
@@ -41,7 +41,7 @@ impl<S: Storage> LogStorage<S> {
     #[tactic(auto, using(crate::proofs::Marks::length_of_past), unfolding(crate::specs::Log::log_requests, crate::specs::Log::log_state))]
     pub fn requests(&self) -> &[Request]
         ensures requests { result.now ≡ log_requests self.now }
-        ensures mark { length result.now ≡ length (log_state S.state self.now).past }
+        ensures mark { length result.now ≡ length (log_state S.state self.now).past_crash_images }
     {
         self.requests.as_slice()
     }
@@ -65,7 +65,7 @@ impl<S: Storage> LogStorage<S> {
         ensures ok_refusals { OnOk result (self.new.refusals ≡ self.old.refusals) }
         ensures err { IfErr result (λ e. e ≡ Fault.Memory) }
         ensures err_requests { IfErr result (λ e. self.new.requests.items ≡ self.old.requests.items) }
-        ensures err_refusals { IfErr result (λ e. Rose self.old.refusals self.new.refusals) }
+        ensures err_refusals { IfErr result (λ e. HasRisen self.old.refusals self.new.refusals) }
     {
         match self.requests.push(request) {
             Ok(()) => Ok(()),
@@ -84,7 +84,7 @@ impl<S: Storage> LogStorage<S> {
         ensures ok { IfOk result (λ copy. copy.items ≡ bytes.now) }
         ensures ok_refusals { OnOk result (self.new.refusals ≡ self.old.refusals) }
         ensures err { IfErr result (λ e. e ≡ Fault.Memory) }
-        ensures err_refusals { IfErr result (λ e. Rose self.old.refusals self.new.refusals) }
+        ensures err_refusals { IfErr result (λ e. HasRisen self.old.refusals self.new.refusals) }
     {
         match bytes.to_vec(self.alloc) {
             Ok(copy) => Ok(copy),
@@ -139,7 +139,7 @@ impl<S: Storage> LogStorage<S> {
         requires { k ≤ length (log_requests self.old) }
         ensures ok { IfOk result (λ file. file.items ≡ replay (log_base self.old) (take k (log_requests self.old))) }
         ensures first { k ≡ 0 → IfOk result (λ file. file.items ≡ log_base self.old) }
-        ensures last { k ≡ length (log_requests self.old) → IfOk result (λ file. file.items ≡ (log_state S.state self.old).stop) }
+        ensures last { k ≡ length (log_requests self.old) → IfOk result (λ file. file.items ≡ (log_state S.state self.old).crash_image) }
         // While no change was refused, the last stop has the bytes.
         ensures now { k ≡ length (log_requests self.old) → IfOk result (λ file. ShowsBytes (log_state S.state self.old) file.items) }
         // It is the file that the log's state has for this stop.
@@ -188,7 +188,7 @@ fn apply_request(file: &mut Vec<u8>, request: &Request) -> Result<(), Fault>
 pub trait StopStorage: Storage {
     /// How many requests it has made so far.
     fn mark(&self) -> usize
-        ensures { result ≡ length (Self.state self.now).past };
+        ensures { result ≡ length (Self.state self.now).past_crash_images };
 
     ghost tells: { (s : Self) → IsTrue (Self.state s).shape.tells };
 }
@@ -243,23 +243,23 @@ impl<S: Storage> Storage for LogStorage<S> {
     }
 
     fn pure_read(&mut self, buf: &mut [u8], offset: u64) -> Result<(), Fault>
-        requires { IsWhole (unit_of (log_state S.state self.old).shape) offset (length buf.old) }
+        requires { IsUnitRange (unit_of (log_state S.state self.old).shape) offset (length buf.old) }
         ensures read { OnOk result (Reads (log_state S.state self.old).bytes offset buf.new) }
-        ensures kept { Kept (log_state S.state self.old) (log_state S.state self.new) }
+        ensures unchanged_but_faults { UnchangedButFaults (log_state S.state self.old) (log_state S.state self.new) }
         ensures faults { CountsFaults (log_state S.state self.old).faults (log_state S.state self.new).faults result }
-        ensures later { Later (log_state S.state self.old) (log_state S.state self.new) }
+        ensures counts_not_fallen { CountsNotFallen (log_state S.state self.old) (log_state S.state self.new) }
         ensures log { SameLog self.old self.new }
     {
         self.inner.pure_read(buf, offset)
     }
 
     fn pure_write(&mut self, data: &[u8], offset: u64) -> Result<(), Fault>
-        requires { IsWhole (unit_of (log_state S.state self.old).shape) offset (length «data».now) }
+        requires { IsUnitRange (unit_of (log_state S.state self.old).shape) offset (length «data».now) }
         ensures ok { OnOk result (Written (log_state S.state self.old) (log_state S.state self.new) offset «data».now) }
         ensures err { IfErr result (NotWritten (log_state S.state self.old) (log_state S.state self.new) offset «data».now) }
         ensures shape { (log_state S.state self.new).shape ≡ (log_state S.state self.old).shape }
-        ensures later { Later (log_state S.state self.old) (log_state S.state self.new) }
-        ensures once { RequestsOne (log_state S.state self.old) (log_state S.state self.new) result }
+        ensures counts_not_fallen { CountsNotFallen (log_state S.state self.old) (log_state S.state self.new) }
+        ensures single_request { RequestsOne (log_state S.state self.old) (log_state S.state self.new) result }
         ensures noted { Noted S.state (IsWrite offset «data».now) self.old self.new result }
     {
         let bytes = self.copy_of(data)?;
@@ -274,13 +274,13 @@ impl<S: Storage> Storage for LogStorage<S> {
     }
 
     fn pure_write_zeroes(&mut self, offset: u64, length: u64) -> Result<(), Fault>
-        requires whole { IsWhole (unit_of (log_state S.state self.old).shape) offset length }
-        requires zeroes { IsWhole (log_state S.state self.old).shape.zero_align offset length }
+        requires whole { IsUnitRange (unit_of (log_state S.state self.old).shape) offset length }
+        requires zeroes { IsUnitRange (log_state S.state self.old).shape.zero_align offset length }
         ensures ok { OnOk result (Written (log_state S.state self.old) (log_state S.state self.new) offset (replicate length 0)) }
         ensures err { IfErr result (ZeroingRefused (log_state S.state self.old) (log_state S.state self.new) offset length) }
         ensures shape { (log_state S.state self.new).shape ≡ (log_state S.state self.old).shape }
-        ensures later { Later (log_state S.state self.old) (log_state S.state self.new) }
-        ensures once { RequestsOne (log_state S.state self.old) (log_state S.state self.new) result }
+        ensures counts_not_fallen { CountsNotFallen (log_state S.state self.old) (log_state S.state self.new) }
+        ensures single_request { RequestsOne (log_state S.state self.old) (log_state S.state self.new) result }
         ensures noted { Noted S.state (λ request. request ≡ Zeroes offset length) self.old self.new result }
     {
         self.keep(Request::Zeroes { offset, length })?;
@@ -294,13 +294,13 @@ impl<S: Storage> Storage for LogStorage<S> {
     }
 
     fn pure_write_allocated_zeroes(&mut self, offset: u64, length: u64) -> Result<(), Fault>
-        requires whole { IsWhole (unit_of (log_state S.state self.old).shape) offset length }
-        requires zeroes { IsWhole (log_state S.state self.old).shape.zero_align offset length }
+        requires whole { IsUnitRange (unit_of (log_state S.state self.old).shape) offset length }
+        requires zeroes { IsUnitRange (log_state S.state self.old).shape.zero_align offset length }
         ensures ok { OnOk result (Written (log_state S.state self.old) (log_state S.state self.new) offset (replicate length 0)) }
         ensures err { IfErr result (ZeroingRefused (log_state S.state self.old) (log_state S.state self.new) offset length) }
         ensures shape { (log_state S.state self.new).shape ≡ (log_state S.state self.old).shape }
-        ensures later { Later (log_state S.state self.old) (log_state S.state self.new) }
-        ensures once { RequestsOne (log_state S.state self.old) (log_state S.state self.new) result }
+        ensures counts_not_fallen { CountsNotFallen (log_state S.state self.old) (log_state S.state self.new) }
+        ensures single_request { RequestsOne (log_state S.state self.old) (log_state S.state self.new) result }
         ensures noted { Noted S.state (λ request. request ≡ Zeroes offset length) self.old self.new result }
     {
         self.keep(Request::Zeroes { offset, length })?;
@@ -314,8 +314,8 @@ impl<S: Storage> Storage for LogStorage<S> {
     }
 
     fn pure_discard(&mut self, offset: u64, length: u64) -> Result<(), Fault>
-        requires whole { IsWhole (unit_of (log_state S.state self.old).shape) offset length }
-        requires discards { IsWhole (log_state S.state self.old).shape.discard_align offset length }
+        requires whole { IsUnitRange (unit_of (log_state S.state self.old).shape) offset length }
+        requires discards { IsUnitRange (log_state S.state self.old).shape.discard_align offset length }
         ensures unsupported { IsErrOf result Fault.Unsupported }
         ensures same { self.new ≡ self.old }
     {
@@ -326,8 +326,8 @@ impl<S: Storage> Storage for LogStorage<S> {
         ensures ok { OnOk result (Resized (log_state S.state self.old) (log_state S.state self.new) size) }
         ensures err { IfErr result (ResizeRefused (log_state S.state self.old) (log_state S.state self.new)) }
         ensures shape { (log_state S.state self.new).shape ≡ (log_state S.state self.old).shape }
-        ensures later { Later (log_state S.state self.old) (log_state S.state self.new) }
-        ensures once { RequestsOne (log_state S.state self.old) (log_state S.state self.new) result }
+        ensures counts_not_fallen { CountsNotFallen (log_state S.state self.old) (log_state S.state self.new) }
+        ensures single_request { RequestsOne (log_state S.state self.old) (log_state S.state self.new) result }
         ensures noted { Noted S.state (λ request. request ≡ Resize size) self.old self.new result }
     {
         self.keep(Request::Resize { size })?;
@@ -341,27 +341,27 @@ impl<S: Storage> Storage for LogStorage<S> {
     }
 
     fn flush(&mut self) -> Result<(), Fault>
-        ensures kept { Kept (log_state S.state self.old) (log_state S.state self.new) }
+        ensures unchanged_but_faults { UnchangedButFaults (log_state S.state self.old) (log_state S.state self.new) }
         ensures faults { CountsFaults (log_state S.state self.old).faults (log_state S.state self.new).faults result }
-        ensures later { Later (log_state S.state self.old) (log_state S.state self.new) }
+        ensures counts_not_fallen { CountsNotFallen (log_state S.state self.old) (log_state S.state self.new) }
         ensures log { SameLog self.old self.new }
     {
         self.inner.flush()
     }
 
     fn sync(&mut self) -> Result<(), Fault>
-        ensures kept { Kept (log_state S.state self.old) (log_state S.state self.new) }
+        ensures unchanged_but_faults { UnchangedButFaults (log_state S.state self.old) (log_state S.state self.new) }
         ensures faults { CountsFaults (log_state S.state self.old).faults (log_state S.state self.new).faults result }
-        ensures later { Later (log_state S.state self.old) (log_state S.state self.new) }
+        ensures counts_not_fallen { CountsNotFallen (log_state S.state self.old) (log_state S.state self.new) }
         ensures log { SameLog self.old self.new }
     {
         self.inner.sync()
     }
 
     fn invalidate_cache(&mut self) -> Result<(), Fault>
-        ensures kept { Kept (log_state S.state self.old) (log_state S.state self.new) }
+        ensures unchanged_but_faults { UnchangedButFaults (log_state S.state self.old) (log_state S.state self.new) }
         ensures faults { CountsFaults (log_state S.state self.old).faults (log_state S.state self.new).faults result }
-        ensures later { Later (log_state S.state self.old) (log_state S.state self.new) }
+        ensures counts_not_fallen { CountsNotFallen (log_state S.state self.old) (log_state S.state self.new) }
         ensures log { SameLog self.old self.new }
     {
         self.inner.invalidate_cache()

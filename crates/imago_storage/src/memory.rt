@@ -1,7 +1,7 @@
 // A storage in memory. A storage is a protocol node in qemu.
 ghost use Rattle.std.specs.Prelude.{◌≡◌, [], length, replicate, IsOk, OnOk, IfOk, IfErr, IsOkUnless};
-ghost use Rattle.imago_storage.specs.State.{IsAlignment, IsWhole, unit_of};
-ghost use Rattle.imago_storage.specs.Calls.{CountsFaults, DiscardRefused, Discarded, Kept, Later, NotWritten, Reads, RequestsOne, ResizeRefused, Resized, Written, ZeroingRefused};
+ghost use Rattle.imago_storage.specs.State.{IsAlignment, IsUnitRange, unit_of};
+ghost use Rattle.imago_storage.specs.Calls.{CountsFaults, DiscardRefused, Discarded, UnchangedButFaults, CountsNotFallen, NotWritten, Reads, RequestsOne, ResizeRefused, Resized, Written, ZeroingRefused};
 
 use crate::edits::{clear, copy_out, splice, splice_zeroes};
 use crate::{Fault, PreallocateMode, Storage};
@@ -127,11 +127,11 @@ impl Storage for MemStorage {
     }
 
     fn pure_read(&mut self, buf: &mut [u8], offset: u64) -> Result<(), Fault>
-        requires { IsWhole (unit_of (mem_state self.old).shape) offset (length buf.old) }
+        requires { IsUnitRange (unit_of (mem_state self.old).shape) offset (length buf.old) }
         ensures read { OnOk result (Reads (mem_state self.old).bytes offset buf.new) }
-        ensures kept { Kept (mem_state self.old) (mem_state self.new) }
+        ensures unchanged_but_faults { UnchangedButFaults (mem_state self.old) (mem_state self.new) }
         ensures faults { CountsFaults (mem_state self.old).faults (mem_state self.new).faults result }
-        ensures later { Later (mem_state self.old) (mem_state self.new) }
+        ensures counts_not_fallen { CountsNotFallen (mem_state self.old) (mem_state self.new) }
         ensures always { IsOk result }
     {
         copy_out(&self.bytes, offset as usize, buf);
@@ -139,12 +139,12 @@ impl Storage for MemStorage {
     }
 
     fn pure_write(&mut self, data: &[u8], offset: u64) -> Result<(), Fault>
-        requires { IsWhole (unit_of (mem_state self.old).shape) offset (length «data».now) }
+        requires { IsUnitRange (unit_of (mem_state self.old).shape) offset (length «data».now) }
         ensures ok { OnOk result (Written (mem_state self.old) (mem_state self.new) offset «data».now) }
         ensures err { IfErr result (NotWritten (mem_state self.old) (mem_state self.new) offset «data».now) }
         ensures shape { (mem_state self.new).shape ≡ (mem_state self.old).shape }
-        ensures later { Later (mem_state self.old) (mem_state self.new) }
-        ensures once { RequestsOne (mem_state self.old) (mem_state self.new) result }
+        ensures counts_not_fallen { CountsNotFallen (mem_state self.old) (mem_state self.new) }
+        ensures single_request { RequestsOne (mem_state self.old) (mem_state self.new) result }
         ensures memory { IsOkUnless result Fault.Memory }
     {
         match splice(&mut self.bytes, offset as usize, data) {
@@ -157,13 +157,13 @@ impl Storage for MemStorage {
     }
 
     fn pure_write_zeroes(&mut self, offset: u64, length: u64) -> Result<(), Fault>
-        requires whole { IsWhole (unit_of (mem_state self.old).shape) offset length }
-        requires zeroes { IsWhole (mem_state self.old).shape.zero_align offset length }
+        requires whole { IsUnitRange (unit_of (mem_state self.old).shape) offset length }
+        requires zeroes { IsUnitRange (mem_state self.old).shape.zero_align offset length }
         ensures ok { OnOk result (Written (mem_state self.old) (mem_state self.new) offset (replicate length 0)) }
         ensures err { IfErr result (ZeroingRefused (mem_state self.old) (mem_state self.new) offset length) }
         ensures shape { (mem_state self.new).shape ≡ (mem_state self.old).shape }
-        ensures later { Later (mem_state self.old) (mem_state self.new) }
-        ensures once { RequestsOne (mem_state self.old) (mem_state self.new) result }
+        ensures counts_not_fallen { CountsNotFallen (mem_state self.old) (mem_state self.new) }
+        ensures single_request { RequestsOne (mem_state self.old) (mem_state self.new) result }
         ensures memory { IsOkUnless result Fault.Memory }
     {
         match splice_zeroes(&mut self.bytes, offset as usize, length as usize) {
@@ -176,26 +176,26 @@ impl Storage for MemStorage {
     }
 
     fn pure_write_allocated_zeroes(&mut self, offset: u64, length: u64) -> Result<(), Fault>
-        requires whole { IsWhole (unit_of (mem_state self.old).shape) offset length }
-        requires zeroes { IsWhole (mem_state self.old).shape.zero_align offset length }
+        requires whole { IsUnitRange (unit_of (mem_state self.old).shape) offset length }
+        requires zeroes { IsUnitRange (mem_state self.old).shape.zero_align offset length }
         ensures ok { OnOk result (Written (mem_state self.old) (mem_state self.new) offset (replicate length 0)) }
         ensures err { IfErr result (ZeroingRefused (mem_state self.old) (mem_state self.new) offset length) }
         ensures shape { (mem_state self.new).shape ≡ (mem_state self.old).shape }
-        ensures later { Later (mem_state self.old) (mem_state self.new) }
-        ensures once { RequestsOne (mem_state self.old) (mem_state self.new) result }
+        ensures counts_not_fallen { CountsNotFallen (mem_state self.old) (mem_state self.new) }
+        ensures single_request { RequestsOne (mem_state self.old) (mem_state self.new) result }
         ensures memory { IsOkUnless result Fault.Memory }
     {
         self.pure_write_zeroes(offset, length)
     }
 
     fn pure_discard(&mut self, offset: u64, length: u64) -> Result<(), Fault>
-        requires whole { IsWhole (unit_of (mem_state self.old).shape) offset length }
-        requires discards { IsWhole (mem_state self.old).shape.discard_align offset length }
+        requires whole { IsUnitRange (unit_of (mem_state self.old).shape) offset length }
+        requires discards { IsUnitRange (mem_state self.old).shape.discard_align offset length }
         ensures ok { OnOk result (Discarded (mem_state self.old) (mem_state self.new) offset length) }
         ensures err { IfErr result (DiscardRefused (mem_state self.old) (mem_state self.new) offset length) }
         ensures shape { (mem_state self.new).shape ≡ (mem_state self.old).shape }
-        ensures later { Later (mem_state self.old) (mem_state self.new) }
-        ensures once { RequestsOne (mem_state self.old) (mem_state self.new) result }
+        ensures counts_not_fallen { CountsNotFallen (mem_state self.old) (mem_state self.new) }
+        ensures single_request { RequestsOne (mem_state self.old) (mem_state self.new) result }
         ensures zeroes { OnOk result (Zeroed (mem_state self.new).bytes offset length) }
         ensures always { IsOk result }
     {
@@ -207,8 +207,8 @@ impl Storage for MemStorage {
         ensures ok { OnOk result (Resized (mem_state self.old) (mem_state self.new) size) }
         ensures err { IfErr result (ResizeRefused (mem_state self.old) (mem_state self.new)) }
         ensures shape { (mem_state self.new).shape ≡ (mem_state self.old).shape }
-        ensures later { Later (mem_state self.old) (mem_state self.new) }
-        ensures once { RequestsOne (mem_state self.old) (mem_state self.new) result }
+        ensures counts_not_fallen { CountsNotFallen (mem_state self.old) (mem_state self.new) }
+        ensures single_request { RequestsOne (mem_state self.old) (mem_state self.new) result }
         ensures memory { IsOkUnless result Fault.Memory }
     {
         match self.bytes.resize(size as usize, 0) {
@@ -221,27 +221,27 @@ impl Storage for MemStorage {
     }
 
     fn flush(&mut self) -> Result<(), Fault>
-        ensures kept { Kept (mem_state self.old) (mem_state self.new) }
+        ensures unchanged_but_faults { UnchangedButFaults (mem_state self.old) (mem_state self.new) }
         ensures faults { CountsFaults (mem_state self.old).faults (mem_state self.new).faults result }
-        ensures later { Later (mem_state self.old) (mem_state self.new) }
+        ensures counts_not_fallen { CountsNotFallen (mem_state self.old) (mem_state self.new) }
         ensures always { IsOk result }
     {
         Ok(())
     }
 
     fn sync(&mut self) -> Result<(), Fault>
-        ensures kept { Kept (mem_state self.old) (mem_state self.new) }
+        ensures unchanged_but_faults { UnchangedButFaults (mem_state self.old) (mem_state self.new) }
         ensures faults { CountsFaults (mem_state self.old).faults (mem_state self.new).faults result }
-        ensures later { Later (mem_state self.old) (mem_state self.new) }
+        ensures counts_not_fallen { CountsNotFallen (mem_state self.old) (mem_state self.new) }
         ensures always { IsOk result }
     {
         Ok(())
     }
 
     fn invalidate_cache(&mut self) -> Result<(), Fault>
-        ensures kept { Kept (mem_state self.old) (mem_state self.new) }
+        ensures unchanged_but_faults { UnchangedButFaults (mem_state self.old) (mem_state self.new) }
         ensures faults { CountsFaults (mem_state self.old).faults (mem_state self.new).faults result }
-        ensures later { Later (mem_state self.old) (mem_state self.new) }
+        ensures counts_not_fallen { CountsNotFallen (mem_state self.old) (mem_state self.new) }
         ensures always { IsOk result }
     {
         Ok(())

@@ -1,7 +1,7 @@
 // A storage that holds nothing: `null-co` in qemu, where that reads zeroes.
 ghost use Rattle.std.specs.Prelude.{◌≡◌, length, replicate, IsOk, OnOk, IfErr};
-ghost use Rattle.imago_storage.specs.State.{IsWhole, unit_of};
-ghost use Rattle.imago_storage.specs.Calls.{CountsFaults, DiscardRefused, Discarded, Kept, Later, NotWritten, Reads, RequestsOne, ResizeRefused, Resized, Written, ZeroingRefused};
+ghost use Rattle.imago_storage.specs.State.{IsUnitRange, unit_of};
+ghost use Rattle.imago_storage.specs.Calls.{CountsFaults, DiscardRefused, Discarded, UnchangedButFaults, CountsNotFallen, NotWritten, Reads, RequestsOne, ResizeRefused, Resized, Written, ZeroingRefused};
 
 use crate::{Fault, PreallocateMode, Storage};
 
@@ -59,11 +59,11 @@ impl Storage for Null {
     }
 
     fn pure_read(&mut self, buf: &mut [u8], offset: u64) -> Result<(), Fault>
-        requires { IsWhole (unit_of (null_state self.old).shape) offset (length buf.old) }
+        requires { IsUnitRange (unit_of (null_state self.old).shape) offset (length buf.old) }
         ensures read { OnOk result (Reads (null_state self.old).bytes offset buf.new) }
-        ensures kept { Kept (null_state self.old) (null_state self.new) }
+        ensures unchanged_but_faults { UnchangedButFaults (null_state self.old) (null_state self.new) }
         ensures faults { CountsFaults (null_state self.old).faults (null_state self.new).faults result }
-        ensures later { Later (null_state self.old) (null_state self.new) }
+        ensures counts_not_fallen { CountsNotFallen (null_state self.old) (null_state self.new) }
         ensures always { IsOk result }
         ensures zeroes { buf.new ≡ replicate (length buf.old) 0 }
     {
@@ -72,12 +72,12 @@ impl Storage for Null {
     }
 
     fn pure_write(&mut self, data: &[u8], offset: u64) -> Result<(), Fault>
-        requires { IsWhole (unit_of (null_state self.old).shape) offset (length «data».now) }
+        requires { IsUnitRange (unit_of (null_state self.old).shape) offset (length «data».now) }
         ensures ok { OnOk result (Written (null_state self.old) (null_state self.new) offset «data».now) }
         ensures err { IfErr result (NotWritten (null_state self.old) (null_state self.new) offset «data».now) }
         ensures shape { (null_state self.new).shape ≡ (null_state self.old).shape }
-        ensures later { Later (null_state self.old) (null_state self.new) }
-        ensures once { RequestsOne (null_state self.old) (null_state self.new) result }
+        ensures counts_not_fallen { CountsNotFallen (null_state self.old) (null_state self.new) }
+        ensures single_request { RequestsOne (null_state self.old) (null_state self.new) result }
         ensures always { IsOk result }
     {
         self.size = self.size.max(offset + data.len() as u64);
@@ -85,13 +85,13 @@ impl Storage for Null {
     }
 
     fn pure_write_zeroes(&mut self, offset: u64, length: u64) -> Result<(), Fault>
-        requires whole { IsWhole (unit_of (null_state self.old).shape) offset length }
-        requires zeroes { IsWhole (null_state self.old).shape.zero_align offset length }
+        requires whole { IsUnitRange (unit_of (null_state self.old).shape) offset length }
+        requires zeroes { IsUnitRange (null_state self.old).shape.zero_align offset length }
         ensures ok { OnOk result (Written (null_state self.old) (null_state self.new) offset (replicate length 0)) }
         ensures err { IfErr result (ZeroingRefused (null_state self.old) (null_state self.new) offset length) }
         ensures shape { (null_state self.new).shape ≡ (null_state self.old).shape }
-        ensures later { Later (null_state self.old) (null_state self.new) }
-        ensures once { RequestsOne (null_state self.old) (null_state self.new) result }
+        ensures counts_not_fallen { CountsNotFallen (null_state self.old) (null_state self.new) }
+        ensures single_request { RequestsOne (null_state self.old) (null_state self.new) result }
         ensures always { IsOk result }
     {
         self.size = self.size.max(offset + length);
@@ -99,13 +99,13 @@ impl Storage for Null {
     }
 
     fn pure_write_allocated_zeroes(&mut self, offset: u64, length: u64) -> Result<(), Fault>
-        requires whole { IsWhole (unit_of (null_state self.old).shape) offset length }
-        requires zeroes { IsWhole (null_state self.old).shape.zero_align offset length }
+        requires whole { IsUnitRange (unit_of (null_state self.old).shape) offset length }
+        requires zeroes { IsUnitRange (null_state self.old).shape.zero_align offset length }
         ensures ok { OnOk result (Written (null_state self.old) (null_state self.new) offset (replicate length 0)) }
         ensures err { IfErr result (ZeroingRefused (null_state self.old) (null_state self.new) offset length) }
         ensures shape { (null_state self.new).shape ≡ (null_state self.old).shape }
-        ensures later { Later (null_state self.old) (null_state self.new) }
-        ensures once { RequestsOne (null_state self.old) (null_state self.new) result }
+        ensures counts_not_fallen { CountsNotFallen (null_state self.old) (null_state self.new) }
+        ensures single_request { RequestsOne (null_state self.old) (null_state self.new) result }
         ensures always { IsOk result }
     {
         self.size = self.size.max(offset + length);
@@ -113,13 +113,13 @@ impl Storage for Null {
     }
 
     fn pure_discard(&mut self, offset: u64, length: u64) -> Result<(), Fault>
-        requires whole { IsWhole (unit_of (null_state self.old).shape) offset length }
-        requires discards { IsWhole (null_state self.old).shape.discard_align offset length }
+        requires whole { IsUnitRange (unit_of (null_state self.old).shape) offset length }
+        requires discards { IsUnitRange (null_state self.old).shape.discard_align offset length }
         ensures ok { OnOk result (Discarded (null_state self.old) (null_state self.new) offset length) }
         ensures err { IfErr result (DiscardRefused (null_state self.old) (null_state self.new) offset length) }
         ensures shape { (null_state self.new).shape ≡ (null_state self.old).shape }
-        ensures later { Later (null_state self.old) (null_state self.new) }
-        ensures once { RequestsOne (null_state self.old) (null_state self.new) result }
+        ensures counts_not_fallen { CountsNotFallen (null_state self.old) (null_state self.new) }
+        ensures single_request { RequestsOne (null_state self.old) (null_state self.new) result }
         ensures always { IsOk result }
     {
         Ok(())
@@ -129,8 +129,8 @@ impl Storage for Null {
         ensures ok { OnOk result (Resized (null_state self.old) (null_state self.new) size) }
         ensures err { IfErr result (ResizeRefused (null_state self.old) (null_state self.new)) }
         ensures shape { (null_state self.new).shape ≡ (null_state self.old).shape }
-        ensures later { Later (null_state self.old) (null_state self.new) }
-        ensures once { RequestsOne (null_state self.old) (null_state self.new) result }
+        ensures counts_not_fallen { CountsNotFallen (null_state self.old) (null_state self.new) }
+        ensures single_request { RequestsOne (null_state self.old) (null_state self.new) result }
         ensures always { IsOk result }
     {
         self.size = size;
@@ -138,27 +138,27 @@ impl Storage for Null {
     }
 
     fn flush(&mut self) -> Result<(), Fault>
-        ensures kept { Kept (null_state self.old) (null_state self.new) }
+        ensures unchanged_but_faults { UnchangedButFaults (null_state self.old) (null_state self.new) }
         ensures faults { CountsFaults (null_state self.old).faults (null_state self.new).faults result }
-        ensures later { Later (null_state self.old) (null_state self.new) }
+        ensures counts_not_fallen { CountsNotFallen (null_state self.old) (null_state self.new) }
         ensures always { IsOk result }
     {
         Ok(())
     }
 
     fn sync(&mut self) -> Result<(), Fault>
-        ensures kept { Kept (null_state self.old) (null_state self.new) }
+        ensures unchanged_but_faults { UnchangedButFaults (null_state self.old) (null_state self.new) }
         ensures faults { CountsFaults (null_state self.old).faults (null_state self.new).faults result }
-        ensures later { Later (null_state self.old) (null_state self.new) }
+        ensures counts_not_fallen { CountsNotFallen (null_state self.old) (null_state self.new) }
         ensures always { IsOk result }
     {
         Ok(())
     }
 
     fn invalidate_cache(&mut self) -> Result<(), Fault>
-        ensures kept { Kept (null_state self.old) (null_state self.new) }
+        ensures unchanged_but_faults { UnchangedButFaults (null_state self.old) (null_state self.new) }
         ensures faults { CountsFaults (null_state self.old).faults (null_state self.new).faults result }
-        ensures later { Later (null_state self.old) (null_state self.new) }
+        ensures counts_not_fallen { CountsNotFallen (null_state self.old) (null_state self.new) }
         ensures always { IsOk result }
     {
         Ok(())

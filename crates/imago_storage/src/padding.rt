@@ -1,11 +1,11 @@
 // Writes of any range as whole units: the units that it has only a part of are read before the first of them is written. In
 // qemu they are a `BdrvRequestPadding`, and a unit the request alignment.
 ghost use Rattle.std.specs.Prelude.{◌≡◌, ℕ, ◌+◌, ◌-◌, ◌%◌, ◌<◌, ◌≤◌, ◌^◌, ◌++◌, length, OnOk, IfOk, IfErr, IsOkUnless};
-ghost use Rattle.imago_storage.specs.State.{unit_of, IsWhole};
-ghost use Rattle.imago_storage.specs.Calls.{CountsFaults, Kept};
+ghost use Rattle.imago_storage.specs.State.{unit_of, IsUnitRange};
+ghost use Rattle.imago_storage.specs.Calls.{CountsFaults, UnchangedButFaults};
 ghost use Rattle.imago_storage.specs.Fault.{cause_of};
-ghost use Rattle.imago_storage.specs.Through.{round_up, IsAtOnce, IsOnePart, Parts, OneRequest, NoRequest, RequestsOnce, Through, Halted, BeforeOrWithin};
-ghost use Rattle.imago_storage.specs.Edges.{IsEdge, Pads};
+ghost use Rattle.imago_storage.specs.Through.{round_up, FitsOneRequest, IsOnePart, Parts, OneRequest, NoRequest, RequestsOnce, PaddedWrite, PaddedWriteFailed, RefusedBeforeOrWithin};
+ghost use Rattle.imago_storage.specs.Edges.{IsEdge, IsPaddedPart};
 ghost use Rattle.imago_storage.specs.declared.padding.WriteFault.TheVariants.{Before};
 
 use crate::edits::copy_in;
@@ -95,8 +95,8 @@ fn pad_edge<S: Storage>(
     requires edge { IsEdge unit (length part.now) (length buf.old) }
     requires inside { offset % unit + length part.now ≤ unit }
     requires fits { round_up unit (offset + length part.now) < 2 ^ 64 }
-    ensures ok { OnOk result (0 < length part.now → Pads (S.state storage.old).bytes offset part.now (offset - offset % unit) buf.new) }
-    ensures kept { Kept (S.state storage.old) (S.state storage.new) }
+    ensures ok { OnOk result (0 < length part.now → IsPaddedPart (S.state storage.old).bytes offset part.now (offset - offset % unit) buf.new) }
+    ensures unchanged_but_faults { UnchangedButFaults (S.state storage.old) (S.state storage.new) }
     ensures faults { CountsFaults (S.state storage.old).faults (S.state storage.new).faults result }
 {
     if part.is_empty() {
@@ -128,9 +128,9 @@ pub fn pad_edges<S: Storage>(
     requires before { offset + length head.now ≤ behind }
     requires fits { round_up unit (behind + length tail.now) < 2 ^ 64 }
     ensures first { OnOk result (0 < length head.now
-        → Pads (S.state storage.old).bytes offset head.now (offset - offset % unit) first.new) }
-    ensures last { OnOk result (0 < length tail.now → Pads (S.state storage.old).bytes behind tail.now (behind - behind % unit) last.new) }
-    ensures kept { Kept (S.state storage.old) (S.state storage.new) }
+        → IsPaddedPart (S.state storage.old).bytes offset head.now (offset - offset % unit) first.new) }
+    ensures last { OnOk result (0 < length tail.now → IsPaddedPart (S.state storage.old).bytes behind tail.now (behind - behind % unit) last.new) }
+    ensures unchanged_but_faults { UnchangedButFaults (S.state storage.old) (S.state storage.new) }
     ensures faults { CountsFaults (S.state storage.old).faults (S.state storage.new).faults result }
 {
     pad_edge(storage, unit, first, head, offset)?;
@@ -140,7 +140,7 @@ pub fn pad_edges<S: Storage>(
 // Writes whole units, by one request.
 pub fn write_whole<S: Storage>(storage: &mut S, data: &[u8], offset: u64) -> Result<(), Fault>
     requires positive { 0 < unit_of (S.state storage.old).shape }
-    requires whole { 0 < length «data».now → IsWhole (unit_of (S.state storage.old).shape) offset (length «data».now) }
+    requires whole { 0 < length «data».now → IsUnitRange (unit_of (S.state storage.old).shape) offset (length «data».now) }
     ensures ok { OnOk result (OneRequest (unit_of (S.state storage.old).shape) (S.state storage.old)
         (S.state storage.new) offset «data».now) }
     ensures err { IfErr result (NoRequest (unit_of (S.state storage.old).shape) (S.state storage.old)
@@ -163,12 +163,12 @@ fn write_units<S: Storage>(
 ) -> Result<(), Fault>
     requires unit { unit ≡ unit_of (S.state storage.old).shape }
     requires positive { 0 < unit }
-    requires first { IsWhole unit start (length first.now) }
-    requires mid { IsWhole unit (start + length first.now) (length mid.now) }
-    requires last { IsWhole unit (start + length first.now + length mid.now) (length last.now) }
-    ensures ok { OnOk result (Through unit (S.state storage.old) (S.state storage.new) start ((first.now ++ mid.now) ++ last.now)) }
-    ensures err { IfErr result (Halted unit (S.state storage.old) (S.state storage.new) start ((first.now ++ mid.now) ++ last.now)) }
-    ensures once { IsOnePart (length first.now) (length mid.now) (length last.now) →
+    requires first { IsUnitRange unit start (length first.now) }
+    requires mid { IsUnitRange unit (start + length first.now) (length mid.now) }
+    requires last { IsUnitRange unit (start + length first.now + length mid.now) (length last.now) }
+    ensures ok { OnOk result (PaddedWrite unit (S.state storage.old) (S.state storage.new) start ((first.now ++ mid.now) ++ last.now)) }
+    ensures err { IfErr result (PaddedWriteFailed unit (S.state storage.old) (S.state storage.new) start ((first.now ++ mid.now) ++ last.now)) }
+    ensures single_request { IsOnePart (length first.now) (length mid.now) (length last.now) →
         RequestsOnce (S.state storage.old) (S.state storage.new) (length first.now + length mid.now + length last.now) result }
 {
     write_whole(storage, first, start)?;
@@ -189,14 +189,14 @@ fn write_in_parts<S: Storage>(
 ) -> Result<(), WriteFault>
     requires unit { unit ≡ unit_of (S.state storage.old).shape }
     requires positive { 0 < unit }
-    requires some { 0 < length «data».now }
+    requires nonempty { 0 < length «data».now }
     requires parts { Parts unit offset (length «data».now) parts.0 parts.1 }
     requires first { IsEdge unit parts.0 (length first.old) }
     requires last { IsEdge unit (length «data».now - parts.0 - parts.1) (length last.old) }
     requires fits { round_up unit (offset + length «data».now) < 2 ^ 64 }
-    ensures ok { OnOk result (Through unit (S.state storage.old) (S.state storage.new) offset «data».now) }
-    ensures err { IfErr result (BeforeOrWithin unit (S.state storage.old) (S.state storage.new) offset «data».now) }
-    ensures once { IsAtOnce unit offset (length «data».now)
+    ensures ok { OnOk result (PaddedWrite unit (S.state storage.old) (S.state storage.new) offset «data».now) }
+    ensures err { IfErr result (RefusedBeforeOrWithin unit (S.state storage.old) (S.state storage.new) offset «data».now) }
+    ensures single_request { FitsOneRequest unit offset (length «data».now)
         → RequestsOnce (S.state storage.old) (S.state storage.new) (length «data».now) result }
 {
     let (head, rest) = data.split_at(parts.0);
@@ -224,11 +224,11 @@ pub fn write_around<S: Storage>(
 ) -> Result<(), WriteFault>
     requires unit { unit ≡ unit_of (S.state storage.old).shape }
     requires positive { 0 < unit }
-    requires some { 0 < length «data».now }
+    requires nonempty { 0 < length «data».now }
     requires fits { round_up unit (offset + length «data».now) < 2 ^ 64 }
-    ensures ok { OnOk result (Through unit (S.state storage.old) (S.state storage.new) offset «data».now) }
-    ensures err { IfErr result (BeforeOrWithin unit (S.state storage.old) (S.state storage.new) offset «data».now) }
-    ensures once { IsAtOnce unit offset (length «data».now)
+    ensures ok { OnOk result (PaddedWrite unit (S.state storage.old) (S.state storage.new) offset «data».now) }
+    ensures err { IfErr result (RefusedBeforeOrWithin unit (S.state storage.old) (S.state storage.new) offset «data».now) }
+    ensures single_request { FitsOneRequest unit offset (length «data».now)
         → RequestsOnce (S.state storage.old) (S.state storage.new) (length «data».now) result }
 {
     let parts = parts_of_range(offset, data.len(), unit);

@@ -1,8 +1,8 @@
 // A storage as its users see it: a list of bytes under aligned requests. In qemu it is a protocol node.
 ghost use Rattle.std.specs.Prelude.{◌≡◌, ◌≢◌, ℕ, ◌+◌, ◌%◌, ◌<◌, ◌^◌, List, length, slice_index, replicate, max, OnOk, IfErr, IsErrOf, EachIndex};
 ghost use Rattle.std.specs.Option.{option_map, option_copied};
-ghost use Rattle.imago_storage.specs.State.{StorageState, IsAlignment, IsAligned, IsWhole, unit_of};
-ghost use Rattle.imago_storage.specs.Calls.{CountsFaults, DiscardRefused, Discarded, Kept, Later, NotResolved, NotWritten, Reads, RequestsOne, ResizeRefused, Resized, Written, ZeroingRefused};
+ghost use Rattle.imago_storage.specs.State.{StorageState, IsAlignment, IsAligned, IsUnitRange, unit_of};
+ghost use Rattle.imago_storage.specs.Calls.{CountsFaults, DiscardRefused, Discarded, UnchangedButFaults, CountsNotFallen, NotResolved, NotWritten, Reads, RequestsOne, ResizeRefused, Resized, Written, ZeroingRefused};
 
 use crate::Fault;
 use std::alloc::Global;
@@ -79,49 +79,49 @@ pub trait Storage: Drop {
     ///
     /// It refuses with `Fault::Memory` and `Fault::Storage`. A refusal leaves the storage as it was, and the buffer open.
     fn pure_read(&mut self, buf: &mut [u8], offset: u64) -> Result<(), Fault>
-        requires { IsWhole (unit_of (state self.old).shape) offset (length buf.old) }
+        requires { IsUnitRange (unit_of (state self.old).shape) offset (length buf.old) }
         ensures read { OnOk result (Reads (state self.old).bytes offset buf.new) }
-        ensures kept { Kept (state self.old) (state self.new) }
+        ensures unchanged_but_faults { UnchangedButFaults (state self.old) (state self.new) }
         ensures faults { CountsFaults (state self.old).faults (state self.new).faults result }
-        ensures later { Later (state self.old) (state self.new) };
+        ensures counts_not_fallen { CountsNotFallen (state self.old) (state self.new) };
 
     /// Writes the bytes at the offset. The length reaches the range's end; a gap past the old end is 0.
     ///
     /// It refuses with `Fault::Memory` and `Fault::Storage`. A refusal leaves each byte of the range old or new, and none
     /// changed outside; it is counted as a refused change.
     fn pure_write(&mut self, data: &[u8], offset: u64) -> Result<(), Fault>
-        requires { IsWhole (unit_of (state self.old).shape) offset (length «data».now) }
+        requires { IsUnitRange (unit_of (state self.old).shape) offset (length «data».now) }
         ensures ok { OnOk result (Written (state self.old) (state self.new) offset «data».now) }
         ensures err { IfErr result (NotWritten (state self.old) (state self.new) offset «data».now) }
         ensures shape { (state self.new).shape ≡ (state self.old).shape }
-        ensures later { Later (state self.old) (state self.new) }
-        ensures once { RequestsOne (state self.old) (state self.new) result };
+        ensures counts_not_fallen { CountsNotFallen (state self.old) (state self.new) }
+        ensures single_request { RequestsOne (state self.old) (state self.new) result };
 
     /// Writes zeroes over the range, which may give up what it has allocated. The length reaches the range's end.
     /// Offset and length are multiples of `zero_align`, too.
     ///
     /// It refuses with `Fault::Unsupported`, which leaves all as it was, and as `pure_write` does.
     fn pure_write_zeroes(&mut self, offset: u64, length: u64) -> Result<(), Fault>
-        requires whole { IsWhole (unit_of (state self.old).shape) offset length }
-        requires zeroes { IsWhole (state self.old).shape.zero_align offset length }
+        requires whole { IsUnitRange (unit_of (state self.old).shape) offset length }
+        requires zeroes { IsUnitRange (state self.old).shape.zero_align offset length }
         ensures ok { OnOk result (Written (state self.old) (state self.new) offset (replicate length 0)) }
         ensures err { IfErr result (ZeroingRefused (state self.old) (state self.new) offset length) }
         ensures shape { (state self.new).shape ≡ (state self.old).shape }
-        ensures later { Later (state self.old) (state self.new) }
-        ensures once { RequestsOne (state self.old) (state self.new) result };
+        ensures counts_not_fallen { CountsNotFallen (state self.old) (state self.new) }
+        ensures single_request { RequestsOne (state self.old) (state self.new) result };
 
     /// Writes zeroes over the range, which stays allocated. The length reaches the range's end.
     /// Offset and length are multiples of `zero_align`, too.
     ///
     /// It refuses with `Fault::Unsupported`, which leaves all as it was, and as `pure_write` does.
     fn pure_write_allocated_zeroes(&mut self, offset: u64, length: u64) -> Result<(), Fault>
-        requires whole { IsWhole (unit_of (state self.old).shape) offset length }
-        requires zeroes { IsWhole (state self.old).shape.zero_align offset length }
+        requires whole { IsUnitRange (unit_of (state self.old).shape) offset length }
+        requires zeroes { IsUnitRange (state self.old).shape.zero_align offset length }
         ensures ok { OnOk result (Written (state self.old) (state self.new) offset (replicate length 0)) }
         ensures err { IfErr result (ZeroingRefused (state self.old) (state self.new) offset length) }
         ensures shape { (state self.new).shape ≡ (state self.old).shape }
-        ensures later { Later (state self.old) (state self.new) }
-        ensures once { RequestsOne (state self.old) (state self.new) result };
+        ensures counts_not_fallen { CountsNotFallen (state self.old) (state self.new) }
+        ensures single_request { RequestsOne (state self.old) (state self.new) result };
 
     /// Gives the range up: its bytes are open, and the length is kept. Offset and length are
     /// multiples of `discard_align`, too.
@@ -129,13 +129,13 @@ pub trait Storage: Drop {
     /// It refuses with `Fault::Unsupported`, which leaves all as it was, and with `Fault::Memory` and `Fault::Storage`.
     /// Then, too, the bytes of the range are open, and none is changed outside; it is counted as a refused change.
     fn pure_discard(&mut self, offset: u64, length: u64) -> Result<(), Fault>
-        requires whole { IsWhole (unit_of (state self.old).shape) offset length }
-        requires discards { IsWhole (state self.old).shape.discard_align offset length }
+        requires whole { IsUnitRange (unit_of (state self.old).shape) offset length }
+        requires discards { IsUnitRange (state self.old).shape.discard_align offset length }
         ensures ok { OnOk result (Discarded (state self.old) (state self.new) offset length) }
         ensures err { IfErr result (DiscardRefused (state self.old) (state self.new) offset length) }
         ensures shape { (state self.new).shape ≡ (state self.old).shape }
-        ensures later { Later (state self.old) (state self.new) }
-        ensures once { RequestsOne (state self.old) (state self.new) result };
+        ensures counts_not_fallen { CountsNotFallen (state self.old) (state self.new) }
+        ensures single_request { RequestsOne (state self.old) (state self.new) result };
 
     /// Sets the length, in bytes. Bytes below both lengths are kept, and new ones are 0.
     ///
@@ -145,32 +145,32 @@ pub trait Storage: Drop {
         ensures ok { OnOk result (Resized (state self.old) (state self.new) size) }
         ensures err { IfErr result (ResizeRefused (state self.old) (state self.new)) }
         ensures shape { (state self.new).shape ≡ (state self.old).shape }
-        ensures later { Later (state self.old) (state self.new) }
-        ensures once { RequestsOne (state self.old) (state self.new) result };
+        ensures counts_not_fallen { CountsNotFallen (state self.old) (state self.new) }
+        ensures single_request { RequestsOne (state self.old) (state self.new) result };
 
     /// Hands what it holds back to what is below it, which keeps it if the process ends.
     ///
     /// It refuses with `Fault::Memory` and `Fault::Storage`. It changes no byte, refused or not.
     fn flush(&mut self) -> Result<(), Fault>
-        ensures kept { Kept (state self.old) (state self.new) }
+        ensures unchanged_but_faults { UnchangedButFaults (state self.old) (state self.new) }
         ensures faults { CountsFaults (state self.old).faults (state self.new).faults result }
-        ensures later { Later (state self.old) (state self.new) };
+        ensures counts_not_fallen { CountsNotFallen (state self.old) (state self.new) };
 
     /// Makes all that was written durable: it is kept if the machine stops.
     ///
     /// It refuses with `Fault::Memory` and `Fault::Storage`. It changes no byte, refused or not.
     fn sync(&mut self) -> Result<(), Fault>
-        ensures kept { Kept (state self.old) (state self.new) }
+        ensures unchanged_but_faults { UnchangedButFaults (state self.old) (state self.new) }
         ensures faults { CountsFaults (state self.old).faults (state self.new).faults result }
-        ensures later { Later (state self.old) (state self.new) };
+        ensures counts_not_fallen { CountsNotFallen (state self.old) (state self.new) };
 
     /// Drops what it has cached, so that reads see what others wrote to what is below it.
     ///
     /// It refuses with `Fault::Memory` and `Fault::Storage`. It changes no byte, refused or not.
     fn invalidate_cache(&mut self) -> Result<(), Fault>
-        ensures kept { Kept (state self.old) (state self.new) }
+        ensures unchanged_but_faults { UnchangedButFaults (state self.old) (state self.new) }
         ensures faults { CountsFaults (state self.old).faults (state self.new).faults result }
-        ensures later { Later (state self.old) (state self.new) };
+        ensures counts_not_fallen { CountsNotFallen (state self.old) (state self.new) };
 
     /// Its alignments are powers of two.
     ghost aligned: { (s : Self) → IsAligned (state s).shape };

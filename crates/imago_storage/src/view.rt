@@ -1,7 +1,7 @@
 // Bytes in memory that are lent as a storage, which is a protocol node in qemu.
 ghost use Rattle.std.specs.Prelude.{◌≡◌, length, replicate, IsOk, OnOk, IfErr, IsErrOf};
-ghost use Rattle.imago_storage.specs.State.{IsWhole, unit_of};
-ghost use Rattle.imago_storage.specs.Calls.{CountsFaults, DiscardRefused, Discarded, Kept, Later, NotWritten, Reads, RequestsOne, ResizeRefused, Resized, Written, ZeroingRefused};
+ghost use Rattle.imago_storage.specs.State.{IsUnitRange, unit_of};
+ghost use Rattle.imago_storage.specs.Calls.{CountsFaults, DiscardRefused, Discarded, UnchangedButFaults, CountsNotFallen, NotWritten, Reads, RequestsOne, ResizeRefused, Resized, Written, ZeroingRefused};
 
 use crate::edits::{byte_count, copy_out};
 use crate::{Fault, PreallocateMode, Storage};
@@ -62,11 +62,11 @@ impl Storage for MemoryView<'_> {
     }
 
     fn pure_read(&mut self, buf: &mut [u8], offset: u64) -> Result<(), Fault>
-        requires { IsWhole (unit_of (view_state self.old).shape) offset (length buf.old) }
+        requires { IsUnitRange (unit_of (view_state self.old).shape) offset (length buf.old) }
         ensures read { OnOk result (Reads (view_state self.old).bytes offset buf.new) }
-        ensures kept { Kept (view_state self.old) (view_state self.new) }
+        ensures unchanged_but_faults { UnchangedButFaults (view_state self.old) (view_state self.new) }
         ensures faults { CountsFaults (view_state self.old).faults (view_state self.new).faults result }
-        ensures later { Later (view_state self.old) (view_state self.new) }
+        ensures counts_not_fallen { CountsNotFallen (view_state self.old) (view_state self.new) }
         ensures always { IsOk result }
     {
         copy_out(self.bytes, offset as usize, buf);
@@ -74,12 +74,12 @@ impl Storage for MemoryView<'_> {
     }
 
     fn pure_write(&mut self, data: &[u8], offset: u64) -> Result<(), Fault>
-        requires { IsWhole (unit_of (view_state self.old).shape) offset (length «data».now) }
+        requires { IsUnitRange (unit_of (view_state self.old).shape) offset (length «data».now) }
         ensures ok { OnOk result (Written (view_state self.old) (view_state self.new) offset «data».now) }
         ensures err { IfErr result (NotWritten (view_state self.old) (view_state self.new) offset «data».now) }
         ensures shape { (view_state self.new).shape ≡ (view_state self.old).shape }
-        ensures later { Later (view_state self.old) (view_state self.new) }
-        ensures once { RequestsOne (view_state self.old) (view_state self.new) result }
+        ensures counts_not_fallen { CountsNotFallen (view_state self.old) (view_state self.new) }
+        ensures single_request { RequestsOne (view_state self.old) (view_state self.new) result }
         ensures never { IsErrOf result Fault.Memory }
         ensures bytes { (view_state self.new).bytes ≡ (view_state self.old).bytes }
     {
@@ -88,39 +88,39 @@ impl Storage for MemoryView<'_> {
     }
 
     fn pure_write_zeroes(&mut self, offset: u64, length: u64) -> Result<(), Fault>
-        requires whole { IsWhole (unit_of (view_state self.old).shape) offset length }
-        requires zeroes { IsWhole (view_state self.old).shape.zero_align offset length }
+        requires whole { IsUnitRange (unit_of (view_state self.old).shape) offset length }
+        requires zeroes { IsUnitRange (view_state self.old).shape.zero_align offset length }
         ensures ok { OnOk result (Written (view_state self.old) (view_state self.new) offset (replicate length 0)) }
         ensures err { IfErr result (ZeroingRefused (view_state self.old) (view_state self.new) offset length) }
         ensures shape { (view_state self.new).shape ≡ (view_state self.old).shape }
-        ensures later { Later (view_state self.old) (view_state self.new) }
-        ensures once { RequestsOne (view_state self.old) (view_state self.new) result }
+        ensures counts_not_fallen { CountsNotFallen (view_state self.old) (view_state self.new) }
+        ensures single_request { RequestsOne (view_state self.old) (view_state self.new) result }
         ensures never { IsErrOf result Fault.Unsupported }
     {
         Err(Fault::Unsupported)
     }
 
     fn pure_write_allocated_zeroes(&mut self, offset: u64, length: u64) -> Result<(), Fault>
-        requires whole { IsWhole (unit_of (view_state self.old).shape) offset length }
-        requires zeroes { IsWhole (view_state self.old).shape.zero_align offset length }
+        requires whole { IsUnitRange (unit_of (view_state self.old).shape) offset length }
+        requires zeroes { IsUnitRange (view_state self.old).shape.zero_align offset length }
         ensures ok { OnOk result (Written (view_state self.old) (view_state self.new) offset (replicate length 0)) }
         ensures err { IfErr result (ZeroingRefused (view_state self.old) (view_state self.new) offset length) }
         ensures shape { (view_state self.new).shape ≡ (view_state self.old).shape }
-        ensures later { Later (view_state self.old) (view_state self.new) }
-        ensures once { RequestsOne (view_state self.old) (view_state self.new) result }
+        ensures counts_not_fallen { CountsNotFallen (view_state self.old) (view_state self.new) }
+        ensures single_request { RequestsOne (view_state self.old) (view_state self.new) result }
         ensures never { IsErrOf result Fault.Unsupported }
     {
         Err(Fault::Unsupported)
     }
 
     fn pure_discard(&mut self, offset: u64, length: u64) -> Result<(), Fault>
-        requires whole { IsWhole (unit_of (view_state self.old).shape) offset length }
-        requires discards { IsWhole (view_state self.old).shape.discard_align offset length }
+        requires whole { IsUnitRange (unit_of (view_state self.old).shape) offset length }
+        requires discards { IsUnitRange (view_state self.old).shape.discard_align offset length }
         ensures ok { OnOk result (Discarded (view_state self.old) (view_state self.new) offset length) }
         ensures err { IfErr result (DiscardRefused (view_state self.old) (view_state self.new) offset length) }
         ensures shape { (view_state self.new).shape ≡ (view_state self.old).shape }
-        ensures later { Later (view_state self.old) (view_state self.new) }
-        ensures once { RequestsOne (view_state self.old) (view_state self.new) result }
+        ensures counts_not_fallen { CountsNotFallen (view_state self.old) (view_state self.new) }
+        ensures single_request { RequestsOne (view_state self.old) (view_state self.new) result }
         ensures never { IsErrOf result Fault.Unsupported }
     {
         Err(Fault::Unsupported)
@@ -130,35 +130,35 @@ impl Storage for MemoryView<'_> {
         ensures ok { OnOk result (Resized (view_state self.old) (view_state self.new) size) }
         ensures err { IfErr result (ResizeRefused (view_state self.old) (view_state self.new)) }
         ensures shape { (view_state self.new).shape ≡ (view_state self.old).shape }
-        ensures later { Later (view_state self.old) (view_state self.new) }
-        ensures once { RequestsOne (view_state self.old) (view_state self.new) result }
+        ensures counts_not_fallen { CountsNotFallen (view_state self.old) (view_state self.new) }
+        ensures single_request { RequestsOne (view_state self.old) (view_state self.new) result }
         ensures never { IsErrOf result Fault.Unsupported }
     {
         Err(Fault::Unsupported)
     }
 
     fn flush(&mut self) -> Result<(), Fault>
-        ensures kept { Kept (view_state self.old) (view_state self.new) }
+        ensures unchanged_but_faults { UnchangedButFaults (view_state self.old) (view_state self.new) }
         ensures faults { CountsFaults (view_state self.old).faults (view_state self.new).faults result }
-        ensures later { Later (view_state self.old) (view_state self.new) }
+        ensures counts_not_fallen { CountsNotFallen (view_state self.old) (view_state self.new) }
         ensures always { IsOk result }
     {
         Ok(())
     }
 
     fn sync(&mut self) -> Result<(), Fault>
-        ensures kept { Kept (view_state self.old) (view_state self.new) }
+        ensures unchanged_but_faults { UnchangedButFaults (view_state self.old) (view_state self.new) }
         ensures faults { CountsFaults (view_state self.old).faults (view_state self.new).faults result }
-        ensures later { Later (view_state self.old) (view_state self.new) }
+        ensures counts_not_fallen { CountsNotFallen (view_state self.old) (view_state self.new) }
         ensures always { IsOk result }
     {
         Ok(())
     }
 
     fn invalidate_cache(&mut self) -> Result<(), Fault>
-        ensures kept { Kept (view_state self.old) (view_state self.new) }
+        ensures unchanged_but_faults { UnchangedButFaults (view_state self.old) (view_state self.new) }
         ensures faults { CountsFaults (view_state self.old).faults (view_state self.new).faults result }
-        ensures later { Later (view_state self.old) (view_state self.new) }
+        ensures counts_not_fallen { CountsNotFallen (view_state self.old) (view_state self.new) }
         ensures always { IsOk result }
     {
         Ok(())

@@ -1,9 +1,9 @@
 // Zeroing of any range, padded to whole units. A unit is the request alignment in qemu.
 ghost use Rattle.std.specs.Prelude.{◌≡◌, ℕ, ◌+◌, ◌-◌, ◌%◌, ◌<◌, ◌≤◌, ◌^◌, ◌++◌, max, min, length, slice_index, replicate, IsOk, OnOk, IfOk, IfErr, IsErrOf, IsOkUnless};
-ghost use Rattle.imago_storage.specs.State.{unit_of, IsAlignment, IsWhole};
-ghost use Rattle.imago_storage.specs.Calls.{CountsFaults, Kept, Later, Mixed, RequestsOne};
-ghost use Rattle.imago_storage.specs.Through.{round_up, Overflows, ZeroesAtOnce, Parts, Through, Halted, NotThrough, WrittenThrough, NotWrittenThrough, Stops, StopsAsLong};
-ghost use Rattle.imago_storage.specs.Edges.{ZeroesLaid, IsEdge, unit_start};
+ghost use Rattle.imago_storage.specs.State.{unit_of, IsAlignment, IsUnitRange};
+ghost use Rattle.imago_storage.specs.Calls.{CountsFaults, UnchangedButFaults, CountsNotFallen, OldOrNewBytes, RequestsOne};
+ghost use Rattle.imago_storage.specs.Through.{round_up, Overflows, ZeroesInOneRequest, Parts, PaddedWrite, PaddedWriteFailed, PaddedWriteRefused, WriteSucceeded, WriteFailed, EachCrashImage, CrashImagesNoShorter};
+ghost use Rattle.imago_storage.specs.Edges.{ZeroesPrepared, IsEdge, unit_start};
 ghost use Rattle.imago_storage.specs.Zeroings.{UnlessLeft, NotZeroedBy};
 
 use crate::ext::{larger_alignment, padded_end, unit_size, whole_part};
@@ -26,7 +26,7 @@ pub enum Zeroing {
 // What is written to zero a range: the units that it has only a part of at its two ends, and zeroes for a piece of those between,
 // or for the range where that is shorter; and how many bytes lie between.
 #[derive(Drop)]
-struct Laid {
+struct PreparedZeroes {
     first: Vec<u8>,
     last: Vec<u8>,
     zeroes: Vec<u8>,
@@ -46,9 +46,9 @@ fn write_pieces<S: Storage>(
     requires alignment { IsAlignment unit }
     requires zeroes { (k : ℕ) → slice_index zeroes.now k ≡ 0 }
     requires room { min (max unit 65536) n ≤ length zeroes.now }
-    requires whole { IsWhole unit offset n }
-    ensures ok { OnOk result (Through unit (S.state storage.old) (S.state storage.new) offset (replicate n 0)) }
-    ensures err { IfErr result (Halted unit (S.state storage.old) (S.state storage.new) offset (replicate n 0)) }
+    requires whole { IsUnitRange unit offset n }
+    ensures ok { OnOk result (PaddedWrite unit (S.state storage.old) (S.state storage.new) offset (replicate n 0)) }
+    ensures err { IfErr result (PaddedWriteFailed unit (S.state storage.old) (S.state storage.new) offset (replicate n 0)) }
     ensures empty { n ≡ 0 → IsOk result × (S.state storage.new ≡ S.state storage.old) }
 {
     let piece = larger_alignment(unit, PIECE) as u64;
@@ -76,11 +76,11 @@ fn write_edged<S: Storage>(
     requires alignment { IsAlignment unit }
     requires zeroes { (k : ℕ) → slice_index zeroes.now k ≡ 0 }
     requires room { min (max unit 65536) n ≤ length zeroes.now }
-    requires first { IsWhole unit start (length first.now) }
-    requires whole { IsWhole unit (start + length first.now) n }
-    requires last { IsWhole unit (start + length first.now + n) (length last.now) }
-    ensures ok { OnOk result (Through unit (S.state storage.old) (S.state storage.new) start ((first.now ++ replicate n 0) ++ last.now)) }
-    ensures err { IfErr result (Halted unit (S.state storage.old) (S.state storage.new) start ((first.now ++ replicate n 0) ++ last.now)) }
+    requires first { IsUnitRange unit start (length first.now) }
+    requires whole { IsUnitRange unit (start + length first.now) n }
+    requires last { IsUnitRange unit (start + length first.now + n) (length last.now) }
+    ensures ok { OnOk result (PaddedWrite unit (S.state storage.old) (S.state storage.new) start ((first.now ++ replicate n 0) ++ last.now)) }
+    ensures err { IfErr result (PaddedWriteFailed unit (S.state storage.old) (S.state storage.new) start ((first.now ++ replicate n 0) ++ last.now)) }
     ensures empty { length first.now ≡ 0 → length last.now ≡ 0 → n ≡ 0 → IsOk result × (S.state storage.new ≡ S.state storage.old) }
 {
     write_whole(storage, first, start)?;
@@ -102,13 +102,13 @@ fn zero_whole<S: Storage>(
     requires alignment { IsAlignment unit }
     requires zeroes { (k : ℕ) → slice_index zeroes.now k ≡ 0 }
     requires room { min (max unit 65536) n ≤ length zeroes.now }
-    requires whole { IsWhole unit offset n }
-    requires aligned { IsWhole (S.state storage.old).shape.zero_align offset n }
-    requires some { 0 < n }
-    ensures ok { OnOk result (Through unit (S.state storage.old) (S.state storage.new) offset (replicate n 0)) }
+    requires whole { IsUnitRange unit offset n }
+    requires aligned { IsUnitRange (S.state storage.old).shape.zero_align offset n }
+    requires nonempty { 0 < n }
+    ensures ok { OnOk result (PaddedWrite unit (S.state storage.old) (S.state storage.new) offset (replicate n 0)) }
     ensures err { IfErr result (UnlessLeft zeroing (S.state storage.old) (S.state storage.new)
-        (Halted unit (S.state storage.old) (S.state storage.new) offset (replicate n 0))) }
-    ensures once { zeroing ≡ Zeroing.Allocated → RequestsOne (S.state storage.old) (S.state storage.new) result }
+        (PaddedWriteFailed unit (S.state storage.old) (S.state storage.new) offset (replicate n 0))) }
+    ensures single_request { zeroing ≡ Zeroing.Allocated → RequestsOne (S.state storage.old) (S.state storage.new) result }
 {
     match zeroing {
         Zeroing::Allocated => storage.pure_write_allocated_zeroes(offset, n),
@@ -139,20 +139,20 @@ fn zero_around<S: Storage>(
     requires zeroes { (k : ℕ) → slice_index zeroes.now k ≡ 0 }
     requires room { min (max unit 65536) (middle.1 - middle.0) ≤ length zeroes.now }
     requires before { middle.0 ≤ whole.0 }
-    requires some { whole.0 < whole.1 }
-    requires behind { whole.1 ≤ middle.1 }
+    requires nonempty { whole.0 < whole.1 }
+    requires ends_inside { whole.1 ≤ middle.1 }
     requires low { length first.now ≤ middle.0 }
-    requires first { IsWhole unit (middle.0 - length first.now) (length first.now) }
-    requires middle { IsWhole unit middle.0 (middle.1 - middle.0) }
-    requires last { IsWhole unit middle.1 (length last.now) }
-    requires whole { IsWhole unit whole.0 (whole.1 - whole.0) }
-    requires aligned { IsWhole (S.state storage.old).shape.zero_align whole.0 (whole.1 - whole.0) }
-    ensures ok { OnOk result (Through unit (S.state storage.old) (S.state storage.new) (middle.0 - length first.now)
+    requires first { IsUnitRange unit (middle.0 - length first.now) (length first.now) }
+    requires middle { IsUnitRange unit middle.0 (middle.1 - middle.0) }
+    requires last { IsUnitRange unit middle.1 (length last.now) }
+    requires whole { IsUnitRange unit whole.0 (whole.1 - whole.0) }
+    requires aligned { IsUnitRange (S.state storage.old).shape.zero_align whole.0 (whole.1 - whole.0) }
+    ensures ok { OnOk result (PaddedWrite unit (S.state storage.old) (S.state storage.new) (middle.0 - length first.now)
         ((first.now ++ replicate (middle.1 - middle.0) 0) ++ last.now)) }
     ensures err { IfErr result (UnlessLeft zeroing (S.state storage.old) (S.state storage.new)
-        (Halted unit (S.state storage.old) (S.state storage.new) (middle.0 - length first.now)
+        (PaddedWriteFailed unit (S.state storage.old) (S.state storage.new) (middle.0 - length first.now)
         ((first.now ++ replicate (middle.1 - middle.0) 0) ++ last.now))) }
-    ensures once { zeroing ≡ Zeroing.Allocated → length first.now ≡ 0 → length last.now ≡ 0 → middle ≡ whole
+    ensures single_request { zeroing ≡ Zeroing.Allocated → length first.now ≡ 0 → length last.now ≡ 0 → middle ≡ whole
         → RequestsOne (S.state storage.old) (S.state storage.new) result }
 {
     let (start, end) = whole;
@@ -172,7 +172,7 @@ fn zero_buffer(alloc: Global, len: usize) -> Result<Vec<u8>, Fault>
 }
 
 // Fills the buffers of a range's two ends: what is there, and zeroes over what is of the range.
-fn lay_edges<S: Storage>(
+fn prepare_edges<S: Storage>(
     storage: &mut S,
     unit: usize,
     first: &mut [u8],
@@ -183,15 +183,15 @@ fn lay_edges<S: Storage>(
 ) -> Result<(), Fault>
     requires unit { unit ≡ unit_of (S.state storage.old).shape }
     requires positive { 0 < unit }
-    requires some { 0 < range.1 }
+    requires nonempty { 0 < range.1 }
     requires fits { round_up unit (range.0 + range.1) < 2 ^ 64 }
     requires parts { Parts unit range.0 range.1 parts.0 parts.1 }
     requires first { IsEdge unit parts.0 (length first.old) }
     requires last { IsEdge unit (range.1 - parts.0 - parts.1) (length last.old) }
     requires zeroes { (k : ℕ) → slice_index zeroes.now k ≡ 0 }
     requires room { min (max unit 65536) range.1 ≤ length zeroes.now }
-    ensures ok { OnOk result (ZeroesLaid unit (S.state storage.old).bytes range.0 range.1 first.new last.new zeroes.now parts.1) }
-    ensures kept { Kept (S.state storage.old) (S.state storage.new) }
+    ensures ok { OnOk result (ZeroesPrepared unit (S.state storage.old).bytes range.0 range.1 first.new last.new zeroes.now parts.1) }
+    ensures unchanged_but_faults { UnchangedButFaults (S.state storage.old) (S.state storage.new) }
     ensures faults { CountsFaults (S.state storage.old).faults (S.state storage.new).faults result }
 {
     let (offset, n) = range;
@@ -202,27 +202,27 @@ fn lay_edges<S: Storage>(
 }
 
 // Takes the buffers for zeroing a range that isn't empty, and fills those of its two ends.
-fn lay_zeroes<S: Storage>(
+fn prepare_zeroes<S: Storage>(
     storage: &mut S,
     alloc: Global,
     unit: usize,
     offset: u64,
     n: u64,
-) -> Result<Laid, Fault>
+) -> Result<PreparedZeroes, Fault>
     requires unit { unit ≡ unit_of (S.state storage.old).shape }
     requires alignment { IsAlignment unit }
-    requires some { 0 < n }
+    requires nonempty { 0 < n }
     requires fits { round_up unit (offset + n) < 2 ^ 64 }
-    ensures ok { IfOk result (λ laid. ZeroesLaid unit
-        (S.state storage.old).bytes offset n laid.first.items laid.last.items laid.zeroes.items laid.mid) }
-    ensures kept { Kept (S.state storage.old) (S.state storage.new) }
+    ensures ok { IfOk result (λ prepared_zeroes. ZeroesPrepared unit
+        (S.state storage.old).bytes offset n prepared_zeroes.first.items prepared_zeroes.last.items prepared_zeroes.zeroes.items prepared_zeroes.mid) }
+    ensures unchanged_but_faults { UnchangedButFaults (S.state storage.old) (S.state storage.new) }
     ensures faults { CountsFaults (S.state storage.old).faults (S.state storage.new).faults result }
 {
     let parts = parts_of_range(offset, n as usize, unit);
     let tail = n as usize - parts.0 - parts.1;
     let (mut first, mut last) = edge_buffers(alloc, unit, parts.0, tail)?;
     let zeroes = zero_buffer(alloc, unit.max(PIECE).min(n as usize))?;
-    lay_edges(
+    prepare_edges(
         storage,
         unit,
         &mut first,
@@ -231,7 +231,7 @@ fn lay_zeroes<S: Storage>(
         (offset, n),
         parts,
     )?;
-    Ok(Laid {
+    Ok(PreparedZeroes {
         first,
         last,
         zeroes,
@@ -249,21 +249,21 @@ fn write_zeroed<S: Storage>(
 ) -> Result<(), Fault>
     requires unit { unit ≡ unit_of (S.state storage.old).shape }
     requires alignment { IsAlignment unit }
-    requires some { 0 < n }
+    requires nonempty { 0 < n }
     requires fits { round_up unit (offset + n) < 2 ^ 64 }
-    ensures ok { OnOk result (Through unit (S.state storage.old) (S.state storage.new) offset (replicate n 0)) }
-    ensures err { IfErr result (NotThrough unit (S.state storage.old) (S.state storage.new) offset (replicate n 0)) }
+    ensures ok { OnOk result (PaddedWrite unit (S.state storage.old) (S.state storage.new) offset (replicate n 0)) }
+    ensures err { IfErr result (PaddedWriteRefused unit (S.state storage.old) (S.state storage.new) offset (replicate n 0)) }
 {
-    let laid = lay_zeroes(storage, alloc, unit, offset, n)?;
+    let prepared_zeroes = prepare_zeroes(storage, alloc, unit, offset, n)?;
     let start = offset - offset % unit as u64;
     write_edged(
         storage,
         unit,
-        &laid.first,
-        &laid.last,
-        &laid.zeroes,
+        &prepared_zeroes.first,
+        &prepared_zeroes.last,
+        &prepared_zeroes.zeroes,
         start,
-        laid.mid,
+        prepared_zeroes.mid,
     )
 }
 
@@ -281,26 +281,26 @@ fn zero_wholes<S: Storage>(
     requires alignment { IsAlignment unit }
     requires fits { round_up unit (offset + n) < 2 ^ 64 }
     requires before { offset ≤ whole.0 }
-    requires some { whole.0 < whole.1 }
-    requires behind { whole.1 ≤ offset + n }
-    requires whole { IsWhole unit whole.0 (whole.1 - whole.0) }
-    requires aligned { IsWhole (S.state storage.old).shape.zero_align whole.0 (whole.1 - whole.0) }
-    ensures ok { OnOk result (Through unit (S.state storage.old) (S.state storage.new) offset (replicate n 0)) }
+    requires nonempty { whole.0 < whole.1 }
+    requires ends_inside { whole.1 ≤ offset + n }
+    requires whole { IsUnitRange unit whole.0 (whole.1 - whole.0) }
+    requires aligned { IsUnitRange (S.state storage.old).shape.zero_align whole.0 (whole.1 - whole.0) }
+    ensures ok { OnOk result (PaddedWrite unit (S.state storage.old) (S.state storage.new) offset (replicate n 0)) }
     ensures err { IfErr result (UnlessLeft zeroing (S.state storage.old) (S.state storage.new)
-        (NotThrough unit (S.state storage.old) (S.state storage.new) offset (replicate n 0))) }
-    ensures once { zeroing ≡ Zeroing.Allocated → (offset, offset + n) ≡ whole
+        (PaddedWriteRefused unit (S.state storage.old) (S.state storage.new) offset (replicate n 0))) }
+    ensures single_request { zeroing ≡ Zeroing.Allocated → (offset, offset + n) ≡ whole
         → RequestsOne (S.state storage.old) (S.state storage.new) result }
 {
-    let laid = lay_zeroes(storage, alloc, unit, offset, n)?;
-    let low = offset - offset % unit as u64 + laid.first.len() as u64;
+    let prepared_zeroes = prepare_zeroes(storage, alloc, unit, offset, n)?;
+    let low = offset - offset % unit as u64 + prepared_zeroes.first.len() as u64;
     zero_around(
         storage,
         unit,
-        &laid.first,
-        &laid.last,
-        &laid.zeroes,
+        &prepared_zeroes.first,
+        &prepared_zeroes.last,
+        &prepared_zeroes.zeroes,
         zeroing,
-        (low, low + laid.mid),
+        (low, low + prepared_zeroes.mid),
         whole,
     )
 }
@@ -314,10 +314,10 @@ pub fn zero_padded<S: Storage>(
     offset: u64,
     n: u64,
 ) -> Result<(), Fault>
-    ensures ok { OnOk result (Through (unit_of (S.state storage.old).shape) (S.state storage.old) (S.state storage.new) offset
+    ensures ok { OnOk result (PaddedWrite (unit_of (S.state storage.old).shape) (S.state storage.old) (S.state storage.new) offset
         (replicate n 0)) }
     ensures err { IfErr result (NotZeroedBy zeroing (S.state storage.old) (S.state storage.new) offset n) }
-    ensures once { zeroing ≡ Zeroing.Allocated → ZeroesAtOnce (S.state storage.old) (S.state storage.new) offset n result }
+    ensures single_request { zeroing ≡ Zeroing.Allocated → ZeroesInOneRequest (S.state storage.old) (S.state storage.new) offset n result }
     ensures overflow { Overflows (unit_of (S.state storage.old).shape) offset n → IsErrOf result Fault.RangeOverflow }
     ensures empty { n ≡ 0 → IsOk result × (S.state storage.new ≡ S.state storage.old) }
     ensures unit { IsAlignment (unit_of (S.state storage.old).shape) }
@@ -347,14 +347,14 @@ pub fn write_full_zeroes<S: Storage>(
     offset: u64,
     n: u64,
 ) -> Result<(), Fault>
-    ensures ok { OnOk result (WrittenThrough (S.state storage.old) (S.state storage.new) offset (replicate n 0)) }
-    ensures err { IfErr result (NotWrittenThrough (S.state storage.old) (S.state storage.new) offset (replicate n 0)) }
+    ensures ok { OnOk result (WriteSucceeded (S.state storage.old) (S.state storage.new) offset (replicate n 0)) }
+    ensures err { IfErr result (WriteFailed (S.state storage.old) (S.state storage.new) offset (replicate n 0)) }
     ensures overflow { Overflows (unit_of (S.state storage.old).shape) offset n → IsErrOf result Fault.RangeOverflow }
     ensures shape { (S.state storage.new).shape ≡ (S.state storage.old).shape }
-    ensures later { Later (S.state storage.old) (S.state storage.new) }
+    ensures counts_not_fallen { CountsNotFallen (S.state storage.old) (S.state storage.new) }
     // Whatever the answer: each file that a stop inside the call leaves has old bytes or zeroes in the range, and outside what was there.
-    ensures stops { Stops (Mixed (S.state storage.old).bytes offset (replicate n 0)) (S.state storage.old) (S.state storage.new) }
-    ensures as_long { StopsAsLong (S.state storage.old) (S.state storage.new) }
+    ensures crash_images { EachCrashImage (OldOrNewBytes (S.state storage.old).bytes offset (replicate n 0)) (S.state storage.old) (S.state storage.new) }
+    ensures as_long { CrashImagesNoShorter (S.state storage.old) (S.state storage.new) }
     ensures empty { n ≡ 0 → IsOk result × (S.state storage.new ≡ S.state storage.old) }
     ensures unit { IsAlignment (unit_of (S.state storage.old).shape) }
 {

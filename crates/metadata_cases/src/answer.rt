@@ -35,7 +35,7 @@ pub fn text(alloc: Global, answer: Answer) -> Result<String, AllocError> {
         Answer::Done => ok(alloc),
         Answer::None => "none".to_string(alloc),
         Answer::Number(number) => number.to_string(alloc),
-        Answer::Word(word) => format!(in alloc; "0x{word:x}"),
+        Answer::Word(raw_entry) => format!(in alloc; "0x{raw_entry:x}"),
         Answer::Flag(flag) => flag.to_string(alloc),
         Answer::Clusters(first, count) => format!(in alloc; "from {first} count {count}"),
         Answer::Text(text) => text.to_string(alloc),

@@ -5,7 +5,7 @@ ghost use Rattle.qcow2_metadata.specs.Places.{IsPlaced};
 
 use crate::answer::Answer;
 use crate::file::Image;
-use crate::limits::is_in_reach;
+use crate::limits::is_addressable;
 use cases::{Trouble, number, size};
 use qcow2_metadata::{Header, RefBlock};
 use qcow2_types::HostCluster;
@@ -23,7 +23,7 @@ pub fn load_block(
     header: &Header,
     cluster: HostCluster,
 ) -> Result<RefBlock, Trouble> {
-    if !is_in_reach(cluster, header.cluster_bits()) {
+    if !is_addressable(cluster, header.cluster_bits()) {
         return Err(Trouble::NoCall);
     }
     Ok(RefBlock::load(alloc, image, header, cluster)?)
@@ -34,7 +34,7 @@ fn is_placed(block: &RefBlock) -> bool
     ensures { IsTrue result → IsPlaced block.now.cluster_bits block.now.cluster }
 {
     match block.get_cluster() {
-        Some(cluster) => is_in_reach(cluster, block.cluster_bits()),
+        Some(cluster) => is_addressable(cluster, block.cluster_bits()),
         None => false,
     }
 }
@@ -109,8 +109,8 @@ fn decrement(block: &mut RefBlock, index: usize) -> Result<Answer, Trouble> {
 }
 
 // What the block says of itself.
-fn ask(block: &RefBlock, word: &str) -> Result<Answer, Trouble> {
-    match word {
+fn ask(block: &RefBlock, raw_entry: &str) -> Result<Answer, Trouble> {
+    match raw_entry {
         "entries" => Ok(Answer::Number(block.entries() as u64)),
         "cluster_bits" => Ok(Answer::Number(u64::from(block.cluster_bits()))),
         "cluster" => Ok(cluster(block)),
@@ -120,11 +120,11 @@ fn ask(block: &RefBlock, word: &str) -> Result<Answer, Trouble> {
     }
 }
 
-fn mark(block: &mut RefBlock, word: &str) -> Result<Answer, Trouble> {
-    match word {
+fn mark(block: &mut RefBlock, raw_entry: &str) -> Result<Answer, Trouble> {
+    match raw_entry {
         "set_modified" => block.set_modified(),
         "clear_modified" => block.clear_modified(),
-        _ => return ask(block, word),
+        _ => return ask(block, raw_entry),
     }
     Ok(Answer::Done)
 }
@@ -137,7 +137,7 @@ fn place(block: &mut RefBlock, cluster: u64) -> Answer {
 /// A call of a block alone.
 pub fn block_call(block: &mut RefBlock, words: &[&str]) -> Result<Answer, Trouble> {
     match words {
-        [word] => mark(block, word),
+        [raw_entry] => mark(block, raw_entry),
         ["set_cluster", cluster] => Ok(place(block, number(cluster)?)),
         ["get", index] => count(block, size(index)?),
         ["is_zero", index] => is_zero(block, size(index)?),
@@ -164,7 +164,7 @@ fn write_if_modified(
     let Some(cluster) = block.get_cluster() else {
         return Err(Trouble::NoCall);
     };
-    if !is_in_reach(cluster, block.cluster_bits()) {
+    if !is_addressable(cluster, block.cluster_bits()) {
         return Err(Trouble::NoCall);
     }
     block.write_if_modified(alloc, image, cluster)?;

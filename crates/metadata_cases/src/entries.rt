@@ -16,8 +16,8 @@ fn place_or_none(place: Option<HostOffset>) -> Answer {
 }
 
 // A word of the L1 table: one that is made, or one of an image with this header.
-fn l1_entry(header: &Header, how: &str, word: &str) -> Result<L1Entry, Trouble> {
-    let number = number(word)?;
+fn l1_entry(header: &Header, how: &str, raw_entry: &str) -> Result<L1Entry, Trouble> {
+    let number = number(raw_entry)?;
     match how {
         "plain" => Ok(L1Entry::try_from_plain(number, header)?),
         "naming" if number < 1 << 63 => Ok(L1Entry::naming(HostOffset(number))),
@@ -26,8 +26,8 @@ fn l1_entry(header: &Header, how: &str, word: &str) -> Result<L1Entry, Trouble> 
     }
 }
 
-fn reftable_entry(header: &Header, how: &str, word: &str) -> Result<RefTableEntry, Trouble> {
-    let number = number(word)?;
+fn reftable_entry(header: &Header, how: &str, raw_entry: &str) -> Result<RefTableEntry, Trouble> {
+    let number = number(raw_entry)?;
     match how {
         "plain" => Ok(RefTableEntry::try_from_plain(number, header)?),
         "naming" => Ok(RefTableEntry::naming(HostOffset(number))),
@@ -50,8 +50,8 @@ fn placed_l2_entry(how: &str, place: u64) -> Result<L2Entry, Trouble> {
     }
 }
 
-fn l2_entry(header: &Header, how: &str, word: &str) -> Result<L2Entry, Trouble> {
-    let number = number(word)?;
+fn l2_entry(header: &Header, how: &str, raw_entry: &str) -> Result<L2Entry, Trouble> {
+    let number = number(raw_entry)?;
     match how {
         "plain" => Ok(L2Entry::try_from_plain(number, header)?),
         "plain_unmarked" => Ok(L2Entry::try_from_plain(number, header)?.without_copied()),
@@ -61,8 +61,8 @@ fn l2_entry(header: &Header, how: &str, word: &str) -> Result<L2Entry, Trouble> 
     }
 }
 
-fn l1_part(entry: L1Entry, word: &str) -> Result<Answer, Trouble> {
-    match word {
+fn l1_part(entry: L1Entry, raw_entry: &str) -> Result<Answer, Trouble> {
+    match raw_entry {
         "word" => Ok(Answer::Word(entry.to_plain())),
         "table" => Ok(place_or_none(entry.l2_offset())),
         "copied" => Ok(Answer::Flag(entry.is_copied())),
@@ -71,8 +71,8 @@ fn l1_part(entry: L1Entry, word: &str) -> Result<Answer, Trouble> {
     }
 }
 
-fn reftable_part(entry: RefTableEntry, word: &str) -> Result<Answer, Trouble> {
-    match word {
+fn reftable_part(entry: RefTableEntry, raw_entry: &str) -> Result<Answer, Trouble> {
+    match raw_entry {
         "word" => Ok(Answer::Word(entry.to_plain())),
         "block" => Ok(place_or_none(entry.refblock_offset())),
         "reserved" => Ok(Answer::Word(entry.reserved_bits())),
@@ -88,8 +88,8 @@ fn range(header: &Header, entry: L2Entry) -> Answer {
     }
 }
 
-fn l2_part(header: &Header, entry: L2Entry, word: &str) -> Result<Answer, Trouble> {
-    match word {
+fn l2_part(header: &Header, entry: L2Entry, raw_entry: &str) -> Result<Answer, Trouble> {
+    match raw_entry {
         "word" => Ok(Answer::Word(entry.to_plain())),
         "cluster" => Ok(place_or_none(entry.cluster_offset(false))),
         "external_cluster" => Ok(place_or_none(entry.cluster_offset(true))),
@@ -106,14 +106,20 @@ fn l2_part(header: &Header, entry: L2Entry, word: &str) -> Result<Answer, Troubl
 /// A part of a word: `l1 PART HOW NUMBER`, and so for `l2` and `reftable`.
 pub fn entry(alloc: Global, header: &Header, words: &[&str]) -> Result<String, Trouble> {
     match words {
-        ["l1", part, how, word] => answered(alloc, l1_part(l1_entry(header, how, word)?, part)),
-        ["l2", part, how, word] => {
-            answered(alloc, l2_part(header, l2_entry(header, how, word)?, part))
-        }
-        ["reftable", part, how, word] => {
+        ["l1", part, how, raw_entry] => answered(
+            alloc,
+            l1_part(l1_entry(header, how, raw_entry)?, part),
+        ),
+        ["l2", part, how, raw_entry] => {
             answered(
                 alloc,
-                reftable_part(reftable_entry(header, how, word)?, part),
+                l2_part(header, l2_entry(header, how, raw_entry)?, part),
+            )
+        }
+        ["reftable", part, how, raw_entry] => {
+            answered(
+                alloc,
+                reftable_part(reftable_entry(header, how, raw_entry)?, part),
             )
         }
         _ => Err(Trouble::NoCall),
@@ -132,9 +138,12 @@ fn number_at(bytes: &[u8], at: usize) -> Result<Answer, Trouble> {
 pub fn plain(alloc: Global, words: &[&str], file: &[u8]) -> Result<String, Trouble> {
     match words {
         ["word_at", at] => answered(alloc, number_at(file, size(at)?)),
-        ["offset_in", word] => answered(alloc, Ok(Answer::Word(offset_in(number(word)?)))),
-        ["block_offset_in", word] => {
-            answered(alloc, Ok(Answer::Word(block_offset_in(number(word)?))))
+        ["offset_in", raw_entry] => answered(
+            alloc,
+            Ok(Answer::Word(offset_in(number(raw_entry)?))),
+        ),
+        ["block_offset_in", raw_entry] => {
+            answered(alloc, Ok(Answer::Word(block_offset_in(number(raw_entry)?))))
         }
         _ => Err(Trouble::NoCall),
     }

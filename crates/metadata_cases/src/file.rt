@@ -31,18 +31,18 @@ fn put(file: &mut Vec<u8>, at: usize, bytes: &[u8]) -> Result<(), Trouble> {
 // Words, each behind a blank but the first.
 fn sentence(alloc: Global, words: &[&str]) -> Result<String, AllocError> {
     let mut text = String::new(alloc);
-    for word in words.iter() {
-        joined(&mut text, word)?;
+    for raw_entry in words.iter() {
+        joined(&mut text, raw_entry)?;
     }
     Ok(text)
 }
 
-/// Changes the bytes of the file: `put OFFSET BYTES`, `word OFFSET NUMBER` for eight bytes, the highest first, `text OFFSET WORDS`,
+/// Changes the bytes of the file: `put OFFSET BYTES`, `raw_entry OFFSET NUMBER` for eight bytes, the highest first, `text OFFSET WORDS`,
 /// and `cut LENGTH`.
 pub fn edit(alloc: Global, file: &mut Vec<u8>, words: &[&str]) -> Result<String, Trouble> {
     match words {
         ["put", at, rest @ ..] => put(file, size(at)?, &bytes(alloc, rest)?)?,
-        ["word", at, word] => put(file, size(at)?, &number(word)?.to_be_bytes())?,
+        ["word", at, raw_entry] => put(file, size(at)?, &number(raw_entry)?.to_be_bytes())?,
         ["text", at, rest @ ..] => put(file, size(at)?, sentence(alloc, rest)?.as_bytes())?,
         ["cut", length] => file.truncate(size(length)?),
         _ => return Err(Trouble::NoCall),

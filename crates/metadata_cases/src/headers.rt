@@ -12,12 +12,12 @@ use qcow2_types::{ClustersToFreeEntry, FeatureType, PendingClusters};
 use std::alloc::Global;
 
 // A text of a script: `-` for none, `n*3` for `nnn`, and else the word.
-fn text_of(alloc: Global, word: &str) -> Result<Option<String>, Trouble> {
-    if word == "-" {
+fn text_of(alloc: Global, raw_entry: &str) -> Result<Option<String>, Trouble> {
+    if raw_entry == "-" {
         return Ok(None);
     }
-    let Some((part, count)) = word.split_once("*") else {
-        return Ok(Some(word.to_string(alloc)?));
+    let Some((part, count)) = raw_entry.split_once("*") else {
+        return Ok(Some(raw_entry.to_string(alloc)?));
     };
     let count = number(count)?;
     if count > 4096 {
@@ -30,10 +30,10 @@ fn text_of(alloc: Global, word: &str) -> Result<Option<String>, Trouble> {
     Ok(Some(text))
 }
 
-fn refcount_order(word: &str) -> Result<u32, Trouble>
+fn refcount_order(raw_entry: &str) -> Result<u32, Trouble>
     ensures { IfOk result (λ order. order ≤ 6) }
 {
-    let order = number(word)?;
+    let order = number(raw_entry)?;
     if order > 6 {
         return Err(Trouble::NoCall);
     }
@@ -52,8 +52,12 @@ pub fn new_header(alloc: Global, words: &[&str]) -> Result<Header, Trouble> {
 }
 
 /// The header in the file, loaded for reading or for writing.
-pub fn load_header(alloc: Global, image: &mut Image<'_>, word: &str) -> Result<Header, Trouble> {
-    let writable = match word {
+pub fn load_header(
+    alloc: Global,
+    image: &mut Image<'_>,
+    raw_entry: &str,
+) -> Result<Header, Trouble> {
+    let writable = match raw_entry {
         "reading" => false,
         "writing" => true,
         _ => return Err(Trouble::NoCall),
@@ -62,8 +66,8 @@ pub fn load_header(alloc: Global, image: &mut Image<'_>, word: &str) -> Result<H
 }
 
 // Its numbers about tables.
-fn place_field(header: &Header, word: &str) -> Result<u64, Trouble> {
-    match word {
+fn place_field(header: &Header, raw_entry: &str) -> Result<u64, Trouble> {
+    match raw_entry {
         "l1_offset" => Ok(header.l1_table_offset().0),
         "l1_entries" => Ok(header.l1_table_entries() as u64),
         "reftable_offset" => Ok(header.reftable_offset().0),
@@ -74,8 +78,8 @@ fn place_field(header: &Header, word: &str) -> Result<u64, Trouble> {
     }
 }
 
-fn field(header: &Header, word: &str) -> Result<u64, Trouble> {
-    match word {
+fn field(header: &Header, raw_entry: &str) -> Result<u64, Trouble> {
+    match raw_entry {
         "version" => Ok(u64::from(header.version())),
         "size" => Ok(header.size()),
         "cluster_bits" => Ok(u64::from(header.cluster_bits())),
@@ -84,7 +88,7 @@ fn field(header: &Header, word: &str) -> Result<u64, Trouble> {
         "refcount_order" => Ok(u64::from(header.refcount_order())),
         "rb_bits" => Ok(u64::from(header.rb_bits())),
         "rb_entries" => Ok(header.rb_entries() as u64),
-        _ => place_field(header, word),
+        _ => place_field(header, raw_entry),
     }
 }
 
@@ -112,7 +116,7 @@ fn getter(alloc: Global, header: &Header, words: &[&str]) -> Result<String, Trou
         ["data_file"] => shown(alloc, header.external_data_filename()),
         ["external_data"] => answered(alloc, Ok(Answer::Flag(header.external_data_file()))),
         ["feature", kind, bit] => { feature_name(alloc, header, feature_type(kind)?, number(bit)?) }
-        [word] => answered(alloc, Ok(Answer::Number(field(header, word)?))),
+        [raw_entry] => answered(alloc, Ok(Answer::Number(field(header, raw_entry)?))),
         _ => Err(Trouble::NoCall),
     }
 }
@@ -135,9 +139,9 @@ fn write_pointer(
     alloc: Global,
     header: &Header,
     image: &mut Image<'_>,
-    word: &str,
+    raw_entry: &str,
 ) -> Result<String, Trouble> {
-    match word {
+    match raw_entry {
         "size" => header.write_size(alloc, image)?,
         "l1" => header.write_l1_table_pointer(alloc, image)?,
         "reftable" => header.write_reftable_pointer(alloc, image)?,
@@ -151,9 +155,9 @@ fn update(
     alloc: Global,
     header: &mut Header,
     image: &mut Image<'_>,
-    word: &str,
+    raw_entry: &str,
 ) -> Result<String, Trouble> {
-    let other = load_header(alloc, image, word)?;
+    let other = load_header(alloc, image, raw_entry)?;
     header.update(&other)?;
     Ok(ok(alloc)?)
 }
@@ -183,14 +187,14 @@ pub fn header_in_file(
 ) -> Result<String, Trouble> {
     match words {
         ["write"] => write(alloc, header, image),
-        ["write", word] => write_pointer(alloc, header, image, word),
-        ["update", word] => update(alloc, header, image, word),
+        ["write", raw_entry] => write_pointer(alloc, header, image, raw_entry),
+        ["update", raw_entry] => update(alloc, header, image, raw_entry),
         _ => Err(Trouble::NoCall),
     }
 }
 
 /// Takes over the place of an L1 table, whose clusters are pending until then.
-pub fn name_l1(alloc: Global, header: &mut Header, table: &L1Table) -> Result<String, Trouble> {
+pub fn link_l1(alloc: Global, header: &mut Header, table: &L1Table) -> Result<String, Trouble> {
     if table.cluster_bits() != header.cluster_bits() || !is_placed(table) {
         return Err(Trouble::NoCall);
     }

@@ -1,10 +1,10 @@
 // L2 tables.
 ghost use Rattle.std.specs.Prelude.{◌≡◌, OnOk};
-ghost use Rattle.qcow2_metadata.specs.Tables.{with_word};
+ghost use Rattle.qcow2_metadata.specs.Tables.{with_raw_entry};
 
 use crate::answer::{Answer, answered};
 use crate::file::Image;
-use crate::limits::{fits, is_in_reach};
+use crate::limits::{fits, is_addressable};
 use crate::mappings::mapping_text;
 use cases::{Trouble, number, size};
 use qcow2_metadata::{Header, L2Mapping, L2Table, StoredL2Table, Table};
@@ -23,7 +23,7 @@ pub fn load_l2(
     header: &Header,
     cluster: HostCluster,
 ) -> Result<L2Table, Trouble> {
-    if !is_in_reach(cluster, header.cluster_bits()) {
+    if !is_addressable(cluster, header.cluster_bits()) {
         return Err(Trouble::NoCall);
     }
     let entries = header.l2_entries();
@@ -44,7 +44,7 @@ pub fn write_if_modified(
     let Some(cluster) = table.get_cluster() else {
         return Err(Trouble::NoCall);
     };
-    if !is_in_reach(cluster, table.cluster_bits()) {
+    if !is_addressable(cluster, table.cluster_bits()) {
         return Err(Trouble::NoCall);
     }
     table.write_if_modified(alloc, image, cluster)?;
@@ -113,7 +113,7 @@ fn map(
     is_pending: bool,
 ) -> Result<Answer, Trouble> {
     let bits = table.cluster_bits();
-    if index >= table.entries() || cluster.0 == 0 || !is_in_reach(cluster, bits) {
+    if index >= table.entries() || cluster.0 == 0 || !is_addressable(cluster, bits) {
         return Err(Trouble::NoCall);
     }
     let mut guard = table.lock_write();
@@ -135,7 +135,7 @@ fn zero(table: &mut L2Table, index: usize, keep: bool) -> Result<Answer, Trouble
 
 // Discards the guest cluster at an index. What the guard did is known of the table.
 fn discard(table: &mut L2Table, index: usize) -> Result<Answer, Trouble>
-    ensures { OnOk result (table.new ≡ with_word table.old index 0) }
+    ensures { OnOk result (table.new ≡ with_raw_entry table.old index 0) }
 {
     if index >= table.entries() {
         return Err(Trouble::NoCall);
@@ -191,14 +191,14 @@ pub fn stored_call(
     words: &[&str],
 ) -> Result<String, Trouble> {
     let bits = header.cluster_bits();
-    if !is_in_reach(cluster, bits) {
+    if !is_addressable(cluster, bits) {
         return Err(Trouble::NoCall);
     }
     let table = StoredL2Table::load(alloc, image, header, cluster)?;
     match words {
         ["entries"] => answered(alloc, Ok(Answer::Number(table.entries() as u64))),
-        ["mapping", word] => {
-            let guest = GuestCluster(number(word)?);
+        ["mapping", raw_entry] => {
+            let guest = GuestCluster(number(raw_entry)?);
             if !fits(guest.0, bits, 0) {
                 return Err(Trouble::NoCall);
             }

@@ -1,6 +1,6 @@
 // The laws of the metadata. One that no program can call says nothing.
 use crate::answer::Answer;
-use crate::limits::is_in_reach;
+use crate::limits::is_addressable;
 use cases::Trouble;
 use qcow2_metadata::{Header, laws};
 use qcow2_types::HostCluster;
@@ -8,11 +8,11 @@ use qcow2_types::HostCluster;
 /// Calls each law.
 pub fn laws(header: &Header) -> Result<Answer, Trouble> {
     let cluster = HostCluster(5);
-    if !is_in_reach(cluster, header.cluster_bits()) {
+    if !is_addressable(cluster, header.cluster_bits()) {
         return Err(Trouble::NoCall);
     }
     laws::counters_have_one_form();
-    laws::copied_words_are_decoded();
+    laws::copied_entries_are_decoded();
     laws::entered_places_are_named();
     laws::loaded_table_is_written_back();
     laws::mapped_cluster_is_decoded(header, cluster);

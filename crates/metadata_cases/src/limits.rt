@@ -1,16 +1,16 @@
 // Numbers of a script that calls may be given.
 ghost use Rattle.std.specs.Prelude.{◌≡◌, ◌+◌, ◌*◌, ◌^◌, ◌<◌, ◌≤◌, IfOk, IsTrue};
 ghost use Rattle.qcow2_types.specs.Entries.{l2_entries};
-ghost use Rattle.qcow2_metadata.specs.Places.{IsInReach};
+ghost use Rattle.qcow2_metadata.specs.Places.{IsAddressable};
 
 use cases::{Trouble, number};
 use qcow2_types::{HostCluster, MAX_OFFSET};
 
 /// The cluster bits that a word is: from 9 to 21.
-pub fn cluster_bits(word: &str) -> Result<u32, Trouble>
+pub fn cluster_bits(raw_entry: &str) -> Result<u32, Trouble>
     ensures { IfOk result (λ bits. (9 ≤ bits) × (bits ≤ 21)) }
 {
-    let bits = number(word)?;
+    let bits = number(raw_entry)?;
     if bits < 9 || bits > 21 {
         return Err(Trouble::NoCall);
     }
@@ -18,10 +18,10 @@ pub fn cluster_bits(word: &str) -> Result<u32, Trouble>
 }
 
 /// The block bits that a word is: at most 24.
-pub fn block_bits(word: &str) -> Result<u32, Trouble>
+pub fn block_bits(raw_entry: &str) -> Result<u32, Trouble>
     ensures { IfOk result (λ bits. bits ≤ 24) }
 {
-    let bits = number(word)?;
+    let bits = number(raw_entry)?;
     if bits > 24 {
         return Err(Trouble::NoCall);
     }
@@ -40,9 +40,9 @@ pub fn fits(count: u64, bits: u32, rest: u64) -> bool
 }
 
 /// Whether words of tables can name a cluster.
-pub fn is_in_reach(cluster: HostCluster, bits: u32) -> bool
+pub fn is_addressable(cluster: HostCluster, bits: u32) -> bool
     requires { bits ≤ 21 }
-    ensures { IsTrue result → IsInReach bits cluster }
+    ensures { IsTrue result → IsAddressable bits cluster }
 {
     match cluster.0.checked_mul(1 << bits) {
         Some(place) => place <= MAX_OFFSET,

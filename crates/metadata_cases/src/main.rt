@@ -5,7 +5,7 @@
 //!
 //! # The file and its storage
 //!
-//! - `put OFFSET BYTES`; `word OFFSET NUMBER`, eight bytes, the highest first; `text OFFSET WORDS`; `cut LENGTH`.
+//! - `put OFFSET BYTES`; `raw_entry OFFSET NUMBER`, eight bytes, the highest first; `text OFFSET WORDS`; `cut LENGTH`.
 //! - `on UNIT [fuse N]`: puts the file into a storage with this for each alignment, whose Nth call fails. `read OFFSET N`, `size`; `calls`,
 //!   how many there were; `asked`, which, since this was last told.
 //!
@@ -28,14 +28,14 @@
 //! - `l2`: `load CLUSTER`, `new`, `copy`, `write_if_modified`; `[guard] mapping CLUSTER`, `[guard] packed CLUSTER`, of a guest cluster;
 //!   `map INDEX CLUSTER [pending]`, `zero INDEX keep | free`, `discard INDEX`, which answer what is handed back, `from FIRST count N`.
 //!   `stored CLUSTER entries`, `stored CLUSTER mapping CLUSTER`: of the table in that cluster, which is loaded for the call and only read.
-//! - Each of the three: `name`, `most`, `entries`, `word INDEX`, `kept INDEX` (or `none`), `cluster`, `offset`, `bytes`, `clusters`,
+//! - Each of the three: `name`, `most`, `entries`, `raw_entry INDEX`, `kept INDEX` (or `none`), `cluster`, `offset`, `bytes`, `clusters`,
 //!   `cluster_bits`, `modified`, `set_cluster CLUSTER`, `unset_cluster`, `set_modified`, `clear_modified`, `write`, `write INDEX`.
 //! - `block`: `load CLUSTER`, `new`, `write`, `write_if_modified`; `entries`, `cluster_bits`, `cluster`, `offset`, `modified`, `set_cluster
 //!   CLUSTER`, `set_modified`, `clear_modified`; `get INDEX`, `[guard] is_zero INDEX`, `increment INDEX`, `decrement INDEX`.
 //!
 //! # Words and mappings
 //!
-//! - `entry l1 word | table | copied | reserved HOW NUMBER`, with `plain`, `naming` or `empty` as HOW; `entry reftable word | block |
+//! - `entry l1 raw_entry | table | copied | reserved HOW NUMBER`, with `plain`, `naming` or `empty` as HOW; `entry reftable word | block |
 //!   reserved HOW NUMBER`; `entry l2 word | cluster | external_cluster | compressed | copied | zero | reserved | descriptor | range HOW
 //!   NUMBER`, with also `plain_unmarked`, `unmarked`, `zero`, `zero_copied` and `zero_shared`. `plain` is a word of an image with the
 //!   case's header.
@@ -55,7 +55,7 @@
 //!
 //! # Parts
 //!
-//! - `feature NAME`; `feature_type NUMBER`; `to_free data | metadata FIRST COUNT`; `pending named | unnamed data | metadata FIRST COUNT`.
+//! - `feature NAME`; `feature_type NUMBER`; `to_free data | metadata FIRST COUNT`; `pending named | not_referenced data | metadata FIRST COUNT`.
 //! - `part older | newer length`; of the bytes of the file, `part older FIELD`, `part older bytes AT COUNT`, `part newer FIELD | bytes`;
 //!   `part default FIELD | bytes`.
 #![tactic(auto)]
@@ -103,8 +103,8 @@ enum Topic {
     Tables,
 }
 
-fn topic_of(word: &str) -> Topic {
-    match word {
+fn topic_of(raw_entry: &str) -> Topic {
+    match raw_entry {
         "put" | "word" | "text" | "cut" => Topic::File,
         "on" | "read" | "size" | "calls" | "asked" => Topic::Storage,
         "guest" | "host" | "clusters" => Topic::Places,

@@ -53,8 +53,8 @@ fn zeroes_text(
 }
 
 // Whether a mark is `copied`.
-fn is_copied(word: &str) -> Result<bool, Trouble> {
-    match word {
+fn is_copied(raw_entry: &str) -> Result<bool, Trouble> {
+    match raw_entry {
         "copied" => Ok(true),
         "shared" => Ok(false),
         _ => Err(Trouble::NoCall),

@@ -10,8 +10,8 @@ use qcow2_types::{
 use std::alloc::Global;
 
 /// The word of a type of features.
-pub fn feature_type(word: &str) -> Result<FeatureType, Trouble> {
-    match word {
+pub fn feature_type(raw_entry: &str) -> Result<FeatureType, Trouble> {
+    match raw_entry {
         "incompatible" => Ok(FeatureType::Incompatible),
         "compatible" => Ok(FeatureType::Compatible),
         "autoclear" => Ok(FeatureType::Autoclear),
@@ -19,8 +19,8 @@ pub fn feature_type(word: &str) -> Result<FeatureType, Trouble> {
     }
 }
 
-fn incompatible_feature(word: &str) -> Result<(FeatureType, u8), Trouble> {
-    match word {
+fn incompatible_feature(raw_entry: &str) -> Result<(FeatureType, u8), Trouble> {
+    match raw_entry {
         "dirty" => Ok(IncompatibleFeatures::Dirty.into()),
         "corrupt" => Ok(IncompatibleFeatures::Corrupt.into()),
         "external_data_file" => Ok(IncompatibleFeatures::ExternalDataFile.into()),
@@ -30,12 +30,12 @@ fn incompatible_feature(word: &str) -> Result<(FeatureType, u8), Trouble> {
     }
 }
 
-fn feature(word: &str) -> Result<(FeatureType, u8), Trouble> {
-    match word {
+fn feature(raw_entry: &str) -> Result<(FeatureType, u8), Trouble> {
+    match raw_entry {
         "lazy_refcounts" => Ok(CompatibleFeatures::LazyRefcounts.into()),
         "bitmaps" => Ok(AutoclearFeatures::Bitmaps.into()),
         "raw_external_data" => Ok(AutoclearFeatures::RawExternalData.into()),
-        _ => incompatible_feature(word),
+        _ => incompatible_feature(raw_entry),
     }
 }
 
@@ -48,8 +48,8 @@ fn type_word(kind: FeatureType) -> &'static str {
 }
 
 // A feature's type, the type's number, and the feature's bit.
-fn shown_feature(alloc: Global, word: &str) -> Result<String, Trouble> {
-    let (kind, bit) = feature(word)?;
+fn shown_feature(alloc: Global, raw_entry: &str) -> Result<String, Trouble> {
+    let (kind, bit) = feature(raw_entry)?;
     let (name, number) = (type_word(kind), kind.to_kind());
     Ok(format!(in alloc; "{name} {number} bit {bit}")?)
 }
@@ -67,8 +67,8 @@ fn type_of_number(alloc: Global, kind: u64) -> Result<String, Trouble> {
 }
 
 // The clusters of a script: data, or metadata.
-fn entry_of(word: &str, first: u64, count: u64) -> Result<ClustersToFreeEntry, Trouble> {
-    match word {
+fn entry_of(raw_entry: &str, first: u64, count: u64) -> Result<ClustersToFreeEntry, Trouble> {
+    match raw_entry {
         "data" => Ok(ClustersToFreeEntry::data(HostCluster(first), ClusterCount(count))),
         "metadata" => Ok(ClustersToFreeEntry::metadata(HostCluster(first), ClusterCount(count))),
         _ => Err(Trouble::NoCall),
@@ -109,8 +109,8 @@ fn newer(bytes: &[u8]) -> Result<V3HeaderBase, Trouble> {
     Ok(V3HeaderBase::from_bytes(bytes))
 }
 
-fn older_field(v2: &V2Header, word: &str) -> Result<u64, Trouble> {
-    match word {
+fn older_field(v2: &V2Header, raw_entry: &str) -> Result<u64, Trouble> {
+    match raw_entry {
         "magic" => Ok(u64::from(v2.magic)),
         "version" => Ok(u64::from(v2.version)),
         "backing_filename_offset" => Ok(v2.backing_filename_offset),
@@ -128,8 +128,8 @@ fn older_field(v2: &V2Header, word: &str) -> Result<u64, Trouble> {
     }
 }
 
-fn newer_field(v3: &V3HeaderBase, word: &str) -> Result<u64, Trouble> {
-    match word {
+fn newer_field(v3: &V3HeaderBase, raw_entry: &str) -> Result<u64, Trouble> {
+    match raw_entry {
         "incompatible_features" => Ok(v3.incompatible_features),
         "compatible_features" => Ok(v3.compatible_features),
         "autoclear_features" => Ok(v3.autoclear_features),
@@ -155,21 +155,21 @@ fn newer_bytes(alloc: Global, v3: &V3HeaderBase) -> Result<String, Trouble> {
     Ok(runs(alloc, &bytes)?)
 }
 
-fn older_part(alloc: Global, word: &str, bytes: &[u8]) -> Result<String, Trouble> {
+fn older_part(alloc: Global, raw_entry: &str, bytes: &[u8]) -> Result<String, Trouble> {
     let v2 = older(bytes)?;
-    answered(alloc, Ok(Answer::Word(older_field(&v2, word)?)))
+    answered(alloc, Ok(Answer::Word(older_field(&v2, raw_entry)?)))
 }
 
-fn newer_part(alloc: Global, word: &str, v3: &V3HeaderBase) -> Result<String, Trouble> {
-    if word == "bytes" {
+fn newer_part(alloc: Global, raw_entry: &str, v3: &V3HeaderBase) -> Result<String, Trouble> {
+    if raw_entry == "bytes" {
         return newer_bytes(alloc, v3);
     }
-    answered(alloc, Ok(Answer::Word(newer_field(v3, word)?)))
+    answered(alloc, Ok(Answer::Word(newer_field(v3, raw_entry)?)))
 }
 
 // How many bytes a part of a header has.
-fn part_length(word: &str) -> Result<Answer, Trouble> {
-    match word {
+fn part_length(raw_entry: &str) -> Result<Answer, Trouble> {
+    match raw_entry {
         "older" => Ok(Answer::Number(V2Header::SIZE as u64)),
         "newer" => Ok(Answer::Number(V3HeaderBase::SIZE as u64)),
         _ => Err(Trouble::NoCall),
@@ -179,28 +179,28 @@ fn part_length(word: &str) -> Result<Answer, Trouble> {
 // The part of a header that the bytes of the file are.
 fn part(alloc: Global, words: &[&str], file: &[u8]) -> Result<String, Trouble> {
     match words {
-        [word, "length"] => answered(alloc, part_length(word)),
+        [raw_entry, "length"] => answered(alloc, part_length(raw_entry)),
         ["older", "bytes", at, count] => {
             older_bytes(alloc, &older(file)?, size(at)?, size(count)?)
         }
-        ["older", word] => older_part(alloc, word, file),
-        ["newer", word] => newer_part(alloc, word, &newer(file)?),
-        ["default", word] => newer_part(alloc, word, &V3HeaderBase::default()),
+        ["older", raw_entry] => older_part(alloc, raw_entry, file),
+        ["newer", raw_entry] => newer_part(alloc, raw_entry, &newer(file)?),
+        ["default", raw_entry] => newer_part(alloc, raw_entry, &V3HeaderBase::default()),
         _ => Err(Trouble::NoCall),
     }
 }
 
 // Clusters that are handed over: what they are, the first, and how many.
 fn handed_over(words: &[&str]) -> Result<ClustersToFreeEntry, Trouble> {
-    let [word, first, count] = words else {
+    let [raw_entry, first, count] = words else {
         return Err(Trouble::NoCall);
     };
-    entry_of(word, number(first)?, number(count)?)
+    entry_of(raw_entry, number(first)?, number(count)?)
 }
 
 // An entry that is looked at, or is pending and then named, or not.
-fn entry(alloc: Global, word: &str, entry: ClustersToFreeEntry) -> Result<String, Trouble> {
-    match word {
+fn entry(alloc: Global, raw_entry: &str, entry: ClustersToFreeEntry) -> Result<String, Trouble> {
+    match raw_entry {
         "named" => pending(alloc, entry, true),
         "unnamed" => pending(alloc, entry, false),
         _ => shown_entry(alloc, entry),
@@ -210,10 +210,10 @@ fn entry(alloc: Global, word: &str, entry: ClustersToFreeEntry) -> Result<String
 /// The answer about features, clusters that are handed over, and parts of a header in the bytes of the file.
 pub fn parts(alloc: Global, words: &[&str], file: &[u8]) -> Result<String, Trouble> {
     match words {
-        ["feature", word] => shown_feature(alloc, word),
+        ["feature", raw_entry] => shown_feature(alloc, raw_entry),
         ["feature_type", kind] => type_of_number(alloc, number(kind)?),
         ["to_free", rest @ ..] => entry(alloc, "alone", handed_over(rest)?),
-        ["pending", word, rest @ ..] => entry(alloc, word, handed_over(rest)?),
+        ["pending", raw_entry, rest @ ..] => entry(alloc, raw_entry, handed_over(rest)?),
         ["part", rest @ ..] => part(alloc, rest, file),
         _ => Err(Trouble::NoCall),
     }

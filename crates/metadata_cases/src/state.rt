@@ -5,7 +5,7 @@ use crate::answer::{Answer, answered};
 use crate::blocks::{block_call, block_in_file, load_block, new_block};
 use crate::file::{Image, image_of, look};
 use crate::headers::{
-    header_call, header_in_file, load_header, name_l1, name_reftable, new_header,
+    header_call, header_in_file, link_l1, load_header, name_reftable, new_header,
 };
 use crate::l2::{copy_of, l2_call, load_l2, new_l2, stored_call, write_if_modified};
 use crate::tables::table_words;
@@ -29,16 +29,16 @@ pub struct Metadata<'a> {
 }
 
 // Whether an L2 table alone has calls that begin with this word.
-fn is_alone(word: &str) -> bool {
+fn is_alone(raw_entry: &str) -> bool {
     matches!(
-        word,
+        raw_entry,
         "mapping" | "guard" | "packed" | "map" | "zero" | "discard"
     )
 }
 
 // A cluster of a script.
-fn cluster(word: &str) -> Result<HostCluster, Trouble> {
-    Ok(HostCluster(number(word)?))
+fn cluster(raw_entry: &str) -> Result<HostCluster, Trouble> {
+    Ok(HostCluster(number(raw_entry)?))
 }
 
 impl<'a> Metadata<'a> {
@@ -90,11 +90,11 @@ impl<'a> Metadata<'a> {
         }
     }
 
-    fn load_header(&mut self, alloc: Global, word: &str) -> Result<Answer, Trouble> {
+    fn load_header(&mut self, alloc: Global, raw_entry: &str) -> Result<Answer, Trouble> {
         let Some(image) = &mut self.image else {
             return Err(Trouble::NoCall);
         };
-        let header = load_header(alloc, image, word)?;
+        let header = load_header(alloc, image, raw_entry)?;
         self.header = Some(header);
         Ok(Answer::Done)
     }
@@ -119,11 +119,11 @@ impl<'a> Metadata<'a> {
         }
     }
 
-    fn name_l1(&mut self, alloc: Global) -> Result<String, Trouble> {
+    fn link_l1(&mut self, alloc: Global) -> Result<String, Trouble> {
         let (Some(header), Some(table)) = (&mut self.header, &self.l1) else {
             return Err(Trouble::NoCall);
         };
-        name_l1(alloc, header, table)
+        link_l1(alloc, header, table)
     }
 
     fn name_reftable(&mut self, alloc: Global) -> Result<String, Trouble> {
@@ -136,9 +136,9 @@ impl<'a> Metadata<'a> {
     /// A call of the header.
     pub fn header_words(&mut self, alloc: Global, words: &[&str]) -> Result<String, Trouble> {
         match words {
-            ["load", word] => answered(alloc, self.load_header(alloc, word)),
+            ["load", raw_entry] => answered(alloc, self.load_header(alloc, raw_entry)),
             ["new", rest @ ..] => answered(alloc, self.new_header(alloc, rest)),
-            ["set_l1"] => self.name_l1(alloc),
+            ["set_l1"] => self.link_l1(alloc),
             ["set_reftable"] => self.name_reftable(alloc),
             ["write", ..] | ["update", ..] => self.header_in_file(alloc, words),
             _ => self.header_alone(alloc, words),
@@ -212,12 +212,12 @@ impl<'a> Metadata<'a> {
     /// A call of the L2 table.
     pub fn l2_words(&mut self, alloc: Global, words: &[&str]) -> Result<String, Trouble> {
         match words {
-            ["load", word] => answered(alloc, self.load_l2(alloc, cluster(word)?)),
-            ["stored", word, rest @ ..] => self.l2_stored(alloc, cluster(word)?, rest),
+            ["load", raw_entry] => answered(alloc, self.load_l2(alloc, cluster(raw_entry)?)),
+            ["stored", raw_entry, rest @ ..] => self.l2_stored(alloc, cluster(raw_entry)?, rest),
             ["new"] => answered(alloc, self.new_l2(alloc)),
             ["copy"] => answered(alloc, self.copy_l2(alloc)),
             ["write_if_modified"] => answered(alloc, self.write_l2_if_modified(alloc)),
-            [word, ..] if is_alone(word) => self.l2_alone(alloc, words),
+            [raw_entry, ..] if is_alone(raw_entry) => self.l2_alone(alloc, words),
             _ => answered(
                 alloc,
                 table_words(alloc, &mut self.l2, &mut self.image, words),
@@ -257,7 +257,7 @@ impl<'a> Metadata<'a> {
     /// A call of the refcount block.
     pub fn block_words(&mut self, alloc: Global, words: &[&str]) -> Result<Answer, Trouble> {
         match words {
-            ["load", word] => self.load_block(alloc, cluster(word)?),
+            ["load", raw_entry] => self.load_block(alloc, cluster(raw_entry)?),
             ["new"] => self.new_block(alloc),
             ["write" | "write_if_modified"] => self.block_in_file(alloc, words),
             _ => self.block_alone(words),

@@ -153,10 +153,10 @@ fn is_before(kind: &str, a: u64, b: u64) -> Result<bool, Trouble> {
     }
 }
 
-fn operator(word: &str, kind: &str, a: u64, b: u64) -> Result<Answer, Trouble> {
-    match word {
-        "+" | "+=" => Ok(Answer::Number(upward(word, kind, a, b)?)),
-        "-" | "-=" | "from" => Ok(Answer::Number(downward(word, kind, a, b)?)),
+fn operator(raw_entry: &str, kind: &str, a: u64, b: u64) -> Result<Answer, Trouble> {
+    match raw_entry {
+        "+" | "+=" => Ok(Answer::Number(upward(raw_entry, kind, a, b)?)),
+        "-" | "-=" | "from" => Ok(Answer::Number(downward(raw_entry, kind, a, b)?)),
         "before" => Ok(Answer::Flag(is_before(kind, a, b)?)),
         _ => Err(Trouble::NoCall),
     }
@@ -175,8 +175,8 @@ fn shown(alloc: Global, kind: &str, n: u64) -> Result<String, Trouble> {
 /// The answer of an operator: `sum KIND A OPERATOR B`, where `from` is the distance from B to A; or the text of a place.
 pub fn sums(alloc: Global, words: &[&str]) -> Result<String, Trouble> {
     match words {
-        ["sum", kind, a, word, b] => {
-            answered(alloc, operator(word, kind, number(a)?, number(b)?))
+        ["sum", kind, a, raw_entry, b] => {
+            answered(alloc, operator(raw_entry, kind, number(a)?, number(b)?))
         }
         ["shown", kind, n] => shown(alloc, kind, number(n)?),
         _ => Err(Trouble::NoCall),

@@ -5,7 +5,7 @@ ghost use Rattle.qcow2_metadata.specs.Tables.{IsPlacedTable};
 
 use crate::answer::Answer;
 use crate::file::Image;
-use crate::limits::is_in_reach;
+use crate::limits::is_addressable;
 use cases::{Trouble, number, size};
 use qcow2_metadata::{Table, TableEntry};
 use qcow2_types::HostCluster;
@@ -43,8 +43,8 @@ impl TableCall {
 }
 
 // A call without a number.
-fn short_call(word: &str) -> Result<TableCall, Trouble> {
-    match word {
+fn short_call(raw_entry: &str) -> Result<TableCall, Trouble> {
+    match raw_entry {
         "name" => Ok(TableCall::Name),
         "most" => Ok(TableCall::MaxEntries),
         "entries" => Ok(TableCall::Entries),
@@ -65,7 +65,7 @@ fn short_call(word: &str) -> Result<TableCall, Trouble> {
 // The call of these words.
 fn table_call(words: &[&str]) -> Result<TableCall, Trouble> {
     match words {
-        [word] => short_call(word),
+        [raw_entry] => short_call(raw_entry),
         ["word", index] => Ok(TableCall::Word(size(index)?)),
         ["kept", index] => Ok(TableCall::Kept(size(index)?)),
         ["set_cluster", cluster] => Ok(TableCall::SetCluster(HostCluster(number(cluster)?))),
@@ -79,7 +79,7 @@ pub fn is_placed<T: Table>(table: &T) -> bool
     ensures { IsTrue result → IsPlacedTable (T.value table.now) }
 {
     match table.get_cluster() {
-        Some(cluster) => is_in_reach(cluster, table.cluster_bits()),
+        Some(cluster) => is_addressable(cluster, table.cluster_bits()),
         None => false,
     }
 }

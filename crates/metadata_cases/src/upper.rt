@@ -1,10 +1,10 @@
 // The L1 table and the refcount table, whose words name other metadata.
 ghost use Rattle.std.specs.Prelude.{◌≤◌, IsTrue, Some};
-ghost use Rattle.qcow2_metadata.specs.Tables.{IsNamable};
+ghost use Rattle.qcow2_metadata.specs.Tables.{CanBeReferenced};
 
 use crate::answer::Answer;
 use crate::file::Image;
-use crate::limits::is_in_reach;
+use crate::limits::is_addressable;
 use crate::tables::table_words;
 use cases::{Trouble, number, size};
 use qcow2_metadata::{Header, L1Table, L2Table, RefBlock, RefTable, Table};
@@ -47,9 +47,9 @@ fn pending(cluster: HostCluster) -> Option<PendingClusters> {
 // Whether metadata in this cluster can be named.
 fn is_namable(cluster: HostCluster, bits: u32) -> bool
     requires { bits ≤ 21 }
-    ensures { IsTrue result → IsNamable bits (Some cluster) }
+    ensures { IsTrue result → CanBeReferenced bits (Some cluster) }
 {
-    is_in_reach(cluster, bits) && cluster.0 > 0
+    is_addressable(cluster, bits) && cluster.0 > 0
 }
 
 impl Upper for L1Table {
@@ -62,7 +62,7 @@ impl Upper for L1Table {
         cluster: HostCluster,
         entries: usize,
     ) -> Result<Self, Trouble> {
-        if !is_in_reach(cluster, header.cluster_bits()) {
+        if !is_addressable(cluster, header.cluster_bits()) {
             return Err(Trouble::NoCall);
         }
         Ok(L1Table::load(alloc, image, header, cluster, entries)?)
@@ -106,7 +106,7 @@ impl Upper for RefTable {
         cluster: HostCluster,
         entries: usize,
     ) -> Result<Self, Trouble> {
-        if !is_in_reach(cluster, header.cluster_bits()) {
+        if !is_addressable(cluster, header.cluster_bits()) {
             return Err(Trouble::NoCall);
         }
         Ok(RefTable::load(alloc, image, header, cluster, entries)?)
@@ -150,12 +150,12 @@ fn make<T: Upper>(
     words: &[&str],
 ) -> Result<Answer, Trouble> {
     let made = match (words, &*table, image) {
-        (["load", word, entries], _, Some(image)) => {
+        (["load", raw_entry, entries], _, Some(image)) => {
             T::loaded(
                 alloc,
                 image,
                 header,
-                HostCluster(number(word)?),
+                HostCluster(number(raw_entry)?),
                 size(entries)?,
             )?
         }

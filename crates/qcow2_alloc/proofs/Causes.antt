@@ -26,8 +26,8 @@ cause-weaker weaker fault why = absurd why
 
 -- The same of answers.
 pub fails-weaker : {T : Type 0} (old new : Causes) → Implies old new → (old.after ≡ old.before → new.after ≡ new.before) → (result : Result T Fault) → FailsFor old result → FailsFor new result
-fails-weaker old new weaker still (Ok value) same = still same
-fails-weaker old new weaker still (Err fault) why = cause-weaker weaker fault why
+fails-weaker old new weaker has_no_dirty_data (Ok value) same = has_no_dirty_data same
+fails-weaker old new weaker has_no_dirty_data (Err fault) why = cause-weaker weaker fault why
 
 -- A cause of a call that asks nothing of a storage is one of each call, whatever faults were counted before.
 pub bare-weaker : {damaged : Type 0} {limit : ℕ → Type 0} (new : Causes) → (damaged → new.damaged) → ((number : ℕ) → limit number → new.limit number)
@@ -55,5 +55,5 @@ storage-cause a b causes le le' Storage why = rose_behind causes.before a causes
 storage-cause a b causes le le' fault why = absurd why
 
 pub storage-fails : {T : Type 0} (a b : ℕ) (causes : Causes) → causes.before ≤ a → b ≤ causes.after → (b ≡ a → causes.after ≡ causes.before) → (result : Result T Fault) → CountsFaults a b result → FailsFor causes result
-storage-fails a b causes le le' still (Ok value) same = still same
-storage-fails a b causes le le' still (Err fault) why = storage-cause a b causes le le' fault why
+storage-fails a b causes le le' has_no_dirty_data (Ok value) same = has_no_dirty_data same
+storage-fails a b causes le le' has_no_dirty_data (Err fault) why = storage-cause a b causes le le' fault why

@@ -3,7 +3,7 @@ pub mod Causes
 pub mod Caching
 pub mod Flushing
 pub mod Memory
-pub mod Quiet
+pub mod GuestView
 pub mod Freeing
 pub mod Searching
 pub mod Blocks

@@ -2,7 +2,7 @@
 use Rattle.std.specs.Prelude.{⊤, ◌==◌, if◌then◌else◌, Bool, IfOk, ◌≡◌, ◌≢◌, ◌⊎◌, ℕ, ◌+◌, ◌*◌, ◌/◌, ◌%◌, ◌<◌, ◌≤◌, IsTrue, Result, OnOk, Ok, Err, MatchOption, length, slice_index}
 use Rattle.std.specs.List.{sum_by}
 use Rattle.imago_storage.specs.State.{StorageState}
-use Rattle.imago_storage.specs.Calls.{Later, IsFaultless}
+use Rattle.imago_storage.specs.Calls.{CountsNotFallen, IsFaultless}
 use Rattle.imago_storage.specs.declared.fault.Fault.{Fault}
 use Rattle.imago_storage.specs.declared.fault.Fault.TheVariants.{DamagedTable, Counter}
 use Rattle.qcow2_types.specs.Words.{block_offset}
@@ -11,36 +11,36 @@ use Rattle.qcow2_types.specs.Header.{Header}
 use Rattle.qcow2_types.specs.Switched.{with_refcount_table}
 use Rattle.qcow2_metadata.specs.Tables.{TableValue}
 use Rattle.qcow2_metadata.specs.Blocks.{Block, with_counter}
-use Rattle.qcow2_metadata.specs.Places.{IsInReach}
+use Rattle.qcow2_metadata.specs.Places.{IsAddressable}
 use Rattle.qcow2_alloc.specs.declared.allocation.readying_runs.Provision.{Provision}
 use Rattle.qcow2_alloc.specs.declared.allocation.readying_runs.Provision.TheVariants.{Complete, Extended}
 use Rattle.qcow2_alloc.specs.declared.cache.CacheDependency.TheVariants.{L2DependsOnRb}
-use Rattle.qcow2_alloc.specs.Allocators.{named_block, UsesBlock}
+use Rattle.qcow2_alloc.specs.Allocators.{referenced_block, UsesBlock}
 use Rattle.qcow2_alloc.specs.Caches.{CachedFile, order_of, KeepsTables}
 use Rattle.qcow2_alloc.specs.FreeList.{covers}
 use Rattle.qcow2_alloc.specs.Causes.{Causes, FailsFor}
-use Rattle.qcow2_alloc.specs.Freeing.{IsLoose, counting_causes}
-use Rattle.qcow2_alloc.specs.Going.{WasNotCutOff}
+use Rattle.qcow2_alloc.specs.Freeing.{HasUnpinnedRoom, counting_causes}
+use Rattle.qcow2_alloc.specs.Going.{HadNoResourceError}
 use Rattle.qcow2_alloc.specs.MakingRoom.{run_of}
-use Rattle.qcow2_alloc.specs.Quiet.{Metadata, IsSound, Quietly, counted}
+use Rattle.qcow2_alloc.specs.GuestView.{Metadata, IsSound, PreservesGuest, counted}
 use Rattle.qcow2_alloc.specs.State.{ImageState, metadata, IsGuarded, WhereGuarded}
 
 -- How a counter of a block that is 0 is raised to 1: it is refused where there is no such counter or where it isn't 0.
-pub record Raises (index : ℕ) (block : Block) (result : Result Unit Fault) (block' : Block) : Type 0 where
+pub record IncrementsCounter (index : ℕ) (block : Block) (result : Result Unit Fault) (block' : Block) : Type 0 where
   pub out : length block.counters ≤ index → (result ≡ Err DamagedTable) × (block' ≡ block)
-  pub some : index < length block.counters → 0 < slice_index block.counters index → (result ≡ Err Counter) × (block' ≡ block)
+  pub if_counted : index < length block.counters → 0 < slice_index block.counters index → (result ≡ Err Counter) × (block' ≡ block)
   pub none : index < length block.counters → slice_index block.counters index ≡ 0 → (result ≡ Ok tt) × (block' ≡ with_counter block index 1)
 
 -- A cluster that isn't counted is counted in its block, as a word of the refcount table names it; where none does the table is damaged.
-abbrev pub RaisesCluster : {S : Type 0} → (S → StorageState) → TableValue → ℕ → CachedFile S → Result Unit Fault → CachedFile S → Type 0
-RaisesCluster state table cluster old result new = MatchOption
-    (named_block table (cluster / counters_of_block old.file.header.fields))
+abbrev pub IncrementsCluster : {S : Type 0} → (S → StorageState) → TableValue → ℕ → CachedFile S → Result Unit Fault → CachedFile S → Type 0
+IncrementsCluster state table cluster old result new = MatchOption
+    (referenced_block table (cluster / counters_of_block old.file.header.fields))
     ((result ≡ Err DamagedTable) × (new.caches ≡ old.caches) × (new.file ≡ old.file))
-    (λ key. UsesBlock state key (Raises (cluster % counters_of_block old.file.header.fields)) old result new)
+    (λ key. UsesBlock state key (IncrementsCounter (cluster % counters_of_block old.file.header.fields)) old result new)
 
 -- Counts are raised from 0 to 1 alone.
-abbrev pub OnlyRaised : Metadata → Metadata → Type 0
-OnlyRaised m m' = (c : ℕ) → (counted m' c ≡ counted m c) ⊎ ((counted m c ≡ 0) × (counted m' c ≡ 1))
+abbrev pub OnlyIncremented : Metadata → Metadata → Type 0
+OnlyIncremented m m' = (c : ℕ) → (counted m' c ≡ counted m c) ⊎ ((counted m c ≡ 0) × (counted m' c ≡ 1))
 
 -- Calls that allocate fail as those that count do, and since there is no place left, of which `full` says what number tells it; no fault
 -- goes before that.
@@ -56,39 +56,39 @@ pub record CountsPart {S : Type 0} (state : S → StorageState) (handed : ℕ �
   pub inside : part ≤ n
   pub whole : OnOk result (part ≡ n)
   pub shape : (state s'.file.image).shape ≡ (state s.file.image).shape
-  pub later : Later (state s.file.image) (state s'.file.image)
-  pub faults : WasNotCutOff result → IsFaultless (state s.file.image) (state s'.file.image)
-  pub quiet : order_of s.caches ≡ L2DependsOnRb
+  pub counts_not_fallen : CountsNotFallen (state s.file.image) (state s'.file.image)
+  pub faults : HadNoResourceError result → IsFaultless (state s.file.image) (state s'.file.image)
+  pub guest_unchanged : order_of s.caches ≡ L2DependsOnRb
       → (IsSound (metadata state s) → (c : ℕ) → first ≤ c → c < first + n → counted (metadata state s) c ≡ 0)
-      → Quietly (WasNotCutOff result) (handed part) (λ _. 0) (state s.file.image) (metadata state s) (state s'.file.image)
+      → PreservesGuest (HadNoResourceError result) (handed part) (λ _. 0) (state s.file.image) (metadata state s) (state s'.file.image)
       (metadata state s')
-  pub raised : WhereGuarded state s (((c : ℕ) → first ≤ c → c < first + n → counted (metadata state s) c ≡ 0) → WasNotCutOff result
+  pub raised : WhereGuarded state s (((c : ℕ) → first ≤ c → c < first + n → counted (metadata state s) c ≡ 0) → HadNoResourceError result
       → (c : ℕ) → counted (metadata state s') c ≡ counted (metadata state s) c + handed part c)
   pub order : order_of s'.caches ≡ order_of s.caches
   pub header : s'.file.header ≡ s.file.header
-  pub loose : (any : Bool) → IsLoose s.table s.caches any → IsLoose s.table s'.caches any
+  pub keeps_unpinned_room : (any : Bool) → HasUnpinnedRoom s.table s.caches any → HasUnpinnedRoom s.table s'.caches any
   pub room : KeepsTables s.caches s'.caches
   pub cause : FailsFor (counting_causes (IsTrue (state s.file.image).shape.keeps × (order_of s.caches ≡ L2DependsOnRb)
       × IsSound (metadata state s) × ((c : ℕ) → first ≤ c → c < first + n → (counted (metadata state s) c ≡ 0) × ready c))
-      (IsLoose s.table s.caches) (state s.file.image).faults (state s'.file.image).faults) result
+      (HasUnpinnedRoom s.table s.caches) (state s.file.image).faults (state s'.file.image).faults) result
 
 -- A run of n clusters is counted. Each needs a block that the refcount table names.
 abbrev pub CountsRun : {S : Type 0} → (S → StorageState) → (first n : ℕ) → ImageState S → Result Unit Fault → ImageState S → Type 0
 CountsRun state first n s result s' = CountsPart state (λ part c. covers c (run_of first part))
-    (λ c. block_offset (slice_index s.table.words (c / counters_of_block s.file.header.fields)) ≢ 0) first n s result s'
+    (λ c. block_offset (slice_index s.table.raw_entries (c / counters_of_block s.file.header.fields)) ≢ 0) first n s result s'
 
 -- 1 where cluster c is one of so many of a run, and the refcount table names the block, of k counters, that counts it; else 0
 abbrev pub named_part : TableValue → ℕ → ℕ → ℕ → ℕ → ℕ
-named_part table k first part c = if block_offset (slice_index table.words (c / k)) == 0 then 0 else covers c (run_of first part)
+named_part table k first part c = if block_offset (slice_index table.raw_entries (c / k)) == 0 then 0 else covers c (run_of first part)
 
 -- Those of a run of n clusters are counted for which the refcount table names a block. The others are passed over.
-abbrev pub CountsNamed : {S : Type 0} → (S → StorageState) → (first n : ℕ) → ImageState S → Result Unit Fault → ImageState S → Type 0
-CountsNamed state first n s result s' = CountsPart state (named_part s.table (counters_of_block s.file.header.fields) first)
+abbrev pub CountsReferenced : {S : Type 0} → (S → StorageState) → (first n : ℕ) → ImageState S → Result Unit Fault → ImageState S → Type 0
+CountsReferenced state first n s result s' = CountsPart state (named_part s.table (counters_of_block s.file.header.fields) first)
     (λ _. ⊤) first n s result s'
 
 -- how many words of a refcount table name no block
 abbrev pub missing : TableValue → ℕ
-missing table = sum_by (λ w. if block_offset w == 0 then 1 else 0) table.words
+missing table = sum_by (λ w. if block_offset w == 0 then 1 else 0) table.raw_entries
 
 -- The refcount table may stand elsewhere, and nothing else of the header changes.
 abbrev pub MovedTable : Header → Header → Type 0
@@ -98,43 +98,43 @@ MovedTable H H' = (offset : ℕ) × (clusters : ℕ) × (H' ≡ with_refcount_ta
 -- 1 alone. It wasn't cut off where `ok` holds.
 pub record Allocating {S : Type 0} (state : S → StorageState) (ok : Type 0) (handed : ℕ → ℕ) (s s' : ImageState S) : Type 0 where
   pub faults : ok → IsFaultless (state s.file.image) (state s'.file.image)
-  pub quiet : order_of s.caches ≡ L2DependsOnRb → Quietly ok handed (λ _. 0) (state s.file.image) (metadata state s) (state s'.file.image)
+  pub guest_unchanged : order_of s.caches ≡ L2DependsOnRb → PreservesGuest ok handed (λ _. 0) (state s.file.image) (metadata state s) (state s'.file.image)
       (metadata state s')
   pub raised : WhereGuarded state s (ok
-      → OnlyRaised (metadata state s) (metadata state s'))
+      → OnlyIncremented (metadata state s) (metadata state s'))
   pub order : order_of s'.caches ≡ order_of s.caches
   pub moved : MovedTable s.file.header s'.file.header
-  pub longer : length s.table.words ≤ length s'.table.words
-  pub loose : (any : Bool) → IsLoose s.table s.caches any → IsLoose s'.table s'.caches any
+  pub longer : length s.table.raw_entries ≤ length s'.table.raw_entries
+  pub keeps_unpinned_room : (any : Bool) → HasUnpinnedRoom s.table s.caches any → HasUnpinnedRoom s'.table s'.caches any
   pub room : KeepsTables s.caches s'.caches
 
 -- A block is made, where there was none, while blocks are written before tables. How far out its cluster lies at most `IsBlockPlaced`
 -- tells. Where the making is cut off, the table in memory may name the block already. Nothing is handed out.
 pub record MakesBlock {S : Type 0} (state : S → StorageState) (index : ℕ) (s : ImageState S) (result : Result Unit Fault)
     (s' : ImageState S) : Type 0 where
-  pub step : Allocating state (WasNotCutOff result) (λ _. 0) s s'
-  pub named : OnOk result (block_offset (slice_index s'.table.words index) ≢ 0)
-  pub others : (i : ℕ) → i ≢ index → slice_index s'.table.words i ≡ slice_index s.table.words i
-  pub long : length s'.table.words ≡ length s.table.words
+  pub step : Allocating state (HadNoResourceError result) (λ _. 0) s s'
+  pub named : OnOk result (block_offset (slice_index s'.table.raw_entries index) ≢ 0)
+  pub others : (i : ℕ) → i ≢ index → slice_index s'.table.raw_entries i ≡ slice_index s.table.raw_entries i
+  pub long : length s'.table.raw_entries ≡ length s.table.raw_entries
   pub layout : s'.table.layout ≡ s.table.layout
   pub placed : s'.table.cluster ≡ s.table.cluster
   pub header : s'.file.header ≡ s.file.header
-  pub cause : FailsFor (allocating_causes (IsGuarded state s) (IsLoose s.table s.caches)
-      (λ number. (number ≤ index * counters_of_block s.file.header.fields) × (IsInReach s.file.header.fields.cluster_bits number → ⊥))
+  pub cause : FailsFor (allocating_causes (IsGuarded state s) (HasUnpinnedRoom s.table s.caches)
+      (λ number. (number ≤ index * counters_of_block s.file.header.fields) × (IsAddressable s.file.header.fields.cluster_bits number → ⊥))
       (state s.file.image).faults (state s'.file.image).faults) result
 
 -- The blocks at these indices are made that there aren't. Words that named a block stay.
 pub record MakesBlocks {S : Type 0} (state : S → StorageState) (first end : ℕ) (s : ImageState S)
     (result : Result Provision Fault) (s' : ImageState S) : Type 0 where
-  pub step : Allocating state (WasNotCutOff result) (λ _. 0) s s'
-  pub named : OnOk result ((i : ℕ) → first ≤ i → i < end → block_offset (slice_index s'.table.words i) ≢ 0)
-  pub kept : (i : ℕ) → block_offset (slice_index s.table.words i) ≢ 0 → slice_index s'.table.words i ≡ slice_index s.table.words i
+  pub step : Allocating state (HadNoResourceError result) (λ _. 0) s s'
+  pub named : OnOk result ((i : ℕ) → first ≤ i → i < end → block_offset (slice_index s'.table.raw_entries i) ≢ 0)
+  pub entries_unchanged : (i : ℕ) → block_offset (slice_index s.table.raw_entries i) ≢ 0 → slice_index s'.table.raw_entries i ≡ slice_index s.table.raw_entries i
   pub idle : IfOk result (λ provision. provision ≡ Complete → (s'.table ≡ s.table) × (s'.caches ≡ s.caches) × (s'.file ≡ s.file))
   pub fewer : IfOk result (λ provision. provision ≡ Extended → missing s'.table < missing s.table)
-  pub long : length s'.table.words ≡ length s.table.words
+  pub long : length s'.table.raw_entries ≡ length s.table.raw_entries
   pub layout : s'.table.layout ≡ s.table.layout
   pub placed : s'.table.cluster ≡ s.table.cluster
   pub header : s'.file.header ≡ s.file.header
-  pub cause : FailsFor (allocating_causes (IsGuarded state s) (IsLoose s.table s.caches)
+  pub cause : FailsFor (allocating_causes (IsGuarded state s) (HasUnpinnedRoom s.table s.caches)
       (λ number. (i : ℕ) × (first ≤ i) × (i < end) × (number ≤ i * counters_of_block s.file.header.fields)
-      × (IsInReach s.file.header.fields.cluster_bits number → ⊥)) (state s.file.image).faults (state s'.file.image).faults) result
+      × (IsAddressable s.file.header.fields.cluster_bits number → ⊥)) (state s.file.image).faults (state s'.file.image).faults) result

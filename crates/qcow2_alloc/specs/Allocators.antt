@@ -3,7 +3,7 @@ use Rattle.std.specs.Prelude.{◌≡◌, ◌⊎◌, ℕ, ◌-◌, ◌/◌, ◌%�
 use Rattle.std.specs.Option.{option_map}
 use Rattle.std.specs.Map.{lookup}
 use Rattle.imago_storage.specs.State.{StorageState}
-use Rattle.imago_storage.specs.Calls.{Kept, IsFaultless}
+use Rattle.imago_storage.specs.Calls.{UnchangedButFaults, IsFaultless}
 use Rattle.imago_storage.specs.declared.fault.Fault.{Fault}
 use Rattle.imago_storage.specs.declared.fault.Fault.TheVariants.{DamagedTable, Counter}
 use Rattle.qcow2_types.specs.Bytes.{bytes_of}
@@ -11,7 +11,7 @@ use Rattle.qcow2_types.specs.Header.{Fields, cluster_size, refcount_table_entrie
 use Rattle.qcow2_types.specs.Counts.{counters_of_block}
 use Rattle.qcow2_types.specs.Words.{block_offset, max_offset}
 use Rattle.qcow2_types.specs.Pending.{FreeEntry}
-use Rattle.qcow2_metadata.specs.Tables.{TableValue, AreSound, WhyNotLoaded, block_words, words_in, table_in}
+use Rattle.qcow2_metadata.specs.Tables.{TableValue, AreSound, WhyNotLoaded, refcount_table_kind, raw_entries_in, table_in}
 use Rattle.qcow2_metadata.specs.Blocks.{Block, with_counter}
 use Rattle.qcow2_alloc.specs.declared.allocation.Allocator.{Allocator}
 use Rattle.qcow2_alloc.specs.declared.cache.MetadataCaches.{MetadataCaches}
@@ -20,20 +20,20 @@ use Rattle.qcow2_alloc.specs.Cache.{hit}
 use Rattle.qcow2_alloc.specs.Caches.{CachedFile, cached_in, order_of}
 use Rattle.qcow2_alloc.specs.CachesLending.{OneCache, of_tables, of_blocks}
 use Rattle.qcow2_alloc.specs.Finding.{EntryFound}
-use Rattle.qcow2_alloc.specs.Going.{WasNotCutOff}
-use Rattle.qcow2_alloc.specs.Quiet.{Metadata, IsTableOf}
+use Rattle.qcow2_alloc.specs.Going.{HadNoResourceError}
+use Rattle.qcow2_alloc.specs.GuestView.{Metadata, IsTableOf}
 
 -- the refcount table in memory, and the cluster where the search for free ones begins
 abbrev pub table_of : Allocator → TableValue
 table_of a = a.reftable
 
-abbrev pub mark_of : Allocator → ℕ
-mark_of a = a.first_free_cluster
+abbrev pub first_free_of : Allocator → ℕ
+first_free_of a = a.first_free_cluster
 
 -- the cluster of the block that a word of the refcount table names, if it names one
-abbrev pub named_block : TableValue → ℕ → Option ℕ
-named_block table i = if block_offset (slice_index table.words i) == 0 then None else Some
-    (block_offset (slice_index table.words i) / 2 ^ table.layout.cluster_bits)
+abbrev pub referenced_block : TableValue → ℕ → Option ℕ
+referenced_block table i = if block_offset (slice_index table.raw_entries i) == 0 then None else Some
+    (block_offset (slice_index table.raw_entries i) / 2 ^ table.layout.cluster_bits)
 
 -- all that contracts see of an image that is lent with its caches, its allocator and the list of clusters to free
 abbrev pub metadata_of : {S : Type 0} → (S → StorageState) → ImageFile S → MetadataCaches S → TableValue → List FreeEntry → Metadata
@@ -53,7 +53,7 @@ pub record EntryUsed {S V W A B T : Type 0} (cache : OneCache S V W A B) (cluste
   pub found : EntryFound cache.kind cluster (cache.see old.caches) old.file (Ok tt) (cache.see mid) new.file
   pub value : V
   pub value' : V
-  pub there : option_map (λ s. s.value) (lookup (nat_eq cluster) (cache.see mid).own.slots.entries) ≡ Some value
+  pub value_cached : option_map (λ s. s.value) (lookup (nat_eq cluster) (cache.see mid).own.slots.entries) ≡ Some value
   pub used : does value result value'
   pub left : new.caches ≡ cache.put mid (hit (nat_eq cluster) (cache.see mid).own.slots.entries value')
 
@@ -82,18 +82,18 @@ module _ {S T : Type 0} (state : S → StorageState) (cluster : ℕ) where
   UsesTable = UsesEntry (of_tables state) cluster
 
 -- How a counter of a block is lowered by 1: it is refused where there is no such counter or where it is 0.
-pub record Lowers (index : ℕ) (block : Block) (result : Result Unit Fault) (block' : Block) : Type 0 where
+pub record DecrementsCounter (index : ℕ) (block : Block) (result : Result Unit Fault) (block' : Block) : Type 0 where
   pub out : length block.counters ≤ index → (result ≡ Err DamagedTable) × (block' ≡ block)
   pub none : index < length block.counters → slice_index block.counters index ≡ 0 → (result ≡ Err Counter) × (block' ≡ block)
-  pub some : index < length block.counters → 0 < slice_index block.counters index → (result ≡ Ok tt)
+  pub if_counted : index < length block.counters → 0 < slice_index block.counters index → (result ≡ Ok tt)
       × (block' ≡ with_counter block index (slice_index block.counters index - 1))
 
 -- A cluster is counted down in the block that counts it, as a word of the refcount table names it; where none does the table is damaged.
-abbrev pub LowersCluster : {S : Type 0} → (S → StorageState) → TableValue → ℕ → CachedFile S → Result Unit Fault → CachedFile S → Type 0
-LowersCluster state table cluster old result new = MatchOption
-    (named_block table (cluster / counters_of_block old.file.header.fields))
+abbrev pub DecrementsCluster : {S : Type 0} → (S → StorageState) → TableValue → ℕ → CachedFile S → Result Unit Fault → CachedFile S → Type 0
+DecrementsCluster state table cluster old result new = MatchOption
+    (referenced_block table (cluster / counters_of_block old.file.header.fields))
     ((result ≡ Err DamagedTable) × (new.caches ≡ old.caches) × (new.file ≡ old.file))
-    (λ key. UsesBlock state key (Lowers (cluster % counters_of_block old.file.header.fields)) old result new)
+    (λ key. UsesBlock state key (DecrementsCounter (cluster % counters_of_block old.file.header.fields)) old result new)
 
 -- The refcount table begins with a cluster that words can name.
 pub record IsTablePlaced (h : Fields) : Type 0 where
@@ -104,12 +104,12 @@ pub record IsTablePlaced (h : Fields) : Type 0 where
 -- file's does.
 pub record LoadsAllocator (old : StorageState) (h : Fields) (result : Result Allocator Fault) (new : StorageState) : Type 0 where
   pub ok : IfOk result (λ a. IsTablePlaced h × (table_of a
-      ≡ table_in (bytes_of old.bytes) h (h.refcount_table_offset / cluster_size h) (refcount_table_entries h)) × (mark_of a ≡ 0))
-  pub sound : OnOk result (AreSound block_words (layout_of h)
-      (words_in (bytes_of old.bytes) h.refcount_table_offset (refcount_table_entries h)))
+      ≡ table_in (bytes_of old.bytes) h (h.refcount_table_offset / cluster_size h) (refcount_table_entries h)) × (first_free_of a ≡ 0))
+  pub sound : OnOk result (AreSound refcount_table_kind (layout_of h)
+      (raw_entries_in (bytes_of old.bytes) h.refcount_table_offset (refcount_table_entries h)))
   pub table : IfOk result (λ a. 0 < refcount_table_entries h → IsTableOf (bytes_of old.bytes) h (table_of a))
   pub out : (IsTablePlaced h → ⊥) → (result ≡ Err DamagedTable) × (new ≡ old)
-  pub err : IsTablePlaced h → IfErr result (WhyNotLoaded block_words (layout_of h)
-      (words_in (bytes_of old.bytes) h.refcount_table_offset (refcount_table_entries h)) old.faults new.faults)
-  pub kept : Kept old new
-  pub faults : WasNotCutOff result → IsFaultless old new
+  pub err : IsTablePlaced h → IfErr result (WhyNotLoaded refcount_table_kind (layout_of h)
+      (raw_entries_in (bytes_of old.bytes) h.refcount_table_offset (refcount_table_entries h)) old.faults new.faults)
+  pub unchanged_but_faults : UnchangedButFaults old new
+  pub faults : HadNoResourceError result → IsFaultless old new

@@ -1,40 +1,40 @@
 -- What loads and flushes of cached tables and blocks do to the image file.
 use Rattle.std.specs.Prelude.{◌≡◌, ℕ, ◌*◌, ◌^◌, ◌<◌, ◌≤◌, slice_index, Bool, true, false, Some, List, Result, Ok, Err, OnOk, OnErr, IfOk, IfErr}
 use Rattle.imago_storage.specs.State.{StorageState}
-use Rattle.imago_storage.specs.Calls.{CountsFaults, Kept}
-use Rattle.imago_storage.specs.Through.{PutAtOnce}
+use Rattle.imago_storage.specs.Calls.{CountsFaults, UnchangedButFaults}
+use Rattle.imago_storage.specs.Through.{AtomicWriteOutcome}
 use Rattle.imago_storage.specs.declared.fault.Fault.{Fault}
 use Rattle.imago_storage.specs.declared.fault.Fault.TheVariants.{DamagedTable}
 use Rattle.qcow2_types.specs.Bytes.{bytes_of}
-use Rattle.qcow2_types.specs.Header.{Fields, cluster_size, words_of_cluster, layout_of}
+use Rattle.qcow2_types.specs.Header.{Fields, cluster_size, entries_of_cluster, layout_of}
 use Rattle.qcow2_types.specs.TableBytes.{table_bytes}
-use Rattle.qcow2_metadata.specs.Places.{IsInReach}
-use Rattle.qcow2_metadata.specs.Tables.{TableValue, IsTable, l2_words, WhyNotLoaded, words_in, table_in}
+use Rattle.qcow2_metadata.specs.Places.{IsAddressable}
+use Rattle.qcow2_metadata.specs.Tables.{TableValue, IsTable, l2_table_kind, WhyNotLoaded, raw_entries_in, table_in}
 use Rattle.qcow2_metadata.specs.Blocks.{Block, BlockPut, block_in}
 
 -- the words of an L2 table in a cluster of a file
 abbrev pub l2_words_in : StorageState → Fields → ℕ → List ℕ
-l2_words_in file h key = words_in (bytes_of file.bytes) (key * cluster_size h) (words_of_cluster h)
+l2_words_in file h key = raw_entries_in (bytes_of file.bytes) (key * cluster_size h) (entries_of_cluster h)
 
 -- an L2 table was loaded from its cluster, where words can name it
 pub record TableLoaded (h : Fields) (key : ℕ) (old : StorageState) (result : Result TableValue Fault) (new : StorageState) : Type 0 where
-  pub ok : IfOk result (λ table. IsInReach h.cluster_bits key × (table ≡ table_in (bytes_of old.bytes) h key (words_of_cluster h))
-      × IsTable l2_words table)
-  pub out : (IsInReach h.cluster_bits key → ⊥) → (result ≡ Err DamagedTable) × (new ≡ old)
+  pub ok : IfOk result (λ table. IsAddressable h.cluster_bits key × (table ≡ table_in (bytes_of old.bytes) h key (entries_of_cluster h))
+      × IsTable l2_table_kind table)
+  pub out : (IsAddressable h.cluster_bits key → ⊥) → (result ≡ Err DamagedTable) × (new ≡ old)
   pub narrow : h.cluster_bits ≤ 21
-  pub err : IsInReach h.cluster_bits key → IfErr result (WhyNotLoaded l2_words (layout_of h) (l2_words_in old h key) old.faults new.faults)
-  pub kept : Kept old new
-  pub later : old.faults ≤ new.faults
+  pub err : IsAddressable h.cluster_bits key → IfErr result (WhyNotLoaded l2_table_kind (layout_of h) (l2_words_in old h key) old.faults new.faults)
+  pub unchanged_but_faults : UnchangedButFaults old new
+  pub counts_not_fallen : old.faults ≤ new.faults
   pub faults : OnOk result (new.faults ≡ old.faults)
 
 -- a block was loaded from its cluster
 pub record BlockLoaded (h : Fields) (key : ℕ) (old : StorageState) (result : Result Block Fault) (new : StorageState) : Type 0 where
-  pub ok : IfOk result (λ block. IsInReach h.cluster_bits key × (block ≡ block_in (bytes_of old.bytes) h key)
+  pub ok : IfOk result (λ block. IsAddressable h.cluster_bits key × (block ≡ block_in (bytes_of old.bytes) h key)
       × ((i : ℕ) → slice_index block.counters i < 2 ^ 2 ^ block.order))
-  pub out : (IsInReach h.cluster_bits key → ⊥) → (result ≡ Err DamagedTable) × (new ≡ old)
-  pub err : IsInReach h.cluster_bits key → IfErr result (λ fault. CountsFaults {T = Block} old.faults new.faults (Err fault))
-  pub kept : Kept old new
-  pub later : old.faults ≤ new.faults
+  pub out : (IsAddressable h.cluster_bits key → ⊥) → (result ≡ Err DamagedTable) × (new ≡ old)
+  pub err : IsAddressable h.cluster_bits key → IfErr result (λ fault. CountsFaults {T = Block} old.faults new.faults (Err fault))
+  pub unchanged_but_faults : UnchangedButFaults old new
+  pub counts_not_fallen : old.faults ≤ new.faults
   pub faults : OnOk result (new.faults ≡ old.faults)
 
 -- What is written of a kind of cached entries: of which cluster, whether it was modified, what it is once it was written or refused, and by
@@ -49,11 +49,11 @@ pub record WrittenKind (V : Type 0) : Type 1 where
 pub record Flushed {V : Type 0} (kind : WrittenKind V) (old : StorageState) (key : ℕ) (v : V) (result : Result Unit Fault)
     (new : StorageState) (v' : V) : Type 0 where
   pub clean : kind.modified v ≡ false → (result ≡ Ok tt) × (new ≡ old) × (v' ≡ v)
-  pub out : kind.modified v ≡ true → (IsInReach (kind.cluster_bits v) key → ⊥) → (result ≡ Err DamagedTable) × (new ≡ old) × (v' ≡ v)
-  pub written : kind.modified v ≡ true → IsInReach (kind.cluster_bits v) key
+  pub out : kind.modified v ≡ true → (IsAddressable (kind.cluster_bits v) key → ⊥) → (result ≡ Err DamagedTable) × (new ≡ old) × (v' ≡ v)
+  pub written : kind.modified v ≡ true → IsAddressable (kind.cluster_bits v) key
       → kind.Puts v (key * 2 ^ kind.cluster_bits v) old new result
   pub ok : kind.modified v ≡ true → OnOk result (v' ≡ kind.marked v key false)
-  pub err : kind.modified v ≡ true → IsInReach (kind.cluster_bits v) key → OnErr result (v' ≡ kind.marked v key true)
+  pub err : kind.modified v ≡ true → IsAddressable (kind.cluster_bits v) key → OnErr result (v' ≡ kind.marked v key true)
 
 -- an L2 table's words,
 abbrev pub written_tables : WrittenKind TableValue
@@ -61,7 +61,7 @@ written_tables = record {
   cluster_bits = λ t. t.layout.cluster_bits;
   modified = λ t. t.modified;
   marked = λ t key modified. record t { cluster = Some key; modified = modified };
-  Puts = λ t place old new result. PutAtOnce old new place (table_bytes t.words) result;
+  Puts = λ t place old new result. AtomicWriteOutcome old new place (table_bytes t.raw_entries) result;
 }
 
 -- and a block's counters

@@ -50,7 +50,7 @@ module _ {K V D : Type 0} (eq : K → K → Bool) (flushes : D → K → V → R
       (es' : List (K × Slot V)) : Type 0 where
     pub slot : Slot V
     pub value : V
-    pub there : lookup (eq key) es ≡ Some slot
+    pub slot_found : lookup (eq key) es ≡ Some slot
     pub flush : flushes before key slot.value result after value
     pub entries : es' ≡ set_value (eq key) es (record slot { value = value })
 
@@ -100,7 +100,7 @@ module _ {K V D : Type 0} (kind : CacheKind K V D) where
     pub found : IsSome (lookup (kind.eq key) es) → (result ≡ Ok Granted) × (after ≡ before) × (es' ≡ es)
     pub missed : lookup (kind.eq key) es ≡ None → Missed may_flush key before es result after es'
     -- the entry is there where it says so
-    pub there : result ≡ Ok Granted → IsSome (lookup (kind.eq key) es')
+    pub granted_is_cached : result ≡ Ok Granted → IsSome (lookup (kind.eq key) es')
 
 -- How a value is put at a key: over another,
 module _ {K V D : Type 0} (eq : K → K → Bool) (flushes : D → K → V → Result Unit Fault → D → V → Type 0) where
@@ -140,16 +140,16 @@ fault_of (Ok value) = None
 fault_of (Err fault) = Some fault
 
 -- neither want of memory nor a storage that failed
-abbrev pub is_mild : Fault → Bool
-is_mild Memory = false
-is_mild Storage = false
-is_mild fault = true
+abbrev pub is_not_resource_error : Fault → Bool
+is_not_resource_error Memory = false
+is_not_resource_error Storage = false
+is_not_resource_error fault = true
 
 -- the fault to tell, after one more answer: the latest, but a mild one doesn't take the place of one that isn't
 abbrev pub latest : Option Fault → Result Unit Fault → Option Fault
 latest first (Ok done) = first
 latest None (Err fault) = Some fault
-latest (Some earlier) (Err fault) = Some (if not (is_mild earlier) && is_mild fault then earlier else fault)
+latest (Some earlier) (Err fault) = Some (if not (is_not_resource_error earlier) && is_not_resource_error fault then earlier else fault)
 
 module _ {K V D : Type 0} (flushes : D → K → V → Result Unit Fault → D → V → Type 0) where
   -- the last value was flushed in place, and its entry goes first

@@ -4,9 +4,9 @@ use Rattle.std.specs.List.{AllByRecursion}
 use Rattle.imago_storage.specs.State.{StorageState}
 use Rattle.imago_storage.specs.declared.fault.Fault.{Fault}
 use Rattle.qcow2_types.specs.Bytes.{Bytes}
-use Rattle.qcow2_types.specs.Header.{Fields, cluster_size, words_of_cluster, layout_of}
-use Rattle.qcow2_metadata.specs.Places.{IsInReach}
-use Rattle.qcow2_metadata.specs.Tables.{HasUnsound, TableValue, l2_words, table_in, words_in}
+use Rattle.qcow2_types.specs.Header.{Fields, cluster_size, entries_of_cluster, layout_of}
+use Rattle.qcow2_metadata.specs.Places.{IsAddressable}
+use Rattle.qcow2_metadata.specs.Tables.{HasUnsound, TableValue, l2_table_kind, table_in, raw_entries_in}
 use Rattle.qcow2_metadata.specs.Blocks.{Block, block_in}
 use Rattle.qcow2_alloc.specs.declared.async_lru_cache.AsyncLruCache.{AsyncLruCache}
 use Rattle.qcow2_alloc.specs.declared.async_lru_cache.Slot.{Slot}
@@ -20,7 +20,7 @@ use Rattle.qcow2_alloc.specs.Backends.{WrittenKind, Flushed, TableLoaded, BlockL
 use Rattle.qcow2_alloc.specs.Cache.{FlushedEach, fault_of}
 use Rattle.qcow2_alloc.specs.Going.{CachedStep}
 use Rattle.qcow2_alloc.specs.Memory.{Cached}
-use Rattle.qcow2_alloc.specs.Safety.{IsCachedTable, IsCachedBlock}
+use Rattle.qcow2_alloc.specs.WellFormedness.{IsCachedTable, IsCachedBlock}
 
 -- A kind of entries: what is known of them, and of those of the other cache beside them.
 pub record CachedKind (S V W : Type 0) : Type 1 where
@@ -64,7 +64,7 @@ module _ {V : Type 0} (writes : WrittenKind V) where
 
   -- words can name the cluster of each that does
   abbrev pub AreInReach : List (ℕ × Slot V) → Type 0
-  AreInReach es = AllByRecursion (λ e. writes.modified e.1.value ≡ true → IsInReach (writes.cluster_bits e.1.value) e.0) es
+  AreInReach es = AllByRecursion (λ e. writes.modified e.1.value ≡ true → IsAddressable (writes.cluster_bits e.1.value) e.0) es
 
 module _ {S V W : Type 0} (kind : CachedKind S V W) where
   -- all that is cached
@@ -87,8 +87,8 @@ module _ {S V W : Type 0} (kind : CachedKind S V W) where
 
 -- Words can name the table in this cluster, and the file has it sound.
 pub record IsTableFine (f : Bytes) (h : Fields) (cluster : ℕ) : Type 0 where
-  pub reach : IsInReach h.cluster_bits cluster
-  pub sound : HasUnsound l2_words (layout_of h) (words_in f (cluster * cluster_size h) (words_of_cluster h)) → ⊥
+  pub reach : IsAddressable h.cluster_bits cluster
+  pub sound : HasUnsound l2_table_kind (layout_of h) (raw_entries_in f (cluster * cluster_size h) (entries_of_cluster h)) → ⊥
 
 module _ {S : Type 0} where
   -- L2 tables, before which blocks are written as clusters are allocated,
@@ -98,7 +98,7 @@ module _ {S : Type 0} where
     writes = written_tables;
     other_writes = written_blocks;
     first = L2DependsOnRb;
-    read = λ f h cluster. table_in f h cluster (words_of_cluster h);
+    read = λ f h cluster. table_in f h cluster (entries_of_cluster h);
     Fine = IsTableFine;
     Loads = TableLoaded;
     Fits = IsCachedTable;
@@ -115,7 +115,7 @@ module _ {S : Type 0} where
     other_writes = written_tables;
     first = RbDependsOnL2;
     read = block_in;
-    Fine = λ f h cluster. IsInReach h.cluster_bits cluster;
+    Fine = λ f h cluster. IsAddressable h.cluster_bits cluster;
     Loads = BlockLoaded;
     Fits = IsCachedBlock;
     cached = λ tables blocks. record { tables = tables; blocks = blocks };

@@ -15,7 +15,7 @@ use Rattle.qcow2_alloc.specs.declared.file.ImageFile.{ImageFile}
 use Rattle.qcow2_alloc.specs.contracts.cache.MetadataCaches.{the_row}
 use Rattle.qcow2_metadata.specs.contracts.entries.L2Entry.{the_row as entry_row}
 use Rattle.qcow2_metadata.specs.contracts.entries.L2EntryTableEntry.TheImpl.{ghosts}
-use Rattle.qcow2_metadata.specs.contracts.word_table.WordTable.{the_row as table_row}
+use Rattle.qcow2_metadata.specs.contracts.entry_table.EntryTable.{the_row as table_row}
 use Rattle.qcow2_metadata.specs.contracts.refblock.RefBlock.{the_row as block_row}
 use Rattle.qcow2_alloc.specs.Cache.{CacheKind, cache_kind, hit, with_entries}
 use Rattle.qcow2_alloc.specs.CachedKinds.{Beside, CachedKind, block_entries, by_blocks, by_tables, flushes_of, loads_of, table_entries}

@@ -1,6 +1,6 @@
 -- Why calls are refused.
 use Rattle.std.specs.Prelude.{◌≡◌, ⊤, ℕ, Result, MatchResult}
-use Rattle.imago_storage.specs.State.{Rose}
+use Rattle.imago_storage.specs.State.{HasRisen}
 use Rattle.imago_storage.specs.declared.fault.Fault.{Fault}
 use Rattle.imago_storage.specs.declared.fault.Fault.TheVariants.{Memory, Storage, DamagedTable, CacheFull, Counter, Limit}
 
@@ -21,7 +21,7 @@ bare_causes damaged limit = record { damaged = damaged; counter = ⊥; full = �
 -- Why it was refused. Want of memory needs no cause, and may come behind a fault of the storage.
 abbrev pub HasCause : Causes → Fault → Type 0
 HasCause causes Memory = ⊤
-HasCause causes Storage = Rose causes.before causes.after
+HasCause causes Storage = HasRisen causes.before causes.after
 HasCause causes DamagedTable = causes.damaged
 HasCause causes Counter = causes.counter
 HasCause causes CacheFull = causes.full

@@ -4,31 +4,31 @@ use Rattle.std.specs.Option.{option_map}
 use Rattle.std.specs.Map.{lookup}
 use Rattle.qcow2_types.specs.Bytes.{Bytes}
 use Rattle.qcow2_types.specs.Words.{Mapping, data_at, zeroes}
-use Rattle.qcow2_types.specs.Header.{Fields, Header, cluster_size, words_of_cluster}
+use Rattle.qcow2_types.specs.Header.{Fields, Header, cluster_size, entries_of_cluster}
 use Rattle.qcow2_types.specs.Entries.{l2_table}
 use Rattle.qcow2_types.specs.Counts.{block_at, counters_of_block}
 use Rattle.qcow2_types.specs.References.{of_mapping, of_copied, meets, refs}
 use Rattle.qcow2_types.specs.Slots.{slot as slot_in}
 use Rattle.qcow2_types.specs.Steps.{CounterWritten, SlotWritten}
-use Rattle.qcow2_types.specs.Versions.{named}
-use Rattle.qcow2_metadata.specs.Tables.{TableValue, with_word}
+use Rattle.qcow2_types.specs.Versions.{references_in_either}
+use Rattle.qcow2_metadata.specs.Tables.{TableValue, with_raw_entry}
 use Rattle.qcow2_metadata.specs.Blocks.{Block, with_counter}
 use Rattle.qcow2_alloc.specs.declared.cache.CacheDependency.{CacheDependency}
 use Rattle.qcow2_alloc.specs.declared.cache.CacheDependency.TheVariants.{RbDependsOnL2}
 use Rattle.qcow2_alloc.specs.Cache.{hit}
 use Rattle.qcow2_alloc.specs.Memory.{Cached, memory}
-use Rattle.qcow2_alloc.specs.Safety.{Safe}
+use Rattle.qcow2_alloc.specs.WellFormedness.{WellFormed}
 
 -- What is cached stays safe, and means what it did.
 pub record StaysAsItIs (f : Bytes) (H : Header) (cached : Cached) (order : CacheDependency) (cached' : Cached) : Type 0 where
-  pub safe : Safe f H cached' order
+  pub well_formed : WellFormed f H cached' order
   pub memory_same : memory f H.fields cached' ≡ memory f H.fields cached
 
 -- This block, which counts cluster c, is cached at the key.
 pub record CachesBlock (f : Bytes) (h : Fields) (cached : Cached) (key c : ℕ) (block : Block) : Type 0 where
-  pub there : option_map (λ s. s.value) (lookup (nat_eq key) cached.blocks) ≡ Some block
+  pub block_cached : option_map (λ s. s.value) (lookup (nat_eq key) cached.blocks) ≡ Some block
   pub counts : block_at f h (c / counters_of_block h) ≡ key * cluster_size h
-  pub some : key ≢ 0
+  pub cluster_nonzero : key ≢ 0
 
 -- The counter of cluster c was set to n there.
 pub record SetsCounter (f : Bytes) (h : Fields) (cached : Cached) (key c n : ℕ) (cached' : Cached) : Type 0 where
@@ -39,29 +39,29 @@ pub record SetsCounter (f : Bytes) (h : Fields) (cached : Cached) (key c n : ℕ
 
 -- What is cached stays safe. In memory cluster c is counted n times then, and nothing else changed.
 pub record CounterChanged (f : Bytes) (H : Header) (order : CacheDependency) (cached : Cached) (c n : ℕ) (cached' : Cached) : Type 0 where
-  pub safe : Safe f H cached' order
+  pub well_formed : WellFormed f H cached' order
   pub written : CounterWritten (memory f H.fields cached) (memory f H.fields cached') H c n
-  pub names : (d : ℕ) → named f (memory f H.fields cached') H.fields d ≡ named f (memory f H.fields cached) H.fields d
+  pub names : (d : ℕ) → references_in_either f (memory f H.fields cached') H.fields d ≡ references_in_either f (memory f H.fields cached) H.fields d
 
 -- Where cluster c is counted n times what names it is covered: while the tables are to be written first what does in memory, and else
 -- also what does in the file.
 abbrev pub IsStillCovered : CacheDependency → Bytes → Bytes → Fields → ℕ → ℕ → Type 0
 IsStillCovered RbDependsOnL2 f g h c n = refs g h c ≤ n
-IsStillCovered order f g h c n = named f g h c ≤ n
+IsStillCovered order f g h c n = references_in_either f g h c ≤ n
 
 -- This L2 table, which word i of the L1 table names, is cached at the key.
 pub record CachesTable (f : Bytes) (h : Fields) (cached : Cached) (key i : ℕ) (table : TableValue) : Type 0 where
-  pub there : option_map (λ s. s.value) (lookup (nat_eq key) cached.tables) ≡ Some table
+  pub table_cached : option_map (λ s. s.value) (lookup (nat_eq key) cached.tables) ≡ Some table
   pub inside : i < h.l1_entries
   pub place : l2_table f h i ≡ key * cluster_size h
-  pub some : key ≢ 0
+  pub cluster_nonzero : key ≢ 0
 
 -- Word j was set to w there.
-pub record SetsWord (f : Bytes) (h : Fields) (cached : Cached) (key i j w : ℕ) (cached' : Cached) : Type 0 where
+pub record SetsEntry (f : Bytes) (h : Fields) (cached : Cached) (key i j w : ℕ) (cached' : Cached) : Type 0 where
   pub table : TableValue
   pub caches : CachesTable f h cached key i table
-  pub inside : j < words_of_cluster h
-  pub tables : cached'.tables ≡ hit (nat_eq key) cached.tables (with_word table j w)
+  pub inside : j < entries_of_cluster h
+  pub tables : cached'.tables ≡ hit (nat_eq key) cached.tables (with_raw_entry table j w)
   pub blocks : cached'.blocks ≡ cached.blocks
 
 -- A file with its header, and what is cached of it, in the order in which that is written.
@@ -80,31 +80,31 @@ memory_with m cached = memory m.file m.header.fields cached
 
 -- What is cached stays safe. Word j of L2 table i meant `old` in memory, and means `new` then: what names a cluster changes by that, and
 -- nothing else.
-pub record WordChanged (m : CachedFile) (i j : ℕ) (old new : Mapping) (cached' : Cached) : Type 0 where
-  pub safe : Safe m.file m.header cached' m.order
+pub record EntryChanged (m : CachedFile) (i j : ℕ) (old new : Mapping) (cached' : Cached) : Type 0 where
+  pub well_formed : WellFormed m.file m.header cached' m.order
   pub was : slot_in (memory_with m m.cached) m.header.fields i j ≡ old
   pub written : SlotWritten (memory_with m m.cached) (memory_with m cached') m.header i j new
   pub references : (c : ℕ) → refs (memory_with m cached') m.header.fields c + of_mapping m.header.fields (meets m.header.fields c) old
       ≡ refs (memory_with m m.cached) m.header.fields c + of_mapping m.header.fields (meets m.header.fields c) new
 
 -- The new mapping names no cluster that the old one didn't, and none as copied that wasn't.
-abbrev pub NamesNoMore : Fields → Mapping → Mapping → Type 0
-NamesNoMore h old new = (c : ℕ) → (of_mapping h (meets h c) new ≤ of_mapping h (meets h c) old)
+abbrev pub ReferencesNoMore : Fields → Mapping → Mapping → Type 0
+ReferencesNoMore h old new = (c : ℕ) → (of_mapping h (meets h c) new ≤ of_mapping h (meets h c) old)
     × (of_copied h (meets h c) new ≤ of_copied h (meets h c) old)
 
 -- The same, where the new mapping names no more: no cluster is named more often.
-pub record NamesDropped (m : CachedFile) (i j : ℕ) (old new : Mapping) (cached' : Cached) : Type 0 where
-  pub changed : WordChanged m i j old new cached'
+pub record ReferencesDropped (m : CachedFile) (i j : ℕ) (old new : Mapping) (cached' : Cached) : Type 0 where
+  pub changed : EntryChanged m i j old new cached'
   pub references : (c : ℕ) → refs (memory_with m cached') m.header.fields c ≤ refs (memory_with m m.cached) m.header.fields c
-  pub names : (c : ℕ) → named m.file (memory_with m cached') m.header.fields c ≤ named m.file (memory_with m m.cached) m.header.fields c
+  pub names : (c : ℕ) → references_in_either m.file (memory_with m cached') m.header.fields c ≤ references_in_either m.file (memory_with m m.cached) m.header.fields c
 
 -- The same, where it names cluster x, which nothing named: x is named once, and no other cluster more often than before.
-pub record ClusterNamed (m : CachedFile) (i j : ℕ) (old : Mapping) (x : ℕ) (cached' : Cached) : Type 0 where
-  pub changed : WordChanged m i j old (data_at x true) cached'
+pub record ClusterLinked (m : CachedFile) (i j : ℕ) (old : Mapping) (x : ℕ) (cached' : Cached) : Type 0 where
+  pub changed : EntryChanged m i j old (data_at x true) cached'
   pub references : refs (memory_with m cached') m.header.fields x ≡ 1
-  pub names : named m.file (memory_with m cached') m.header.fields x ≡ 1
+  pub names : references_in_either m.file (memory_with m cached') m.header.fields x ≡ 1
   pub others : (c : ℕ) → c ≢ x
-      → named m.file (memory_with m cached') m.header.fields c ≤ named m.file (memory_with m m.cached) m.header.fields c
+      → references_in_either m.file (memory_with m cached') m.header.fields c ≤ references_in_either m.file (memory_with m m.cached) m.header.fields c
 
 -- what a word means that is zeroed, and keeps this host cluster with its mark, or none
 abbrev pub zeroed : Option (ℕ × Bool) → Mapping

@@ -3,7 +3,7 @@ use Rattle.std.specs.Prelude.{◌≡◌, ℕ, ◌+◌, ◌*◌, ◌/◌, ◌^◌
 use Rattle.qcow2_types.specs.Header.{Fields, cluster_size}
 use Rattle.qcow2_types.specs.Words.{max_offset}
 use Rattle.qcow2_types.specs.Counts.{counters_of_block}
-use Rattle.qcow2_alloc.specs.Quiet.{Metadata, counted}
+use Rattle.qcow2_alloc.specs.GuestView.{Metadata, counted}
 
 -- how many clusters a file can have: a refcount table has at most 2^20 words, and words name no cluster behind the greatest offset
 abbrev pub space : Fields → ℕ
@@ -17,7 +17,7 @@ room_for h n = space h / 16 + 3 * n
 pub record IsRoomy (m : Metadata) (mark n : ℕ) : Type 0 where
   pub first : ℕ
   pub total : ℕ
-  pub behind : mark ≤ first
+  pub not_before_start : mark ≤ first
   pub below : first + total ≤ space m.header.fields
   pub free : (c : ℕ) → first ≤ c → c < first + total → counted m c ≡ 0
   pub enough : room_for m.header.fields n ≤ total

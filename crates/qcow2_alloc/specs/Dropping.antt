@@ -8,15 +8,15 @@ use Rattle.qcow2_alloc.specs.declared.async_lru_cache.Slot.{Slot}
 use Rattle.qcow2_alloc.specs.declared.cache.CacheDependency.{CacheDependency}
 use Rattle.qcow2_alloc.specs.Cache.{kept_pinned}
 use Rattle.qcow2_alloc.specs.Memory.{Cached, memory}
-use Rattle.qcow2_alloc.specs.Safety.{Safe}
+use Rattle.qcow2_alloc.specs.WellFormedness.{WellFormed}
 
 -- What of the entries stays, and the answer.
 pub record Dropped {V : Type 0} (es : List (ℕ × Slot V)) (result : Result Unit Fault) (es' : List (ℕ × Slot V)) : Type 0 where
-  pub kept : es' ≡ kept_pinned es
+  pub keeps_pinned : es' ≡ kept_pinned es
   pub ok : OnOk result (kept_pinned es ≡ [])
   pub err : IfErr result (λ fault. (fault ≡ CacheFull) × (kept_pinned es ≡ [] → ⊥))
 
 -- An image of which nothing is to be written stays safe, and the same.
-pub record StaysSafe (old new : Cached) (order : CacheDependency) : Type 0 where
-  pub safe : (f : Bytes) (H : Header) → Safe f H old order → Safe f H new order
+pub record StaysWellFormed (old new : Cached) (order : CacheDependency) : Type 0 where
+  pub well_formed : (f : Bytes) (H : Header) → WellFormed f H old order → WellFormed f H new order
   pub memory_same : (f : Bytes) (H : Header) → memory f H.fields new ≡ memory f H.fields old

@@ -4,7 +4,7 @@ use Rattle.std.specs.Option.{option_map_or}
 use Rattle.std.specs.List.{AllByRecursion, count_by}
 use Rattle.std.specs.Map.{lookup, remove_entry}
 use Rattle.imago_storage.specs.State.{StorageState}
-use Rattle.imago_storage.specs.Calls.{Kept}
+use Rattle.imago_storage.specs.Calls.{UnchangedButFaults}
 use Rattle.imago_storage.specs.declared.fault.Fault.{Fault}
 use Rattle.imago_storage.specs.declared.fault.Fault.TheVariants.{CacheFull}
 use Rattle.qcow2_types.specs.Bytes.{bytes_of}
@@ -15,7 +15,7 @@ use Rattle.qcow2_alloc.specs.Backends.{Flushed}
 use Rattle.qcow2_alloc.specs.Cache.{victim, FlushedAt}
 use Rattle.qcow2_alloc.specs.CachedKinds.{AreClean, AreInReach, Beside, CachedKind, WritesOther, as_written, block_entries, by_blocks, by_tables, cached_of, table_entries}
 use Rattle.qcow2_alloc.specs.Causes.{Causes, FailsFor}
-use Rattle.qcow2_alloc.specs.Going.{Going, Behind, CachedStep, Always, WasNotCutOff}
+use Rattle.qcow2_alloc.specs.Going.{WritesBackCached, Behind, CachedStep, Always, HadNoResourceError}
 
 module _ {V : Type 0} where
   -- The entries of a cache of so many once there is room for one more: where it is full, the least recently used one that isn't pinned
@@ -44,7 +44,7 @@ module _ {V : Type 0} where
   -- once it is flushed. One that is there stays where it is; else what was read goes first.
   pub record Sought (written : ℕ × Slot V → ℕ × Slot V) (cap key : ℕ) (read : V) (es : List (ℕ × Slot V)) (result : Result Unit Fault)
       (es' : List (ℕ × Slot V)) : Type 0 where
-    pub there : IsSome (lookup (nat_eq key) es) → es' ≡ es
+    pub unchanged_if_cached : IsSome (lookup (nat_eq key) es) → es' ≡ es
     pub loaded : lookup (nat_eq key) es ≡ None → OnOk result (es' ≡ (key, record { value = read; pins = 0 }) ∷ with_room cap es)
     pub refused : OnErr result ((map written es' ≡ map written es) ⊎ (es' ≡ with_room cap es))
     pub pinned : PinsNothing es es'
@@ -56,7 +56,7 @@ pub record LetsIn {V : Type 0} (flushes : StorageState → ℕ → V → Result 
   pub stuck : victim es ≡ None → (result ≡ Err CacheFull) × (new ≡ old) × (es' ≡ es)
   pub goes : (key : ℕ) → victim es ≡ Some key → (mid : StorageState) × (answer : Result Unit Fault) × (flushed : List (ℕ × Slot V))
       × FlushedAt nat_eq flushes key old es answer mid flushed
-      × MatchResult answer (λ _. Kept mid new) (λ fault. (result ≡ Err fault) × (new ≡ mid) × (es' ≡ flushed))
+      × MatchResult answer (λ _. UnchangedButFaults mid new) (λ fault. (result ≡ Err fault) × (new ≡ mid) × (es' ≡ flushed))
 
 -- An entry is let in so, and the other cache stays.
 abbrev pub LetsEntryIn : {S V W : Type 0} → CachedKind S V W → CachedStep
@@ -72,26 +72,26 @@ search_causes fine full before after =
 -- What the search of an entry does.
 pub record EntryFound {S V W A B : Type 0} (kind : CachedKind S V W) (cluster : ℕ) (old : Beside S V W A B) (before : ImageFile S)
     (result : Result Unit Fault) (new : Beside S V W A B) (after : ImageFile S) : Type 0 where
-  pub going : Going before.header old.order Always (WasNotCutOff result) (kind.state before.image) (cached_of kind old)
+  pub writes_back_cached : WritesBackCached before.header old.order Always (HadNoResourceError result) (kind.state before.image) (cached_of kind old)
       (kind.state after.image) (cached_of kind new)
   -- One that is there is found: nothing else happens.
   pub hit : IsSome (lookup (nat_eq cluster) old.own.slots.entries) → (result ≡ Ok tt) × (new ≡ old) × (after ≡ before)
-  pub there : OnOk result (IsSome (lookup (nat_eq cluster) new.own.slots.entries))
+  pub found_cached : OnOk result (IsSome (lookup (nat_eq cluster) new.own.slots.entries))
   pub sought : Sought (as_written kind.writes) old.own.slots.cap cluster
       (kind.read (bytes_of (kind.state after.image).bytes) before.header.fields cluster) old.own.slots.entries result new.own.slots.entries
   -- Where there is room nothing is written,
   pub roomy : length old.own.slots.entries < old.own.slots.cap
-      → Kept (kind.state before.image) (kind.state after.image) × (new.other ≡ old.other)
+      → UnchangedButFaults (kind.state before.image) (kind.state after.image) × (new.other ≡ old.other)
   -- and the other cache is only where it comes first.
-  pub kept : map (as_written kind.other_writes) new.other.slots.entries ≡ map (as_written kind.other_writes) old.other.slots.entries
+  pub other_unchanged : map (as_written kind.other_writes) new.other.slots.entries ≡ map (as_written kind.other_writes) old.other.slots.entries
   pub apart : (old.order ≡ kind.first → ⊥) → new.other ≡ old.other
   -- Where there is none, it is before an entry is that has to go,
-  pub behind : lookup (nat_eq cluster) old.own.slots.entries ≡ None → old.own.slots.cap ≤ length old.own.slots.entries
+  pub evicts_when_full : lookup (nat_eq cluster) old.own.slots.entries ≡ None → old.own.slots.cap ≤ length old.own.slots.entries
       → Behind (old.order ≡ kind.first) (WritesOther kind) (LetsEntryIn kind) (kind.state before.image) (cached_of kind old) result
       (kind.state after.image) (cached_of kind new)
   -- and where nothing is modified nothing is written, and nothing is modified after the search.
-  pub still : AreClean kind.writes old.own.slots.entries → AreClean kind.other_writes old.other.slots.entries
-      → Kept (kind.state before.image) (kind.state after.image) × AreClean kind.writes new.own.slots.entries
+  pub has_no_dirty_data : AreClean kind.writes old.own.slots.entries → AreClean kind.other_writes old.other.slots.entries
+      → UnchangedButFaults (kind.state before.image) (kind.state after.image) × AreClean kind.writes new.own.slots.entries
       × AreClean kind.other_writes new.other.slots.entries
   pub others : (new.order ≡ old.order) × (after.header ≡ before.header)
   pub room : (new.own.slots.cap ≡ old.own.slots.cap) × (new.other.slots.cap ≡ old.other.slots.cap)

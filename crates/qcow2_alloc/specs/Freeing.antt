@@ -9,37 +9,37 @@ use Rattle.qcow2_metadata.specs.Tables.{TableValue}
 use Rattle.qcow2_alloc.specs.declared.cache.CacheDependency.{CacheDependency}
 use Rattle.qcow2_alloc.specs.declared.cache.CacheDependency.TheVariants.{RbDependsOnL2}
 use Rattle.qcow2_alloc.specs.declared.cache.MetadataCaches.{MetadataCaches}
-use Rattle.qcow2_alloc.specs.Allocators.{named_block}
+use Rattle.qcow2_alloc.specs.Allocators.{referenced_block}
 use Rattle.qcow2_alloc.specs.Caches.{cached_in, KeepsTables}
 use Rattle.qcow2_alloc.specs.Causes.{Causes, FailsFor}
 use Rattle.qcow2_alloc.specs.Finding.{pinned_among, pinned_in, PinsNothing}
 use Rattle.qcow2_alloc.specs.FreeList.{entry_at, listed, shortened}
-use Rattle.qcow2_alloc.specs.Going.{IsNoShorter, WasNotCutOff}
-use Rattle.qcow2_alloc.specs.Quiet.{Metadata, Quietly, counted, metadata_in}
-use Rattle.qcow2_alloc.specs.Safety.{IsCalm}
-use Rattle.qcow2_alloc.specs.State.{AllocatorState, metadata, IsKept, WhereKept}
+use Rattle.qcow2_alloc.specs.Going.{IsNoShorter, HadNoResourceError}
+use Rattle.qcow2_alloc.specs.GuestView.{Metadata, PreservesGuest, counted, metadata_in}
+use Rattle.qcow2_alloc.specs.WellFormedness.{NoChangeRefused}
+use Rattle.qcow2_alloc.specs.State.{AllocatorState, metadata, KeepsWritesAndSound, WhereKept}
 
 -- Fewer blocks are pinned than there is room for, so that any can be loaded.
-abbrev pub HasSpareRoom : {S : Type 0} → MetadataCaches S → Type 0
-HasSpareRoom caches = pinned_in (cached_in caches).blocks < caches.rb.slots.cap
+abbrev pub HasUnpinnedSlot : {S : Type 0} → MetadataCaches S → Type 0
+HasUnpinnedSlot caches = pinned_in (cached_in caches).blocks < caches.rb.slots.cap
 
 -- A word of the refcount table names the block in this cluster.
-abbrev pub NamesBlock : TableValue → ℕ → Type 0
-NamesBlock table cluster = (i : ℕ) × (named_block table i ≡ Some cluster)
+abbrev pub ReferencesBlock : TableValue → ℕ → Type 0
+ReferencesBlock table cluster = (i : ℕ) × (referenced_block table i ≡ Some cluster)
 
 -- There is room to spare, and the refcount table names each block that is pinned, if any may be. So none bars the place of a new one, as it
 -- would whatever the room: in a sound image, and where none is pinned in every image.
-pub record IsLoose {S : Type 0} (table : TableValue) (caches : MetadataCaches S) (any : Bool) : Type 0 where
-  pub room : HasSpareRoom caches
-  pub named : (key : ℕ) → 0 < pinned_among (nat_eq key) (cached_in caches).blocks → (any ≡ true) × NamesBlock table key
+pub record HasUnpinnedRoom {S : Type 0} (table : TableValue) (caches : MetadataCaches S) (any : Bool) : Type 0 where
+  pub room : HasUnpinnedSlot caches
+  pub named : (key : ℕ) → 0 < pinned_among (nat_eq key) (cached_in caches).blocks → (any ≡ true) × ReferencesBlock table key
 
 -- `loose` holds of what may be pinned: in an image that isn't sound nothing.
 abbrev pub IsUnbarred : Type 0 → (Bool → Type 0) → Type 0
 IsUnbarred sound loose = (any : Bool) × (any ≡ true → sound) × loose any
 
 -- Each cluster before the mark is counted.
-abbrev pub IsMarked : Metadata → ℕ → Type 0
-IsMarked m mark = (c : ℕ) → c < mark → 0 < counted m c
+abbrev pub NoneFreeBefore : Metadata → ℕ → Type 0
+NoneFreeBefore m mark = (c : ℕ) → c < mark → 0 < counted m c
 
 -- Calls that free fail, but for want of memory or by a storage, as a damaged table or for a counter that can't change only where the image
 -- isn't sound; and as a full cache only where `loose` doesn't hold, that there is room to spare.
@@ -56,20 +56,20 @@ abbrev pub MayFree : CacheDependency → FreeEntry → Type 0
 MayFree order e = (e.metadata ≡ true) ⊎ (order ≡ RbDependsOnL2)
 
 -- It wasn't cut off; or it was over a storage that tells its stops, which refused no change.
-abbrev pub IsWholeOrCalm : Result Unit Fault → StorageState → StorageState → Type 0
-IsWholeOrCalm result old new = WasNotCutOff result ⊎ IsCalm old new
+abbrev pub NoErrorOrNoChangeRefused : Result Unit Fault → StorageState → StorageState → Type 0
+NoErrorOrNoChangeRefused result old new = HadNoResourceError result ⊎ NoChangeRefused old new
 
 -- Clusters were counted down, and what waits to be freed is less by them. The mark stays, or falls to a cluster that waited and was freed.
 -- What contracts see of an image: its file, its caches, the mark, and what waits to be freed.
 pub record Frees {S : Type 0} (state : S → StorageState) (s : AllocatorState S) (result : Result Unit Fault)
     (s' : AllocatorState S) : Type 0 where
-  pub faults : WasNotCutOff result → IsFaultless (state s.file.image) (state s'.file.image)
+  pub faults : HadNoResourceError result → IsFaultless (state s.file.image) (state s'.file.image)
   -- In a sound image, each cluster's refcount minus its references and its entries on the list stays the same.
-  pub quiet : Quietly (IsWholeOrCalm result (state s.file.image) (state s'.file.image)) (λ _. 0) (λ _. 0) (state s.file.image)
+  pub guest_unchanged : PreservesGuest (NoErrorOrNoChangeRefused result (state s.file.image) (state s'.file.image)) (λ _. 0) (λ _. 0) (state s.file.image)
       (metadata state s.image) (state s'.file.image) (metadata state s'.image)
   pub marked : WhereKept state s.image
-      (IsWholeOrCalm result (state s.file.image) (state s'.file.image) → IsMarked (metadata state s.image) s.mark
-      → IsMarked (metadata state s'.image) s'.mark)
+      (NoErrorOrNoChangeRefused result (state s.file.image) (state s'.file.image) → NoneFreeBefore (metadata state s.image) s.mark
+      → NoneFreeBefore (metadata state s'.image) s'.mark)
   pub lower : s'.mark ≤ s.mark
   pub fallen : (s'.mark ≡ s.mark) ⊎ (listed s'.pending s'.mark < listed s.pending s'.mark)
   pub header : s'.file.header ≡ s.file.header
@@ -79,7 +79,7 @@ pub record Frees {S : Type 0} (state : S → StorageState) (s : AllocatorState S
   pub room : KeepsTables s.caches s'.caches
   pub less : (c : ℕ) → listed s'.pending c ≤ listed s.pending c
   pub fewer : length s'.pending ≤ length s.pending
-  pub cause : FailsFor (freeing_causes (IsKept state s.image) (HasSpareRoom s.caches) (state s.file.image).faults
+  pub cause : FailsFor (freeing_causes (KeepsWritesAndSound state s.image) (HasUnpinnedSlot s.caches) (state s.file.image).faults
       (state s'.file.image).faults) result
 
 -- the entries of guest data
@@ -94,16 +94,16 @@ IsSublist (x ∷ xs) (e ∷ es) = ((x ≡ e) × IsSublist xs es) ⊎ IsSublist (
 
 -- What is left of entries that are counted down: some of them, and of one of these perhaps its first clusters alone.
 pub record IsRest (old left : List FreeEntry) : Type 0 where
-  pub kept : List FreeEntry
-  pub some : IsSublist kept old
+  pub kept_entries : List FreeEntry
+  pub kept_from_old : IsSublist kept_entries old
   pub index : ℕ
   pub done : ℕ
-  pub short : left ≡ shortened kept index done
-  pub more : (done ≡ 0) ⊎ (done < (entry_at kept index).count)
+  pub short : left ≡ shortened kept_entries index done
+  pub more : (done ≡ 0) ⊎ (done < (entry_at kept_entries index).count)
 
 -- What is left where entries that held metadata go first: while one is left, all entries of guest data are, as they were.
 pub record IsRestInTurn (old left : List FreeEntry) : Type 0 where
-  pub rest : IsRest old left
+  pub remains : IsRest old left
   pub first : (metadata_in left ≡ []) ⊎ (data_in left ≡ data_in old)
 
 -- In which order caches are written once what waits was counted down, or that was refused: as before, or tables first. It is as before
@@ -111,5 +111,5 @@ pub record IsRestInTurn (old left : List FreeEntry) : Type 0 where
 pub record OrdersFreeing (external : Bool) (pending left : List FreeEntry) (old : CacheDependency) (result : Result Unit Fault)
     (new : CacheDependency) : Type 0 where
   pub either : (new ≡ old) ⊎ (new ≡ RbDependsOnL2)
-  pub kept : (external ≡ true) ⊎ ((data_in pending ≡ []) ⊎ (metadata_in left ≡ [] → ⊥)) → new ≡ old
+  pub order_unchanged : (external ≡ true) ⊎ ((data_in pending ≡ []) ⊎ (metadata_in left ≡ [] → ⊥)) → new ≡ old
   pub announced : external ≡ false → (data_in pending ≡ [] → ⊥) → OnOk result (new ≡ RbDependsOnL2)

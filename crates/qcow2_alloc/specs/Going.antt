@@ -2,20 +2,20 @@
 use Rattle.std.specs.Prelude.{◌≡◌, ◌⊎◌, ◌≤◌, ℕ, ⊤, IsTrue, true, length, Result, IsErr, Ok, Err}
 use Rattle.std.specs.List.{AllByRecursion}
 use Rattle.imago_storage.specs.State.{StorageState}
-use Rattle.imago_storage.specs.Calls.{Later, IsFaultless}
-use Rattle.imago_storage.specs.Passing.{Passes}
+use Rattle.imago_storage.specs.Calls.{CountsNotFallen, IsFaultless}
+use Rattle.imago_storage.specs.Passing.{UnrefusedCrashImages}
 use Rattle.imago_storage.specs.declared.fault.Fault.{Fault}
 use Rattle.imago_storage.specs.declared.fault.Fault.TheVariants.{Memory, Storage}
 use Rattle.qcow2_types.specs.Bytes.{bytes_of}
 use Rattle.qcow2_types.specs.Header.{Header}
-use Rattle.qcow2_metadata.specs.Places.{IsInReach}
+use Rattle.qcow2_metadata.specs.Places.{IsAddressable}
 use Rattle.qcow2_alloc.specs.declared.cache.CacheDependency.{CacheDependency}
 use Rattle.qcow2_alloc.specs.declared.cache.CacheDependency.TheVariants.{L2DependsOnRb, RbDependsOnL2}
 use Rattle.qcow2_alloc.specs.Cache.{FlushedEach, fault_of}
 use Rattle.qcow2_alloc.specs.Backends.{TableFlushed, BlockFlushed}
 use Rattle.qcow2_alloc.specs.Causes.{Causes}
 use Rattle.qcow2_alloc.specs.Memory.{Cached, memory}
-use Rattle.qcow2_alloc.specs.Safety.{Safe, IsLeft, IsCalm, IsSettled, AreTablesClean, AreBlocksClean}
+use Rattle.qcow2_alloc.specs.WellFormedness.{WellFormed, IsCrashImage, NoChangeRefused, IsSettled, AreTablesClean, AreBlocksClean}
 
 -- Before a table is written, blocks are, where they come first;
 abbrev pub ReadyTables : CacheDependency → Cached → Type 0
@@ -31,27 +31,27 @@ Always cached = ⊤
 
 -- What any number of writes of cached tables or blocks does, where `Ready` says what has to be written before. They succeeded where `ok`
 -- holds.
-pub record Going (H : Header) (order : CacheDependency) (Ready : Cached → Type 0) (ok : Type 0) (old : StorageState) (cached : Cached)
+pub record WritesBackCached (H : Header) (order : CacheDependency) (Ready : Cached → Type 0) (ok : Type 0) (old : StorageState) (cached : Cached)
     (new : StorageState) (cached' : Cached) : Type 0 where
   pub shape : new.shape ≡ old.shape
-  pub later : Later old new
+  pub counts_not_fallen : CountsNotFallen old new
   pub faults : ok → IsFaultless old new
   pub ready : Ready cached → Ready cached'
-  -- If the image was safe, each crash image of the call is as `IsLeft` says, whether the call succeeds or not.
-  pub passes : IsTrue old.shape.keeps → Safe (bytes_of old.bytes) H cached order → Ready cached
-      → Passes (λ x. IsLeft (bytes_of old.bytes) (memory (bytes_of old.bytes) H.fields cached) H (bytes_of x)) old new
+  -- If the image was safe, each crash image of the call is as `IsCrashImage` says, whether the call succeeds or not.
+  pub passes : IsTrue old.shape.keeps → WellFormed (bytes_of old.bytes) H cached order → Ready cached
+      → UnrefusedCrashImages (λ x. IsCrashImage (bytes_of old.bytes) (memory (bytes_of old.bytes) H.fields cached) H (bytes_of x)) old new
   -- A safe image stays safe, and what is in memory stays the same. That holds if `ok` does, or if the storage exposes its crash images and
   -- refused no change.
-  pub holds : IsTrue old.shape.keeps → Safe (bytes_of old.bytes) H cached order → Ready cached → ok ⊎ IsCalm old new
+  pub holds : IsTrue old.shape.keeps → WellFormed (bytes_of old.bytes) H cached order → Ready cached → ok ⊎ NoChangeRefused old new
       → IsSettled H order old.bytes cached new.bytes cached'
 
 -- Words can name the cluster of each table that is to be written,
-abbrev pub AreTablesInReach : Cached → Type 0
-AreTablesInReach cached = AllByRecursion (λ e. e.1.value.modified ≡ true → IsInReach e.1.value.layout.cluster_bits e.0) cached.tables
+abbrev pub AreTablesAddressable : Cached → Type 0
+AreTablesAddressable cached = AllByRecursion (λ e. e.1.value.modified ≡ true → IsAddressable e.1.value.layout.cluster_bits e.0) cached.tables
 
 -- and of each block.
-abbrev pub AreBlocksInReach : Cached → Type 0
-AreBlocksInReach cached = AllByRecursion (λ e. e.1.value.modified ≡ true → IsInReach e.1.value.cluster_bits e.0) cached.blocks
+abbrev pub AreBlocksAddressable : Cached → Type 0
+AreBlocksAddressable cached = AllByRecursion (λ e. e.1.value.modified ≡ true → IsAddressable e.1.value.cluster_bits e.0) cached.blocks
 
 -- Calls that write fail, but for want of memory or by a storage, only as a damaged table, where `sound` doesn't hold: for cached tables and
 -- blocks that words can name each that is to be written.
@@ -94,12 +94,12 @@ abbrev pub IsNoShorter : StorageState → StorageState → Type 0
 IsNoShorter old new = length old.bytes ≤ length new.bytes
 
 -- neither want of memory nor a storage that failed
-abbrev pub IsMild : Fault → Type 0
-IsMild Memory = ⊥
-IsMild Storage = ⊥
-IsMild fault = ⊤
+abbrev pub IsNotResourceError : Fault → Type 0
+IsNotResourceError Memory = ⊥
+IsNotResourceError Storage = ⊥
+IsNotResourceError fault = ⊤
 
 -- the call wasn't cut off by one of these
-abbrev pub WasNotCutOff : {T : Type 0} → Result T Fault → Type 0
-WasNotCutOff (Ok v) = ⊤
-WasNotCutOff (Err fault) = IsMild fault
+abbrev pub HadNoResourceError : {T : Type 0} → Result T Fault → Type 0
+HadNoResourceError (Ok v) = ⊤
+HadNoResourceError (Err fault) = IsNotResourceError fault

@@ -12,31 +12,31 @@ use Rattle.qcow2_alloc.specs.SearchingClusters.{Looked, IsSafeWith, counts_in}
 
 -- Block i, of k counters, is lacking for a run of so many clusters: it counts one of them, and the table names none.
 abbrev pub lacks : TableValue → ℕ → ℕ → ℕ → ℕ → Bool
-lacks table k first n i = (block_offset (slice_index table.words i) == 0) && (nat_le (first / k) i && nat_lt (i * k) (first + n))
+lacks table k first n i = (block_offset (slice_index table.raw_entries i) == 0) && (nat_le (first / k) i && nat_lt (i * k) (first + n))
 
 -- how many blocks are lacking for it
 abbrev pub lacking : TableValue → ℕ → ℕ → ℕ → ℕ
 lacking table k first n = rank (lacks table k first n) (first + n)
 
 -- A run of `total` clusters that aren't counted holds the blocks that are lacking for it and n clusters more.
-pub record IsRoom (table : TableValue) (k : ℕ) (counts : ℕ → ℕ) (n first total : ℕ) : Type 0 where
+pub record IsFreeArea (table : TableValue) (k : ℕ) (counts : ℕ → ℕ) (n first total : ℕ) : Type 0 where
   pub enough : total ≡ n + lacking table k first total
   pub free : (c : ℕ) → first ≤ c → c < first + total → counts c ≡ 0
 
 -- It is the first one, from a cluster on, and as short as any there.
-pub record IsFirstRoom (table : TableValue) (k : ℕ) (counts : ℕ → ℕ) (from n first total : ℕ) : Type 0 where
-  pub behind : from ≤ first
-  pub room : IsRoom table k counts n first total
-  pub least : (z t : ℕ) → from ≤ z → z < first → IsRoom table k counts n z t → ⊥
-  pub short : (t : ℕ) → IsRoom table k counts n first t → total ≤ t
+pub record IsFirstFreeArea (table : TableValue) (k : ℕ) (counts : ℕ → ℕ) (from n first total : ℕ) : Type 0 where
+  pub not_before_start : from ≤ first
+  pub room : IsFreeArea table k counts n first total
+  pub least : (z t : ℕ) → from ≤ z → z < first → IsFreeArea table k counts n z t → ⊥
+  pub short : (t : ℕ) → IsFreeArea table k counts n first t → total ≤ t
 
 -- How far the search of a room has come: none begins before this cluster, the clusters of the run aren't counted, and a room that begins
 -- here has so many at least.
-pub record IsRoomSoFar (table : TableValue) (k : ℕ) (counts : ℕ → ℕ) (from n : ℕ) (run : Run) : Type 0 where
-  pub behind : from ≤ run.first
+pub record IsFreeAreaSoFar (table : TableValue) (k : ℕ) (counts : ℕ → ℕ) (from n : ℕ) (run : Run) : Type 0 where
+  pub not_before_start : from ≤ run.first
   pub free : (c : ℕ) → run.first ≤ c → c < run.first + run.len → counts c ≡ 0
-  pub least : (z t : ℕ) → from ≤ z → z < run.first → IsRoom table k counts n z t → ⊥
-  pub short : (t : ℕ) → IsRoom table k counts n run.first t → run.len ≤ t
+  pub least : (z t : ℕ) → from ≤ z → z < run.first → IsFreeArea table k counts n z t → ⊥
+  pub short : (t : ℕ) → IsFreeArea table k counts n run.first t → run.len ≤ t
 
 -- what is needed for a room that begins with a run
 abbrev pub needed_for : TableValue → ℕ → ℕ → Run → ℕ
@@ -44,20 +44,20 @@ needed_for table k n run = n + lacking table k run.first run.len
 
 module _ {S : Type 0} (state : S → StorageState) where
   -- The search goes on: with as many clusters as are needed where these aren't counted, and else behind the first.
-  pub record GrowsRoom (table : TableValue) (n : ℕ) (was : Run) (old : CachedFile S) (result : Result Run Fault)
+  pub record GrowsFreeArea (table : TableValue) (n : ℕ) (was : Run) (old : CachedFile S) (result : Result Run Fault)
       (new : CachedFile S) : Type 0 where
     pub looked : Looked state table old result new
     pub further : IfOk result (λ now.
         ((now.first ≡ was.first) × (now.len ≡ needed_for table (counters_of_block old.file.header.fields) n was))
-        ⊎ ((was.first < now.first) × (was.first < length table.words * counters_of_block old.file.header.fields) × (now.len ≡ n)))
-    pub near : IfOk result (λ now. now.first ≤ max (was.first + 1) (length table.words * counters_of_block old.file.header.fields))
+        ⊎ ((was.first < now.first) × (was.first < length table.raw_entries * counters_of_block old.file.header.fields) × (now.len ≡ n)))
+    pub start_bounded : IfOk result (λ now. now.first ≤ max (was.first + 1) (length table.raw_entries * counters_of_block old.file.header.fields))
     pub so_far : IsSafeWith state table old.caches old.file → IfOk result (λ now. (from : ℕ)
-        → IsRoomSoFar table (counters_of_block old.file.header.fields) (counts_in state old.caches old.file) from n was
-        → IsRoomSoFar table (counters_of_block old.file.header.fields) (counts_in state old.caches old.file) from n now)
+        → IsFreeAreaSoFar table (counters_of_block old.file.header.fields) (counts_in state old.caches old.file) from n was
+        → IsFreeAreaSoFar table (counters_of_block old.file.header.fields) (counts_in state old.caches old.file) from n now)
 
   -- So is the room searched for.
-  pub record LooksForRoom (table : TableValue) (from n : ℕ) (old : CachedFile S) (result : Result Run Fault)
+  pub record LooksForFreeArea (table : TableValue) (from n : ℕ) (old : CachedFile S) (result : Result Run Fault)
       (new : CachedFile S) : Type 0 where
     pub looked : Looked state table old result new
-    pub found : IsSafeWith state table old.caches old.file → IfOk result (λ room. IsFirstRoom table
+    pub found : IsSafeWith state table old.caches old.file → IfOk result (λ room. IsFirstFreeArea table
         (counters_of_block old.file.header.fields) (counts_in state old.caches old.file) from n room.first room.len)

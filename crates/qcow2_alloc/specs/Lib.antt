@@ -2,7 +2,7 @@ pub mod Causes
 pub mod Cache
 pub mod Backends
 pub mod Memory
-pub mod Safety
+pub mod WellFormedness
 pub mod Lending
 pub mod Going
 pub mod CachedKinds
@@ -13,7 +13,7 @@ pub mod Putting
 pub mod Dropping
 pub mod Changes
 pub mod FreeList
-pub mod Quiet
+pub mod GuestView
 pub mod Allocators
 pub mod State
 pub mod Freeing

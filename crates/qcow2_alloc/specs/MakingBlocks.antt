@@ -2,68 +2,68 @@
 use Rattle.std.specs.Prelude.{◌≡◌, ◌≢◌, ⊤, ℕ, ◌+◌, ◌*◌, ◌/◌, ◌<◌, Bool, Result, Ok, Err, slice_index}
 use Rattle.std.specs.Int.{w64, to_be_bytes}
 use Rattle.imago_storage.specs.State.{StorageState}
-use Rattle.imago_storage.specs.Calls.{Later, IsFaultless}
-use Rattle.imago_storage.specs.Through.{PutAtOnce}
+use Rattle.imago_storage.specs.Calls.{CountsNotFallen, IsFaultless}
+use Rattle.imago_storage.specs.Through.{AtomicWriteOutcome}
 use Rattle.imago_storage.specs.declared.fault.Fault.{Fault}
 use Rattle.qcow2_types.specs.Counts.{counters_of_block}
 use Rattle.qcow2_types.specs.Words.{block_offset}
 use Rattle.qcow2_metadata.specs.Blocks.{Block, BlockPut}
-use Rattle.qcow2_metadata.specs.Places.{IsInReach, place_of}
-use Rattle.qcow2_metadata.specs.Tables.{TableValue, IsPlacedTable, with_word, table_place}
+use Rattle.qcow2_metadata.specs.Places.{IsAddressable, place_of}
+use Rattle.qcow2_metadata.specs.Tables.{TableValue, IsPlacedTable, with_raw_entry, table_start}
 use Rattle.qcow2_alloc.specs.declared.cache.CacheDependency.TheVariants.{L2DependsOnRb}
 use Rattle.qcow2_alloc.specs.declared.cache.MetadataCaches.{MetadataCaches}
 use Rattle.qcow2_alloc.specs.declared.file.ImageFile.{ImageFile}
-use Rattle.qcow2_alloc.specs.Allocating.{MakesBlock, OnlyRaised}
+use Rattle.qcow2_alloc.specs.Allocating.{MakesBlock, OnlyIncremented}
 use Rattle.qcow2_alloc.specs.Caches.{order_of, KeepsTables}
 use Rattle.qcow2_alloc.specs.Causes.{Causes, bare_causes}
-use Rattle.qcow2_alloc.specs.Freeing.{IsLoose}
-use Rattle.qcow2_alloc.specs.Quiet.{Metadata, Quietly, counted}
-use Rattle.qcow2_alloc.specs.State.{ImageState, lent, metadata, WhereGuarded}
+use Rattle.qcow2_alloc.specs.Freeing.{HasUnpinnedRoom}
+use Rattle.qcow2_alloc.specs.GuestView.{Metadata, PreservesGuest, counted}
+use Rattle.qcow2_alloc.specs.State.{ImageState, image_state, metadata, WhereGuarded}
 
 -- A word of the refcount table can be written, of an image whose clusters have 2 to this power of bytes, and name this cluster.
-pub record CanName (table : TableValue) (cluster_bits place : ℕ) : Type 0 where
+pub record CanReference (table : TableValue) (cluster_bits place : ℕ) : Type 0 where
   pub placed : IsPlacedTable table
   pub bits : table.layout.cluster_bits ≡ cluster_bits
-  pub some : place ≢ 0
+  pub offset_nonzero : place ≢ 0
 
 -- Why none can: the word can't be written, or the cluster is out of reach.
 abbrev pub naming_causes : TableValue → (cluster_bits place : ℕ) → Causes
 naming_causes table cluster_bits place =
-    bare_causes (CanName table cluster_bits place → ⊥) (λ number. (IsInReach cluster_bits place → ⊥) × (number ≡ place))
+    bare_causes (CanReference table cluster_bits place → ⊥) (λ number. (IsAddressable cluster_bits place → ⊥) × (number ≡ place))
 
 -- A block is written, and then word i of the refcount table, which names it. Where the block wasn't written the table stays.
-pub record NamesWritten (table : TableValue) (i : ℕ) (block : Block) (old : StorageState) (result : Result Unit Fault)
+pub record LinksWritten (table : TableValue) (i : ℕ) (block : Block) (old : StorageState) (result : Result Unit Fault)
     (table' : TableValue) (new : StorageState) : Type 0 where
   pub done : Result Unit Fault
   pub mid : StorageState
   pub put : BlockPut block (place_of block.cluster_bits block.cluster) old mid done
   pub stopped : (fault : Fault) → done ≡ Err fault → (result ≡ Err fault) × (new ≡ mid) × (table' ≡ table)
-  pub named : done ≡ Ok tt → PutAtOnce mid new (table_place (with_word table i (place_of block.cluster_bits block.cluster)) + 8 * i)
-      (to_be_bytes w64 (slice_index (with_word table i (place_of block.cluster_bits block.cluster)).words i)) result
-      × ((modified : Bool) × (table' ≡ record (with_word table i (place_of block.cluster_bits block.cluster)) { modified = modified }))
+  pub named : done ≡ Ok tt → AtomicWriteOutcome mid new (table_start (with_raw_entry table i (place_of block.cluster_bits block.cluster)) + 8 * i)
+      (to_be_bytes w64 (slice_index (with_raw_entry table i (place_of block.cluster_bits block.cluster)).raw_entries i)) result
+      × ((modified : Bool) × (table' ≡ record (with_raw_entry table i (place_of block.cluster_bits block.cluster)) { modified = modified }))
 
 -- A cluster that isn't counted, and that another block counts, before those that block i does.
 pub record IsFreePlace (m : Metadata) (i place : ℕ) : Type 0 where
   pub below : place < i * counters_of_block m.header.fields
   pub uncounted : counted m place ≡ 0
-  pub there : block_offset (slice_index m.table.words (place / counters_of_block m.header.fields)) ≢ 0
+  pub block_exists : block_offset (slice_index m.table.raw_entries (place / counters_of_block m.header.fields)) ≢ 0
 
 -- So far came a call: these clusters were handed out, while blocks are written before tables, and nothing else changed.
 pub record Begins {S : Type 0} (state : S → StorageState) (s : ImageState S) (handed : ℕ → ℕ) (s' : ImageState S) : Type 0 where
   pub shape : (state s'.file.image).shape ≡ (state s.file.image).shape
-  pub later : Later (state s.file.image) (state s'.file.image)
-  pub quiet : order_of s.caches ≡ L2DependsOnRb → Quietly ⊤ handed (λ _. 0) (state s.file.image) (metadata state s) (state s'.file.image)
+  pub counts_not_fallen : CountsNotFallen (state s.file.image) (state s'.file.image)
+  pub guest_unchanged : order_of s.caches ≡ L2DependsOnRb → PreservesGuest ⊤ handed (λ _. 0) (state s.file.image) (metadata state s) (state s'.file.image)
       (metadata state s')
-  pub raised : WhereGuarded state s (OnlyRaised (metadata state s) (metadata state s'))
+  pub raised : WhereGuarded state s (OnlyIncremented (metadata state s) (metadata state s'))
   pub faults : IsFaultless (state s.file.image) (state s'.file.image)
   pub header : s'.file.header ≡ s.file.header
   pub order : s'.caches.order ≡ s.caches.order
-  pub loose : (any : Bool) → IsLoose s.table s.caches any → IsLoose s.table s'.caches any
+  pub keeps_unpinned_room : (any : Bool) → HasUnpinnedRoom s.table s.caches any → HasUnpinnedRoom s.table s'.caches any
   pub room : KeepsTables s.caches s'.caches
 
 -- A block is made in a cluster that another counts, by a call that came so far and knows by what the image was that this one is free.
 abbrev pub MakesIn : {S : Type 0} → (S → StorageState) → (index place : ℕ) → ImageState S → Result Unit Fault → ImageState S → Type 0
 MakesIn {S} state index place s result s' = (first : MetadataCaches S) (file : ImageFile S)
-    → Begins state (lent s.table first file s.pending) (λ _. 0) s
-    → WhereGuarded state (lent s.table first file s.pending) (IsFreePlace (metadata state s) index place)
-    → MakesBlock state index (lent s.table first file s.pending) result s'
+    → Begins state (image_state s.table first file s.pending) (λ _. 0) s
+    → WhereGuarded state (image_state s.table first file s.pending) (IsFreePlace (metadata state s) index place)
+    → MakesBlock state index (image_state s.table first file s.pending) result s'

@@ -1,34 +1,34 @@
 -- How room is made to count clusters: free clusters are written, and become blocks or another refcount table.
 use Rattle.std.specs.Prelude.{◌≡◌, ◌≢◌, true, false, ℕ, ◌+◌, ◌*◌, ◌/◌, ◌%◌, ◌<◌, ◌≤◌, ◌==◌, if◌then◌else◌, Bool, IsTrue, Some, length, slice_index}
 use Rattle.std.specs.List.{AllByRecursion}
-use Rattle.qcow2_types.specs.Bytes.{Bytes, word, sum_below}
-use Rattle.qcow2_types.specs.Header.{cluster_size, words_of_cluster, refcount_table_entries, layout_of}
-use Rattle.qcow2_types.specs.Words.{block_offset, block_word_sound}
+use Rattle.qcow2_types.specs.Bytes.{Bytes, raw_entry, sum_below}
+use Rattle.qcow2_types.specs.Header.{cluster_size, entries_of_cluster, refcount_table_entries, layout_of}
+use Rattle.qcow2_types.specs.Words.{block_offset, reftable_entry_valid}
 use Rattle.qcow2_types.specs.Counts.{block_at, count, counter, counters_of_block}
 use Rattle.qcow2_types.specs.Pending.{FreeEntry}
 use Rattle.qcow2_alloc.specs.FreeList.{covers}
 use Rattle.qcow2_metadata.specs.Blocks.{counters_in}
 use Rattle.qcow2_types.specs.References.{meets}
-use Rattle.qcow2_types.specs.Switched.{newly_named, with_reftable, with_refcount_table}
-use Rattle.qcow2_metadata.specs.Tables.{TableValue, with_word}
-use Rattle.qcow2_metadata.specs.Places.{IsInReach}
-use Rattle.qcow2_alloc.specs.Quiet.{Metadata, counted, referenced, named_at_all, waiting, one_at}
+use Rattle.qcow2_types.specs.Switched.{newly_referenced, with_reftable, with_refcount_table}
+use Rattle.qcow2_metadata.specs.Tables.{TableValue, with_raw_entry}
+use Rattle.qcow2_metadata.specs.Places.{IsAddressable}
+use Rattle.qcow2_alloc.specs.GuestView.{Metadata, counted, referenced, referenced_at_all, waiting, one_at}
 
 -- Each cluster is counted and named as often as it was, in the file and in memory.
 pub record CountsTheSame (old new : Metadata) : Type 0 where
   pub file : (c : ℕ) → count new.file new.header.fields c ≡ count old.file old.header.fields c
   pub memory : (c : ℕ) → counted new c ≡ counted old c
   pub references : (c : ℕ) → referenced new c ≡ referenced old c
-  pub names : (c : ℕ) → named_at_all new c ≡ named_at_all old c
+  pub names : (c : ℕ) → referenced_at_all new c ≡ referenced_at_all old c
 
 -- Cluster d can become block i, which there isn't yet: nothing names it and nothing waits to free it, and it has the bytes of a block that
 -- counts no cluster but perhaps itself. Where another block counts it, it is counted. What is cached of it has these counters.
 pub record IsReadyBlock (m : Metadata) (i d : ℕ) : Type 0 where
   pub inside : i < refcount_table_entries m.header.fields
-  pub empty : block_offset (slice_index m.table.words i) ≡ 0
-  pub some : d ≢ 0
-  pub reach : IsInReach m.header.fields.cluster_bits d
-  pub unnamed : named_at_all m d ≡ 0
+  pub empty : block_offset (slice_index m.table.raw_entries i) ≡ 0
+  pub cluster_nonzero : d ≢ 0
+  pub reach : IsAddressable m.header.fields.cluster_bits d
+  pub not_referenced : referenced_at_all m d ≡ 0
   pub unlisted : waiting m d ≡ 0
   pub counters : (c : ℕ) → c / counters_of_block m.header.fields ≡ i
       → counter m.file m.header.fields (d * cluster_size m.header.fields) (c % counters_of_block m.header.fields) ≡ one_at d c
@@ -40,11 +40,11 @@ pub record IsReadyBlock (m : Metadata) (i d : ℕ) : Type 0 where
 abbrev pub with_block : Metadata → ℕ → ℕ → Bool → Bytes → Metadata
 with_block m i d modified file = record m {
   file = file;
-  table = record (with_word m.table i (d * cluster_size m.header.fields)) { modified = modified };
+  table = record (with_raw_entry m.table i (d * cluster_size m.header.fields)) { modified = modified };
 }
 
 -- Cluster d became block i: it is named, and counts its clusters as its bytes say. Nothing else is counted or named otherwise.
-pub record BlockNamed (old new : Metadata) (i d : ℕ) : Type 0 where
+pub record BlockLinked (old new : Metadata) (i d : ℕ) : Type 0 where
   pub here : block_at new.file new.header.fields i ≡ d * cluster_size old.header.fields
   pub blocks : (b : ℕ) → b ≢ i → block_at new.file new.header.fields b ≡ block_at old.file old.header.fields b
   pub own : (c : ℕ) → c / counters_of_block old.header.fields ≡ i → (counted old c ≡ 0) × (counted new c ≡ one_at d c)
@@ -52,12 +52,12 @@ pub record BlockNamed (old new : Metadata) (i d : ℕ) : Type 0 where
   pub others : (c : ℕ) → c / counters_of_block old.header.fields ≢ i → (counted new c ≡ counted old c)
       × (count new.file new.header.fields c ≡ count old.file old.header.fields c)
   pub references : (c : ℕ) → referenced new c ≡ referenced old c + one_at d c
-  pub names : (c : ℕ) → named_at_all new c ≡ named_at_all old c + one_at d c
+  pub names : (c : ℕ) → referenced_at_all new c ≡ referenced_at_all old c + one_at d c
 
 -- How often cluster c is one of a new refcount table of n clusters at cluster t, or of the blocks that this names where the old one named
 -- none; and how often it is one of the old table.
 abbrev pub newly : Metadata → ℕ → ℕ → ℕ → ℕ
-newly m t n c = newly_named m.file m.header.fields (t * cluster_size m.header.fields) n (meets m.header.fields c)
+newly m t n c = newly_referenced m.file m.header.fields (t * cluster_size m.header.fields) n (meets m.header.fields c)
 
 abbrev pub formerly : Metadata → ℕ → ℕ
 formerly m c = meets m.header.fields c m.header.fields.refcount_table_offset
@@ -72,14 +72,14 @@ newly_counted m t n c = if block_at m.file m.header.fields (c / counters_of_bloc
 -- an old block, in the file and in memory, or by a new one, which counts no other. What is cached of the new blocks has their counters.
 pub record IsReadyTable (m : Metadata) (table : TableValue) (t n : ℕ) : Type 0 where
   pub layout : table.layout ≡ layout_of m.header.fields
-  pub long : length table.words ≡ n * words_of_cluster m.header.fields
+  pub long : length table.raw_entries ≡ n * entries_of_cluster m.header.fields
   pub placed : table.cluster ≡ Some t
-  pub written : (i : ℕ) → i < length table.words → word m.file (t * cluster_size m.header.fields) i ≡ slice_index table.words i
-  pub sane : (i : ℕ) → i < length table.words → IsTrue (block_word_sound m.header.fields.cluster_bits (slice_index table.words i))
-  pub olds : (i : ℕ) → i < length m.table.words → block_offset (slice_index m.table.words i) ≢ 0 → (i < length table.words)
-      × (block_offset (slice_index table.words i) ≡ block_offset (slice_index m.table.words i))
+  pub written : (i : ℕ) → i < length table.raw_entries → raw_entry m.file (t * cluster_size m.header.fields) i ≡ slice_index table.raw_entries i
+  pub sane : (i : ℕ) → i < length table.raw_entries → IsTrue (reftable_entry_valid m.header.fields.cluster_bits (slice_index table.raw_entries i))
+  pub olds : (i : ℕ) → i < length m.table.raw_entries → block_offset (slice_index m.table.raw_entries i) ≢ 0 → (i < length table.raw_entries)
+      × (block_offset (slice_index table.raw_entries i) ≡ block_offset (slice_index m.table.raw_entries i))
   pub once : (c : ℕ) → newly m t n c ≤ 1
-  pub free : (c : ℕ) → 0 < newly m t n c → (named_at_all m c ≡ 0) × (waiting m c ≡ 0)
+  pub free : (c : ℕ) → 0 < newly m t n c → (referenced_at_all m c ≡ 0) × (waiting m c ≡ 0)
   pub own : (c : ℕ) → block_at m.file m.header.fields (c / counters_of_block m.header.fields) ≡ 0
       → count m.file (with_reftable m.header.fields (t * cluster_size m.header.fields) n) c ≡ newly m t n c
   pub others : (c : ℕ) → block_at m.file m.header.fields (c / counters_of_block m.header.fields) ≢ 0
@@ -104,7 +104,7 @@ pub record TableSwitched (old new : Metadata) (t n : ℕ) : Type 0 where
   pub others : (c : ℕ) → block_at old.file old.header.fields (c / counters_of_block old.header.fields) ≢ 0 → (counted new c ≡ counted old c)
       × (count new.file new.header.fields c ≡ count old.file old.header.fields c)
   pub references : (c : ℕ) → referenced new c + formerly old c ≡ referenced old c + newly old t n c
-  pub names : (c : ℕ) → named_at_all new c + formerly old c ≡ named_at_all old c + newly old t n c
+  pub names : (c : ℕ) → referenced_at_all new c + formerly old c ≡ referenced_at_all old c + newly old t n c
 
 -- clusters in a row
 abbrev pub run_of : ℕ → ℕ → FreeEntry
@@ -120,22 +120,22 @@ rank new i = sum_below i (λ j. if new j then 1 else 0)
 -- the new blocks has their counters.
 pub record IsGrownTable (m : Metadata) (table : TableValue) (s : ℕ) (new : ℕ → Bool) (n : ℕ) : Type 0 where
   pub layout : table.layout ≡ layout_of m.header.fields
-  pub long : length table.words ≡ n * words_of_cluster m.header.fields
-  pub placed : table.cluster ≡ Some (s + rank new (length table.words))
-  pub written : (i : ℕ) → i < length table.words
-      → word m.file ((s + rank new (length table.words)) * cluster_size m.header.fields) i ≡ slice_index table.words i
-  pub sane : (i : ℕ) → i < length table.words → IsTrue (block_word_sound m.header.fields.cluster_bits (slice_index table.words i))
-  pub longer : length m.table.words ≤ length table.words
-  pub inside : (i : ℕ) → new i ≡ true → i < length table.words
-  pub some : s ≢ 0
-  pub news : (i : ℕ) → new i ≡ true → block_offset (slice_index table.words i) ≡ (s + rank new i) * cluster_size m.header.fields
-  pub empty : (i : ℕ) → new i ≡ true → block_offset (slice_index m.table.words i) ≡ 0
-  pub olds : (i : ℕ) → new i ≡ false → block_offset (slice_index table.words i) ≡ block_offset (slice_index m.table.words i)
-  pub free : (c : ℕ) → 0 < covers c (run_of s (rank new (length table.words) + n)) → (named_at_all m c ≡ 0) × (waiting m c ≡ 0)
+  pub long : length table.raw_entries ≡ n * entries_of_cluster m.header.fields
+  pub placed : table.cluster ≡ Some (s + rank new (length table.raw_entries))
+  pub written : (i : ℕ) → i < length table.raw_entries
+      → raw_entry m.file ((s + rank new (length table.raw_entries)) * cluster_size m.header.fields) i ≡ slice_index table.raw_entries i
+  pub sane : (i : ℕ) → i < length table.raw_entries → IsTrue (reftable_entry_valid m.header.fields.cluster_bits (slice_index table.raw_entries i))
+  pub longer : length m.table.raw_entries ≤ length table.raw_entries
+  pub inside : (i : ℕ) → new i ≡ true → i < length table.raw_entries
+  pub cluster_nonzero : s ≢ 0
+  pub news : (i : ℕ) → new i ≡ true → block_offset (slice_index table.raw_entries i) ≡ (s + rank new i) * cluster_size m.header.fields
+  pub empty : (i : ℕ) → new i ≡ true → block_offset (slice_index m.table.raw_entries i) ≡ 0
+  pub olds : (i : ℕ) → new i ≡ false → block_offset (slice_index table.raw_entries i) ≡ block_offset (slice_index m.table.raw_entries i)
+  pub free : (c : ℕ) → 0 < covers c (run_of s (rank new (length table.raw_entries) + n)) → (referenced_at_all m c ≡ 0) × (waiting m c ≡ 0)
   pub counters : (i c : ℕ) → new i ≡ true → c / counters_of_block m.header.fields ≡ i
       → counter m.file m.header.fields ((s + rank new i) * cluster_size m.header.fields) (c % counters_of_block m.header.fields)
-      ≡ covers c (run_of s (rank new (length table.words) + n))
-  pub counted : (c : ℕ) → 0 < covers c (run_of s (rank new (length table.words) + n)) → new (c / counters_of_block m.header.fields) ≡ false
+      ≡ covers c (run_of s (rank new (length table.raw_entries) + n))
+  pub counted : (c : ℕ) → 0 < covers c (run_of s (rank new (length table.raw_entries) + n)) → new (c / counters_of_block m.header.fields) ≡ false
       → (1 ≤ count m.file m.header.fields c) × (1 ≤ counted m c)
   pub cached : AllByRecursion (λ e. (i : ℕ) → new i ≡ true → e.0 ≡ s + rank new i
       → e.1.value.counters ≡ counters_in m.file m.header.fields (e.0 * cluster_size m.header.fields)) m.cached.blocks

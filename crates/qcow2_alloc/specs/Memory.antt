@@ -15,7 +15,7 @@ pub record Cached : Type 0 where
 
 -- what of a table or a block is to be written, where clusters have this size
 abbrev pub table_patch : ℕ → ℕ × Slot TableValue → Option Patch
-table_patch size e = if e.1.value.modified then Some (e.0 * size, table_bytes e.1.value.words) else None
+table_patch size e = if e.1.value.modified then Some (e.0 * size, table_bytes e.1.value.raw_entries) else None
 
 abbrev pub block_patch : ℕ → ℕ × Slot Block → Option Patch
 block_patch size e = if e.1.value.modified then Some (e.0 * size, block_bytes e.1.value.order e.1.value.counters) else None

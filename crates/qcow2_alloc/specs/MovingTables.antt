@@ -2,55 +2,55 @@
 use Rattle.std.specs.Prelude.{◌≡◌, ◌≢◌, true, ℕ, ◌+◌, ◌-◌, ◌*◌, ◌/◌, ◌%◌, ◌^◌, ◌<◌, ◌≤◌, ◌++◌, false, IsTrue, List, Some, None, Result, Ok, Err, OnOk, OnErr, IfErr, length, slice_index, nat_eq, Bool}
 use Rattle.std.specs.Map.{lookup}
 use Rattle.imago_storage.specs.State.{StorageState}
-use Rattle.imago_storage.specs.Calls.{Later, IsFaultless}
-use Rattle.imago_storage.specs.Through.{Put, PutAtOnce}
+use Rattle.imago_storage.specs.Calls.{CountsNotFallen, IsFaultless}
+use Rattle.imago_storage.specs.Through.{WriteOutcome, AtomicWriteOutcome}
 use Rattle.imago_storage.specs.declared.fault.Fault.{Fault}
 use Rattle.qcow2_types.specs.Counts.{count, counters_of_block}
-use Rattle.qcow2_types.specs.Header.{Fields, Header, first_fault, rules_of_size, cluster_size, words_of_cluster, layout_of}
+use Rattle.qcow2_types.specs.Header.{Fields, Header, first_fault, rules_of_size, cluster_size, entries_of_cluster, layout_of}
 use Rattle.qcow2_types.specs.HeaderBytes.{first_bytes}
 use Rattle.qcow2_types.specs.HeaderSwitch.{FirstFieldsFit}
 use Rattle.qcow2_types.specs.Pending.{FreeEntry}
 use Rattle.qcow2_types.specs.Switched.{with_refcount_table}
 use Rattle.qcow2_types.specs.TableBytes.{AreFit, table_bytes}
-use Rattle.qcow2_types.specs.Words.{block_offset, block_word_sound}
-use Rattle.qcow2_metadata.specs.Tables.{IsEnough, IsGrownLength, IsTable, TableValue, IsPlacedTable, block_words, padded, table_place}
-use Rattle.qcow2_metadata.specs.Places.{IsInReach}
+use Rattle.qcow2_types.specs.Words.{block_offset, reftable_entry_valid}
+use Rattle.qcow2_metadata.specs.Tables.{IsEnough, IsGrownLength, IsTable, TableValue, IsPlacedTable, refcount_table_kind, padded, table_start}
+use Rattle.qcow2_metadata.specs.Places.{IsAddressable}
 use Rattle.qcow2_alloc.specs.declared.allocation.searching.Run.{Run}
 use Rattle.qcow2_alloc.specs.declared.cache.CacheDependency.TheVariants.{L2DependsOnRb}
 use Rattle.qcow2_alloc.specs.declared.cache.MetadataCaches.{MetadataCaches}
 use Rattle.qcow2_alloc.specs.declared.file.ImageFile.{ImageFile}
-use Rattle.qcow2_alloc.specs.Allocating.{CountsNamed, MovedTable, OnlyRaised}
+use Rattle.qcow2_alloc.specs.Allocating.{CountsReferenced, MovedTable, OnlyIncremented}
 use Rattle.qcow2_alloc.specs.Caches.{cached_in, order_of, KeepsTables}
 use Rattle.qcow2_alloc.specs.Causes.{Causes, FailsFor, bare_causes}
 use Rattle.qcow2_alloc.specs.Finding.{pinned_among}
 use Rattle.qcow2_alloc.specs.FreeList.{covers}
-use Rattle.qcow2_alloc.specs.Freeing.{IsLoose, counting_causes}
-use Rattle.qcow2_alloc.specs.Going.{WasNotCutOff, IsMild}
+use Rattle.qcow2_alloc.specs.Freeing.{HasUnpinnedRoom, counting_causes}
+use Rattle.qcow2_alloc.specs.Going.{HadNoResourceError, IsNotResourceError}
 use Rattle.qcow2_alloc.specs.Growing.{lacks, lacking}
 use Rattle.qcow2_alloc.specs.GrowingTables.{Leaks, table_run}
 use Rattle.qcow2_alloc.specs.MakingRoom.{run_of, rank}
-use Rattle.qcow2_alloc.specs.MakingBlocks.{CanName}
+use Rattle.qcow2_alloc.specs.MakingBlocks.{CanReference}
 use Rattle.qcow2_alloc.specs.Memory.{Cached}
 use Rattle.qcow2_alloc.specs.NewBlocks.{HasCountedOwn}
-use Rattle.qcow2_alloc.specs.Quiet.{Metadata, in_memory, counted, named_at_all, IsSound, IsQuiet, Quietly}
-use Rattle.qcow2_alloc.specs.State.{ImageState, lent, metadata, WhereKept, WhereGuarded}
+use Rattle.qcow2_alloc.specs.GuestView.{Metadata, in_memory, counted, referenced_at_all, IsSound, GuestUnchanged, PreservesGuest}
+use Rattle.qcow2_alloc.specs.State.{ImageState, image_state, metadata, WhereKept, WhereGuarded}
 
 -- how many clusters the words of a table take, where a cluster has 2 to this power of bytes
 abbrev pub clusters_of : TableValue → ℕ → ℕ
-clusters_of table cluster_bits = (8 * length table.words + (2 ^ cluster_bits - 1)) / 2 ^ cluster_bits
+clusters_of table cluster_bits = (8 * length table.raw_entries + (2 ^ cluster_bits - 1)) / 2 ^ cluster_bits
 
 -- the header that names a table in place of the refcount table that it named
 abbrev pub naming_table : Header → TableValue → Header
-naming_table H table = with_refcount_table H (table_place table) (clusters_of table H.fields.cluster_bits)
+naming_table H table = with_refcount_table H (table_start table) (clusters_of table H.fields.cluster_bits)
 
 -- A table is written to its place, and then the header's pointer to it. Where this is refused the image has the table that it had.
 pub record MovesTable {S : Type 0} (state : S → StorageState) (table was : TableValue) (before : ImageFile S) (result : Result Unit Fault)
     (now : TableValue) (after : ImageFile S) : Type 0 where
   pub done : Result Unit Fault
   pub mid : S
-  pub put : Put (state before.image) (state mid) (table_place table) (table_bytes table.words) done
+  pub put : WriteOutcome (state before.image) (state mid) (table_start table) (table_bytes table.raw_entries) done
   pub stopped : (fault : Fault) → done ≡ Err fault → (result ≡ Err fault) × (after ≡ record { image = mid; header = before.header })
-  pub pointed : done ≡ Ok tt → PutAtOnce (state mid) (state after.image) 0 (first_bytes (naming_table before.header table).fields) result
+  pub pointed : done ≡ Ok tt → AtomicWriteOutcome (state mid) (state after.image) 0 (first_bytes (naming_table before.header table).fields) result
   pub fit : done ≡ Ok tt → FirstFieldsFit (naming_table before.header table).fields
   pub sizes : done ≡ Ok tt → first_fault (rules_of_size before.header.fields) ≡ None
       → first_fault (rules_of_size (naming_table before.header table).fields) ≡ None
@@ -58,63 +58,63 @@ pub record MovesTable {S : Type 0} (state : S → StorageState) (table was : Tab
   pub err : OnErr result ((now ≡ was) × MovedTable before.header after.header)
 
 -- The blocks that are lacking for a run are named, in its first clusters, by the words of a table. The other words stay.
-pub record NamesNewBlocks (h : Fields) (was : TableValue) (run : Run) (old new : TableValue) : Type 0 where
+pub record LinksNewBlocks (h : Fields) (was : TableValue) (run : Run) (old new : TableValue) : Type 0 where
   pub layout : new.layout ≡ old.layout
   pub placed : new.cluster ≡ old.cluster
-  pub long : length new.words ≡ length old.words
+  pub long : length new.raw_entries ≡ length old.raw_entries
   pub news : (i : ℕ) → lacks was (counters_of_block h) run.first run.len i ≡ true
-      → block_offset (slice_index new.words i) ≡ (run.first + rank (lacks was (counters_of_block h) run.first run.len) i) * cluster_size h
-  pub olds : (i : ℕ) → lacks was (counters_of_block h) run.first run.len i ≡ false → slice_index new.words i ≡ slice_index old.words i
-  pub table : IsTable block_words old → old.layout.cluster_bits ≡ h.cluster_bits → IsTable block_words new
+      → block_offset (slice_index new.raw_entries i) ≡ (run.first + rank (lacks was (counters_of_block h) run.first run.len) i) * cluster_size h
+  pub olds : (i : ℕ) → lacks was (counters_of_block h) run.first run.len i ≡ false → slice_index new.raw_entries i ≡ slice_index old.raw_entries i
+  pub table : IsTable refcount_table_kind old → old.layout.cluster_bits ≡ h.cluster_bits → IsTable refcount_table_kind new
 
 -- A copy of the refcount table, grown to n clusters, is to stand in a run behind the blocks that are lacking for it. Its words name these,
 -- and what the old ones name.
 pub record IsGrownCopy (h : Fields) (table : TableValue) (run : Run) (n : ℕ) (copy : TableValue) : Type 0 where
   pub layout : copy.layout ≡ layout_of h
-  pub long : length copy.words ≡ n * words_of_cluster h
-  pub longer : length table.words ≤ length copy.words
-  pub few : length copy.words ≤ 2 ^ 20
+  pub long : length copy.raw_entries ≡ n * entries_of_cluster h
+  pub longer : length table.raw_entries ≤ length copy.raw_entries
+  pub table_bounded : length copy.raw_entries ≤ 2 ^ 20
   pub placed : copy.cluster ≡ Some (run.first + lacking table (counters_of_block h) run.first run.len)
-  pub sane : (i : ℕ) → i < length copy.words → IsTrue (block_word_sound h.cluster_bits (slice_index copy.words i))
-  pub fit : AreFit copy.words
+  pub sane : (i : ℕ) → i < length copy.raw_entries → IsTrue (reftable_entry_valid h.cluster_bits (slice_index copy.raw_entries i))
+  pub fit : AreFit copy.raw_entries
   pub news : (i : ℕ) → lacks table (counters_of_block h) run.first run.len i ≡ true
-      → block_offset (slice_index copy.words i) ≡ (run.first + rank
+      → block_offset (slice_index copy.raw_entries i) ≡ (run.first + rank
       (lacks table (counters_of_block h) run.first run.len) i) * cluster_size h
   pub olds : (i : ℕ) → lacks table (counters_of_block h) run.first run.len i ≡ false
-      → block_offset (slice_index copy.words i) ≡ block_offset (slice_index table.words i)
+      → block_offset (slice_index copy.raw_entries i) ≡ block_offset (slice_index table.raw_entries i)
 
 -- The run has room for both, in reach of words and of the counters of the copy's blocks.
-pub record HasRoomFor (h : Fields) (table : TableValue) (run : Run) (n : ℕ) : Type 0 where
-  pub some : run.first ≢ 0
+pub record HasFreeAreaFor (h : Fields) (table : TableValue) (run : Run) (n : ℕ) : Type 0 where
+  pub start_nonzero : run.first ≢ 0
   pub more : 1 ≤ n
   pub enough : run.len ≡ n + lacking table (counters_of_block h) run.first run.len
-  pub reach : IsInReach h.cluster_bits (run.first + (run.len - 1))
-  pub inside : run.first + run.len ≤ n * words_of_cluster h * counters_of_block h
+  pub reach : IsAddressable h.cluster_bits (run.first + (run.len - 1))
+  pub inside : run.first + run.len ≤ n * entries_of_cluster h * counters_of_block h
 
 -- A copy of the refcount table may take a run, and the header name it. The old table stands where words can name it.
 pub record IsPlan (h : Fields) (table : TableValue) (run : Run) (copy : TableValue) : Type 0 where
   pub grown : IsGrownCopy h table run (clusters_of copy h.cluster_bits) copy
-  pub room : HasRoomFor h table run (clusters_of copy h.cluster_bits)
+  pub room : HasFreeAreaFor h table run (clusters_of copy h.cluster_bits)
   pub placed : IsPlacedTable table
   pub bits : table.layout.cluster_bits ≡ h.cluster_bits
 
 -- The refcount table, grown in memory until it holds an index: what is added is 0, and it stands nowhere yet.
 pub record IsGrownFor (h : Fields) (table : TableValue) (at : ℕ) (copy : TableValue) : Type 0 where
-  pub copied : copy ≡ record { layout = layout_of h; words = padded table.words (length copy.words); cluster = None; modified = true }
-  pub long : IsGrownLength (words_of_cluster h) (counters_of_block h) at (length copy.words)
+  pub copied : copy ≡ record { layout = layout_of h; raw_entries = padded table.raw_entries (length copy.raw_entries); cluster = None; modified = true }
+  pub long : IsGrownLength (entries_of_cluster h) (counters_of_block h) at (length copy.raw_entries)
   pub bits : table.layout.cluster_bits ≡ h.cluster_bits
 
 -- Why it can't be, but for want of memory: it is the table of another image, or would be too long.
 abbrev pub growing_causes : Fields → TableValue → (at : ℕ) → Causes
 growing_causes h table at = bare_causes (table.layout.cluster_bits ≢ h.cluster_bits)
-    (λ number. ((n : ℕ) → IsEnough (words_of_cluster h) (counters_of_block h) at n → 2 ^ 20 < n)
-    × (number ≡ 2 ^ 20 + words_of_cluster h))
+    (λ number. ((n : ℕ) → IsEnough (entries_of_cluster h) (counters_of_block h) at n → 2 ^ 20 < n)
+    × (number ≡ 2 ^ 20 + entries_of_cluster h))
 
 -- A copy of the refcount table has grown in memory by whole clusters of empty words, and a run has room for it.
 pub record IsCopyFor (h : Fields) (table : TableValue) (run : Run) (copy : TableValue) : Type 0 where
-  pub copied : copy ≡ record { layout = layout_of h; words = padded table.words (length copy.words); cluster = None; modified = true }
-  pub whole : length copy.words % words_of_cluster h ≡ 0
-  pub longer : length table.words ≤ length copy.words
+  pub copied : copy ≡ record { layout = layout_of h; raw_entries = padded table.raw_entries (length copy.raw_entries); cluster = None; modified = true }
+  pub whole : length copy.raw_entries % entries_of_cluster h ≡ 0
+  pub longer : length table.raw_entries ≤ length copy.raw_entries
   pub more : 1 ≤ clusters_of copy h.cluster_bits
   pub enough : run.len ≡ clusters_of copy h.cluster_bits + lacking table (counters_of_block h) run.first run.len
 
@@ -122,14 +122,14 @@ pub record IsCopyFor (h : Fields) (table : TableValue) (run : Run) (copy : Table
 -- it is out of reach.
 abbrev pub placing_causes : Fields → TableValue → Run → TableValue → Causes
 placing_causes h table run copy =
-    bare_causes ((run.first ≢ 0) × CanName table h.cluster_bits (run.first + (run.len - 1)) → ⊥) (λ number.
-    (IsInReach h.cluster_bits (run.first + (run.len - 1)) × (run.first + run.len ≤ length copy.words * counters_of_block h) → ⊥)
+    bare_causes ((run.first ≢ 0) × CanReference table h.cluster_bits (run.first + (run.len - 1)) → ⊥) (λ number.
+    (IsAddressable h.cluster_bits (run.first + (run.len - 1)) × (run.first + run.len ≤ length copy.raw_entries * counters_of_block h) → ⊥)
     × (number ≡ run.first + (run.len - 1)))
 
 -- The image shows the same, with the same in memory.
 pub record StaysInMemory (m m' : Metadata) : Type 0 where
   pub sound : IsSound m'
-  pub quiet : IsQuiet (λ _. 0) (λ _. 0) m m'
+  pub guest_unchanged : GuestUnchanged (λ _. 0) (λ _. 0) m m'
   pub memory_same : in_memory m' ≡ in_memory m
 
 abbrev pub with_cached : Metadata → Cached → Metadata
@@ -137,7 +137,7 @@ with_cached m cached = record m { cached = cached }
 
 -- What is cached of the blocks in a run, which nothing names, is forgotten.
 pub record ForgetsRun (first n : ℕ) (old : Cached) (result : Result Unit Fault) (new : Cached) : Type 0 where
-  pub stays : (m : Metadata) → IsSound (with_cached m old) → ((d : ℕ) → first ≤ d → d < first + n → named_at_all (with_cached m old) d ≡ 0)
+  pub stays : (m : Metadata) → IsSound (with_cached m old) → ((d : ℕ) → first ≤ d → d < first + n → referenced_at_all (with_cached m old) d ≡ 0)
       → StaysInMemory (with_cached m old) (with_cached m new)
       × OnOk result ((d : ℕ) → first ≤ d → d < first + n → lookup (nat_eq d) new.blocks ≡ None)
 
@@ -147,7 +147,7 @@ IsPinnedWithin first n caches = (d : ℕ) × (first ≤ d) × (d < first + n) ×
 
 -- The run of an image is counted, and has the blocks that are lacking for it in its first clusters. Nothing names it yet.
 pub record IsTaken (m : Metadata) (run : Run) : Type 0 where
-  pub free : (c : ℕ) → run.first ≤ c → c < run.first + run.len → named_at_all m c ≡ 0
+  pub free : (c : ℕ) → run.first ≤ c → c < run.first + run.len → referenced_at_all m c ≡ 0
   pub counters : (i : ℕ) → lacks m.table (counters_of_block m.header.fields) run.first run.len i ≡ true
       → HasCountedOwn m.file m.header.fields
       (run.first + rank (lacks m.table (counters_of_block m.header.fields) run.first run.len) i) i run
@@ -167,36 +167,36 @@ waiting_then (Err fault) h pending = pending
 module _ {S : Type 0} (state : S → StorageState) where
   -- A run that wasn't counted is taken: those of its clusters are counted that an old block counts, and the blocks that are lacking for it
   -- are written.
-  pub record TakesRoom (run : Run) (s : ImageState S) (result : Result Unit Fault) (s' : ImageState S) : Type 0 where
-    pub counts : CountsNamed state run.first run.len s result s'
+  pub record TakesFreeArea (run : Run) (s : ImageState S) (result : Result Unit Fault) (s' : ImageState S) : Type 0 where
+    pub counts : CountsReferenced state run.first run.len s result s'
     pub taken : WhereGuarded state s (IsUncounted (metadata state s) run
         → OnOk result (IsTaken (metadata state s') run))
 
   -- A copy of the refcount table takes a run, and becomes the image's, while the old one comes to wait; where something is known of the
   -- image that says that the run isn't counted.
-  pub record FillsRoom (known : Type 0) (run : Run) (copy : TableValue) (s : ImageState S) (result : Result Unit Fault)
+  pub record FillsFreeArea (known : Type 0) (run : Run) (copy : TableValue) (s : ImageState S) (result : Result Unit Fault)
       (s' : ImageState S) : Type 0 where
     pub leaked : ℕ → ℕ
     pub leaks : Leaks (known × IsTrue (state s.file.image).shape.keeps × IsSound (metadata state s))
-        (IsLoose s.table s.caches) result leaked
+        (HasUnpinnedRoom s.table s.caches) result leaked
     pub shape : (state s'.file.image).shape ≡ (state s.file.image).shape
-    pub later : Later (state s.file.image) (state s'.file.image)
-    pub faults : WasNotCutOff result → IsFaultless (state s.file.image) (state s'.file.image)
-    pub quiet : known → Quietly (WasNotCutOff result) leaked (λ _. 0) (state s.file.image) (metadata state s) (state s'.file.image)
+    pub counts_not_fallen : CountsNotFallen (state s.file.image) (state s'.file.image)
+    pub faults : HadNoResourceError result → IsFaultless (state s.file.image) (state s'.file.image)
+    pub guest_unchanged : known → PreservesGuest (HadNoResourceError result) leaked (λ _. 0) (state s.file.image) (metadata state s) (state s'.file.image)
         (metadata state s')
-    pub raised : known → WhereKept state s (WasNotCutOff result
-        → OnlyRaised (metadata state s) (metadata state s'))
+    pub raised : known → WhereKept state s (HadNoResourceError result
+        → OnlyIncremented (metadata state s) (metadata state s'))
     pub counts : known → WhereKept state s
         (OnOk result ((c : ℕ) → counted (metadata state s') c ≡ counted (metadata state s) c + covers c (run_of run.first run.len)))
     pub order : order_of s'.caches ≡ order_of s.caches
     pub moved : MovedTable s.file.header s'.file.header
-    pub longer : length s.table.words ≤ length s'.table.words
-    pub loose : (any : Bool) → IsLoose s.table s.caches any → IsLoose s'.table s'.caches any
+    pub longer : length s.table.raw_entries ≤ length s'.table.raw_entries
+    pub keeps_unpinned_room : (any : Bool) → HasUnpinnedRoom s.table s.caches any → HasUnpinnedRoom s'.table s'.caches any
     pub room : KeepsTables s.caches s'.caches
     pub table_is : OnOk result (s'.table ≡ record copy { modified = false })
-    pub stays : IfErr result (λ fault. IsMild fault → (s'.table ≡ s.table) × (s'.file.header ≡ s.file.header))
+    pub stays : IfErr result (λ fault. IsNotResourceError fault → (s'.table ≡ s.table) × (s'.file.header ≡ s.file.header))
     pub cause : FailsFor (counting_causes (known × IsTrue (state s.file.image).shape.keeps × IsSound (metadata state s))
-        (IsLoose s.table s.caches) (state s.file.image).faults (state s'.file.image).faults) result
+        (HasUnpinnedRoom s.table s.caches) (state s.file.image).faults (state s'.file.image).faults) result
 
   -- blocks are written first, and the run isn't counted
   abbrev pub IsFreeIn : Run → ImageState S → Type 0
@@ -209,5 +209,5 @@ module _ {S : Type 0} (state : S → StorageState) where
   -- So it is where, of what the image was before some of the call, follows that the run isn't counted.
   abbrev pub EntersFree : Run → TableValue → ImageState S → Result Unit Fault → ImageState S → Type 0
   EntersFree run copy s result s' = (first : MetadataCaches S) (file : ImageFile S)
-      → (WasSound (lent s.table first file s.pending) → IsFreeIn run s)
-      → FillsRoom (WasSound (lent s.table first file s.pending)) run copy s result s'
+      → (WasSound (image_state s.table first file s.pending) → IsFreeIn run s)
+      → FillsFreeArea (WasSound (image_state s.table first file s.pending)) run copy s result s'

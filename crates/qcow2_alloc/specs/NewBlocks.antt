@@ -1,7 +1,7 @@
 -- How the refcount blocks that are lacking for a run are written to its first clusters.
 use Rattle.std.specs.Prelude.{◌≡◌, ◌⊎◌, true, ℕ, ◌+◌, ◌*◌, ◌/◌, ◌%◌, ◌<◌, ◌≤◌, IsTrue, Result, Ok, length, slice_index, MatchResult}
 use Rattle.imago_storage.specs.State.{StorageState}
-use Rattle.imago_storage.specs.Calls.{Later, IsFaultless, Cause}
+use Rattle.imago_storage.specs.Calls.{CountsNotFallen, IsFaultless, Cause}
 use Rattle.imago_storage.specs.declared.fault.Fault.{Fault}
 use Rattle.qcow2_types.specs.Bytes.{Bytes, bytes_of}
 use Rattle.qcow2_types.specs.Header.{Fields, Header, cluster_size}
@@ -10,10 +10,10 @@ use Rattle.qcow2_metadata.specs.Blocks.{Block}
 use Rattle.qcow2_metadata.specs.Tables.{TableValue}
 use Rattle.qcow2_alloc.specs.declared.allocation.searching.Run.{Run}
 use Rattle.qcow2_alloc.specs.FreeList.{covers}
-use Rattle.qcow2_alloc.specs.Going.{WasNotCutOff}
+use Rattle.qcow2_alloc.specs.Going.{HadNoResourceError}
 use Rattle.qcow2_alloc.specs.Growing.{lacks}
 use Rattle.qcow2_alloc.specs.MakingRoom.{rank, run_of, CountsTheSame}
-use Rattle.qcow2_alloc.specs.Quiet.{Metadata, named_at_all, IsUsed, IsSound, IsIn, Quietly}
+use Rattle.qcow2_alloc.specs.GuestView.{Metadata, referenced_at_all, IsUsed, IsSound, IsIn, PreservesGuest}
 
 -- A block for this index of the refcount table counts those clusters of a run that are its own once, and no others.
 pub record CountsItsOwn (h : Fields) (index : ℕ) (run : Run) (block : Block) : Type 0 where
@@ -36,18 +36,18 @@ with_file m s = record m { file = bytes_of s.bytes }
 pub record MayWrite (h : Header) (first n : ℕ) (taken : ℕ → ℕ) (s : StorageState) (m : Metadata) : Type 0 where
   pub file : IsIn s m
   pub header : m.header ≡ h
-  pub free : IsSound m → (d : ℕ) → first ≤ d → d < first + n → (named_at_all m d ≡ 0) × (IsUsed m d → 0 < taken d)
+  pub free : IsSound m → (d : ℕ) → first ≤ d → d < first + n → (referenced_at_all m d ≡ 0) × (IsUsed m d → 0 < taken d)
 
 -- n clusters from one on are written, where they may be: what is to the disk stays, and what is counted and named. The rest of the file
 -- stays. Only memory and the storage refuse it.
 pub record WritesClusters (h : Header) (first n : ℕ) (old : StorageState) (result : Result Unit Fault) (new : StorageState) : Type 0 where
   pub shape : new.shape ≡ old.shape
-  pub later : Later old new
-  pub faults : WasNotCutOff result → IsFaultless old new
-  pub whole : WasNotCutOff result → result ≡ Ok tt
+  pub counts_not_fallen : CountsNotFallen old new
+  pub faults : HadNoResourceError result → IsFaultless old new
+  pub whole : HadNoResourceError result → result ≡ Ok tt
   pub cause : MatchResult result (λ _. new.faults ≡ old.faults) (Cause old.faults new.faults)
-  pub quiet : (m : Metadata) (taken : ℕ → ℕ) → MayWrite h first n taken old m
-      → Quietly (WasNotCutOff result) taken taken old m new (with_file m new)
+  pub guest_unchanged : (m : Metadata) (taken : ℕ → ℕ) → MayWrite h first n taken old m
+      → PreservesGuest (HadNoResourceError result) taken taken old m new (with_file m new)
   pub counts : (m : Metadata) (taken : ℕ → ℕ) → MayWrite h first n taken old m → IsTrue old.shape.keeps → IsSound m → result ≡ Ok tt
       → CountsTheSame m (with_file m new)
   pub others : IsTrue old.shape.keeps → result ≡ Ok tt → (p : ℕ) → (p < first * cluster_size h.fields)

@@ -3,9 +3,9 @@ use Rattle.std.specs.Prelude.{◌≡◌, IsTrue, []}
 use Rattle.qcow2_types.specs.Bytes.{Bytes}
 use Rattle.qcow2_types.specs.Header.{Fields, Header, layout_of}
 use Rattle.qcow2_types.specs.Entries.{l1_table_sound}
-use Rattle.qcow2_metadata.specs.Tables.{TableValue, words_in}
+use Rattle.qcow2_metadata.specs.Tables.{TableValue, raw_entries_in}
 use Rattle.qcow2_alloc.specs.declared.cache.CacheDependency.TheVariants.{Unset}
-use Rattle.qcow2_alloc.specs.Quiet.{Metadata}
+use Rattle.qcow2_alloc.specs.GuestView.{Metadata}
 
 -- It has the header and the refcount table that were loaded. Nothing is cached, no order is announced, and nothing waits to be freed.
 abbrev pub opened : Bytes → Header → TableValue → Metadata
@@ -14,5 +14,5 @@ opened f H table = record { file = f; header = H; cached = record { tables = [];
 -- The L1 table in memory has the words of the file's, each of which has a meaning.
 pub record IsL1Of (f : Bytes) (h : Fields) (table : TableValue) : Type 0 where
   pub layout : table.layout ≡ layout_of h
-  pub words : table.words ≡ words_in f h.l1_offset h.l1_entries
+  pub raw_entries : table.raw_entries ≡ raw_entries_in f h.l1_offset h.l1_entries
   pub sound : IsTrue (l1_table_sound f h)

@@ -3,7 +3,7 @@ use Rattle.std.specs.Prelude.{◌≡◌, ◌⊎◌, ℕ, ◌<◌, ◌≤◌, ◌
 use Rattle.std.specs.List.{AllByRecursion}
 use Rattle.std.specs.Map.{lookup}
 use Rattle.imago_storage.specs.State.{StorageState}
-use Rattle.imago_storage.specs.Calls.{Kept}
+use Rattle.imago_storage.specs.Calls.{UnchangedButFaults}
 use Rattle.imago_storage.specs.declared.fault.Fault.{Fault}
 use Rattle.qcow2_types.specs.Bytes.{bytes_of}
 use Rattle.qcow2_metadata.specs.Tables.{TableValue}
@@ -16,7 +16,7 @@ use Rattle.qcow2_alloc.specs.CachedKinds.{AreInReach, Beside, CachedKind, Writes
 use Rattle.qcow2_alloc.specs.Caches.{CachedFile}
 use Rattle.qcow2_alloc.specs.Causes.{FailsFor}
 use Rattle.qcow2_alloc.specs.Finding.{with_room, LetsEntryIn, IsPinnedFull, PinsNothing, search_causes}
-use Rattle.qcow2_alloc.specs.Going.{Going, Behind, CachedStep, WasNotCutOff}
+use Rattle.qcow2_alloc.specs.Going.{WritesBackCached, Behind, CachedStep, HadNoResourceError}
 use Rattle.qcow2_alloc.specs.Memory.{Cached}
 
 module _ {V : Type 0} where
@@ -57,7 +57,7 @@ pub record MadeWay (comes_first : Type 0) (First : CachedStep) (Flushes : Storag
 -- What the put of a value does. It keeps a safe image safe where the value is what the file has.
 pub record EntryInserted {S V W A B : Type 0} (kind : CachedKind S V W) (cluster : ℕ) (value : V) (old : Beside S V W A B)
     (before : ImageFile S) (result : Result Unit (Fault × V)) (new : Beside S V W A B) (after : ImageFile S) : Type 0 where
-  pub going : Going before.header old.order (λ _. IsNew kind cluster value old before) (WasNotCutOff (refusal_of result))
+  pub writes_back_cached : WritesBackCached before.header old.order (λ _. IsNew kind cluster value old before) (HadNoResourceError (refusal_of result))
       (kind.state before.image) (cached_of kind old) (kind.state after.image) (cached_of kind new)
   pub put : PutInto (as_written kind.writes) old.own.slots.cap cluster value old.own.slots.entries result new.own.slots.entries
   pub flushed : (key : ℕ) (slot : Slot V) → MakesWay old.own.slots.cap cluster old.own.slots.entries key
@@ -67,12 +67,12 @@ pub record EntryInserted {S V W A B : Type 0} (kind : CachedKind S V W) (cluster
       (kind.state after.image))
   -- Where there is room for it nothing is written,
   pub roomy : lookup (nat_eq cluster) old.own.slots.entries ≡ None → length old.own.slots.entries < old.own.slots.cap
-      → Kept (kind.state before.image) (kind.state after.image) × (new.other ≡ old.other)
+      → UnchangedButFaults (kind.state before.image) (kind.state after.image) × (new.other ≡ old.other)
   -- and the other cache is only where it comes first.
-  pub kept : map (as_written kind.other_writes) new.other.slots.entries ≡ map (as_written kind.other_writes) old.other.slots.entries
+  pub other_unchanged : map (as_written kind.other_writes) new.other.slots.entries ≡ map (as_written kind.other_writes) old.other.slots.entries
   pub apart : (old.order ≡ kind.first → ⊥) → new.other ≡ old.other
   -- Where there is none, it is before an entry is that has to go.
-  pub behind : lookup (nat_eq cluster) old.own.slots.entries ≡ None → old.own.slots.cap ≤ length old.own.slots.entries
+  pub evicts_when_full : lookup (nat_eq cluster) old.own.slots.entries ≡ None → old.own.slots.cap ≤ length old.own.slots.entries
       → Behind (old.order ≡ kind.first) (WritesOther kind) (LetsEntryIn kind) (kind.state before.image) (cached_of kind old)
       (refusal_of result) (kind.state after.image) (cached_of kind new)
   pub others : (new.order ≡ old.order) × (after.header ≡ before.header)

@@ -6,17 +6,17 @@ use Rattle.imago_storage.specs.declared.fault.Fault.TheVariants.{Limit}
 use Rattle.qcow2_types.specs.Counts.{counters_of_block}
 use Rattle.qcow2_types.specs.Header.{Fields}
 use Rattle.qcow2_types.specs.Words.{block_offset}
-use Rattle.qcow2_metadata.specs.Places.{IsInReach}
+use Rattle.qcow2_metadata.specs.Places.{IsAddressable}
 use Rattle.qcow2_metadata.specs.Tables.{TableValue}
 use Rattle.qcow2_alloc.specs.declared.allocation.readying_runs.Provision.{Provision}
 use Rattle.qcow2_alloc.specs.declared.allocation.readying_runs.Provision.TheVariants.{Complete, Extended}
 use Rattle.qcow2_alloc.specs.Allocating.{Allocating, missing, allocating_causes}
 use Rattle.qcow2_alloc.specs.Causes.{Causes, FailsFor, bare_causes}
 use Rattle.qcow2_alloc.specs.FillingBlocks.{FillsFrom}
-use Rattle.qcow2_alloc.specs.Freeing.{IsLoose}
-use Rattle.qcow2_alloc.specs.Going.{WasNotCutOff}
+use Rattle.qcow2_alloc.specs.Freeing.{HasUnpinnedRoom}
+use Rattle.qcow2_alloc.specs.Going.{HadNoResourceError}
 use Rattle.qcow2_alloc.specs.GrowingTables.{Leaks, NoPlaceToGrow, TableGrown, table_run}
-use Rattle.qcow2_alloc.specs.Quiet.{Metadata, counted}
+use Rattle.qcow2_alloc.specs.GuestView.{Metadata, counted}
 use Rattle.qcow2_alloc.specs.State.{AllocatorState, metadata, IsGuarded, WhereGuarded}
 
 -- the number of the last cluster of a run, or the greatest one where that is more
@@ -27,25 +27,25 @@ last_number first n = min (first + (n - 1)) (2 ^ 64 - 1)
 -- as its last cluster tells.
 abbrev pub fitting_causes : Fields → (n first : ℕ) → Causes
 fitting_causes h n first = bare_causes (first ≡ 0) (λ number. (number ≡ last_number first n)
-    × (IsInReach h.cluster_bits (first + (n - 1)) → 2 ^ 20 ≤ (first + (n - 1)) / counters_of_block h))
+    × (IsAddressable h.cluster_bits (first + (n - 1)) → 2 ^ 20 ≤ (first + (n - 1)) / counters_of_block h))
 
 -- A refcount table became longer, or as long names a block where it named none.
 abbrev pub HasMore : TableValue → TableValue → Type 0
-HasMore table table' = (length table.words < length table'.words)
-    ⊎ ((length table'.words ≡ length table.words) × (missing table' < missing table))
+HasMore table table' = (length table.raw_entries < length table'.raw_entries)
+    ⊎ ((length table'.raw_entries ≡ length table.raw_entries) × (missing table' < missing table))
 
 -- What was done: the blocks that were lacking were made, where the table has words for them, or it has grown.
 abbrev pub HasMade : (mark at first last : ℕ) → Metadata → Metadata → Type 0
 HasMade mark at first last m m' =
-    ((last < length m.table.words) × (length m'.table.words ≡ length m.table.words) × FillsFrom mark first (last + 1) m m')
-    ⊎ ((length m.table.words ≤ last) × TableGrown mark at m m')
+    ((last < length m.table.raw_entries) × (length m'.table.raw_entries ≡ length m.table.raw_entries) × FillsFrom mark first (last + 1) m m')
+    ⊎ ((length m.table.raw_entries ≤ last) × TableGrown mark at m m')
 
 -- Why neither could be: words can't name the first cluster that one of the blocks counts, or there is no place for the table, as a number
 -- tells.
 abbrev pub NoneCanBeMade : (mark at first last number : ℕ) → Metadata → Type 0
 NoneCanBeMade mark at first last number m =
-    (((i : ℕ) → first ≤ i → i ≤ last → IsInReach m.header.fields.cluster_bits (i * counters_of_block m.header.fields)) → ⊥)
-    ⊎ ((length m.table.words ≤ last) × NoPlaceToGrow m mark at number)
+    (((i : ℕ) → first ≤ i → i ≤ last → IsAddressable m.header.fields.cluster_bits (i * counters_of_block m.header.fields)) → ⊥)
+    ⊎ ((length m.table.raw_entries ≤ last) × NoPlaceToGrow m mark at number)
 
 -- An image has the header and the refcount table that it had, and counts each cluster as it did.
 pub record CountsAsBefore (m m' : Metadata) : Type 0 where
@@ -58,24 +58,24 @@ pub record CountsAsBefore (m m' : Metadata) : Type 0 where
 pub record ReadiesBlocks {S : Type 0} (state : S → StorageState) (at first last : ℕ) (s : AllocatorState S)
     (result : Result Provision Fault) (s' : AllocatorState S) : Type 0 where
   pub leaked : ℕ → ℕ
-  pub leaks : Leaks (IsGuarded state s.image) (IsLoose s.table s.caches) result leaked
-  pub step : Allocating state (WasNotCutOff result) leaked s.image s'.image
+  pub leaks : Leaks (IsGuarded state s.image) (HasUnpinnedRoom s.table s.caches) result leaked
+  pub step : Allocating state (HadNoResourceError result) leaked s.image s'.image
   pub mark : s'.mark ≡ s.mark
   pub idle : IfOk result (λ provision. provision ≡ Complete → (s'.table ≡ s.table) × (s'.caches ≡ s.caches) × (s'.file ≡ s.file))
   pub ready : IfOk result (λ provision. provision ≡ Complete
-      → (i : ℕ) → first ≤ i → i ≤ last → block_offset (slice_index s'.table.words i) ≢ 0)
+      → (i : ℕ) → first ≤ i → i ≤ last → block_offset (slice_index s'.table.raw_entries i) ≢ 0)
   pub further : IfOk result (λ provision. provision ≡ Extended → HasMore s.table s'.table)
   pub made : WhereGuarded state s.image (IfOk result (λ provision. provision ≡ Extended
       → HasMade s.mark at first last (metadata state s.image) (metadata state s'.image)))
   -- It grows where it has no word for the last, and only then.
-  pub once : last < length s.table.words → (s'.pending ≡ s.pending) × (s'.file.header ≡ s.file.header)
-      × (length s'.table.words ≡ length s.table.words)
-  pub grew : length s.table.words ≤ last
-      → OnOk result ((length s.table.words < length s'.table.words) × (s'.pending ≡ s.pending ++ table_run s.file.header.fields))
-  pub kept : length s.table.words ≤ last → OnErr result (s'.pending ≡ s.pending)
-  pub barred : length s.table.words ≤ last
+  pub once : last < length s.table.raw_entries → (s'.pending ≡ s.pending) × (s'.file.header ≡ s.file.header)
+      × (length s'.table.raw_entries ≡ length s.table.raw_entries)
+  pub grew : length s.table.raw_entries ≤ last
+      → OnOk result ((length s.table.raw_entries < length s'.table.raw_entries) × (s'.pending ≡ s.pending ++ table_run s.file.header.fields))
+  pub unchanged_on_error : length s.table.raw_entries ≤ last → OnErr result (s'.pending ≡ s.pending)
+  pub barred : length s.table.raw_entries ≤ last
       → WhereGuarded state s.image ((number : ℕ) → result ≡ Err (Limit number)
       → CountsAsBefore (metadata state s.image) (metadata state s'.image))
-  pub cause : FailsFor (allocating_causes (IsGuarded state s.image) (IsLoose s.table s.caches)
+  pub cause : FailsFor (allocating_causes (IsGuarded state s.image) (HasUnpinnedRoom s.table s.caches)
       (λ number. WhereGuarded state s.image (NoneCanBeMade s.mark at first last number (metadata state s.image)))
       (state s.file.image).faults (state s'.file.image).faults) result

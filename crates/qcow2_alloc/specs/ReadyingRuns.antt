@@ -5,25 +5,25 @@ use Rattle.imago_storage.specs.declared.fault.Fault.{Fault}
 use Rattle.qcow2_types.specs.Words.{block_offset}
 use Rattle.qcow2_types.specs.Counts.{counters_of_block}
 use Rattle.qcow2_types.specs.Pending.{FreeEntry}
-use Rattle.qcow2_metadata.specs.Places.{IsInReach}
+use Rattle.qcow2_metadata.specs.Places.{IsAddressable}
 use Rattle.qcow2_alloc.specs.declared.allocation.Allocator.{Allocator}
 use Rattle.qcow2_alloc.specs.Allocating.{Allocating, allocating_causes}
 use Rattle.qcow2_alloc.specs.Caches.{cached_file}
 use Rattle.qcow2_alloc.specs.Causes.{FailsFor}
 use Rattle.qcow2_alloc.specs.Crowding.{IsCrowded, IsRoomy, TakesLittle, room_for}
 use Rattle.qcow2_alloc.specs.FreeList.{covers}
-use Rattle.qcow2_alloc.specs.Freeing.{IsLoose, IsMarked}
-use Rattle.qcow2_alloc.specs.Going.{WasNotCutOff}
+use Rattle.qcow2_alloc.specs.Freeing.{HasUnpinnedRoom, NoneFreeBefore}
+use Rattle.qcow2_alloc.specs.Going.{HadNoResourceError}
 use Rattle.qcow2_alloc.specs.GrowingTables.{IsLengthenedByTable, Leaks, NoPlaceToGrow}
-use Rattle.qcow2_alloc.specs.Quiet.{Metadata, counted}
+use Rattle.qcow2_alloc.specs.GuestView.{Metadata, counted}
 use Rattle.qcow2_alloc.specs.ReadyingBlocks.{last_number}
 use Rattle.qcow2_alloc.specs.SearchingClusters.{IsFirstRun, KeepsClean}
 use Rattle.qcow2_alloc.specs.State.{AllocatorState, ImageState, metadata, IsGuarded, WhereGuarded}
 
 -- As long as a call hasn't begun to change anything, nor what came before it, as a flag tells: the allocator, the list and the header are
 -- what they were, and where nothing waited in memory to be written nothing does, and no byte of the file was changed.
-abbrev pub Spares : {S : Type 0} → (S → StorageState) → (was now : Bool) → Allocator → ImageState S → Allocator → ImageState S → Type 0
-Spares state was now a s a' s' = now ≡ false → (was ≡ false) × (a' ≡ a) × (s'.pending ≡ s.pending) × (s'.file.header ≡ s.file.header)
+abbrev pub LeavesUntouched : {S : Type 0} → (S → StorageState) → (was now : Bool) → Allocator → ImageState S → Allocator → ImageState S → Type 0
+LeavesUntouched state was now a s a' s' = now ≡ false → (was ≡ false) × (a' ≡ a) × (s'.pending ≡ s.pending) × (s'.file.header ≡ s.file.header)
     × KeepsClean state (cached_file s.caches s.file) (cached_file s'.caches s'.file)
 
 -- Why the first run of n clusters from the mark on that aren't counted isn't made ready to be, as a number tells: that of its last cluster,
@@ -32,8 +32,8 @@ pub record IsRunTold (m : Metadata) (mark n number : ℕ) : Type 0 where
   pub first : ℕ
   pub run : IsFirstRun (counted m) mark n first
   pub told : ((number ≡ last_number first n)
-      × (IsInReach m.header.fields.cluster_bits (first + (n - 1))
-      → length m.table.words ≤ (first + (n - 1)) / counters_of_block m.header.fields))
+      × (IsAddressable m.header.fields.cluster_bits (first + (n - 1))
+      → length m.table.raw_entries ≤ (first + (n - 1)) / counters_of_block m.header.fields))
       ⊎ NoPlaceToGrow m mark ((first + (n - 1)) / counters_of_block m.header.fields + (n / counters_of_block m.header.fields + 2)) number
 
 -- The first run of n clusters from the mark on that aren't counted is ready to be: the refcount table names a block for each, and words can
@@ -41,35 +41,35 @@ pub record IsRunTold (m : Metadata) (mark n number : ℕ) : Type 0 where
 pub record ReadiesRun {S : Type 0} (state : S → StorageState) (n : ℕ) (s : AllocatorState S) (result : Result ℕ Fault)
     (s' : AllocatorState S) : Type 0 where
   pub leaked : ℕ → ℕ
-  pub leaks : Leaks (IsGuarded state s.image) (IsLoose s.table s.caches) result leaked
-  pub step : Allocating state (WasNotCutOff result) leaked s.image s'.image
+  pub leaks : Leaks (IsGuarded state s.image) (HasUnpinnedRoom s.table s.caches) result leaked
+  pub step : Allocating state (HadNoResourceError result) leaked s.image s'.image
   pub found : WhereGuarded state s.image (IfOk result (IsFirstRun (counted (metadata state s'.image)) s.mark n))
   pub little : WhereGuarded state s.image (IfOk result (λ first. TakesLittle s.mark n (metadata state s.image) (metadata state s'.image)
       × ((roomy : IsRoomy (metadata state s.image) s.mark n) → first + n ≤ roomy.first + room_for s.file.header.fields n)))
   pub ready : IfOk result
       (λ first. (c : ℕ) → first ≤ c → c < first + n
-      → block_offset (slice_index s'.table.words (c / counters_of_block s.file.header.fields)) ≢ 0)
-  pub reach : IfOk result (λ first. IsInReach s.file.header.fields.cluster_bits (first + (n - 1)))
-  pub some : IfOk result (λ first. first ≢ 0)
+      → block_offset (slice_index s'.table.raw_entries (c / counters_of_block s.file.header.fields)) ≢ 0)
+  pub reach : IfOk result (λ first. IsAddressable s.file.header.fields.cluster_bits (first + (n - 1)))
+  pub start_nonzero : IfOk result (λ first. first ≢ 0)
   pub mark : s'.mark ≡ s.mark
   pub list : IsLengthenedByTable s.file.header.fields s.table s'.table s.pending s'.pending
-  pub cause : FailsFor (allocating_causes (IsGuarded state s.image) (IsLoose s.table s.caches)
+  pub cause : FailsFor (allocating_causes (IsGuarded state s.image) (HasUnpinnedRoom s.table s.caches)
       (λ number. WhereGuarded state s.image (IsCrowded (metadata state s.image) s.mark n
       × IsRunTold (metadata state s'.image) s.mark n number))
       (state s.file.image).faults (state s'.file.image).faults) result
 
 -- where the search begins once a run is counted: each cluster before is counted
-abbrev pub mark_behind : ℕ → ℕ → ℕ → ℕ
-mark_behind mark n first = if first == mark then first + n else if n == 1 then first + 1 else mark
+abbrev pub first_free_after : ℕ → ℕ → ℕ → ℕ
+first_free_after mark n first = if first == mark then first + n else if n == 1 then first + 1 else mark
 
 -- what is handed out: the clusters of the answer, or where it is refused what was leaked
-abbrev pub handed_by : Result FreeEntry Fault → (ℕ → ℕ) → ℕ → ℕ
-handed_by (Ok entry) leaked c = covers c entry
-handed_by (Err fault) leaked c = leaked c
+abbrev pub allocated_by : Result FreeEntry Fault → (ℕ → ℕ) → ℕ → ℕ
+allocated_by (Ok entry) leaked c = covers c entry
+allocated_by (Err fault) leaked c = leaked c
 
 -- The clusters that are handed out are a run of n, the first one from the mark on that wasn't counted. They are counted once now.
 pub record IsRunCounted (mark n : ℕ) (m' : Metadata) (entry : FreeEntry) : Type 0 where
-  pub behind : mark ≤ entry.first
+  pub not_before_start : mark ≤ entry.first
   pub once : (c : ℕ) → entry.first ≤ c → c < entry.first + n → counted m' c ≡ 1
   pub least : (z : ℕ) → mark ≤ z → z < entry.first → (c : ℕ) × (z ≤ c) × (c < z + n) × (covers c entry ≡ 0) × (0 < counted m' c)
 
@@ -77,21 +77,21 @@ pub record IsRunCounted (mark n : ℕ) (m' : Metadata) (entry : FreeEntry) : Typ
 pub record Allocates {S : Type 0} (state : S → StorageState) (n : ℕ) (is_metadata : Bool) (s : AllocatorState S)
     (result : Result FreeEntry Fault) (s' : AllocatorState S) : Type 0 where
   pub leaked : ℕ → ℕ
-  pub leaks : Leaks (IsGuarded state s.image) (IsLoose s.table s.caches) result leaked
-  pub step : Allocating state (WasNotCutOff result) (handed_by result leaked) s.image s'.image
+  pub leaks : Leaks (IsGuarded state s.image) (HasUnpinnedRoom s.table s.caches) result leaked
+  pub step : Allocating state (HadNoResourceError result) (allocated_by result leaked) s.image s'.image
   pub run : IfOk result
       (λ entry. (entry.count ≡ n) × (entry.metadata ≡ is_metadata)
-      × (0 < n → (entry.first ≢ 0) × IsInReach s.file.header.fields.cluster_bits (entry.first + (n - 1))))
+      × (0 < n → (entry.first ≢ 0) × IsAddressable s.file.header.fields.cluster_bits (entry.first + (n - 1))))
   pub taken : WhereGuarded state s.image (IfOk result (IsRunCounted s.mark n (metadata state s'.image)))
   pub fresh : WhereGuarded state s.image
       (IfOk result (λ entry. (c : ℕ) → entry.first ≤ c → c < entry.first + n → counted (metadata state s.image) c ≡ 0))
   pub little : WhereGuarded state s.image (IfOk result (λ _. TakesLittle s.mark n (metadata state s.image) (metadata state s'.image)))
-  pub moved : IfOk result (λ entry. s'.mark ≡ mark_behind s.mark n entry.first)
+  pub moved : IfOk result (λ entry. s'.mark ≡ first_free_after s.mark n entry.first)
   pub stays : OnErr result (s'.mark ≡ s.mark)
-  pub marked : WhereGuarded state s.image (WasNotCutOff result
-      → IsMarked (metadata state s.image) s.mark → IsMarked (metadata state s'.image) s'.mark)
+  pub marked : WhereGuarded state s.image (HadNoResourceError result
+      → NoneFreeBefore (metadata state s.image) s.mark → NoneFreeBefore (metadata state s'.image) s'.mark)
   pub list : IsLengthenedByTable s.file.header.fields s.table s'.table s.pending s'.pending
-  pub cause : FailsFor (allocating_causes (IsGuarded state s.image) (IsLoose s.table s.caches)
+  pub cause : FailsFor (allocating_causes (IsGuarded state s.image) (HasUnpinnedRoom s.table s.caches)
       (λ number. WhereGuarded state s.image (IsCrowded (metadata state s.image) s.mark n
       × IsRunTold (metadata state s'.image) s.mark n number))
       (state s.file.image).faults (state s'.file.image).faults) result

@@ -16,7 +16,7 @@ next_of run = run.first + run.len
 
 -- A run of clusters that aren't counted, as far as a search for n of them, from one on, has come: no longer one begins before it.
 pub record IsRunSoFar (counts : ℕ → ℕ) (from n : ℕ) (run : Run) : Type 0 where
-  pub behind : from ≤ run.first
+  pub not_before_start : from ≤ run.first
   pub free : (c : ℕ) → run.first ≤ c → c < next_of run → counts c ≡ 0
   pub least : (z : ℕ) → from ≤ z → z < run.first → (c : ℕ) × (z ≤ c) × (c < z + n) × (0 < counts c)
 
@@ -25,18 +25,18 @@ abbrev pub AreCounted : (ℕ → ℕ) → ℕ → List ℕ → Type 0
 AreCounted counts base counters = (j : ℕ) → j < length counters → counts (base + j) ≡ slice_index counters j
 
 -- The counters of a block from one index to another were scanned, from the cluster behind a run on.
-pub record Scans (counters : List ℕ) (n index stop : ℕ) (was now : Run) : Type 0 where
-  pub moved : next_of now + index ≡ next_of was + stop
+pub record Scans (counters : List ℕ) (n index scan_end : ℕ) (was now : Run) : Type 0 where
+  pub moved : next_of now + index ≡ next_of was + scan_end
   pub rising : was.first ≤ now.first
   pub so_far : (counts : ℕ → ℕ) (from base : ℕ) → next_of was ≡ base + index → AreCounted counts base counters
       → IsRunSoFar counts from n was → IsRunSoFar counts from n now
 
 -- One of them was at least.
 pub record ScansSome (counters : List ℕ) (n index : ℕ) (was now : Run) : Type 0 where
-  pub stop : ℕ
-  pub more : index < stop
-  pub inside : stop ≤ length counters
-  pub scans : Scans counters n index stop was now
+  pub scan_end : ℕ
+  pub more : index < scan_end
+  pub inside : scan_end ≤ length counters
+  pub scans : Scans counters n index scan_end was now
 
 -- the first counter from an index on that is 0, if there is one
 abbrev pub FindsZero : ℕ → List ℕ → Option ℕ → Type 0
@@ -55,7 +55,7 @@ pub record ExtendsRun {S : Type 0} (state : S → StorageState) (table : TableVa
   pub looked : Looked state table old result new
   pub more : IfOk result (λ now. next_of was < next_of now)
   pub rising : IfOk result (λ now. was.first ≤ now.first)
-  pub near : IfOk result (λ now. next_of now ≤ (next_of was / counters_of_block old.file.header.fields + 1) * counters_of_block
+  pub end_in_block : IfOk result (λ now. next_of now ≤ (next_of was / counters_of_block old.file.header.fields + 1) * counters_of_block
       old.file.header.fields)
   pub so_far : IsSafeWith state table old.caches old.file
       → IfOk result (λ now. (from : ℕ) → IsRunSoFar (counts_in state old.caches old.file) from n was

@@ -1,7 +1,7 @@
 -- How free clusters are searched for: blocks are loaded, and nothing else changes.
 use Rattle.std.specs.Prelude.{max, length, ◌*◌, ◌≡◌, ◌≢◌, ℕ, ◌+◌, ◌/◌, ◌<◌, ◌≤◌, IsTrue, Result, IfOk, Option, MatchOption, Bool, true}
 use Rattle.imago_storage.specs.State.{StorageState}
-use Rattle.imago_storage.specs.Calls.{Kept}
+use Rattle.imago_storage.specs.Calls.{UnchangedButFaults}
 use Rattle.imago_storage.specs.declared.fault.Fault.{Fault}
 use Rattle.qcow2_types.specs.Bytes.{Bytes, bytes_of}
 use Rattle.qcow2_types.specs.Header.{Fields}
@@ -11,15 +11,15 @@ use Rattle.qcow2_alloc.specs.declared.cache.MetadataCaches.{MetadataCaches}
 use Rattle.qcow2_alloc.specs.declared.file.ImageFile.{ImageFile}
 use Rattle.qcow2_alloc.specs.Caches.{CachedFile, cached_in, order_of, KeepsTables}
 use Rattle.qcow2_alloc.specs.Causes.{FailsFor}
-use Rattle.qcow2_alloc.specs.Freeing.{IsLoose, freeing_causes}
-use Rattle.qcow2_alloc.specs.Going.{Going, Always, WasNotCutOff}
+use Rattle.qcow2_alloc.specs.Freeing.{HasUnpinnedRoom, freeing_causes}
+use Rattle.qcow2_alloc.specs.Going.{WritesBackCached, Always, HadNoResourceError}
 use Rattle.qcow2_alloc.specs.Memory.{memory}
-use Rattle.qcow2_alloc.specs.Quiet.{IsTableOf}
-use Rattle.qcow2_alloc.specs.Safety.{Safe, AreTablesClean, AreBlocksClean}
+use Rattle.qcow2_alloc.specs.GuestView.{IsTableOf}
+use Rattle.qcow2_alloc.specs.WellFormedness.{WellFormed, AreTablesClean, AreBlocksClean}
 
 -- The first run of n clusters, from one on, that aren't counted.
 pub record IsFirstRun (counts : ℕ → ℕ) (from n first : ℕ) : Type 0 where
-  pub behind : from ≤ first
+  pub not_before_start : from ≤ first
   pub free : (c : ℕ) → first ≤ c → c < first + n → counts c ≡ 0
   pub least : (z : ℕ) → from ≤ z → z < first → (c : ℕ) × (z ≤ c) × (c < z + n) × (0 < counts c)
 
@@ -29,9 +29,9 @@ HasCounter f h c = block_at f h (c / counters_of_block h) ≢ 0
 
 -- The first cluster of a range that a block counts, and counts 0 times, if there is one.
 pub record IsFirstFree (f : Bytes) (h : Fields) (counts : ℕ → ℕ) (from end c : ℕ) : Type 0 where
-  pub behind : from ≤ c
+  pub not_before_start : from ≤ c
   pub before : c < end
-  pub there : HasCounter f h c
+  pub has_counter : HasCounter f h c
   pub free : counts c ≡ 0
   pub least : (z : ℕ) → from ≤ z → z < c → HasCounter f h z → 0 < counts z
 
@@ -47,12 +47,12 @@ module _ {S : Type 0} (state : S → StorageState) where
   -- The storage keeps what is written, what is cached of it is safe, and this is its refcount table.
   pub record IsSafeWith (table : TableValue) (caches : MetadataCaches S) (file : ImageFile S) : Type 0 where
     pub keeps : IsTrue (state file.image).shape.keeps
-    pub safe : Safe (bytes_of (state file.image).bytes) file.header (cached_in caches) (order_of caches)
+    pub well_formed : WellFormed (bytes_of (state file.image).bytes) file.header (cached_in caches) (order_of caches)
     pub table_of_file : IsTableOf (bytes_of (state file.image).bytes) file.header.fields table
 
   -- Nothing waits in memory to be written, and no byte of the file was changed for that.
   pub record StaysClean (old new : CachedFile S) : Type 0 where
-    pub kept : Kept (state old.file.image) (state new.file.image)
+    pub unchanged_but_faults : UnchangedButFaults (state old.file.image) (state new.file.image)
     pub tables : AreTablesClean (cached_in new.caches)
     pub blocks : AreBlocksClean (cached_in new.caches)
 
@@ -62,21 +62,21 @@ module _ {S : Type 0} (state : S → StorageState) where
 
   -- What a search does: blocks are loaded, in the place of others where the cache is full.
   pub record Looked {T : Type 0} (table : TableValue) (old : CachedFile S) (result : Result T Fault) (new : CachedFile S) : Type 0 where
-    pub going : Going old.file.header (order_of old.caches) Always (WasNotCutOff result) (state old.file.image) (cached_in old.caches)
+    pub writes_back_cached : WritesBackCached old.file.header (order_of old.caches) Always (HadNoResourceError result) (state old.file.image) (cached_in old.caches)
         (state new.file.image) (cached_in new.caches)
     pub order : new.caches.order ≡ old.caches.order
     pub header : new.file.header ≡ old.file.header
-    pub loose : (any : Bool) → IsLoose table old.caches any → IsLoose table new.caches any
+    pub keeps_unpinned_room : (any : Bool) → HasUnpinnedRoom table old.caches any → HasUnpinnedRoom table new.caches any
     pub room : KeepsTables old.caches new.caches
     pub clean : KeepsClean old new
-    pub cause : FailsFor (freeing_causes (IsSafeWith table old.caches old.file) (IsLoose table old.caches true)
+    pub cause : FailsFor (freeing_causes (IsSafeWith table old.caches old.file) (HasUnpinnedRoom table old.caches true)
         (state old.file.image).faults (state new.file.image).faults) result
 
   -- The first run of n clusters that aren't counted, from one on, is searched for;
   pub record LooksForRun (table : TableValue) (from n : ℕ) (old : CachedFile S) (result : Result ℕ Fault)
       (new : CachedFile S) : Type 0 where
     pub looked : Looked table old result new
-    pub near : IfOk result (λ z. (from ≤ z) × (z ≤ max from (length table.words * counters_of_block old.file.header.fields)))
+    pub result_bounded : IfOk result (λ z. (from ≤ z) × (z ≤ max from (length table.raw_entries * counters_of_block old.file.header.fields)))
     pub found : IsSafeWith table old.caches old.file → IfOk result (IsFirstRun (counts_in old.caches old.file) from n)
 
   -- or the first of a range that a block counts.

@@ -7,10 +7,10 @@ use Rattle.qcow2_alloc.specs.declared.allocation.Allocator.{Allocator}
 use Rattle.qcow2_alloc.specs.declared.cache.CacheDependency.TheVariants.{L2DependsOnRb}
 use Rattle.qcow2_alloc.specs.declared.cache.MetadataCaches.{MetadataCaches}
 use Rattle.qcow2_alloc.specs.declared.file.ImageFile.{ImageFile}
-use Rattle.qcow2_alloc.specs.Allocators.{mark_of, metadata_of, table_of}
+use Rattle.qcow2_alloc.specs.Allocators.{first_free_of, metadata_of, table_of}
 use Rattle.qcow2_alloc.specs.Caches.{order_of}
 use Rattle.qcow2_alloc.specs.FreeList.{FreeList}
-use Rattle.qcow2_alloc.specs.Quiet.{Metadata, IsSound}
+use Rattle.qcow2_alloc.specs.GuestView.{Metadata, IsSound}
 
 -- The refcount table in memory, the caches, the file with its header, and the clusters that wait to be freed.
 pub record ImageState (S : Type 0) : Type 0 where
@@ -19,12 +19,12 @@ pub record ImageState (S : Type 0) : Type 0 where
   pub file : ImageFile S
   pub pending : List FreeEntry
 
-abbrev pub lent : {S : Type 0} → TableValue → MetadataCaches S → ImageFile S → List FreeEntry → ImageState S
-lent table caches file pending = record { table = table; caches = caches; file = file; pending = pending }
+abbrev pub image_state : {S : Type 0} → TableValue → MetadataCaches S → ImageFile S → List FreeEntry → ImageState S
+image_state table caches file pending = record { table = table; caches = caches; file = file; pending = pending }
 
 -- what a call is lent, with its allocator and its list
 abbrev pub seen : {S : Type 0} → Allocator → MetadataCaches S → ImageFile S → FreeList → ImageState S
-seen allocator caches file list = lent (table_of allocator) caches file list.entries
+seen allocator caches file list = image_state (table_of allocator) caches file list.entries
 
 -- What a call of an allocator is lent: an image, and the mark, where the search for free clusters begins.
 pub record AllocatorState (S : Type 0) : Type 0 where
@@ -32,28 +32,28 @@ pub record AllocatorState (S : Type 0) : Type 0 where
   pub open image use *
   pub mark : ℕ
 
-abbrev pub with_mark : {S : Type 0} → ImageState S → ℕ → AllocatorState S
-with_mark image mark = record { image = image; mark = mark }
+abbrev pub with_first_free : {S : Type 0} → ImageState S → ℕ → AllocatorState S
+with_first_free image mark = record { image = image; mark = mark }
 
-abbrev pub lent_to : {S : Type 0} → Allocator → MetadataCaches S → ImageFile S → FreeList → AllocatorState S
-lent_to allocator caches file list = with_mark (seen allocator caches file list) (mark_of allocator)
+abbrev pub allocator_state : {S : Type 0} → Allocator → MetadataCaches S → ImageFile S → FreeList → AllocatorState S
+allocator_state allocator caches file list = with_first_free (seen allocator caches file list) (first_free_of allocator)
 
 -- what contracts see of an image,
 abbrev pub metadata : {S : Type 0} → (S → StorageState) → ImageState S → Metadata
 metadata state s = metadata_of state s.file s.caches s.table s.pending
 
 -- and of one with its mark
-pub record MarkedMetadata : Type 0 where
+pub record MetadataWithFirstFree : Type 0 where
   pub image : Metadata
   pub open image use *
   pub mark : ℕ
 
-abbrev pub marked_metadata : {S : Type 0} → (S → StorageState) → AllocatorState S → MarkedMetadata
-marked_metadata state s = record { image = metadata state s.image; mark = s.mark }
+abbrev pub metadata_with_first_free : {S : Type 0} → (S → StorageState) → AllocatorState S → MetadataWithFirstFree
+metadata_with_first_free state s = record { image = metadata state s.image; mark = s.mark }
 
 -- It is sound, in a storage that keeps what is written;
-abbrev pub IsKept : {S : Type 0} → (S → StorageState) → ImageState S → Type 0
-IsKept state s = IsTrue (state s.file.image).shape.keeps × IsSound (metadata state s)
+abbrev pub KeepsWritesAndSound : {S : Type 0} → (S → StorageState) → ImageState S → Type 0
+KeepsWritesAndSound state s = IsTrue (state s.file.image).shape.keeps × IsSound (metadata state s)
 
 -- and blocks are written before tables.
 abbrev pub IsGuarded : {S : Type 0} → (S → StorageState) → ImageState S → Type 0

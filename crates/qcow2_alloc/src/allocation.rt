@@ -5,7 +5,7 @@ ghost use Rattle.std.specs.Prelude.{◌≡◌, ◌≤◌, ◌<◌, ◌-◌, ◌%
 
 use crate::cache::MetadataCaches;
 use crate::clusters_to_free::{ClustersToFreeList, PendingAllocation};
-use crate::file::{ImageFile, is_in_reach};
+use crate::file::{ImageFile, is_addressable};
 use imago_storage::{Fault, Storage};
 use qcow2_metadata::{RefTable, Table};
 use qcow2_types::{ClusterCount, ClustersToFreeEntry, HostCluster};
@@ -25,24 +25,24 @@ pub struct Allocator {
     alloc: Global,
     pub(crate) reftable: RefTable,
     pub(crate) first_free_cluster: HostCluster,
-    ghost few: { length reftable.words ≤ 2 ^ 20 },
+    ghost table_bounded: { length reftable.raw_entries ≤ 2 ^ 20 },
 }
 
 impl Allocator {
     ghost use Rattle.imago_storage.specs.declared.fault.Fault.{Fault};
-    ghost use Rattle.qcow2_alloc.specs.Allocators.{table_of, mark_of, named_block, LowersCluster, LoadsAllocator};
+    ghost use Rattle.qcow2_alloc.specs.Allocators.{table_of, first_free_of, referenced_block, DecrementsCluster, LoadsAllocator};
     ghost use Rattle.std.specs.List.{remove};
     ghost use Rattle.qcow2_alloc.specs.declared.cache.CacheDependency.TheVariants.{RbDependsOnL2};
     ghost use Rattle.qcow2_alloc.specs.Caches.{cached_in, order_of, HasRoomOf, cached_file};
-    ghost use Rattle.qcow2_alloc.specs.Dropping.{Dropped, StaysSafe};
-    ghost use Rattle.qcow2_alloc.specs.Safety.{AreBlocksClean};
+    ghost use Rattle.qcow2_alloc.specs.Dropping.{Dropped, StaysWellFormed};
+    ghost use Rattle.qcow2_alloc.specs.WellFormedness.{AreBlocksClean};
     ghost use Rattle.qcow2_alloc.specs.FreeList.{entry_at, shortened};
     ghost use Rattle.qcow2_alloc.specs.Freeing.{Frees, MayFree, data_in, IsRest, IsRestInTurn, OrdersFreeing};
     ghost use Rattle.qcow2_types.specs.Header.{has_external_data};
     ghost use Rattle.qcow2_alloc.specs.HandingOut.{AllocatesClusters, AllocatesClusterAt, GrowsReftable, held_at, held_by};
-    ghost use Rattle.qcow2_alloc.specs.ReadyingRuns.{Spares};
-    ghost use Rattle.qcow2_alloc.specs.Quiet.{metadata_in};
-    ghost use Rattle.qcow2_alloc.specs.State.{lent_to, seen};
+    ghost use Rattle.qcow2_alloc.specs.ReadyingRuns.{LeavesUntouched};
+    ghost use Rattle.qcow2_alloc.specs.GuestView.{metadata_in};
+    ghost use Rattle.qcow2_alloc.specs.State.{allocator_state, seen};
 
     /// The allocator of an image: its refcount table is loaded, and the search for free clusters begins at cluster 0.
     ///
@@ -57,7 +57,7 @@ impl Allocator {
         let Some(cluster) = file.header.reftable_offset().checked_cluster(bits) else {
             return Err(Fault::DamagedTable);
         };
-        if !is_in_reach(cluster, bits) {
+        if !is_addressable(cluster, bits) {
             return Err(Fault::DamagedTable);
         }
         let entries = file.header.reftable_entries();
@@ -68,7 +68,7 @@ impl Allocator {
     /// An allocator over this refcount table, which begins its search at `first_free`: each cluster before is counted.
     pub fn from_table(alloc: Global, table: RefTable, first_free: HostCluster) -> Allocator
         ensures table { table_of result ≡ table }
-        ensures mark { mark_of result ≡ first_free }
+        ensures mark { first_free_of result ≡ first_free }
     {
         prove!(table.entries() <= RefTable::MAX_ENTRIES);
         Allocator {
@@ -80,14 +80,14 @@ impl Allocator {
 
     /// How many words the refcount table has.
     pub fn reftable_entries(&self) -> usize
-        ensures { result ≡ length (table_of self.now).words }
+        ensures { result ≡ length (table_of self.now).raw_entries }
     {
         self.reftable.entries()
     }
 
     // The cluster of the block at an index of the refcount table, if there is one.
     fn block_cluster(&self, rt_index: usize) -> Option<HostCluster>
-        ensures { result ≡ named_block (table_of self.now) rt_index }
+        ensures { result ≡ referenced_block (table_of self.now) rt_index }
     {
         let bits = self.reftable.cluster_bits();
         match self.reftable.get(rt_index).refblock_offset() {
@@ -104,16 +104,16 @@ impl Allocator {
         cluster: HostCluster,
     ) -> Result<(), Fault>
         ensures table { table_of self.new ≡ table_of self.old }
-        ensures marked { OnOk result (mark_of self.new ≡ min (mark_of self.old) cluster) }
-        ensures stays { OnErr result (mark_of self.new ≡ mark_of self.old) }
-        ensures lowered { LowersCluster S.state (table_of self.old) cluster (cached_file caches.old file.old) result
+        ensures marked { OnOk result (first_free_of self.new ≡ min (first_free_of self.old) cluster) }
+        ensures stays { OnErr result (first_free_of self.new ≡ first_free_of self.old) }
+        ensures lowered { DecrementsCluster S.state (table_of self.old) cluster (cached_file caches.old file.old) result
             (cached_file caches.new file.new) }
     {
         let (rt_index, rb_index) = cluster.rt_rb_indices(file.header.rb_bits());
         let Some(rb_cluster) = self.block_cluster(rt_index) else {
             return Err(Fault::DamagedTable);
         };
-        counting::lower_in(caches, file, rb_cluster, rb_index)?;
+        counting::decrement_in(caches, file, rb_cluster, rb_index)?;
         if cluster < self.first_free_cluster {
             self.first_free_cluster = cluster;
         }
@@ -129,10 +129,10 @@ impl Allocator {
         index: usize,
     ) -> Result<(), Fault>
         requires inside { index < length list.old.entries }
-        requires some { 0 < (entry_at list.old.entries index).count }
+        requires nonempty { 0 < (entry_at list.old.entries index).count }
         ensures frees { MayFree (order_of caches.old) (entry_at list.old.entries index)
-            → Frees S.state (lent_to self.old caches.old file.old list.old) result
-            (lent_to self.new caches.new file.new list.new) }
+            → Frees S.state (allocator_state self.old caches.old file.old list.old) result
+            (allocator_state self.new caches.new file.new list.new) }
         ensures order { order_of caches.new ≡ order_of caches.old }
         ensures table { table_of self.new ≡ table_of self.old }
         ensures ok { OnOk result (list.new.entries ≡ shortened list.old.entries index 1) }
@@ -157,8 +157,8 @@ impl Allocator {
     ) -> Result<(), Fault>
         requires inside { index < length list.old.entries }
         ensures frees { MayFree (order_of caches.old) (entry_at list.old.entries index)
-            → Frees S.state (lent_to self.old caches.old file.old list.old) result
-            (lent_to self.new caches.new file.new list.new) }
+            → Frees S.state (allocator_state self.old caches.old file.old list.old) result
+            (allocator_state self.new caches.new file.new list.new) }
         ensures order { order_of caches.new ≡ order_of caches.old }
         ensures table { table_of self.new ≡ table_of self.old }
         ensures ok { OnOk result (list.new.entries ≡ remove list.old.entries index) }
@@ -181,8 +181,8 @@ impl Allocator {
         caches: &mut MetadataCaches<S>,
         list: &mut ClustersToFreeList,
     ) -> Result<(), Fault>
-        ensures frees { Frees S.state (lent_to self.old caches.old file.old list.old) result
-            (lent_to self.new caches.new file.new list.new) }
+        ensures frees { Frees S.state (allocator_state self.old caches.old file.old list.old) result
+            (allocator_state self.new caches.new file.new list.new) }
         ensures order { order_of caches.new ≡ order_of caches.old }
         ensures table { table_of self.new ≡ table_of self.old }
         ensures ok { OnOk result (list.new.entries ≡ data_in list.old.entries) }
@@ -205,8 +205,8 @@ impl Allocator {
         list: &mut ClustersToFreeList,
     ) -> Result<(), Fault>
         ensures frees { order_of caches.old ≡ RbDependsOnL2
-            → Frees S.state (lent_to self.old caches.old file.old list.old) result
-            (lent_to self.new caches.new file.new list.new) }
+            → Frees S.state (allocator_state self.old caches.old file.old list.old) result
+            (allocator_state self.new caches.new file.new list.new) }
         ensures order { order_of caches.new ≡ order_of caches.old }
         ensures table { table_of self.new ≡ table_of self.old }
         ensures ok { OnOk result (list.new.entries ≡ []) }
@@ -235,8 +235,8 @@ impl Allocator {
         caches: &mut MetadataCaches<S>,
         list: &mut ClustersToFreeList,
     ) -> Result<(), Fault>
-        ensures frees { Frees S.state (lent_to self.old caches.old file.old list.old) result
-            (lent_to self.new caches.new file.new list.new) }
+        ensures frees { Frees S.state (allocator_state self.old caches.old file.old list.old) result
+            (allocator_state self.new caches.new file.new list.new) }
         ensures table { table_of self.new ≡ table_of self.old }
         ensures ok { OnOk result (list.new.entries ≡ []) }
         ensures left { IsRestInTurn list.old.entries list.new.entries }
@@ -285,8 +285,8 @@ impl Allocator {
         count: ClusterCount,
         metadata: bool,
     ) -> Result<PendingAllocation, Fault>
-        ensures allocates { AllocatesClusters S.state count metadata (lent_to self.old caches.old file.old list.old) result
-            (lent_to self.new caches.new file.new list.new) }
+        ensures allocates { AllocatesClusters S.state count metadata (allocator_state self.old caches.old file.old list.old) result
+            (allocator_state self.new caches.new file.new list.new) }
         ensures held { list.new.held ≡ held_by result list.old.held }
     {
         let mut begun = false;
@@ -304,14 +304,14 @@ impl Allocator {
         metadata: bool,
         begun: &mut bool,
     ) -> Result<PendingAllocation, Fault>
-        ensures allocates { AllocatesClusters S.state count metadata (lent_to self.old caches.old file.old list.old) result
-            (lent_to self.new caches.new file.new list.new) }
+        ensures allocates { AllocatesClusters S.state count metadata (allocator_state self.old caches.old file.old list.old) result
+            (allocator_state self.new caches.new file.new list.new) }
         ensures begins { 0 < count → OnOk result (begun.new ≡ true) }
-        ensures spares { Spares S.state begun.old begun.new self.old (seen self.old caches.old file.old list.old) self.new
+        ensures untouched_unless_begun { LeavesUntouched S.state begun.old begun.new self.old (seen self.old caches.old file.old list.old) self.new
             (seen self.new caches.new file.new list.new) }
         ensures held { list.new.held ≡ held_by result list.old.held }
     {
-        let hold = list.hold()?;
+        let hold = list.reserve_slot()?;
         match self.free_and_allocate(file, caches, list, count, metadata, begun) {
             Ok(pending) => Ok(PendingAllocation { pending, hold }),
             Err(fault) => {
@@ -339,11 +339,11 @@ impl Allocator {
         list: &mut ClustersToFreeList,
         cluster: HostCluster,
     ) -> Result<Option<PendingAllocation>, Fault>
-        ensures allocates { AllocatesClusterAt S.state cluster (lent_to self.old caches.old file.old list.old) result
-            (lent_to self.new caches.new file.new list.new) }
+        ensures allocates { AllocatesClusterAt S.state cluster (allocator_state self.old caches.old file.old list.old) result
+            (allocator_state self.new caches.new file.new list.new) }
         ensures held { list.new.held ≡ held_at result list.old.held }
     {
-        let hold = list.hold()?;
+        let hold = list.reserve_slot()?;
         match self.announce_and_allocate_at(file, caches, list, cluster) {
             Ok(Some(pending)) => Ok(Some(PendingAllocation { pending, hold })),
             Ok(None) => {
@@ -379,13 +379,13 @@ impl Allocator {
         list: &mut ClustersToFreeList,
         index: usize,
     ) -> Result<(), Fault>
-        requires past { length (table_of self.old).words ≤ index }
-        ensures grows { GrowsReftable S.state index (lent_to self.old caches.old file.old list.old) result
-            (lent_to self.new caches.new file.new list.new) }
+        requires past { length (table_of self.old).raw_entries ≤ index }
+        ensures grows { GrowsReftable S.state index (allocator_state self.old caches.old file.old list.old) result
+            (allocator_state self.new caches.new file.new list.new) }
         ensures held { list.new.held ≡ list.old.held }
     {
         let copy = self.grown_copy(&file.header, index)?;
-        let hold = list.hold()?;
+        let hold = list.reserve_slot()?;
         match caches.l2_depends_on_rb(file) {
             Ok(()) => self.place_grown(file, caches, list, hold, copy),
             Err(fault) => {
@@ -405,8 +405,8 @@ impl Allocator {
         ensures dropped { Dropped (cached_in caches.old).blocks result (cached_in caches.new).blocks }
         ensures others { (caches.new.l2 ≡ caches.old.l2) × (caches.new.order ≡ caches.old.order) }
         ensures room { HasRoomOf caches.old caches.new }
-        ensures safe { AreBlocksClean (cached_in caches.old)
-            → StaysSafe (cached_in caches.old) (cached_in caches.new) (order_of caches.old) }
+        ensures well_formed { AreBlocksClean (cached_in caches.old)
+            → StaysWellFormed (cached_in caches.old) (cached_in caches.new) (order_of caches.old) }
     {
         caches.invalidate_rb()
     }

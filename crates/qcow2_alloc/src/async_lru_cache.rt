@@ -346,7 +346,7 @@ impl<K: Copy + Eq + Hash, V: Drop, B: AsyncLruCacheBackend<Key = K, Value = V>> 
 
     // Flushes the least recently used value in place; its entry goes first.
     fn flush_last(&mut self, device: &mut B::Device) -> Result<(), Fault>
-        requires some { 0 < length self.old.slots.entries }
+        requires nonempty { 0 < length self.old.slots.entries }
         requires distinct { IsDistinct K.eq (keys_of self.old.slots.entries) }
         ensures flushed { FlushedLast B.flushes device.old self.old.slots.entries result device.new self.new.slots.entries }
         ensures others { self.new ≡ with_entries self.old self.new.slots.entries }
@@ -380,7 +380,7 @@ impl<K: Copy + Eq + Hash, V: Drop, B: AsyncLruCacheBackend<Key = K, Value = V>> 
 
     // Drops the least recently used value without flushing it, or keeps it where it is pinned: then its entry goes first.
     fn drop_last(&mut self)
-        requires some { 0 < length self.old.slots.entries }
+        requires nonempty { 0 < length self.old.slots.entries }
         requires distinct { IsDistinct K.eq (keys_of self.old.slots.entries) }
         ensures dropped { DroppedLast self.old.slots.entries self.new.slots.entries }
         ensures others { self.new ≡ with_entries self.old self.new.slots.entries }
@@ -400,7 +400,7 @@ impl<K: Copy + Eq + Hash, V: Drop, B: AsyncLruCacheBackend<Key = K, Value = V>> 
     ///
     /// It refuses with `Fault::CacheFull` where something stays.
     pub fn invalidate(&mut self) -> Result<(), Fault>
-        ensures kept { self.new ≡ with_entries self.old (kept_pinned self.old.slots.entries) }
+        ensures keeps_pinned { self.new ≡ with_entries self.old (kept_pinned self.old.slots.entries) }
         ensures ok { OnOk result (kept_pinned self.old.slots.entries ≡ []) }
         ensures err { IfErr result (λ e. (e ≡ Fault.CacheFull) × (kept_pinned self.old.slots.entries ≡ [] → ⊥)) }
     {
@@ -493,7 +493,7 @@ fn latest(first: Option<Fault>, answer: Result<(), Fault>) -> Option<Fault>
     };
     match first {
         Some(earlier) => {
-            if !is_mild(earlier) && is_mild(fault) {
+            if !is_not_resource_error(earlier) && is_not_resource_error(fault) {
                 Some(earlier)
             } else {
                 Some(fault)
@@ -504,8 +504,8 @@ fn latest(first: Option<Fault>, answer: Result<(), Fault>) -> Option<Fault>
 }
 
 // Whether a fault is neither want of memory nor of the storage.
-fn is_mild(fault: Fault) -> bool
-    ensures { result ≡ spec.is_mild fault }
+fn is_not_resource_error(fault: Fault) -> bool
+    ensures { result ≡ spec.is_not_resource_error fault }
 {
     !matches!(fault, Fault::Memory | Fault::Storage)
 }

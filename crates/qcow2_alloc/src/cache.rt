@@ -2,11 +2,11 @@
 // caches (`qcow2_cache_set_dependency`), and imago's `l2_depends_on_rb` or `rb_depends_on_l2`.
 ghost use Rattle.std.specs.Prelude.{◌≡◌, ◌≤◌, ◌<◌, IsTrue, IsOk, IfOk, OnOk, OnErr, IsOkUnless, Ok, [], ◌∷◌};
 ghost use Rattle.imago_storage.specs.State.{StorageState};
-ghost use Rattle.qcow2_metadata.specs.Places.{IsInReach};
+ghost use Rattle.qcow2_metadata.specs.Places.{IsAddressable};
 ghost use Rattle.qcow2_alloc.specs.Backends.{TableLoaded, BlockLoaded, TableFlushed, BlockFlushed};
 
 use crate::async_lru_cache::{Admission, AsyncLruCache, AsyncLruCacheBackend};
-use crate::file::{ImageFile, is_in_reach};
+use crate::file::{ImageFile, is_addressable};
 use imago_storage::{Fault, Storage};
 use qcow2_metadata::{L2Table, RefBlock, Table};
 use qcow2_types::HostCluster;
@@ -44,7 +44,7 @@ impl<S: Storage> AsyncLruCacheBackend for L2CacheBackend<S> {
         × TableFlushed (S.state old.image) key table result (S.state new.image) table' };
 
     fn load(&self, device: &mut ImageFile<S>, key: HostCluster) -> Result<L2Table, Fault> {
-        if !is_in_reach(key, device.header.cluster_bits()) {
+        if !is_addressable(key, device.header.cluster_bits()) {
             return Err(Fault::DamagedTable);
         }
         let entries = device.header.l2_entries();
@@ -62,7 +62,7 @@ impl<S: Storage> AsyncLruCacheBackend for L2CacheBackend<S> {
         if !value.is_modified() {
             return Ok(());
         }
-        if !is_in_reach(key, value.cluster_bits()) {
+        if !is_addressable(key, value.cluster_bits()) {
             return Err(Fault::DamagedTable);
         }
         value.set_cluster(key);
@@ -101,7 +101,7 @@ impl<S: Storage> AsyncLruCacheBackend for RefBlockCacheBackend<S> {
         × BlockFlushed (S.state old.image) key block result (S.state new.image) block' };
 
     fn load(&self, device: &mut ImageFile<S>, key: HostCluster) -> Result<RefBlock, Fault> {
-        if !is_in_reach(key, device.header.cluster_bits()) {
+        if !is_addressable(key, device.header.cluster_bits()) {
             return Err(Fault::DamagedTable);
         }
         let block = RefBlock::load(self.alloc, &mut device.image, &device.header, key)?;
@@ -118,7 +118,7 @@ impl<S: Storage> AsyncLruCacheBackend for RefBlockCacheBackend<S> {
         if !value.is_modified() {
             return Ok(());
         }
-        if !is_in_reach(key, value.cluster_bits()) {
+        if !is_addressable(key, value.cluster_bits()) {
             return Err(Fault::DamagedTable);
         }
         value.set_cluster(key);
@@ -146,10 +146,10 @@ pub struct MetadataCaches<S: Storage> {
 }
 
 impl<S: Storage> MetadataCaches<S> {
-    ghost use Rattle.imago_storage.specs.Calls.{IsFaultless, Kept};
+    ghost use Rattle.imago_storage.specs.Calls.{IsFaultless, UnchangedButFaults};
     ghost use Rattle.qcow2_alloc.specs.Causes.{FailsFor};
-    ghost use Rattle.qcow2_alloc.specs.Going.{Going, ReadyTables, ReadyBlocks, Always, AreTablesInReach, AreBlocksInReach, WasNotCutOff, WritesTables, WritesBlocks, InTurn, writing_causes};
-    ghost use Rattle.qcow2_alloc.specs.Safety.{Safe, AreTablesClean, AreBlocksClean};
+    ghost use Rattle.qcow2_alloc.specs.Going.{WritesBackCached, ReadyTables, ReadyBlocks, Always, AreTablesAddressable, AreBlocksAddressable, HadNoResourceError, WritesTables, WritesBlocks, InTurn, writing_causes};
+    ghost use Rattle.qcow2_alloc.specs.WellFormedness.{WellFormed, AreTablesClean, AreBlocksClean};
     ghost use Rattle.qcow2_types.specs.Bytes.{Bytes};
     ghost use Rattle.qcow2_types.specs.Header.{Header};
     ghost use Rattle.qcow2_alloc.specs.declared.cache.CacheDependency.TheVariants.{Unset, L2DependsOnRb, RbDependsOnL2};
@@ -159,7 +159,7 @@ impl<S: Storage> MetadataCaches<S> {
     ghost use Rattle.qcow2_alloc.specs.Memory.{written};
     ghost use Rattle.qcow2_alloc.specs.Cache.{Readied, Inserted};
     ghost use Rattle.qcow2_alloc.specs.Putting.{TableInserted, BlockInserted};
-    ghost use Rattle.qcow2_alloc.specs.Dropping.{Dropped, StaysSafe};
+    ghost use Rattle.qcow2_alloc.specs.Dropping.{Dropped, StaysWellFormed};
     ghost use Rattle.qcow2_alloc.specs.Finding.{TableFound, BlockFound};
     ghost use Rattle.qcow2_alloc.specs.CachesLending.{with_tables, with_blocks, table_kind, block_kind, lends_table, lends_block};
     ghost use Rattle.std.specs.Borrow.{sem};
@@ -175,7 +175,7 @@ impl<S: Storage> MetadataCaches<S> {
         requires blocks { 0 < rb_entries }
         ensures empty { IfOk result (λ caches. (cached_in caches ≡ record { tables = []; blocks = [] }) × (order_of caches ≡ Unset)) }
         ensures room { IfOk result (λ caches. (caches.l2.slots.cap ≡ l2_entries) × (caches.rb.slots.cap ≡ rb_entries)) }
-        ensures safe { IfOk result (λ caches. (f : Bytes) (H : Header) → IsConsistent f H → Safe f H (cached_in caches) (order_of caches)) }
+        ensures well_formed { IfOk result (λ caches. (f : Bytes) (H : Header) → IsConsistent f H → WellFormed f H (cached_in caches) (order_of caches)) }
         ensures memory { IsOkUnless result Fault.Memory }
     {
         Ok(MetadataCaches {
@@ -187,15 +187,15 @@ impl<S: Storage> MetadataCaches<S> {
 
     // Writes the modified L2 tables.
     fn flush_l2(&mut self, file: &mut ImageFile<S>) -> Result<(), Fault>
-        ensures going { Going file.old.header (order_of self.old) (ReadyTables (order_of self.old)) (result ≡ Ok tt)
+        ensures writes_back_cached { WritesBackCached file.old.header (order_of self.old) (ReadyTables (order_of self.old)) (result ≡ Ok tt)
             (S.state file.old.image) (cached_in self.old) (S.state file.new.image) (cached_in self.new) }
-        ensures kept { written (cached_in self.new) ≡ written (cached_in self.old) }
+        ensures written_value_unchanged { written (cached_in self.new) ≡ written (cached_in self.old) }
         ensures clean { OnOk result (AreTablesClean (cached_in self.new)) }
         ensures others { (self.new.rb ≡ self.old.rb) × (self.new.order ≡ self.old.order) × (file.new.header ≡ file.old.header) }
         ensures room { HasRoomOf self.old self.new }
-        ensures cause { FailsFor (writing_causes (AreTablesInReach (cached_in self.old)) (S.state file.old.image).faults
+        ensures cause { FailsFor (writing_causes (AreTablesAddressable (cached_in self.old)) (S.state file.old.image).faults
             (S.state file.new.image).faults) result }
-        ensures faults { WasNotCutOff result → IsFaultless (S.state file.old.image) (S.state file.new.image) }
+        ensures faults { HadNoResourceError result → IsFaultless (S.state file.old.image) (S.state file.new.image) }
         ensures written { WritesTables (S.state file.old.image) (cached_in self.old) result (S.state file.new.image) (cached_in self.new) }
     {
         self.l2.flush(file)
@@ -203,15 +203,15 @@ impl<S: Storage> MetadataCaches<S> {
 
     // Writes the modified refcount blocks.
     fn flush_blocks(&mut self, file: &mut ImageFile<S>) -> Result<(), Fault>
-        ensures going { Going file.old.header (order_of self.old) (ReadyBlocks (order_of self.old)) (result ≡ Ok tt)
+        ensures writes_back_cached { WritesBackCached file.old.header (order_of self.old) (ReadyBlocks (order_of self.old)) (result ≡ Ok tt)
             (S.state file.old.image) (cached_in self.old) (S.state file.new.image) (cached_in self.new) }
-        ensures kept { written (cached_in self.new) ≡ written (cached_in self.old) }
+        ensures written_value_unchanged { written (cached_in self.new) ≡ written (cached_in self.old) }
         ensures clean { OnOk result (AreBlocksClean (cached_in self.new)) }
         ensures others { (self.new.l2 ≡ self.old.l2) × (self.new.order ≡ self.old.order) × (file.new.header ≡ file.old.header) }
         ensures room { HasRoomOf self.old self.new }
-        ensures cause { FailsFor (writing_causes (AreBlocksInReach (cached_in self.old)) (S.state file.old.image).faults
+        ensures cause { FailsFor (writing_causes (AreBlocksAddressable (cached_in self.old)) (S.state file.old.image).faults
             (S.state file.new.image).faults) result }
-        ensures faults { WasNotCutOff result → IsFaultless (S.state file.old.image) (S.state file.new.image) }
+        ensures faults { HadNoResourceError result → IsFaultless (S.state file.old.image) (S.state file.new.image) }
         ensures written { WritesBlocks (S.state file.old.image) (cached_in self.old) result (S.state file.new.image) (cached_in self.new) }
     {
         self.rb.flush(file)
@@ -219,16 +219,16 @@ impl<S: Storage> MetadataCaches<S> {
 
     // Writes the modified blocks, where an L2 table must not be written before them.
     fn before_tables(&mut self, file: &mut ImageFile<S>) -> Result<(), Fault>
-        ensures going { Going file.old.header (order_of self.old) Always (result ≡ Ok tt) (S.state file.old.image) (cached_in self.old)
+        ensures writes_back_cached { WritesBackCached file.old.header (order_of self.old) Always (result ≡ Ok tt) (S.state file.old.image) (cached_in self.old)
             (S.state file.new.image) (cached_in self.new) }
-        ensures kept { written (cached_in self.new) ≡ written (cached_in self.old) }
+        ensures written_value_unchanged { written (cached_in self.new) ≡ written (cached_in self.old) }
         ensures ready { OnOk result (ReadyTables (order_of self.new) (cached_in self.new)) }
         ensures idle { (order_of self.old ≡ L2DependsOnRb → ⊥) → (result ≡ Ok tt) × (self.new ≡ self.old) × (file.new ≡ file.old) }
         ensures others { (self.new.l2 ≡ self.old.l2) × (self.new.order ≡ self.old.order) × (file.new.header ≡ file.old.header) }
         ensures room { HasRoomOf self.old self.new }
-        ensures cause { FailsFor (writing_causes (AreBlocksInReach (cached_in self.old)) (S.state file.old.image).faults
+        ensures cause { FailsFor (writing_causes (AreBlocksAddressable (cached_in self.old)) (S.state file.old.image).faults
             (S.state file.new.image).faults) result }
-        ensures faults { WasNotCutOff result → IsFaultless (S.state file.old.image) (S.state file.new.image) }
+        ensures faults { HadNoResourceError result → IsFaultless (S.state file.old.image) (S.state file.new.image) }
         ensures written { order_of self.old ≡ L2DependsOnRb
             → WritesBlocks (S.state file.old.image) (cached_in self.old) result (S.state file.new.image) (cached_in self.new) }
     {
@@ -240,16 +240,16 @@ impl<S: Storage> MetadataCaches<S> {
 
     // Writes the modified L2 tables, where a block must not be written before them.
     fn before_blocks(&mut self, file: &mut ImageFile<S>) -> Result<(), Fault>
-        ensures going { Going file.old.header (order_of self.old) Always (result ≡ Ok tt) (S.state file.old.image) (cached_in self.old)
+        ensures writes_back_cached { WritesBackCached file.old.header (order_of self.old) Always (result ≡ Ok tt) (S.state file.old.image) (cached_in self.old)
             (S.state file.new.image) (cached_in self.new) }
-        ensures kept { written (cached_in self.new) ≡ written (cached_in self.old) }
+        ensures written_value_unchanged { written (cached_in self.new) ≡ written (cached_in self.old) }
         ensures ready { OnOk result (ReadyBlocks (order_of self.new) (cached_in self.new)) }
         ensures idle { (order_of self.old ≡ RbDependsOnL2 → ⊥) → (result ≡ Ok tt) × (self.new ≡ self.old) × (file.new ≡ file.old) }
         ensures others { (self.new.rb ≡ self.old.rb) × (self.new.order ≡ self.old.order) × (file.new.header ≡ file.old.header) }
         ensures room { HasRoomOf self.old self.new }
-        ensures cause { FailsFor (writing_causes (AreTablesInReach (cached_in self.old)) (S.state file.old.image).faults
+        ensures cause { FailsFor (writing_causes (AreTablesAddressable (cached_in self.old)) (S.state file.old.image).faults
             (S.state file.new.image).faults) result }
-        ensures faults { WasNotCutOff result → IsFaultless (S.state file.old.image) (S.state file.new.image) }
+        ensures faults { HadNoResourceError result → IsFaultless (S.state file.old.image) (S.state file.new.image) }
         ensures written { order_of self.old ≡ RbDependsOnL2
             → WritesTables (S.state file.old.image) (cached_in self.old) result (S.state file.new.image) (cached_in self.new) }
     {
@@ -265,16 +265,16 @@ impl<S: Storage> MetadataCaches<S> {
     /// which no safe cache has; what is cached then stays, and what wasn't written stays modified. The file of a safe cache is consistent
     /// at each stop.
     pub fn flush_rb(&mut self, file: &mut ImageFile<S>) -> Result<(), Fault>
-        ensures going { Going file.old.header (order_of self.old) Always (result ≡ Ok tt) (S.state file.old.image) (cached_in self.old)
+        ensures writes_back_cached { WritesBackCached file.old.header (order_of self.old) Always (result ≡ Ok tt) (S.state file.old.image) (cached_in self.old)
             (S.state file.new.image) (cached_in self.new) }
-        ensures kept { written (cached_in self.new) ≡ written (cached_in self.old) }
+        ensures written_value_unchanged { written (cached_in self.new) ≡ written (cached_in self.old) }
         ensures clean { OnOk result (AreBlocksClean (cached_in self.new)) }
         ensures others { (self.new.order ≡ self.old.order) × (file.new.header ≡ file.old.header) }
         ensures tables { (order_of self.old ≡ RbDependsOnL2 → ⊥) → self.new.l2 ≡ self.old.l2 }
         ensures room { HasRoomOf self.old self.new }
-        ensures cause { FailsFor (writing_causes (AreTablesInReach (cached_in self.old) × AreBlocksInReach (cached_in self.old))
+        ensures cause { FailsFor (writing_causes (AreTablesAddressable (cached_in self.old) × AreBlocksAddressable (cached_in self.old))
             (S.state file.old.image).faults (S.state file.new.image).faults) result }
-        ensures faults { WasNotCutOff result → IsFaultless (S.state file.old.image) (S.state file.new.image) }
+        ensures faults { HadNoResourceError result → IsFaultless (S.state file.old.image) (S.state file.new.image) }
         ensures alone { (order_of self.old ≡ RbDependsOnL2 → ⊥)
             → WritesBlocks (S.state file.old.image) (cached_in self.old) result (S.state file.new.image) (cached_in self.new) }
         ensures in_turn { order_of self.old ≡ RbDependsOnL2
@@ -287,16 +287,16 @@ impl<S: Storage> MetadataCaches<S> {
 
     // Writes all modified L2 tables, and before them the modified refcount blocks where these come first.
     fn flush_tables(&mut self, file: &mut ImageFile<S>) -> Result<(), Fault>
-        ensures going { Going file.old.header (order_of self.old) Always (result ≡ Ok tt) (S.state file.old.image) (cached_in self.old)
+        ensures writes_back_cached { WritesBackCached file.old.header (order_of self.old) Always (result ≡ Ok tt) (S.state file.old.image) (cached_in self.old)
             (S.state file.new.image) (cached_in self.new) }
-        ensures kept { written (cached_in self.new) ≡ written (cached_in self.old) }
+        ensures written_value_unchanged { written (cached_in self.new) ≡ written (cached_in self.old) }
         ensures clean { OnOk result (AreTablesClean (cached_in self.new)) }
         ensures others { (self.new.order ≡ self.old.order) × (file.new.header ≡ file.old.header) }
         ensures blocks { (order_of self.old ≡ L2DependsOnRb → ⊥) → self.new.rb ≡ self.old.rb }
         ensures room { HasRoomOf self.old self.new }
-        ensures cause { FailsFor (writing_causes (AreTablesInReach (cached_in self.old) × AreBlocksInReach (cached_in self.old))
+        ensures cause { FailsFor (writing_causes (AreTablesAddressable (cached_in self.old) × AreBlocksAddressable (cached_in self.old))
             (S.state file.old.image).faults (S.state file.new.image).faults) result }
-        ensures faults { WasNotCutOff result → IsFaultless (S.state file.old.image) (S.state file.new.image) }
+        ensures faults { HadNoResourceError result → IsFaultless (S.state file.old.image) (S.state file.new.image) }
         ensures alone { (order_of self.old ≡ L2DependsOnRb → ⊥)
             → WritesTables (S.state file.old.image) (cached_in self.old) result (S.state file.new.image) (cached_in self.new) }
         ensures in_turn { order_of self.old ≡ L2DependsOnRb
@@ -313,16 +313,16 @@ impl<S: Storage> MetadataCaches<S> {
     /// which no safe cache has; what is cached then stays, and what wasn't written stays modified. The file of a safe cache is consistent
     /// at each stop.
     pub fn flush_all(&mut self, file: &mut ImageFile<S>) -> Result<(), Fault>
-        ensures going { Going file.old.header (order_of self.old) Always (result ≡ Ok tt) (S.state file.old.image) (cached_in self.old)
+        ensures writes_back_cached { WritesBackCached file.old.header (order_of self.old) Always (result ≡ Ok tt) (S.state file.old.image) (cached_in self.old)
             (S.state file.new.image) (cached_in self.new) }
-        ensures kept { written (cached_in self.new) ≡ written (cached_in self.old) }
+        ensures written_value_unchanged { written (cached_in self.new) ≡ written (cached_in self.old) }
         ensures tables { OnOk result (AreTablesClean (cached_in self.new)) }
         ensures blocks { OnOk result (AreBlocksClean (cached_in self.new)) }
         ensures others { (self.new.order ≡ self.old.order) × (file.new.header ≡ file.old.header) }
         ensures room { HasRoomOf self.old self.new }
-        ensures cause { FailsFor (writing_causes (AreTablesInReach (cached_in self.old) × AreBlocksInReach (cached_in self.old))
+        ensures cause { FailsFor (writing_causes (AreTablesAddressable (cached_in self.old) × AreBlocksAddressable (cached_in self.old))
             (S.state file.old.image).faults (S.state file.new.image).faults) result }
-        ensures faults { WasNotCutOff result → IsFaultless (S.state file.old.image) (S.state file.new.image) }
+        ensures faults { HadNoResourceError result → IsFaultless (S.state file.old.image) (S.state file.new.image) }
         ensures blocks_first { order_of self.old ≡ L2DependsOnRb
             → InTurn WritesBlocks WritesTables (S.state file.old.image) (cached_in self.old) result (S.state file.new.image)
             (cached_in self.new) }
@@ -343,25 +343,25 @@ impl<S: Storage> MetadataCaches<S> {
     /// Where tables came first, those that are modified are written, and else nothing. It refuses as their flush does, and then the
     /// order stays. The file of a safe cache is consistent at each stop.
     pub fn l2_depends_on_rb(&mut self, file: &mut ImageFile<S>) -> Result<(), Fault>
-        ensures going { Going file.old.header (order_of self.old) Always (result ≡ Ok tt) (S.state file.old.image) (cached_in self.old)
+        ensures writes_back_cached { WritesBackCached file.old.header (order_of self.old) Always (result ≡ Ok tt) (S.state file.old.image) (cached_in self.old)
             (S.state file.new.image) (cached_in self.new) }
-        ensures kept { written (cached_in self.new) ≡ written (cached_in self.old) }
+        ensures written_value_unchanged { written (cached_in self.new) ≡ written (cached_in self.old) }
         ensures announced { OnOk result (order_of self.new ≡ L2DependsOnRb) }
         ensures clean { OnOk result (order_of self.old ≡ RbDependsOnL2 → AreTablesClean (cached_in self.new)) }
         ensures idle { (order_of self.old ≡ RbDependsOnL2 → ⊥) → (result ≡ Ok tt) × (cached_in self.new ≡ cached_in self.old)
             × (file.new ≡ file.old) }
         ensures blocks { self.new.rb ≡ self.old.rb }
-        ensures safe { OnOk result ((f : Bytes) (H : Header) → Safe f H (cached_in self.new) (order_of self.old)
-            → Safe f H (cached_in self.new) L2DependsOnRb) }
+        ensures well_formed { OnOk result ((f : Bytes) (H : Header) → WellFormed f H (cached_in self.new) (order_of self.old)
+            → WellFormed f H (cached_in self.new) L2DependsOnRb) }
         ensures stays { OnErr result (order_of self.new ≡ order_of self.old) }
         ensures header { file.new.header ≡ file.old.header }
         ensures room { HasRoomOf self.old self.new }
-        ensures cause { FailsFor (writing_causes (AreTablesInReach (cached_in self.old)) (S.state file.old.image).faults
+        ensures cause { FailsFor (writing_causes (AreTablesAddressable (cached_in self.old)) (S.state file.old.image).faults
             (S.state file.new.image).faults) result }
-        ensures faults { WasNotCutOff result → IsFaultless (S.state file.old.image) (S.state file.new.image) }
+        ensures faults { HadNoResourceError result → IsFaultless (S.state file.old.image) (S.state file.new.image) }
         ensures written { order_of self.old ≡ RbDependsOnL2
             → WritesTables (S.state file.old.image) (cached_in self.old) result (S.state file.new.image) (cached_in self.new) }
-        ensures still { AreTablesClean (cached_in self.old) → AreBlocksClean (cached_in self.old) → Kept (S.state file.old.image)
+        ensures has_no_dirty_data { AreTablesClean (cached_in self.old) → AreBlocksClean (cached_in self.old) → UnchangedButFaults (S.state file.old.image)
             (S.state file.new.image) × AreTablesClean (cached_in self.new) × AreBlocksClean (cached_in self.new) }
     {
         self.before_blocks(file)?;
@@ -374,22 +374,22 @@ impl<S: Storage> MetadataCaches<S> {
     /// Where blocks came first, those that are modified are written, and else nothing. It refuses as their flush does, and then the
     /// order stays. The file of a safe cache is consistent at each stop.
     pub fn rb_depends_on_l2(&mut self, file: &mut ImageFile<S>) -> Result<(), Fault>
-        ensures going { Going file.old.header (order_of self.old) Always (result ≡ Ok tt) (S.state file.old.image) (cached_in self.old)
+        ensures writes_back_cached { WritesBackCached file.old.header (order_of self.old) Always (result ≡ Ok tt) (S.state file.old.image) (cached_in self.old)
             (S.state file.new.image) (cached_in self.new) }
-        ensures kept { written (cached_in self.new) ≡ written (cached_in self.old) }
+        ensures written_value_unchanged { written (cached_in self.new) ≡ written (cached_in self.old) }
         ensures announced { OnOk result (order_of self.new ≡ RbDependsOnL2) }
         ensures clean { OnOk result (order_of self.old ≡ L2DependsOnRb → AreBlocksClean (cached_in self.new)) }
         ensures idle { (order_of self.old ≡ L2DependsOnRb → ⊥) → (result ≡ Ok tt) × (cached_in self.new ≡ cached_in self.old)
             × (file.new ≡ file.old) }
         ensures tables { self.new.l2 ≡ self.old.l2 }
-        ensures safe { OnOk result ((f : Bytes) (H : Header) → Safe f H (cached_in self.new) (order_of self.old)
-            → Safe f H (cached_in self.new) RbDependsOnL2) }
+        ensures well_formed { OnOk result ((f : Bytes) (H : Header) → WellFormed f H (cached_in self.new) (order_of self.old)
+            → WellFormed f H (cached_in self.new) RbDependsOnL2) }
         ensures stays { OnErr result (order_of self.new ≡ order_of self.old) }
         ensures header { file.new.header ≡ file.old.header }
         ensures room { HasRoomOf self.old self.new }
-        ensures cause { FailsFor (writing_causes (AreBlocksInReach (cached_in self.old)) (S.state file.old.image).faults
+        ensures cause { FailsFor (writing_causes (AreBlocksAddressable (cached_in self.old)) (S.state file.old.image).faults
             (S.state file.new.image).faults) result }
-        ensures faults { WasNotCutOff result → IsFaultless (S.state file.old.image) (S.state file.new.image) }
+        ensures faults { HadNoResourceError result → IsFaultless (S.state file.old.image) (S.state file.new.image) }
         ensures written { order_of self.old ≡ L2DependsOnRb
             → WritesBlocks (S.state file.old.image) (cached_in self.old) result (S.state file.new.image) (cached_in self.new) }
     {
@@ -586,7 +586,7 @@ impl<S: Storage> MetadataCaches<S> {
         ensures dropped { Dropped (cached_in self.old).tables result (cached_in self.new).tables }
         ensures others { (self.new.rb ≡ self.old.rb) × (self.new.order ≡ self.old.order) }
         ensures room { HasRoomOf self.old self.new }
-        ensures safe { AreTablesClean (cached_in self.old) → StaysSafe (cached_in self.old) (cached_in self.new) (order_of self.old) }
+        ensures well_formed { AreTablesClean (cached_in self.old) → StaysWellFormed (cached_in self.old) (cached_in self.new) (order_of self.old) }
     {
         self.l2.invalidate()
     }
@@ -682,7 +682,7 @@ impl<S: Storage> MetadataCaches<S> {
         ensures dropped { Dropped (cached_in self.old).blocks result (cached_in self.new).blocks }
         ensures others { (self.new.l2 ≡ self.old.l2) × (self.new.order ≡ self.old.order) }
         ensures room { HasRoomOf self.old self.new }
-        ensures safe { AreBlocksClean (cached_in self.old) → StaysSafe (cached_in self.old) (cached_in self.new) (order_of self.old) }
+        ensures well_formed { AreBlocksClean (cached_in self.old) → StaysWellFormed (cached_in self.old) (cached_in self.new) (order_of self.old) }
     {
         self.rb.invalidate()
     }

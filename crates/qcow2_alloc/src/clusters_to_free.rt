@@ -15,14 +15,14 @@ use std::mem;
 ///
 /// It can't be dropped, since nothing would end the hold: the list's `give_back` fills the room, and its `release` lets it go. It doesn't
 /// know its list: that room is held there is a condition of both. Where plain data stands for what is pending, `leave` spends it, and the
-/// list's `held_room` takes it up again.
+/// list's `reserved_slot` takes it up again.
 #[derive(Debug)]
-pub struct HeldRoom(());
+pub struct ReservedSlot(());
 
-impl HeldRoom {
+impl ReservedSlot {
     /// Leaves the room to its list, where it stays held.
     pub fn leave(self) {
-        let HeldRoom(_held) = self;
+        let ReservedSlot(_held) = self;
     }
 }
 
@@ -35,7 +35,7 @@ pub struct PendingAllocation {
     /// The clusters.
     pub pending: PendingClusters,
     /// The room for their entry.
-    pub hold: HeldRoom,
+    pub hold: ReservedSlot,
 }
 
 impl Model for PendingAllocation {
@@ -48,7 +48,7 @@ impl Model for PendingAllocation {
 
 /// Clusters that wait to be counted down, and room held for more of them.
 ///
-/// Contracts see the entries, those that came last at the end, and for how many entries more room is held: one for each `HeldRoom` of the
+/// Contracts see the entries, those that came last at the end, and for how many entries more room is held: one for each `ReservedSlot` of the
 /// list that neither `give_back` nor `release` has spent, those included that were left to it.
 ///
 /// Dropping the list spends its entries: their clusters stay counted and leak.
@@ -135,7 +135,7 @@ impl ClustersToFreeList {
     /// Holds room for the entry of one pending allocation more, which can be made then without memory, by `PendingClusters::new`.
     ///
     /// Refused with `Fault::Memory` where there is no room for it, the list is as it was.
-    pub fn hold(&mut self) -> Result<HeldRoom, Fault>
+    pub fn reserve_slot(&mut self) -> Result<ReservedSlot, Fault>
         ensures ok { OnOk result (self.new ≡ record { entries = self.old.entries; held = self.old.held + 1 }) }
         ensures err { IfErr result (λ fault. (fault ≡ Memory) × (self.new ≡ self.old)) }
     {
@@ -143,18 +143,18 @@ impl ClustersToFreeList {
         match self.entries.reserve(held) {
             Ok(()) => {
                 self.held = held;
-                Ok(HeldRoom(()))
+                Ok(ReservedSlot(()))
             }
             Err(_) => Err(Fault::Memory),
         }
     }
 
     /// Room that was left to the list, if any is held. It is to be taken up once for each time that it was left.
-    pub fn held_room(&self) -> Option<HeldRoom>
+    pub fn reserved_slot(&self) -> Option<ReservedSlot>
         ensures { MatchOption result (self.now.held ≡ 0) (λ _. 0 < self.now.held) }
     {
         if self.held > 0 {
-            Some(HeldRoom(()))
+            Some(ReservedSlot(()))
         } else {
             None
         }
@@ -172,7 +172,7 @@ impl ClustersToFreeList {
             × (self.new ≡ record { entries = self.old.entries; held = self.old.held + 1 })) }
         ensures err { IfErr result (λ e. (e ≡ (Memory, entry)) × (self.new ≡ self.old)) }
     {
-        match self.hold() {
+        match self.reserve_slot() {
             Ok(hold) => {
                 let pending = PendingClusters::new(entry);
                 Ok(PendingAllocation { pending, hold })
@@ -182,7 +182,7 @@ impl ClustersToFreeList {
     }
 
     /// Adds pending clusters that nothing will name at the end, in the room that was held for them. It takes no memory.
-    pub fn give_back(&mut self, hold: HeldRoom, pending: PendingClusters)
+    pub fn give_back(&mut self, hold: ReservedSlot, pending: PendingClusters)
         requires { 0 < self.old.held }
         ensures { self.new ≡ record { entries = self.old.entries ++ pending ∷ []; held = self.old.held - 1 } }
     {
@@ -192,7 +192,7 @@ impl ClustersToFreeList {
     }
 
     /// Lets the room for one entry go, whose clusters are named now and were spent by `make_persistent`. It takes no memory.
-    pub fn release(&mut self, hold: HeldRoom)
+    pub fn release(&mut self, hold: ReservedSlot)
         requires { 0 < self.old.held }
         ensures { self.new ≡ record { entries = self.old.entries; held = self.old.held - 1 } }
     {

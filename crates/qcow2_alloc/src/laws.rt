@@ -7,24 +7,24 @@ ghost use Rattle.std.specs.List.{remove, AllByRecursion, IsDistinct};
 ghost use Rattle.std.specs.Option.{option_map};
 ghost use Rattle.std.specs.Map.{lookup, keys_of};
 ghost use Rattle.imago_storage.specs.State.{StorageState};
-ghost use Rattle.imago_storage.specs.Calls.{Later, Cause};
-ghost use Rattle.imago_storage.specs.Through.{Put, PutAtOnce};
+ghost use Rattle.imago_storage.specs.Calls.{CountsNotFallen, Cause};
+ghost use Rattle.imago_storage.specs.Through.{WriteOutcome, AtomicWriteOutcome};
 ghost use Rattle.imago_storage.specs.declared.fault.Fault.{Fault};
 ghost use Rattle.qcow2_types.specs.Bytes.{Bytes, bytes_of, splice};
 ghost use Rattle.qcow2_types.specs.HeaderBytes.{first_bytes};
 ghost use Rattle.qcow2_types.specs.Switched.{with_reftable, with_refcount_table};
 ghost use Rattle.qcow2_types.specs.Words.{data_at, zeroes, unmapped, mapping_of, is_damaged, block_offset};
-ghost use Rattle.qcow2_types.specs.Header.{Fields, Header, first_fault, rules_of_size, header_of, cluster_size, words_of_cluster, refcount_table_entries, layout_of};
+ghost use Rattle.qcow2_types.specs.Header.{Fields, Header, first_fault, rules_of_size, header_of, cluster_size, entries_of_cluster, refcount_table_entries, layout_of};
 ghost use Rattle.qcow2_types.specs.Counts.{count, counter, counters_of_block};
 ghost use Rattle.qcow2_types.specs.Pending.{FreeEntry};
 ghost use Rattle.qcow2_types.specs.References.{meets};
 ghost use Rattle.qcow2_types.specs.Slots.{slot};
 ghost use Rattle.qcow2_types.specs.Consistency.{IsConsistent, IsVerdict};
-ghost use Rattle.qcow2_types.specs.Versions.{named};
-ghost use Rattle.qcow2_metadata.specs.Places.{IsInReach};
-ghost use Rattle.qcow2_metadata.specs.Tables.{TableValue, WhyNotLoaded, l1_words, mapping_in, table_in, table_place, with_word, words_in};
+ghost use Rattle.qcow2_types.specs.Versions.{references_in_either};
+ghost use Rattle.qcow2_metadata.specs.Places.{IsAddressable};
+ghost use Rattle.qcow2_metadata.specs.Tables.{TableValue, WhyNotLoaded, l1_table_kind, mapping_in, table_in, table_start, with_raw_entry, raw_entries_in};
 ghost use Rattle.qcow2_metadata.specs.Blocks.{Block, BlockPut, counters_in};
-ghost use Rattle.qcow2_metadata.specs.Allocations.{kept_where, zeroed_word};
+ghost use Rattle.qcow2_metadata.specs.Allocations.{kept_where, zeroed_raw_entry};
 ghost use Rattle.qcow2_alloc.specs.declared.async_lru_cache.Slot.{Slot};
 ghost use Rattle.qcow2_alloc.specs.declared.cache.CacheDependency.{CacheDependency};
 ghost use Rattle.qcow2_alloc.specs.declared.cache.CacheDependency.TheVariants.{L2DependsOnRb, RbDependsOnL2};
@@ -34,20 +34,20 @@ ghost use Rattle.qcow2_alloc.specs.Cache.{hit};
 ghost use Rattle.qcow2_alloc.specs.Causes.{FailsFor};
 ghost use Rattle.qcow2_alloc.specs.Crowding.{space, IsRoomy};
 ghost use Rattle.qcow2_alloc.specs.HandingOut.{IsFreed};
-ghost use Rattle.qcow2_alloc.specs.State.{MarkedMetadata};
-ghost use Rattle.qcow2_alloc.specs.Changes.{StaysAsItIs, CachesBlock, SetsCounter, CounterChanged, IsStillCovered, CachesTable, SetsWord, NamesNoMore, NamesDropped, ClusterNamed, zeroed, file_with};
+ghost use Rattle.qcow2_alloc.specs.State.{MetadataWithFirstFree};
+ghost use Rattle.qcow2_alloc.specs.Changes.{StaysAsItIs, CachesBlock, SetsCounter, CounterChanged, IsStillCovered, CachesTable, SetsEntry, ReferencesNoMore, ReferencesDropped, ClusterLinked, zeroed, file_with};
 ghost use Rattle.qcow2_alloc.specs.Memory.{Cached, memory};
-ghost use Rattle.qcow2_alloc.specs.Safety.{Safe, IsLeft, IsCalm, AreTablesClean, AreBlocksClean, IsSettled};
-ghost use Rattle.qcow2_alloc.specs.Going.{Going, Always, WasNotCutOff, AreTablesInReach, AreBlocksInReach, writing_causes};
+ghost use Rattle.qcow2_alloc.specs.WellFormedness.{WellFormed, IsCrashImage, NoChangeRefused, AreTablesClean, AreBlocksClean, IsSettled};
+ghost use Rattle.qcow2_alloc.specs.Going.{WritesBackCached, Always, HadNoResourceError, AreTablesAddressable, AreBlocksAddressable, writing_causes};
 ghost use Rattle.qcow2_alloc.specs.Opening.{IsL1Of, opened};
-ghost use Rattle.qcow2_alloc.specs.Quiet.{IsTableOf, Metadata, metadata_in, covers_metadata, in_memory, counted, referenced, named_at_all, waiting, waiting_metadata, one_at, IsUsed, IsSound, ShowsEither, IsQuiet, IsIn, Quietly, many_at};
-ghost use Rattle.qcow2_alloc.specs.MakingRoom.{CountsTheSame, IsReadyBlock, BlockNamed, with_block, formerly, newly_counted, IsReadyTable, TableSwitched, with_table, newly, run_of, rank, IsGrownTable};
+ghost use Rattle.qcow2_alloc.specs.GuestView.{IsTableOf, Metadata, metadata_in, covers_metadata, in_memory, counted, referenced, referenced_at_all, waiting, waiting_metadata, one_at, IsUsed, IsSound, ShowsEither, GuestUnchanged, IsIn, PreservesGuest, many_at};
+ghost use Rattle.qcow2_alloc.specs.MakingRoom.{CountsTheSame, IsReadyBlock, BlockLinked, with_block, formerly, newly_counted, IsReadyTable, TableSwitched, with_table, newly, run_of, rank, IsGrownTable};
 ghost use Rattle.qcow2_alloc.specs.FreeList.{entry_at, tail_of, shortened, covers, listed};
 
 /// Words can name the cluster of each table and block that is to be written of a safe image. So no flush of one is refused as damaged.
-pub fn what_is_safe_is_in_reach()
-    ensures { (f : Bytes) (H : Header) (cached : Cached) (order : CacheDependency) → Safe f H cached order → AreTablesInReach cached
-        × AreBlocksInReach cached }
+pub fn what_is_well_formed_is_addressable()
+    ensures { (f : Bytes) (H : Header) (cached : Cached) (order : CacheDependency) → WellFormed f H cached order → AreTablesAddressable cached
+        × AreBlocksAddressable cached }
 {}
 
 /// Where nothing waits to be written, what is in memory is the file.
@@ -57,37 +57,37 @@ pub fn what_is_clean_is_in_the_file()
 
 /// What is in memory of a safe image is a consistent image.
 pub fn what_is_in_memory_is_consistent()
-    ensures { (f : Bytes) (H : Header) (cached : Cached) (order : CacheDependency) → Safe f H cached order
+    ensures { (f : Bytes) (H : Header) (cached : Cached) (order : CacheDependency) → WellFormed f H cached order
         → IsConsistent (memory f H.fields cached) H }
 {}
 
 /// In memory each cluster is counted as its counter says in the cached block,
 pub fn what_a_cached_block_counts()
-    ensures { (f : Bytes) (H : Header) (cached : Cached) (order : CacheDependency) (key c : ℕ) (block : Block) → Safe f H cached order
+    ensures { (f : Bytes) (H : Header) (cached : Cached) (order : CacheDependency) (key c : ℕ) (block : Block) → WellFormed f H cached order
         → CachesBlock f H.fields cached key c block
         → count (memory f H.fields cached) H.fields c ≡ slice_index block.counters (c % counters_of_block H.fields) }
 {}
 
 /// and each word of an L2 table means what it does in the cached one.
 pub fn what_a_cached_table_means()
-    ensures { (f : Bytes) (H : Header) (cached : Cached) (order : CacheDependency) (key i : ℕ) (table : TableValue) → Safe f H cached order
+    ensures { (f : Bytes) (H : Header) (cached : Cached) (order : CacheDependency) (key i : ℕ) (table : TableValue) → WellFormed f H cached order
         → CachesTable f H.fields cached key i table
-        → (j : ℕ) → j < words_of_cluster H.fields → slot (memory f H.fields cached) H.fields i j ≡ mapping_in table j }
+        → (j : ℕ) → j < entries_of_cluster H.fields → slot (memory f H.fields cached) H.fields i j ≡ mapping_in table j }
 {}
 
 /// What is written of what is cached names no cluster anew: each is named, in the file or in memory, no more often than before.
-pub fn what_is_settled_names_no_more()
+pub fn what_is_written_back_references_no_more()
     ensures { (H : Header) (order : CacheDependency) (old new : List ℕ) (cached cached' : Cached) → IsSettled H order old cached new cached'
-        → (c : ℕ) → named (bytes_of new) (memory (bytes_of new) H.fields cached') H.fields c
-        ≤ named (bytes_of old) (memory (bytes_of old) H.fields cached) H.fields c }
+        → (c : ℕ) → references_in_either (bytes_of new) (memory (bytes_of new) H.fields cached') H.fields c
+        ≤ references_in_either (bytes_of old) (memory (bytes_of old) H.fields cached) H.fields c }
 {}
 
 /// A cached table or block that is used and stays as it is leaves what is in memory, and safe.
-pub fn what_is_used_stays_safe()
-    ensures tables { (f : Bytes) (H : Header) (cached : Cached) (order : CacheDependency) (key : ℕ) → Safe f H cached order
+pub fn what_is_used_stays_well_formed()
+    ensures tables { (f : Bytes) (H : Header) (cached : Cached) (order : CacheDependency) (key : ℕ) → WellFormed f H cached order
         → (table : TableValue) → option_map (λ s. s.value) (lookup (nat_eq key) cached.tables) ≡ Some table
         → StaysAsItIs f H cached order (record cached { tables = hit (nat_eq key) cached.tables table }) }
-    ensures blocks { (f : Bytes) (H : Header) (cached : Cached) (order : CacheDependency) (key : ℕ) → Safe f H cached order
+    ensures blocks { (f : Bytes) (H : Header) (cached : Cached) (order : CacheDependency) (key : ℕ) → WellFormed f H cached order
         → (block : Block) → option_map (λ s. s.value) (lookup (nat_eq key) cached.blocks) ≡ Some block
         → StaysAsItIs f H cached order (record cached { blocks = hit (nat_eq key) cached.blocks block }) }
 {}
@@ -95,61 +95,61 @@ pub fn what_is_used_stays_safe()
 /// While blocks are written before tables a counter of a cached block that is 0 may be raised: nothing names its cluster, in the file or
 /// in memory, before and after. What is cached stays safe, and nothing else changes in memory.
 pub fn raising_a_counter()
-    ensures { (f : Bytes) (H : Header) (cached cached' : Cached) (key c : ℕ) → Safe f H cached L2DependsOnRb
+    ensures { (f : Bytes) (H : Header) (cached cached' : Cached) (key c : ℕ) → WellFormed f H cached L2DependsOnRb
         → SetsCounter f H.fields cached key c 1 cached' → count (memory f H.fields cached) H.fields c ≡ 0
-        → CounterChanged f H L2DependsOnRb cached c 1 cached' × (named f (memory f H.fields cached) H.fields c ≡ 0) }
+        → CounterChanged f H L2DependsOnRb cached c 1 cached' × (references_in_either f (memory f H.fields cached) H.fields c ≡ 0) }
 {}
 
 /// A counter of a cached block may be lowered by 1 where what names its cluster is still covered. What is cached stays safe, and nothing
 /// else changes in memory.
-pub fn lowering_a_counter()
-    ensures { (f : Bytes) (H : Header) (cached cached' : Cached) (order : CacheDependency) (key c n : ℕ) → Safe f H cached order
+pub fn decrementing_a_counter()
+    ensures { (f : Bytes) (H : Header) (cached cached' : Cached) (order : CacheDependency) (key c n : ℕ) → WellFormed f H cached order
         → SetsCounter f H.fields cached key c n cached' → count (memory f H.fields cached) H.fields c ≡ n + 1
         → IsStillCovered order f (memory f H.fields cached) H.fields c n → CounterChanged f H order cached c n cached' }
 {}
 
 /// A word of a cached L2 table may be set to one that names no cluster that it didn't, and none as copied that wasn't, as where its
 /// cluster is dropped, or kept for zeroes, or is data again. What is cached stays safe, and nothing else changes in memory.
-pub fn naming_less()
-    ensures { (f : Bytes) (H : Header) (cached cached' : Cached) (order : CacheDependency) (key i j w : ℕ) → Safe f H cached order
-        → (sets : SetsWord f H.fields cached key i j w cached') → w < 2 ^ 64
+pub fn referencing_less()
+    ensures { (f : Bytes) (H : Header) (cached cached' : Cached) (order : CacheDependency) (key i j w : ℕ) → WellFormed f H cached order
+        → (sets : SetsEntry f H.fields cached key i j w cached') → w < 2 ^ 64
         → IsFalse (is_damaged (mapping_of (layout_of H.fields) w))
-        → NamesNoMore H.fields (mapping_in sets.table j) (mapping_of (layout_of H.fields) w)
-        → NamesDropped (file_with f H order cached) i j (mapping_in sets.table j) (mapping_of (layout_of H.fields) w) cached' }
+        → ReferencesNoMore H.fields (mapping_in sets.table j) (mapping_of (layout_of H.fields) w)
+        → ReferencesDropped (file_with f H order cached) i j (mapping_in sets.table j) (mapping_of (layout_of H.fields) w) cached' }
 {}
 
 /// So a guest cluster may be discarded,
 pub fn discarding_a_cluster()
-    ensures { (f : Bytes) (H : Header) (cached cached' : Cached) (order : CacheDependency) (key i j : ℕ) → Safe f H cached order
-        → (sets : SetsWord f H.fields cached key i j 0 cached')
-        → NamesDropped (file_with f H order cached) i j (mapping_in sets.table j) unmapped cached' }
+    ensures { (f : Bytes) (H : Header) (cached cached' : Cached) (order : CacheDependency) (key i j : ℕ) → WellFormed f H cached order
+        → (sets : SetsEntry f H.fields cached key i j 0 cached')
+        → ReferencesDropped (file_with f H order cached) i j (mapping_in sets.table j) unmapped cached' }
 {}
 
 /// zeroed, with its host cluster kept or not,
 pub fn zeroing_a_cluster()
-    ensures { (f : Bytes) (H : Header) (cached cached' : Cached) (order : CacheDependency) (key i j : ℕ) → Safe f H cached order
-        → (w : ℕ) (sets : SetsWord f H.fields cached key i j w cached') (keep : Bool) → H.fields.version ≡ 3
-        → w ≡ zeroed_word H.fields.cluster_bits (kept_where keep (mapping_in sets.table j))
-        → NamesDropped (file_with f H order cached) i j (mapping_in sets.table j)
+    ensures { (f : Bytes) (H : Header) (cached cached' : Cached) (order : CacheDependency) (key i j : ℕ) → WellFormed f H cached order
+        → (w : ℕ) (sets : SetsEntry f H.fields cached key i j w cached') (keep : Bool) → H.fields.version ≡ 3
+        → w ≡ zeroed_raw_entry H.fields.cluster_bits (kept_where keep (mapping_in sets.table j))
+        → ReferencesDropped (file_with f H order cached) i j (mapping_in sets.table j)
         (zeroed (kept_where keep (mapping_in sets.table j))) cached' }
 {}
 
 /// or mapped to the host cluster that is kept for its zeroes.
 pub fn mapping_a_kept_cluster()
-    ensures { (f : Bytes) (H : Header) (cached cached' : Cached) (order : CacheDependency) (key i j : ℕ) → Safe f H cached order
-        → (x : ℕ) (sets : SetsWord f H.fields cached key i j (2 ^ 63 + x * cluster_size H.fields) cached')
-        → x ≢ 0 → IsInReach H.fields.cluster_bits x → mapping_in sets.table j ≡ zeroes (Some x) true
-        → NamesDropped (file_with f H order cached) i j (zeroes (Some x) true) (data_at x true) cached' }
+    ensures { (f : Bytes) (H : Header) (cached cached' : Cached) (order : CacheDependency) (key i j : ℕ) → WellFormed f H cached order
+        → (x : ℕ) (sets : SetsEntry f H.fields cached key i j (2 ^ 63 + x * cluster_size H.fields) cached')
+        → x ≢ 0 → IsAddressable H.fields.cluster_bits x → mapping_in sets.table j ≡ zeroes (Some x) true
+        → ReferencesDropped (file_with f H order cached) i j (zeroes (Some x) true) (data_at x true) cached' }
 {}
 
 /// A word of a cached L2 table may be set to the one that `L2TableWriteGuard::map_cluster` writes for a data cluster that nothing names, in
 /// the file or in memory, and that is counted in memory. What is cached stays safe, and nothing else changes in memory.
-pub fn naming_a_cluster()
-    ensures { (f : Bytes) (H : Header) (cached cached' : Cached) (order : CacheDependency) (key i j x : ℕ) → Safe f H cached order
-        → (sets : SetsWord f H.fields cached key i j (2 ^ 63 + x * cluster_size H.fields) cached')
-        → x ≢ 0 → IsInReach H.fields.cluster_bits x → named f (memory f H.fields cached) H.fields x ≡ 0
+pub fn linking_a_cluster()
+    ensures { (f : Bytes) (H : Header) (cached cached' : Cached) (order : CacheDependency) (key i j x : ℕ) → WellFormed f H cached order
+        → (sets : SetsEntry f H.fields cached key i j (2 ^ 63 + x * cluster_size H.fields) cached')
+        → x ≢ 0 → IsAddressable H.fields.cluster_bits x → references_in_either f (memory f H.fields cached) H.fields x ≡ 0
         → 1 ≤ count (memory f H.fields cached) H.fields x
-        → ClusterNamed (file_with f H order cached) i j (mapping_in sets.table j) x cached' }
+        → ClusterLinked (file_with f H order cached) i j (mapping_in sets.table j) x cached' }
 {}
 
 /// How many entries of the list of clusters to free have a cluster, as the list changes. An entry has the clusters that its bytes meet.
@@ -166,8 +166,8 @@ pub fn entries_count_one_by_one()
 {}
 
 /// A safe image of which nothing waits to be freed is sound.
-pub fn what_is_safe_is_sound()
-    ensures { (f : Bytes) (H : Header) (cached : Cached) (order : CacheDependency) (table : TableValue) → Safe f H cached order
+pub fn what_is_well_formed_is_sound()
+    ensures { (f : Bytes) (H : Header) (cached : Cached) (order : CacheDependency) (table : TableValue) → WellFormed f H cached order
         → IsTableOf f H.fields table
         → IsSound (record { file = f; header = H; cached = cached; order = order; table = table; pending = [] }) }
 {}
@@ -185,95 +185,95 @@ pub fn what_a_checker_accepts_opens_sound()
     ensures l1 { (f : Bytes) (H : Header) → IsConsistent f H
         → IsL1Of f H.fields (table_in f H.fields (H.fields.l1_offset / cluster_size H.fields) H.fields.l1_entries) }
     ensures l1_refused { (f : Bytes) (H : Header) (before after : ℕ) (fault : Fault) → IsConsistent f H
-        → WhyNotLoaded l1_words (layout_of H.fields) (words_in f
+        → WhyNotLoaded l1_table_kind (layout_of H.fields) (raw_entries_in f
         (H.fields.l1_offset / cluster_size H.fields * cluster_size H.fields) H.fields.l1_entries) before after fault
         → Cause before after fault }
 {}
 
 /// What flushes of a sound image leave shows what the image did, and so does its file.
 pub fn what_is_left_shows_the_same()
-    ensures left { (m : Metadata) (x : Bytes) → IsSound m → IsLeft m.file (in_memory m) m.header x → ShowsEither m x m.header }
+    ensures left { (m : Metadata) (x : Bytes) → IsSound m → IsCrashImage m.file (in_memory m) m.header x → ShowsEither m x m.header }
     ensures file { (m : Metadata) → IsSound m → ShowsEither m m.file m.header }
 {}
 
 /// What is in memory may stay, be used, be written in another order that is safe, or be flushed: the image stays sound, and is to the
 /// disk as it was. Nothing is handed out or taken back.
-pub fn what_stays_is_quiet()
-    ensures none { (m : Metadata) → IsSound m → IsQuiet (λ _. 0) (λ _. 0) m m }
+pub fn what_stays_leaves_the_guest_unchanged()
+    ensures none { (m : Metadata) → IsSound m → GuestUnchanged (λ _. 0) (λ _. 0) m m }
     ensures used { (m : Metadata) (cached' : Cached) → IsSound m → StaysAsItIs m.file m.header m.cached m.order cached'
-        → IsSound (record m { cached = cached' }) × IsQuiet (λ _. 0) (λ _. 0) m (record m { cached = cached' }) }
-    ensures order { (m : Metadata) (order' : CacheDependency) → IsSound m → Safe m.file m.header m.cached order'
-        → IsSound (record m { order = order' }) × IsQuiet (λ _. 0) (λ _. 0) m (record m { order = order' }) }
+        → IsSound (record m { cached = cached' }) × GuestUnchanged (λ _. 0) (λ _. 0) m (record m { cached = cached' }) }
+    ensures order { (m : Metadata) (order' : CacheDependency) → IsSound m → WellFormed m.file m.header m.cached order'
+        → IsSound (record m { order = order' }) × GuestUnchanged (λ _. 0) (λ _. 0) m (record m { order = order' }) }
     ensures settled { (m : Metadata) (old new : List ℕ) (cached' : Cached) → m.file ≡ bytes_of old → IsSound m
         → IsSettled m.header m.order old m.cached new cached'
         → IsSound (record m { file = bytes_of new; cached = cached' })
-        × IsQuiet (λ _. 0) (λ _. 0) m (record m { file = bytes_of new; cached = cached' }) }
+        × GuestUnchanged (λ _. 0) (λ _. 0) m (record m { file = bytes_of new; cached = cached' }) }
 {}
 
 /// Flushes leave the disk as it is, also where they failed, if a storage that tells its stops refused no change; so do searches of the
 /// caches that weren't cut off, announcements, and what changes memory alone. Writes that weren't cut off succeeded, as all of a sound
 /// image is in reach.
-pub fn what_is_done_quietly()
+pub fn what_preserves_the_guest()
     ensures flushes { (m : Metadata) (result : Result Unit Fault) (old new : StorageState) (cached' : Cached) → IsIn old m
-        → Going m.header m.order Always (result ≡ Ok tt) old m.cached new cached'
-        → Quietly ((result ≡ Ok tt) ⊎ IsCalm old new) (λ _. 0) (λ _. 0) old m new
+        → WritesBackCached m.header m.order Always (result ≡ Ok tt) old m.cached new cached'
+        → PreservesGuest ((result ≡ Ok tt) ⊎ NoChangeRefused old new) (λ _. 0) (λ _. 0) old m new
         (record m { file = bytes_of new.bytes; cached = cached' }) }
     ensures found { (m : Metadata) (result : Result Unit Fault) (old new : StorageState) (cached' : Cached) → IsIn old m
-        → Going m.header m.order Always (WasNotCutOff result) old m.cached new cached'
-        → Quietly (WasNotCutOff result) (λ _. 0) (λ _. 0) old m new (record m { file = bytes_of new.bytes; cached = cached' }) }
+        → WritesBackCached m.header m.order Always (HadNoResourceError result) old m.cached new cached'
+        → PreservesGuest (HadNoResourceError result) (λ _. 0) (λ _. 0) old m new (record m { file = bytes_of new.bytes; cached = cached' }) }
     ensures announced { (m : Metadata) (order' : CacheDependency) (result : Result Unit Fault) (old new : StorageState) (cached' : Cached)
-        → IsIn old m → Going m.header m.order Always (result ≡ Ok tt) old m.cached new cached'
-        → OnOk result ((f : Bytes) (H : Header) → Safe f H cached' m.order → Safe f H cached' order')
-        → Quietly (result ≡ Ok tt) (λ _. 0) (λ _. 0) old m new (record m { file = bytes_of new.bytes; cached = cached'; order = order' }) }
+        → IsIn old m → WritesBackCached m.header m.order Always (result ≡ Ok tt) old m.cached new cached'
+        → OnOk result ((f : Bytes) (H : Header) → WellFormed f H cached' m.order → WellFormed f H cached' order')
+        → PreservesGuest (result ≡ Ok tt) (λ _. 0) (λ _. 0) old m new (record m { file = bytes_of new.bytes; cached = cached'; order = order' }) }
     ensures whole { (m : Metadata) (before after : ℕ) (result : Result Unit Fault) (handed taken : ℕ → ℕ) (old new : StorageState)
-        (m' : Metadata) → FailsFor (writing_causes (AreTablesInReach m.cached × AreBlocksInReach m.cached) before after) result
-        → Quietly (result ≡ Ok tt) handed taken old m new m' → Quietly (WasNotCutOff result) handed taken old m new m' }
-    ensures memory { (handed taken : ℕ → ℕ) (s : StorageState) (m m' : Metadata) → (IsSound m → IsSound m' × IsQuiet handed taken m m')
-        → Quietly ⊤ handed taken s m s m' }
+        (m' : Metadata) → FailsFor (writing_causes (AreTablesAddressable m.cached × AreBlocksAddressable m.cached) before after) result
+        → PreservesGuest (result ≡ Ok tt) handed taken old m new m' → PreservesGuest (HadNoResourceError result) handed taken old m new m' }
+    ensures memory { (handed taken : ℕ → ℕ) (s : StorageState) (m m' : Metadata) → (IsSound m → IsSound m' × GuestUnchanged handed taken m m')
+        → PreservesGuest ⊤ handed taken s m s m' }
 {}
 
 /// What shows an image that another became quietly shows that other too, if what is named there wasn't taken.
-pub fn what_is_quiet_shows_the_same()
-    ensures { (m m' : Metadata) (handed taken : ℕ → ℕ) → IsQuiet handed taken m m' → IsSound m
+pub fn unchanged_guest_reads_the_same()
+    ensures { (m m' : Metadata) (handed taken : ℕ → ℕ) → GuestUnchanged handed taken m m' → IsSound m
         → ((c : ℕ) → 0 < referenced m c → taken c ≡ 0) → (x : Bytes) (H : Header) → ShowsEither m' x H → ShowsEither m x H }
 {}
 
 /// What is done quietly one behind the other is quiet: what is handed out and taken adds up. It may be said otherwise, as where a cluster
 /// was handed out and then taken that wasn't used, where this leaves what is used and not taken.
-pub fn what_is_quiet_adds_up()
+pub fn unchanged_guest_adds_up()
     ensures then { (m m' m'' : Metadata) (h t h' t' : ℕ → ℕ) → IsSound m → IsSound m' → ((c : ℕ) → 0 < referenced m c → t c ≡ 0)
-        → IsQuiet h t m m' → IsQuiet h' t' m' m'' → IsQuiet (λ c. h c + h' c) (λ c. t c + t' c) m m'' }
-    ensures used { (m m' : Metadata) (handed taken : ℕ → ℕ) → IsQuiet handed taken m m' → IsSound m → IsSound m' → (c : ℕ) → IsUsed m c
+        → GuestUnchanged h t m m' → GuestUnchanged h' t' m' m'' → GuestUnchanged (λ c. h c + h' c) (λ c. t c + t' c) m m'' }
+    ensures used { (m m' : Metadata) (handed taken : ℕ → ℕ) → GuestUnchanged handed taken m m' → IsSound m → IsSound m' → (c : ℕ) → IsUsed m c
         → taken c ≡ 0 → IsUsed m' c }
     ensures otherwise { (m m' : Metadata) (handed taken h t : ℕ → ℕ) → ((c : ℕ) → handed c + t c ≡ h c + taken c)
-        → ((c : ℕ) → IsUsed m c → t c ≡ 0 → taken c ≡ 0) → IsQuiet handed taken m m' → IsQuiet h t m m' }
+        → ((c : ℕ) → IsUsed m c → t c ≡ 0 → taken c ≡ 0) → GuestUnchanged handed taken m m' → GuestUnchanged h t m m' }
     ensures cancelled { (m m' : Metadata) (h t both : ℕ → ℕ) → ((c : ℕ) → IsUsed m c → both c ≡ 0)
-        → IsQuiet (λ c. h c + both c) (λ c. t c + both c) m m' → IsQuiet h t m m' }
+        → GuestUnchanged (λ c. h c + both c) (λ c. t c + both c) m m' → GuestUnchanged h t m m' }
 {}
 
 /// What is done quietly names no cluster anew that is used and not taken. So what a caller was handed stays unnamed until it names it: it
 /// is used, as it is counted beyond what waits to free it and nothing names it.
-pub fn what_is_used_is_not_named_anew()
-    ensures names { (m m' : Metadata) (handed taken : ℕ → ℕ) → IsQuiet handed taken m m' → (c : ℕ) → IsUsed m c → taken c ≡ 0
-        → named_at_all m' c ≤ named_at_all m c }
-    ensures unnamed { (m : Metadata) (c : ℕ) → waiting m c < counted m c → named_at_all m c ≡ 0 → IsUsed m c }
+pub fn what_is_used_is_not_newly_referenced()
+    ensures names { (m m' : Metadata) (handed taken : ℕ → ℕ) → GuestUnchanged handed taken m m' → (c : ℕ) → IsUsed m c → taken c ≡ 0
+        → referenced_at_all m' c ≤ referenced_at_all m c }
+    ensures not_referenced { (m : Metadata) (c : ℕ) → waiting m c < counted m c → referenced_at_all m c ≡ 0 → IsUsed m c }
 {}
 
 /// Of two calls, where the first wasn't cut off, what is handed out and taken adds up, too; also where the second was cut off over a
 /// storage that tells its stops, which refused no change.
-pub fn what_is_done_quietly_adds_up()
+pub fn what_preserves_the_guest_adds_up()
     ensures then { (first second : Result Unit Fault) (h t h' t' : ℕ → ℕ) (s : StorageState) (m : Metadata) (s' : StorageState)
-        (m' : Metadata) (s'' : StorageState) (m'' : Metadata) → WasNotCutOff first → (IsSound m → (c : ℕ) → 0 < referenced m c → t c ≡ 0)
-        → Quietly (WasNotCutOff first) h t s m s' m' → Quietly (WasNotCutOff second) h' t' s' m' s'' m''
-        → Quietly (WasNotCutOff second) (λ c. h c + h' c) (λ c. t c + t' c) s m s'' m'' }
-    ensures calm { (first second : Result Unit Fault) (h t h' t' : ℕ → ℕ) (s : StorageState) (m : Metadata) (s' : StorageState)
-        (m' : Metadata) (s'' : StorageState) (m'' : Metadata) → WasNotCutOff first → (IsSound m → (c : ℕ) → 0 < referenced m c → t c ≡ 0)
-        → Quietly (WasNotCutOff first ⊎ IsCalm s s') h t s m s' m' → Quietly (WasNotCutOff second ⊎ IsCalm s' s'') h' t' s' m' s'' m''
-        → Quietly (WasNotCutOff second ⊎ IsCalm s s'') (λ c. h c + h' c) (λ c. t c + t' c) s m s'' m'' }
+        (m' : Metadata) (s'' : StorageState) (m'' : Metadata) → HadNoResourceError first → (IsSound m → (c : ℕ) → 0 < referenced m c → t c ≡ 0)
+        → PreservesGuest (HadNoResourceError first) h t s m s' m' → PreservesGuest (HadNoResourceError second) h' t' s' m' s'' m''
+        → PreservesGuest (HadNoResourceError second) (λ c. h c + h' c) (λ c. t c + t' c) s m s'' m'' }
+    ensures no_change_refused { (first second : Result Unit Fault) (h t h' t' : ℕ → ℕ) (s : StorageState) (m : Metadata) (s' : StorageState)
+        (m' : Metadata) (s'' : StorageState) (m'' : Metadata) → HadNoResourceError first → (IsSound m → (c : ℕ) → 0 < referenced m c → t c ≡ 0)
+        → PreservesGuest (HadNoResourceError first ⊎ NoChangeRefused s s') h t s m s' m' → PreservesGuest (HadNoResourceError second ⊎ NoChangeRefused s' s'') h' t' s' m' s'' m''
+        → PreservesGuest (HadNoResourceError second ⊎ NoChangeRefused s s'') (λ c. h c + h' c) (λ c. t c + t' c) s m s'' m'' }
     ensures otherwise { (result : Result Unit Fault) (handed taken h t : ℕ → ℕ) (s : StorageState) (m : Metadata) (s' : StorageState)
         (m' : Metadata) → (IsSound m → (c : ℕ) → handed c + t c ≡ h c + taken c)
-        → (IsSound m → (c : ℕ) → IsUsed m c → t c ≡ 0 → taken c ≡ 0) → Quietly (WasNotCutOff result) handed taken s m s' m'
-        → Quietly (WasNotCutOff result) h t s m s' m' }
+        → (IsSound m → (c : ℕ) → IsUsed m c → t c ≡ 0 → taken c ≡ 0) → PreservesGuest (HadNoResourceError result) handed taken s m s' m'
+        → PreservesGuest (HadNoResourceError result) h t s m s' m' }
 {}
 
 /// A counter of a cached block may be lowered where an entry of the list of clusters to free had its cluster, while tables are written
@@ -283,29 +283,29 @@ pub fn freeing_a_cluster()
         ⊎ (0 < waiting_metadata m c) → SetsCounter m.file m.header.fields m.cached key c n cached' → counted m c ≡ n + 1
         → ((d : ℕ) → listed pending' d + one_at c d ≡ waiting m d) → ((d : ℕ) → listed (metadata_in pending') d ≤ waiting_metadata m d)
         → IsSound (record m { cached = cached'; pending = pending' })
-        × IsQuiet (λ _. 0) (λ _. 0) m (record m { cached = cached'; pending = pending' }) }
+        × GuestUnchanged (λ _. 0) (λ _. 0) m (record m { cached = cached'; pending = pending' }) }
 {}
 
 /// A counter of a cached block that is 0 may be raised while blocks are written before tables: its cluster is handed out. Nothing names it.
-pub fn handing_out_a_cluster()
+pub fn allocating_a_cluster()
     ensures { (m : Metadata) (key c : ℕ) (cached' : Cached) → IsSound m → m.order ≡ L2DependsOnRb
         → SetsCounter m.file m.header.fields m.cached key c 1 cached' → counted m c ≡ 0
-        → IsSound (record m { cached = cached' }) × IsQuiet (one_at c) (λ _. 0) m (record m { cached = cached' }) × (named_at_all m c ≡ 0) }
+        → IsSound (record m { cached = cached' }) × GuestUnchanged (one_at c) (λ _. 0) m (record m { cached = cached' }) × (referenced_at_all m c ≡ 0) }
 {}
 
 /// A cluster that was handed out may be taken back: its counter is lowered, where what names it and what waits to free it is still covered.
 pub fn taking_back_a_cluster()
     ensures { (m : Metadata) (key c n : ℕ) (cached' : Cached) → IsSound m → SetsCounter m.file m.header.fields m.cached key c n cached'
-        → counted m c ≡ n + 1 → named_at_all m c + waiting m c ≤ n
-        → IsSound (record m { cached = cached' }) × IsQuiet (λ _. 0) (one_at c) m (record m { cached = cached' }) }
+        → counted m c ≡ n + 1 → referenced_at_all m c + waiting m c ≤ n
+        → IsSound (record m { cached = cached' }) × GuestUnchanged (λ _. 0) (one_at c) m (record m { cached = cached' }) }
 {}
 
 /// A cluster that leaks may be counted down by all that it leaks: its counter is lowered, where what names it and what waits to free it is
 /// still covered.
-pub fn counting_down_what_leaks()
+pub fn decrementing_what_leaks()
     ensures { (m : Metadata) (key c n by : ℕ) (cached' : Cached) → IsSound m → SetsCounter m.file m.header.fields m.cached key c n cached'
-        → counted m c ≡ n + by → named_at_all m c + waiting m c ≤ n
-        → IsSound (record m { cached = cached' }) × IsQuiet (λ _. 0) (many_at c by) m (record m { cached = cached' }) }
+        → counted m c ≡ n + by → referenced_at_all m c + waiting m c ≤ n
+        → IsSound (record m { cached = cached' }) × GuestUnchanged (λ _. 0) (many_at c by) m (record m { cached = cached' }) }
 {}
 
 /// How many entries of metadata have a cluster, as the list of clusters to free changes; and a run of one cluster more.
@@ -324,57 +324,57 @@ pub fn entries_of_metadata_count_one_by_one()
 
 /// Clusters may be put among those that wait to be freed, where the counts cover them beside what is named and what waits; nothing names
 /// those of metadata. They are taken back.
-pub fn putting_off_a_free()
+pub fn deferring_a_free()
     ensures { (m : Metadata) (e : FreeEntry) → IsSound m → ((c : ℕ) → referenced m c + waiting m c + covers c e ≤ counted m c)
-        → ((c : ℕ) → 0 < covers_metadata c e → named_at_all m c ≡ 0)
+        → ((c : ℕ) → 0 < covers_metadata c e → referenced_at_all m c ≡ 0)
         → IsSound (record m { pending = m.pending ++ e ∷ [] })
-        × IsQuiet (λ _. 0) (λ c. covers c e) m (record m { pending = m.pending ++ e ∷ [] }) }
+        × GuestUnchanged (λ _. 0) (λ c. covers c e) m (record m { pending = m.pending ++ e ∷ [] }) }
 {}
 
 /// While blocks are written before tables, a cluster that isn't counted in memory is named nowhere, nothing waits to free it, and it isn't
 /// used. Flushes leave each count in memory, and name no cluster anew; where no block waits to be written the file counts what memory does.
 pub fn what_is_uncounted_is_free()
-    ensures free { (m : Metadata) → IsSound m → m.order ≡ L2DependsOnRb → (c : ℕ) → counted m c ≡ 0 → (named_at_all m c ≡ 0)
+    ensures free { (m : Metadata) → IsSound m → m.order ≡ L2DependsOnRb → (c : ℕ) → counted m c ≡ 0 → (referenced_at_all m c ≡ 0)
         × (waiting m c ≡ 0) × (IsUsed m c → ⊥) }
     ensures flushed { (m : Metadata) (old new : List ℕ) (cached' : Cached) → m.file ≡ bytes_of old
         → IsSettled m.header m.order old m.cached new cached' → (c : ℕ)
         → (counted (record m { file = bytes_of new; cached = cached' }) c ≡ counted m c)
-        × (named_at_all (record m { file = bytes_of new; cached = cached' }) c ≤ named_at_all m c) }
+        × (referenced_at_all (record m { file = bytes_of new; cached = cached' }) c ≤ referenced_at_all m c) }
     ensures clean { (m : Metadata) → IsSound m → AreBlocksClean m.cached → (c : ℕ) → counted m c ≡ count m.file m.header.fields c }
 {}
 
 /// A write that is quiet where it succeeded is so where it wasn't cut off.
-pub fn what_is_written_quietly()
+pub fn what_is_written_preserves_the_guest()
     ensures { (m m' : Metadata) (handed taken : ℕ → ℕ) (old new : StorageState) (at : ℕ) (bytes : List ℕ) (result : Result Unit Fault)
-        → Put old new at bytes result
-        → Quietly (result ≡ Ok tt) handed taken old m new m' → Quietly (WasNotCutOff result) handed taken old m new m' }
+        → WriteOutcome old new at bytes result
+        → PreservesGuest (result ≡ Ok tt) handed taken old m new m' → PreservesGuest (HadNoResourceError result) handed taken old m new m' }
 {}
 
 /// Clusters c to c + k, which nothing names, in the file or in memory, may be written by any number of requests: the image is to the disk
 /// as it was, and counts and names what it did. What of them is used is taken for that.
 pub fn writing_free_clusters()
-    ensures quietly { (m : Metadata) (c k at : ℕ) (bytes : List ℕ) (taken : ℕ → ℕ) (old new : StorageState) → IsIn old m
+    ensures preserves_guest { (m : Metadata) (c k at : ℕ) (bytes : List ℕ) (taken : ℕ → ℕ) (old new : StorageState) → IsIn old m
         → c * cluster_size m.header.fields ≤ at → at + length bytes ≤ (c + k + 1) * cluster_size m.header.fields
-        → (IsSound m → (d : ℕ) → c ≤ d → d ≤ c + k → (named_at_all m d ≡ 0) × (IsUsed m d → 0 < taken d))
-        → (result : Result Unit Fault) → Put old new at bytes result
-        → Quietly (result ≡ Ok tt) taken taken old m new (record m { file = bytes_of new.bytes }) }
+        → (IsSound m → (d : ℕ) → c ≤ d → d ≤ c + k → (referenced_at_all m d ≡ 0) × (IsUsed m d → 0 < taken d))
+        → (result : Result Unit Fault) → WriteOutcome old new at bytes result
+        → PreservesGuest (result ≡ Ok tt) taken taken old m new (record m { file = bytes_of new.bytes }) }
     ensures counts { (m : Metadata) (c k at : ℕ) (bytes : List ℕ) (taken : ℕ → ℕ) (old new : StorageState) → IsIn old m
         → c * cluster_size m.header.fields ≤ at → at + length bytes ≤ (c + k + 1) * cluster_size m.header.fields
-        → (IsSound m → (d : ℕ) → c ≤ d → d ≤ c + k → (named_at_all m d ≡ 0) × (IsUsed m d → 0 < taken d))
-        → (result : Result Unit Fault) → Put old new at bytes result → IsTrue old.shape.keeps → IsSound m → result ≡ Ok tt
+        → (IsSound m → (d : ℕ) → c ≤ d → d ≤ c + k → (referenced_at_all m d ≡ 0) × (IsUsed m d → 0 < taken d))
+        → (result : Result Unit Fault) → WriteOutcome old new at bytes result → IsTrue old.shape.keeps → IsSound m → result ≡ Ok tt
         → CountsTheSame m (record m { file = bytes_of new.bytes }) }
 {}
 
 /// So a block may be written to such a cluster, to be named there: the file has its counters then.
 pub fn writing_a_new_block()
-    ensures quietly { (m : Metadata) (d : ℕ) (block : Block) (old new : StorageState) → IsIn old m
+    ensures preserves_guest { (m : Metadata) (d : ℕ) (block : Block) (old new : StorageState) → IsIn old m
         → block.order ≡ m.header.fields.refcount_order → length block.counters ≡ counters_of_block m.header.fields
-        → (taken : ℕ → ℕ) → (IsSound m → (named_at_all m d ≡ 0) × (IsUsed m d → 0 < taken d))
+        → (taken : ℕ → ℕ) → (IsSound m → (referenced_at_all m d ≡ 0) × (IsUsed m d → 0 < taken d))
         → (result : Result Unit Fault) → BlockPut block (d * cluster_size m.header.fields) old new result
-        → Quietly (result ≡ Ok tt) taken taken old m new (record m { file = bytes_of new.bytes }) }
+        → PreservesGuest (result ≡ Ok tt) taken taken old m new (record m { file = bytes_of new.bytes }) }
     ensures counts { (m : Metadata) (d : ℕ) (block : Block) (old new : StorageState) → IsIn old m
         → block.order ≡ m.header.fields.refcount_order → length block.counters ≡ counters_of_block m.header.fields
-        → (taken : ℕ → ℕ) → (IsSound m → (named_at_all m d ≡ 0) × (IsUsed m d → 0 < taken d))
+        → (taken : ℕ → ℕ) → (IsSound m → (referenced_at_all m d ≡ 0) × (IsUsed m d → 0 < taken d))
         → (result : Result Unit Fault) → BlockPut block (d * cluster_size m.header.fields) old new result → IsTrue old.shape.keeps
         → IsSound m → result ≡ Ok tt
         → CountsTheSame m (record m { file = bytes_of new.bytes })
@@ -405,22 +405,22 @@ pub fn what_a_new_block_counts()
 /// A word of the refcount table, which named no block, may come to name one in a cluster that is ready for it, by one request. Where
 /// another block counts that cluster, it was handed out before, and is taken; where it counts itself, it is counted by this alone. Nothing
 /// else is counted or named otherwise.
-pub fn naming_a_block()
+pub fn linking_a_block()
     ensures counted { (m : Metadata) (i d : ℕ) (modified : Bool) (old new : StorageState) → IsIn old m → (IsSound m → IsReadyBlock m i d)
         → d / counters_of_block m.header.fields ≢ i
-        → (result : Result Unit Fault) → PutAtOnce old new (table_place (with_word m.table i (d * cluster_size m.header.fields)) + 8 * i)
-        (to_be_bytes w64 (slice_index (with_word m.table i (d * cluster_size m.header.fields)).words i)) result
-        → Quietly (result ≡ Ok tt) (λ _. 0) (one_at d) old m new (with_block m i d modified (bytes_of new.bytes)) }
+        → (result : Result Unit Fault) → AtomicWriteOutcome old new (table_start (with_raw_entry m.table i (d * cluster_size m.header.fields)) + 8 * i)
+        (to_be_bytes w64 (slice_index (with_raw_entry m.table i (d * cluster_size m.header.fields)).raw_entries i)) result
+        → PreservesGuest (result ≡ Ok tt) (λ _. 0) (one_at d) old m new (with_block m i d modified (bytes_of new.bytes)) }
     ensures own { (m : Metadata) (i d : ℕ) (modified : Bool) (old new : StorageState) → IsIn old m → (IsSound m → IsReadyBlock m i d)
         → d / counters_of_block m.header.fields ≡ i
-        → (result : Result Unit Fault) → PutAtOnce old new (table_place (with_word m.table i (d * cluster_size m.header.fields)) + 8 * i)
-        (to_be_bytes w64 (slice_index (with_word m.table i (d * cluster_size m.header.fields)).words i)) result
-        → Quietly (result ≡ Ok tt) (λ _. 0) (λ _. 0) old m new (with_block m i d modified (bytes_of new.bytes)) }
+        → (result : Result Unit Fault) → AtomicWriteOutcome old new (table_start (with_raw_entry m.table i (d * cluster_size m.header.fields)) + 8 * i)
+        (to_be_bytes w64 (slice_index (with_raw_entry m.table i (d * cluster_size m.header.fields)).raw_entries i)) result
+        → PreservesGuest (result ≡ Ok tt) (λ _. 0) (λ _. 0) old m new (with_block m i d modified (bytes_of new.bytes)) }
     ensures names { (m : Metadata) (i d : ℕ) (modified : Bool) (old new : StorageState) → IsIn old m → (IsSound m → IsReadyBlock m i d)
         → IsTrue old.shape.keeps → IsSound m
-        → (result : Result Unit Fault) → PutAtOnce old new (table_place (with_word m.table i (d * cluster_size m.header.fields)) + 8 * i)
-        (to_be_bytes w64 (slice_index (with_word m.table i (d * cluster_size m.header.fields)).words i)) result
-        → result ≡ Ok tt → BlockNamed m (with_block m i d modified (bytes_of new.bytes)) i d }
+        → (result : Result Unit Fault) → AtomicWriteOutcome old new (table_start (with_raw_entry m.table i (d * cluster_size m.header.fields)) + 8 * i)
+        (to_be_bytes w64 (slice_index (with_raw_entry m.table i (d * cluster_size m.header.fields)).raw_entries i)) result
+        → result ≡ Ok tt → BlockLinked m (with_block m i d modified (bytes_of new.bytes)) i d }
 {}
 
 /// The header may come to name another refcount table that is ready for it, by one request of its first bytes, where these make a header
@@ -428,19 +428,19 @@ pub fn naming_a_block()
 /// and the new blocks an old block counts was handed out before, and is taken. The new header loads where it keeps the limits, as the old
 /// one does.
 pub fn switching_the_table()
-    ensures quietly { (m : Metadata) (table : TableValue) (t n : ℕ) (old new : StorageState) → IsIn old m
+    ensures preserves_guest { (m : Metadata) (table : TableValue) (t n : ℕ) (old new : StorageState) → IsIn old m
         → (IsSound m → IsReadyTable m table t n)
         → (IsSound m → header_of true (splice m.file 0 (first_bytes (with_reftable m.header.fields (t * cluster_size m.header.fields) n)))
         ≡ Ok (with_refcount_table m.header (t * cluster_size m.header.fields) n))
-        → (result : Result Unit Fault) → PutAtOnce old new 0
+        → (result : Result Unit Fault) → AtomicWriteOutcome old new 0
         (first_bytes (with_reftable m.header.fields (t * cluster_size m.header.fields) n)) result
-        → Quietly (result ≡ Ok tt) (formerly m) (newly_counted m t n) old m new (with_table m table t n (bytes_of new.bytes)) }
+        → PreservesGuest (result ≡ Ok tt) (formerly m) (newly_counted m t n) old m new (with_table m table t n (bytes_of new.bytes)) }
     ensures names { (m : Metadata) (table : TableValue) (t n : ℕ) (old new : StorageState) → IsIn old m
         → (IsSound m → IsReadyTable m table t n)
         → (IsSound m → header_of true (splice m.file 0 (first_bytes (with_reftable m.header.fields (t * cluster_size m.header.fields) n)))
         ≡ Ok (with_refcount_table m.header (t * cluster_size m.header.fields) n))
         → IsTrue old.shape.keeps → IsSound m → (result : Result Unit Fault)
-        → PutAtOnce old new 0 (first_bytes (with_reftable m.header.fields (t * cluster_size m.header.fields) n)) result
+        → AtomicWriteOutcome old new 0 (first_bytes (with_reftable m.header.fields (t * cluster_size m.header.fields) n)) result
         → result ≡ Ok tt → TableSwitched m (with_table m table t n (bytes_of new.bytes)) t n }
     ensures loads { (m : Metadata) (t n : ℕ) → IsSound m → ((p : ℕ) → m.file p < 256)
         → first_fault (rules_of_size (with_reftable m.header.fields (t * cluster_size m.header.fields) n)) ≡ None
@@ -453,14 +453,14 @@ pub fn switching_the_table()
 /// but those that the new blocks do.
 pub fn what_has_grown_is_ready()
     ensures ready { (m : Metadata) (table : TableValue) (s n : ℕ) (new : ℕ → Bool) → IsSound m → IsGrownTable m table s new n
-        → IsReadyTable m table (s + rank new (length table.words)) n }
+        → IsReadyTable m table (s + rank new (length table.raw_entries)) n }
     ensures run { (m : Metadata) (table : TableValue) (s n : ℕ) (new : ℕ → Bool) → IsSound m → IsGrownTable m table s new n → (c : ℕ)
-        → newly m (s + rank new (length table.words)) n c ≡ covers c (run_of s (rank new (length table.words) + n)) }
+        → newly m (s + rank new (length table.raw_entries)) n c ≡ covers c (run_of s (rank new (length table.raw_entries) + n)) }
     ensures old { (m : Metadata) (table : TableValue) (s n : ℕ) (new : ℕ → Bool) → IsSound m → IsGrownTable m table s new n → (c : ℕ)
         → new (c / counters_of_block m.header.fields) ≡ false
-        → newly_counted m (s + rank new (length table.words)) n c ≡ covers c (run_of s (rank new (length table.words) + n)) }
+        → newly_counted m (s + rank new (length table.raw_entries)) n c ≡ covers c (run_of s (rank new (length table.raw_entries) + n)) }
     ensures new { (m : Metadata) (table : TableValue) (s n : ℕ) (new : ℕ → Bool) → IsSound m → IsGrownTable m table s new n → (c : ℕ)
-        → new (c / counters_of_block m.header.fields) ≡ true → newly_counted m (s + rank new (length table.words)) n c ≡ 0 }
+        → new (c / counters_of_block m.header.fields) ≡ true → newly_counted m (s + rank new (length table.raw_entries)) n c ≡ 0 }
 {}
 
 /// The clusters of the refcount table that was replaced may be put among those that wait to be freed.
@@ -471,7 +471,7 @@ pub fn the_old_table_waits_to_be_freed()
           pending = m.pending
               ++ run_of (m.header.fields.refcount_table_offset / cluster_size m.header.fields) m.header.fields.refcount_table_clusters ∷ [];
         })
-        × IsQuiet (λ _. 0) (λ c. covers c (run_of (m.header.fields.refcount_table_offset / cluster_size m.header.fields)
+        × GuestUnchanged (λ _. 0) (λ c. covers c (run_of (m.header.fields.refcount_table_offset / cluster_size m.header.fields)
         m.header.fields.refcount_table_clusters)) (with_table m table t n x)
         (record (with_table m table t n x) {
           pending = m.pending
@@ -481,16 +481,16 @@ pub fn the_old_table_waits_to_be_freed()
 
 /// Of two calls, the second may be shown to be quiet by what the first left, where the storage keeps what is written and the image was
 /// sound.
-pub fn what_is_done_quietly_may_use_what_was_done()
+pub fn what_preserves_the_guest_may_use_what_was_done()
     ensures given { (result : Result Unit Fault) (handed taken : ℕ → ℕ) (s : StorageState) (m : Metadata) (s' : StorageState)
-        (m' : Metadata) → s'.shape ≡ s.shape → Later s s'
-        → (IsTrue s.shape.keeps → IsSound m → Quietly (result ≡ Ok tt) handed taken s m s' m')
-        → Quietly (result ≡ Ok tt) handed taken s m s' m' }
+        (m' : Metadata) → s'.shape ≡ s.shape → CountsNotFallen s s'
+        → (IsTrue s.shape.keeps → IsSound m → PreservesGuest (result ≡ Ok tt) handed taken s m s' m')
+        → PreservesGuest (result ≡ Ok tt) handed taken s m s' m' }
     ensures then { (first second : Result Unit Fault) (h t h' t' : ℕ → ℕ) (s : StorageState) (m : Metadata) (s' : StorageState)
         (m' : Metadata) (s'' : StorageState) (m'' : Metadata) → first ≡ Ok tt → (IsSound m → (c : ℕ) → 0 < referenced m c → t c ≡ 0)
-        → Quietly (first ≡ Ok tt) h t s m s' m' → s''.shape ≡ s'.shape → Later s' s''
-        → (IsTrue s.shape.keeps → IsSound m → IsSound m' → IsQuiet h t m m' → Quietly (second ≡ Ok tt) h' t' s' m' s'' m'')
-        → Quietly (second ≡ Ok tt) (λ c. h c + h' c) (λ c. t c + t' c) s m s'' m'' }
+        → PreservesGuest (first ≡ Ok tt) h t s m s' m' → s''.shape ≡ s'.shape → CountsNotFallen s' s''
+        → (IsTrue s.shape.keeps → IsSound m → IsSound m' → GuestUnchanged h t m m' → PreservesGuest (second ≡ Ok tt) h' t' s' m' s'' m'')
+        → PreservesGuest (second ≡ Ok tt) (λ c. h c + h' c) (λ c. t c + t' c) s m s'' m'' }
 {}
 
 /// While blocks are written before tables, a block that counts itself may be made in a cluster of which no block is cached, and that no
@@ -501,15 +501,15 @@ pub fn making_a_block_that_counts_itself()
         → block.counters ≡ slice_set (replicate (counters_of_block m.header.fields) 0) (d % counters_of_block m.header.fields) 1
         → m.order ≡ L2DependsOnRb
         → d / counters_of_block m.header.fields < refcount_table_entries m.header.fields
-        → block_offset (slice_index m.table.words (d / counters_of_block m.header.fields)) ≡ 0
-        → d ≢ 0 → IsInReach m.header.fields.cluster_bits d → lookup (nat_eq d) m.cached.blocks ≡ None
+        → block_offset (slice_index m.table.raw_entries (d / counters_of_block m.header.fields)) ≡ 0
+        → d ≢ 0 → IsAddressable m.header.fields.cluster_bits d → lookup (nat_eq d) m.cached.blocks ≡ None
         → (done : Result Unit Fault) → done ≡ Ok tt → BlockPut block (d * cluster_size m.header.fields) old mid done
-        → (result : Result Unit Fault) → PutAtOnce mid new
-        (table_place (with_word m.table (d / counters_of_block m.header.fields)
+        → (result : Result Unit Fault) → AtomicWriteOutcome mid new
+        (table_start (with_raw_entry m.table (d / counters_of_block m.header.fields)
         (d * cluster_size m.header.fields)) + 8 * (d / counters_of_block m.header.fields))
-        (to_be_bytes w64 (slice_index (with_word m.table (d / counters_of_block m.header.fields) (d * cluster_size m.header.fields)).words
+        (to_be_bytes w64 (slice_index (with_raw_entry m.table (d / counters_of_block m.header.fields) (d * cluster_size m.header.fields)).raw_entries
         (d / counters_of_block m.header.fields))) result
-        → Quietly (result ≡ Ok tt) (λ _. 0) (λ _. 0) old m new
+        → PreservesGuest (result ≡ Ok tt) (λ _. 0) (λ _. 0) old m new
         (with_block m (d / counters_of_block m.header.fields) d modified (bytes_of new.bytes)) }
 {}
 
@@ -519,14 +519,14 @@ pub fn making_a_block_that_another_counts()
     ensures { (m : Metadata) (i d : ℕ) (block : Block) (modified : Bool) (old mid new : StorageState) → IsIn old m
         → block.order ≡ m.header.fields.refcount_order
         → block.counters ≡ replicate (counters_of_block m.header.fields) 0 → AreBlocksClean m.cached
-        → i < refcount_table_entries m.header.fields → block_offset (slice_index m.table.words i) ≡ 0
-        → d / counters_of_block m.header.fields ≢ i → d ≢ 0 → IsInReach m.header.fields.cluster_bits d
+        → i < refcount_table_entries m.header.fields → block_offset (slice_index m.table.raw_entries i) ≡ 0
+        → d / counters_of_block m.header.fields ≢ i → d ≢ 0 → IsAddressable m.header.fields.cluster_bits d
         → lookup (nat_eq d) m.cached.blocks ≡ None
-        → (IsSound m → (named_at_all m d ≡ 0) × (waiting m d ≡ 0) × (1 ≤ counted m d))
+        → (IsSound m → (referenced_at_all m d ≡ 0) × (waiting m d ≡ 0) × (1 ≤ counted m d))
         → (done : Result Unit Fault) → done ≡ Ok tt → BlockPut block (d * cluster_size m.header.fields) old mid done
-        → (result : Result Unit Fault) → PutAtOnce mid new (table_place (with_word m.table i (d * cluster_size m.header.fields)) + 8 * i)
-        (to_be_bytes w64 (slice_index (with_word m.table i (d * cluster_size m.header.fields)).words i)) result
-        → Quietly (result ≡ Ok tt) (λ _. 0) (one_at d) old m new (with_block m i d modified (bytes_of new.bytes)) }
+        → (result : Result Unit Fault) → AtomicWriteOutcome mid new (table_start (with_raw_entry m.table i (d * cluster_size m.header.fields)) + 8 * i)
+        (to_be_bytes w64 (slice_index (with_raw_entry m.table i (d * cluster_size m.header.fields)).raw_entries i)) result
+        → PreservesGuest (result ≡ Ok tt) (λ _. 0) (one_at d) old m new (with_block m i d modified (bytes_of new.bytes)) }
 {}
 
 /// A quarter of the space that is free in a row, from the mark on, is room for an allocation of no more than a sixteenth of it. So one that
@@ -540,5 +540,5 @@ pub fn a_quarter_is_room()
 /// What an image has room for it has room for once what waits was freed. So one that is sound, and in which an allocation is refused with
 /// `Fault::Limit`, had none before that, either.
 pub fn what_is_freed_leaves_room()
-    ensures { (m m' : MarkedMetadata) (n : ℕ) → IsFreed m m' → IsRoomy m.image m.mark n → IsRoomy m'.image m'.mark n }
+    ensures { (m m' : MetadataWithFirstFree) (n : ℕ) → IsFreed m m' → IsRoomy m.image m.mark n → IsRoomy m'.image m'.mark n }
 {}

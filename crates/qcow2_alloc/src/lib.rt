@@ -12,5 +12,5 @@ pub mod laws;
 pub use allocation::Allocator;
 pub use async_lru_cache::{AsyncLruCache, AsyncLruCacheBackend, NotLent, Slot};
 pub use cache::{CacheDependency, L2CacheBackend, MetadataCaches, RefBlockCacheBackend};
-pub use clusters_to_free::{ClustersToFreeList, HeldRoom, PendingAllocation};
+pub use clusters_to_free::{ClustersToFreeList, PendingAllocation, ReservedSlot};
 pub use file::ImageFile;

@@ -3,24 +3,24 @@ use Rattle.std.proofs.Common.{◌≡◌, ◌≢◌, ℕ, ◌+◌, ◌/◌, ◌%�
 use Rattle.std.specs.Prelude.{◌++◌, IfSome, true, false, nat_eq}
 use Rattle.std.proofs.lemmas.List.{append-nil, get_or-set_same, length-set}
 use Rattle.std.specs.Prelude.{slice_index}
-use Rattle.qcow2_types.specs.Header.{Fields, cluster_size, layout_of, words_of_cluster}
+use Rattle.qcow2_types.specs.Header.{Fields, cluster_size, layout_of, entries_of_cluster}
 use Rattle.qcow2_types.specs.Pending.{FreeEntry}
 use Rattle.qcow2_types.specs.References.{meets, of_mapping}
 use Rattle.qcow2_types.specs.Slots.{slot}
 use Rattle.qcow2_types.specs.Words.{Mapping, mapping_of}
 use Rattle.qcow2_metadata.specs.Allocations.{Conserves, allocation_of, freed, holds}
-use Rattle.qcow2_metadata.specs.Tables.{TableValue, mapping_in, with_word}
+use Rattle.qcow2_metadata.specs.Tables.{TableValue, mapping_in, with_raw_entry}
 use Rattle.qcow2_alloc.specs.declared.cache.CacheDependency.{CacheDependency}
 use Rattle.qcow2_alloc.specs.Cache.{hit}
-use Rattle.qcow2_alloc.specs.Changes.{SetsWord}
+use Rattle.qcow2_alloc.specs.Changes.{SetsEntry}
 use Rattle.qcow2_alloc.specs.Memory.{Cached}
-use Rattle.qcow2_alloc.specs.Quiet.{IsSound, Metadata, in_memory}
+use Rattle.qcow2_alloc.specs.GuestView.{IsSound, Metadata, in_memory}
 use Rattle.qcow2_alloc.proofs.Memory.NameDrops.{discard-drops, zero-drops}
 use Rattle.qcow2_alloc.proofs.Memory.WordChanges.{cached-slot}
-use Rattle.qcow2_steps.specs.Words.{DropsNames, GivesWord, IsOfWord, names_at}
+use Rattle.qcow2_steps.specs.Words.{DropsNames, GivesEntry, IsOfEntry, names_at}
 use Rattle.qcow2_steps.proofs.Steps.{dropped-advances, freed-advances}
-use Rattle.qcow2_clusters.specs.Clearing.{IsPossible, cleared, cleared_word, given_up}
-use Rattle.qcow2_clusters.specs.Naming.{listed_of}
+use Rattle.qcow2_clusters.specs.Clearing.{IsPossible, cleared, cleared_raw_entry, given_up}
+use Rattle.qcow2_clusters.specs.Linking.{listed_of}
 use Rattle.qcow2_clusters.specs.Progress.{Kind}
 use Rattle.qcow2_clusters.specs.declared.clearing.Clearing.{Clearing}
 use Rattle.qcow2_clusters.specs.declared.clearing.Clearing.TheVariants.{Keep, GiveUp, Unmap}
@@ -30,10 +30,10 @@ use Rattle.qcow2_clusters.proofs.ProgressSums.{AdvancesBy}
 -- what is given, set, handed out and taken by one word that comes to mean this and gives that up
 abbrev pub dropping : Metadata → (i j : ℕ) → Mapping → Option FreeEntry → Kind
 dropping m i j new given = record {
-  gives = GivesWord m i j new;
+  gives = GivesEntry m i j new;
   written = λ q. ⊥;
-  set = IsOfWord m.header.fields i j;
-  handed = λ c. holds c given;
+  set = IsOfEntry m.header.fields i j;
+  newly_allocated = λ c. holds c given;
   taken = λ c. holds c given;
 }
 
@@ -55,23 +55,23 @@ given-data bits Unmap old = freed-data (allocation_of bits old)
 
 -- The word of an L2 table that is cached.
 module _ (how : Clearing) (m : Metadata) (key i j : ℕ) (cached' : Cached) (sound : IsSound m) (possible : IsPossible how m.header.fields.version)
-    (w : ℕ) (sets : SetsWord m.file m.header.fields m.cached key i j w cached')
-    (is : w ≡ cleared_word m.header.fields.cluster_bits how (mapping_in sets.table j)) where
+    (w : ℕ) (sets : SetsEntry m.file m.header.fields m.cached key i j w cached')
+    (is : w ≡ cleared_raw_entry m.header.fields.cluster_bits how (mapping_in sets.table j)) where
   abbrev old : Mapping
   old = mapping_in sets.table j
 
-  drops-by : (by : Clearing) → IsPossible by m.header.fields.version → w ≡ cleared_word m.header.fields.cluster_bits by old
+  drops-by : (by : Clearing) → IsPossible by m.header.fields.version → w ≡ cleared_raw_entry m.header.fields.cluster_bits by old
       → DropsNames m i j old (cleared by old) cached'
   drops-by Keep newer w-is =
-      zero-drops m.file m.header m.cached cached' m.order key i j sound.safe w sets true newer w-is
+      zero-drops m.file m.header m.cached cached' m.order key i j sound.well_formed w sets true newer w-is
   drops-by GiveUp newer w-is =
-      zero-drops m.file m.header m.cached cached' m.order key i j sound.safe w sets false newer w-is
+      zero-drops m.file m.header m.cached cached' m.order key i j sound.well_formed w sets false newer w-is
   drops-by Unmap newer w-is =
-      discard-drops m.file m.header m.cached cached' m.order key i j sound.safe (record {
+      discard-drops m.file m.header m.cached cached' m.order key i j sound.well_formed (record {
         table = sets.table;
         caches = sets.caches;
         inside = sets.inside;
-        tables = subst (λ v. cached'.tables ≡ hit (nat_eq key) m.cached.tables (with_word sets.table j v)) w-is sets.tables;
+        tables = subst (λ v. cached'.tables ≡ hit (nat_eq key) m.cached.tables (with_raw_entry sets.table j v)) w-is sets.tables;
         blocks = sets.blocks;
       })
 

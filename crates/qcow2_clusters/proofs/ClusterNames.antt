@@ -10,7 +10,7 @@ use Rattle.std.proofs.lemmas.List.{append-nil}
 use Rattle.std.proofs.lemmas.Nat.{mod_below, pow_pos}
 use Rattle.qcow2_types.specs.Bytes.{Bytes}
 use Rattle.qcow2_types.specs.Entries.{entry, l2_mapping, l2_table}
-use Rattle.qcow2_types.specs.Header.{Fields, cluster_size, layout_of, words_of_cluster}
+use Rattle.qcow2_types.specs.Header.{Fields, cluster_size, layout_of, entries_of_cluster}
 use Rattle.qcow2_types.specs.Pending.{FreeEntry}
 use Rattle.qcow2_types.specs.References.{meets, of_mapping, refs}
 use Rattle.qcow2_types.specs.Slots.{slot}
@@ -23,20 +23,20 @@ use Rattle.qcow2_types.proofs.Showing.Values.{entry-slot}
 use Rattle.qcow2_types.proofs.Numbers.WordLemmas.{fresh-word}
 use Rattle.qcow2_types.proofs.Changes.WriteBack.{place-near, table-place}
 use Rattle.qcow2_metadata.specs.Allocations.{Conserves, allocation_of, freed, holds, is_just, newly, replaced}
-use Rattle.qcow2_metadata.specs.Places.{IsInReach}
-use Rattle.qcow2_metadata.specs.Tables.{TableValue, l2_words, mapping_in, table_in, with_word, word_sound}
+use Rattle.qcow2_metadata.specs.Places.{IsAddressable}
+use Rattle.qcow2_metadata.specs.Tables.{TableValue, l2_table_kind, mapping_in, table_in, with_raw_entry, raw_entry_valid}
 use Rattle.qcow2_metadata.proofs.TableFacts.{words_at, words_long}
 use Rattle.qcow2_alloc.specs.declared.cache.CacheDependency.{CacheDependency}
 use Rattle.qcow2_alloc.specs.Cache.{hit}
-use Rattle.qcow2_alloc.specs.Changes.{SetsWord}
+use Rattle.qcow2_alloc.specs.Changes.{SetsEntry}
 use Rattle.qcow2_alloc.specs.CachedKinds.{IsTableFine}
 use Rattle.qcow2_alloc.specs.Memory.{Cached}
-use Rattle.qcow2_alloc.specs.Quiet.{IsQuiet, IsSound, IsUsed, Metadata, counted, covers_metadata, in_memory, named_at_all, one_at, referenced, waiting}
+use Rattle.qcow2_alloc.specs.GuestView.{GuestUnchanged, IsSound, IsUsed, Metadata, counted, covers_metadata, in_memory, referenced_at_all, one_at, referenced, waiting}
 use Rattle.qcow2_alloc.proofs.Memory.WordChanges.{cluster-mapped}
 use Rattle.qcow2_alloc.proofs.Memory.NameDrops.{data-drops}
 use Rattle.qcow2_steps.specs.Data.{IsKeptFor}
 use Rattle.qcow2_steps.specs.Values.{own_value_by}
-use Rattle.qcow2_steps.specs.Words.{DropsNames, GivesWord, IsOfWord, IsReserved, NamesCluster, names_at}
+use Rattle.qcow2_steps.specs.Words.{DropsNames, GivesEntry, IsOfEntry, IsReserved, LinksCluster, names_at}
 use Rattle.qcow2_steps.proofs.StepSums.{advances-weaker, reserved-still}
 use Rattle.qcow2_steps.proofs.Headers.{header-same}
 use Rattle.qcow2_steps.proofs.InvisibleClusters.{kept-used}
@@ -44,68 +44,68 @@ use Rattle.qcow2_steps.proofs.QuietValues.{quiet-entries}
 use Rattle.qcow2_steps.proofs.Steps.{dropped-advances, meets-one, named-advances, put-off-advances, quiet-advances}
 use Rattle.qcow2_steps.proofs.Values.{places-there}
 use Rattle.qcow2_steps.proofs.WordSteps.{named-owed, used-after}
-use Rattle.qcow2_clusters.specs.Naming.{IsNameable, listed_of, naming}
+use Rattle.qcow2_clusters.specs.Linking.{CanBeLinked, listed_of, naming}
 use Rattle.qcow2_clusters.specs.Progress.{Kind, handing}
 use Rattle.qcow2_clusters.proofs.ProgressSums.{AdvancesBy, IsWider}
 
 -- The image at rest, and the table of the guest cluster as its file has it.
-module _ (m : Metadata) (table guest x : ℕ) (sound : IsSound m) (able : IsNameable m table guest x) where
+module _ (m : Metadata) (table guest x : ℕ) (sound : IsSound m) (able : CanBeLinked m table guest x) where
   abbrev h : Fields
   h = m.header.fields
 
   abbrev i : ℕ
-  i = guest / words_of_cluster h
+  i = guest / entries_of_cluster h
 
   abbrev j : ℕ
-  j = guest % words_of_cluster h
+  j = guest % entries_of_cluster h
 
-  row : j < words_of_cluster h
-  row = mod_below guest (words_of_cluster h) (some-words h (consistent-shaped m.file m.header sound.safe.consistent))
+  row : j < entries_of_cluster h
+  row = mod_below guest (entries_of_cluster h) (some-words h (consistent-shaped m.file m.header sound.well_formed.consistent))
 
   is-there : l2_table m.file h i ≢ 0
   is-there none =
       let long : 0 < cluster_size h = pow_pos h.cluster_bits in
-      let some = mul-pos {m = table} (let apart = able.under.some in omega (arith, apart)) long in
-      let place = able.under.there in
+      let some = mul-pos {m = table} (let apart = able.layers_below.table_nonzero in omega (arith, apart)) long in
+      let place = able.layers_below.table_linked in
       omega (arith, some, place, none)
 
-  pub table-near : IsInReach h.cluster_bits table
-  table-near = subst (λ n. n ≤ max_offset) able.under.there
-      (place-near h.cluster_bits (l2_table m.file h i) (table-place m.file h i (sound-words m.file h sound.safe.consistent.readable.tables) able.under.inside))
+  pub table-near : IsAddressable h.cluster_bits table
+  table-near = subst (λ n. n ≤ max_offset) able.layers_below.table_linked
+      (place-near h.cluster_bits (l2_table m.file h i) (table-place m.file h i (sound-words m.file h sound.well_formed.consistent.readable.tables) able.layers_below.inside))
 
   -- Each of its words means something.
-  word-fine : (k : ℕ) → k < words_of_cluster h → is_damaged (l2_mapping m.file h (table * cluster_size h) k) ≡ false
+  word-fine : (k : ℕ) → k < entries_of_cluster h → is_damaged (l2_mapping m.file h (table * cluster_size h) k) ≡ false
   word-fine k lt =
-      subst (λ p. is_damaged (l2_mapping m.file h p k) ≡ false) able.under.there
-      ((sound-words m.file h sound.safe.consistent.readable.tables).slots i k (record { in_l1 = able.under.inside; is_there = is-there; in_table = lt }))
+      subst (λ p. is_damaged (l2_mapping m.file h p k) ≡ false) able.layers_below.table_linked
+      ((sound-words m.file h sound.well_formed.consistent.readable.tables).slots i k (record { in_l1 = able.layers_below.inside; is_there = is-there; in_table = lt }))
 
   pub table-fine : (f : Bytes) → f ≡ m.file → IsTableFine f h table
   table-fine f same = record {
     reach = table-near;
     sound = λ unsound.
         let k = unsound.0 in
-        let long = words_long f (table * cluster_size h) (words_of_cluster h) in
-        let lt : k < words_of_cluster h = let inside = unsound.1 in omega (arith, long, inside) in
+        let long = words_long f (table * cluster_size h) (entries_of_cluster h) in
+        let lt : k < entries_of_cluster h = let inside = unsound.1 in omega (arith, long, inside) in
         let fine = ap not (ap (λ (b : Bytes). is_damaged (l2_mapping b h (table * cluster_size h) k)) same ∙ word-fine k lt) in
-        let not-fine = subst (λ (w : ℕ). word_sound l2_words (layout_of h) w ≡ false) (words_at f (table * cluster_size h) (words_of_cluster h) k lt) unsound.2 in
+        let not-fine = subst (λ (w : ℕ). raw_entry_valid l2_table_kind (layout_of h) w ≡ false) (words_at f (table * cluster_size h) (entries_of_cluster h) k lt) unsound.2 in
         cc (sym fine ∙ not-fine);
   }
 
-  module _ (t : TableValue) (is : t ≡ table_in m.file h table (words_of_cluster h)) where
+  module _ (t : TableValue) (is : t ≡ table_in m.file h table (entries_of_cluster h)) where
     -- What the word meant.
     pub old-slot : mapping_in t j ≡ slot m.file h i j
     old-slot =
         ap (λ (x : TableValue). mapping_in x j) is
-        ∙ ap (mapping_of (layout_of h)) (words_at m.file (table * cluster_size h) (words_of_cluster h) j row)
-        ∙ ap (λ p. l2_mapping m.file h p j) (sym able.under.there)
+        ∙ ap (mapping_of (layout_of h)) (words_at m.file (table * cluster_size h) (entries_of_cluster h) j row)
+        ∙ ap (λ p. l2_mapping m.file h p j) (sym able.layers_below.table_linked)
 
     -- as the file says.
     pub old-entry : mapping_in t j ≡ entry m.file h guest
-    old-entry = old-slot ∙ sym (entry-slot m.file h guest sound.safe.consistent.readable.tables ∙ guest-slot-there m.file h guest is-there)
+    old-entry = old-slot ∙ sym (entry-slot m.file h guest sound.well_formed.consistent.readable.tables ∙ guest-slot-there m.file h guest is-there)
 
 -- What a word named is handed back as often as it named it, and the new cluster is taken, where it didn't name that.
 module _ (h : Fields) (x : ℕ) (old new : Mapping) (before : Option FreeEntry) (means : new ≡ data_at x true)
-    (conserved : Conserves h.cluster_bits old new before (newly x (allocation_of h.cluster_bits old))) (unnamed : of_mapping h (meets h x) old ≡ 0) where
+    (conserved : Conserves h.cluster_bits old new before (newly x (allocation_of h.cluster_bits old))) (not_referenced : of_mapping h (meets h x) old ≡ 0) where
   total : (c : ℕ) → one_at x c + holds c before ≡ of_mapping h (meets h c) old + newly x (allocation_of h.cluster_bits old) c
   total c = ap (λ (n : ℕ). n + holds c before) (sym (meets-one h x c) ∙ ap (of_mapping h (meets h c)) (sym means)) ∙ conserved h refl c
 
@@ -117,7 +117,7 @@ module _ (h : Fields) (x : ℕ) (old new : Mapping) (before : Option FreeEntry) 
     | inr other ↦ other
     | inl just ↦
         let none : newly x (allocation_of h.cluster_bits old) x ≡ 0 = rw just (if-same (x == x)) in
-        absurd (omega (arith, total x, one-own, none, unnamed))
+        absurd (omega (arith, total x, one-own, none, not_referenced))
   ] where
     if-same : (b : Bool) → ◌≡◌ {A = ℕ} (if b && not true then 1 else 0) 0
     if-same true = refl
@@ -150,13 +150,13 @@ pub idle : (m : Metadata) → IsSound m → AdvancesBy (handing (λ _. 0) (λ _.
 idle m sound = record {
   sound = sound;
   header = header-same m.header;
-  file = record { consistent = sound.safe.consistent; header = header-same m.header; shows = λ p. inl refl };
+  file = record { consistent = sound.well_formed.consistent; header = header-same m.header; shows = λ p. inl refl };
   memory = λ p. inl refl;
-  words = λ guest. inl refl;
+  raw_entries = λ guest. inl refl;
   used = λ c used none. used;
   waits = λ c used none. omega arith;
   names = λ c used none. omega arith;
-  kept = λ p used none. inr refl;
+  used_bytes_unchanged = λ p used none. inr refl;
   law = λ c. omega arith;
 }
 
@@ -174,49 +174,49 @@ freed-data None = tt
 freed-data (Some clusters) = refl
 
 -- A word that names a cluster means that its data is there.
-pub names-data : (m : Metadata) (x : ℕ) → IsSound m → x ≢ 0 → IsInReach m.header.fields.cluster_bits x
+pub names-data : (m : Metadata) (x : ℕ) → IsSound m → x ≢ 0 → IsAddressable m.header.fields.cluster_bits x
     → mapping_of (layout_of m.header.fields) (2 ^ 63 + x * cluster_size m.header.fields) ≡ data_at x true
-names-data m x sound some near = fresh-word m.header.fields x (consistent-shaped m.file m.header sound.safe.consistent).low (omega (arith, some)) near
+names-data m x sound some near = fresh-word m.header.fields x (consistent-shaped m.file m.header sound.well_formed.consistent).low (omega (arith, some)) near
 
 -- What is given, set, handed out and taken by that one step, where it hands this back.
 abbrev pub stepping : Metadata → (i j x : ℕ) → Mapping → Option FreeEntry → Kind
 stepping m i j x old before = record {
-  gives = GivesWord m i j (data_at x true);
+  gives = GivesEntry m i j (data_at x true);
   written = λ q. ⊥;
-  set = IsOfWord m.header.fields i j;
-  handed = λ c. holds c before;
+  set = IsOfEntry m.header.fields i j;
+  newly_allocated = λ c. holds c before;
   taken = newly x (allocation_of m.header.fields.cluster_bits old);
 }
 
 -- The word was set: what it named is counted still, so that it may wait to be freed, and so is the cluster that it names.
 pub record WordNamed (m : Metadata) (guest x : ℕ) (old : Mapping) (before : Option FreeEntry) (found set : Metadata) : Type 0 where
-  pub step : AdvancesBy (stepping found (guest / words_of_cluster m.header.fields) (guest % words_of_cluster m.header.fields) x old before) found set
+  pub step : AdvancesBy (stepping found (guest / entries_of_cluster m.header.fields) (guest % entries_of_cluster m.header.fields) x old before) found set
   pub named : entry (in_memory set) m.header.fields guest ≡ data_at x true
-  pub wider : IsWider (stepping found (guest / words_of_cluster m.header.fields) (guest % words_of_cluster m.header.fields) x old before) (naming m guest x)
+  pub wider : IsWider (stepping found (guest / entries_of_cluster m.header.fields) (guest % entries_of_cluster m.header.fields) x old before) (naming m guest x)
   pub used : IsUsed set x
   pub owed : (c : ℕ) → referenced set c + waiting set c + holds c before ≤ counted set c
-  pub spared : holds x before ≡ 0
-  pub spares : (c : ℕ) → c ≢ x → named_at_all found c ≡ 0 → holds c before ≡ 0
+  pub left_untouched : holds x before ≡ 0
+  pub untouched_unless_begun : (c : ℕ) → c ≢ x → referenced_at_all found c ≡ 0 → holds c before ≡ 0
 
 -- It is found, over a file that is the same, and its word comes to name the cluster.
-module _ (m : Metadata) (table guest x : ℕ) (sound : IsSound m) (able : IsNameable m table guest x) (some : x ≢ 0) (near : IsInReach m.header.fields.cluster_bits x)
+module _ (m : Metadata) (table guest x : ℕ) (sound : IsSound m) (able : CanBeLinked m table guest x) (some : x ≢ 0) (near : IsAddressable m.header.fields.cluster_bits x)
     (y : Bytes) (cached : Cached) (order : CacheDependency) (same : y ≡ m.file) where
   abbrev found : Metadata
   found = record m { file = y; cached = cached; order = order }
 
   abbrev i' : ℕ
-  i' = guest / words_of_cluster m.header.fields
+  i' = guest / entries_of_cluster m.header.fields
 
   abbrev j' : ℕ
-  j' = guest % words_of_cluster m.header.fields
+  j' = guest % entries_of_cluster m.header.fields
 
-  module _ (sound' : IsSound found) (quiet : IsQuiet (λ _. 0) (λ _. 0) m found) (t : TableValue)
+  module _ (sound' : IsSound found) (guest_unchanged : GuestUnchanged (λ _. 0) (λ _. 0) m found) (t : TableValue)
       (there : option_map (λ s. s.value) (lookup (nat_eq table) cached.tables) ≡ Some t) (cached' : Cached)
-      (tables : cached'.tables ≡ hit (nat_eq table) cached.tables (with_word t j' (2 ^ 63 + x * cluster_size m.header.fields))) (blocks : cached'.blocks ≡ cached.blocks) where
-    abbrev sets : SetsWord y m.header.fields cached table i' j' (2 ^ 63 + x * cluster_size m.header.fields) cached'
+      (tables : cached'.tables ≡ hit (nat_eq table) cached.tables (with_raw_entry t j' (2 ^ 63 + x * cluster_size m.header.fields))) (blocks : cached'.blocks ≡ cached.blocks) where
+    abbrev sets : SetsEntry y m.header.fields cached table i' j' (2 ^ 63 + x * cluster_size m.header.fields) cached'
     sets = record {
       table = t;
-      caches = record { there = there; inside = able.under.inside; place = ap (λ (b : Bytes). l2_table b m.header.fields i') same ∙ able.under.there; some = able.under.some };
+      caches = record { table_cached = there; inside = able.layers_below.inside; place = ap (λ (b : Bytes). l2_table b m.header.fields i') same ∙ able.layers_below.table_linked; cluster_nonzero = able.layers_below.table_nonzero };
       inside = row m table guest x sound able;
       tables = tables;
       blocks = blocks;
@@ -239,31 +239,31 @@ module _ (m : Metadata) (table guest x : ℕ) (sound : IsSound m) (able : IsName
       reserved : IsReserved found x
       reserved =
           reserved-still (λ p v. ⊥) (λ q. ⊥) (λ g. ⊥) (λ _. 0) (λ _. 0) m found
-          (quiet-advances m found (λ _. 0) (λ _. 0) sound sound' quiet (λ c named. refl)) x was refl
+          (quiet-advances m found (λ _. 0) (λ _. 0) sound sound' guest_unchanged (λ c named. refl)) x was refl
 
-      names : NamesCluster found i' j' (mapping_in t j') x cached'
+      names : LinksCluster found i' j' (mapping_in t j') x cached'
       names =
-          cluster-mapped y m.header cached cached' order table i' j' x sound'.safe sets some near reserved.unnamed (let taken = reserved.used.taken in omega (arith, taken))
+          cluster-mapped y m.header cached cached' order table i' j' x sound'.well_formed sets some near reserved.not_referenced (let taken = reserved.used.taken in omega (arith, taken))
 
       -- The word didn't name it.
-      unnamed : names_at found (mapping_in t j') x ≡ 0
-      unnamed =
+      not_referenced : names_at found (mapping_in t j') x ≡ 0
+      not_referenced =
           let now = names.changed.references x in
           let own : of_mapping m.header.fields (meets m.header.fields x) (data_at x true) ≡ 1 = meets-own m.header.fields x in
-          let least : refs (in_memory found) m.header.fields x ≤ named_at_all found x = refs-cached y (in_memory found) m.header.fields x (places-there found sound') in
-          let none = reserved.unnamed in
+          let least : refs (in_memory found) m.header.fields x ≤ referenced_at_all found x = refs-cached y (in_memory found) m.header.fields x (places-there found sound') in
+          let none = reserved.not_referenced in
           let once = names.references in
           omega (arith, now, own, least, none, once)
 
       back : (c : ℕ) → holds c before ≡ names_at found (mapping_in t j') c
-      back = back-named m.header.fields x (mapping_in t j') mapping before means conserved unnamed
+      back = back-named m.header.fields x (mapping_in t j') mapping before means conserved not_referenced
 
       anew : (c : ℕ) → newly x (allocation_of m.header.fields.cluster_bits (mapping_in t j')) c ≡ one_at x c
-      anew = newly-one m.header.fields x (mapping_in t j') mapping before means conserved unnamed
+      anew = newly-one m.header.fields x (mapping_in t j') mapping before means conserved not_referenced
 
       named-step : AdvancesBy (stepping found i' j' x (mapping_in t j') before) found set
-      named-step = advances-weaker (GivesWord found i' j' (data_at x true)) (GivesWord found i' j' (data_at x true)) (λ q. ⊥) (λ q. ⊥)
-          (IsOfWord m.header.fields i' j') (IsOfWord m.header.fields i' j') (names_at found (mapping_in t j')) (one_at x) (λ c. holds c before)
+      named-step = advances-weaker (GivesEntry found i' j' (data_at x true)) (GivesEntry found i' j' (data_at x true)) (λ q. ⊥) (λ q. ⊥)
+          (IsOfEntry m.header.fields i' j') (IsOfEntry m.header.fields i' j') (names_at found (mapping_in t j')) (one_at x) (λ c. holds c before)
           (newly x (allocation_of m.header.fields.cluster_bits (mapping_in t j'))) found set (λ p v given. given) (λ q none. none) (λ g is. is)
           (λ c. let all = back c in let one = anew c in omega (arith, all, one)) (λ c used none. let one = anew c in omega (arith, one, none))
           (named-advances found i' j' x (mapping_in t j') cached' sound' names reserved)
@@ -286,12 +286,12 @@ module _ (m : Metadata) (table guest x : ℕ) (sound : IsSound m) (able : IsName
             let all = back c in
             let counts = names.changed.written.counts c in
             omega (arith, owed, all, counts);
-        spared = back x ∙ unnamed;
-        spares = λ c apart none.
+        left_untouched = back x ∙ not_referenced;
+        untouched_unless_begun = λ c apart none.
             let all = back c in
             let moved = names.changed.references c in
             let other : of_mapping m.header.fields (meets m.header.fields c) (data_at x true) ≡ 0 = meets-other m.header.fields c x (λ e. apart (sym e)) in
-            let least : refs (in_memory found) m.header.fields c ≤ named_at_all found c = refs-cached y (in_memory found) m.header.fields c (places-there found sound') in
+            let least : refs (in_memory found) m.header.fields c ≤ referenced_at_all found c = refs-cached y (in_memory found) m.header.fields c (places-there found sound') in
             omega (arith, all, moved, other, least, none);
       }
 
@@ -300,15 +300,15 @@ module _ (m : Metadata) (table guest x : ℕ) (sound : IsSound m) (able : IsName
       kept : IsKeptFor found guest x
       kept = record {
         file = ap (λ (b : Bytes). entry b m.header.fields guest) same ∙ was.file;
-        memory = quiet-entries m found (λ _. 0) (λ _. 0) sound sound' quiet guest ∙ was.memory;
+        memory = quiet-entries m found (λ _. 0) (λ _. 0) sound sound' guest_unchanged guest ∙ was.memory;
       }
 
       drops : DropsNames found i' j' (zeroes (Some x) true) (data_at x true) cached'
-      drops = data-drops y m.header cached cached' order table i' j' sound'.safe x sets some near (meant ∙ was.file)
+      drops = data-drops y m.header cached cached' order table i' j' sound'.well_formed x sets some near (meant ∙ was.file)
 
       kept-step : AdvancesBy (stepping found i' j' x (zeroes (Some x) true) None) found set
-      kept-step = advances-weaker (GivesWord found i' j' (data_at x true)) (GivesWord found i' j' (data_at x true)) (λ q. ⊥) (λ q. ⊥)
-          (IsOfWord m.header.fields i' j') (IsOfWord m.header.fields i' j') (λ _. 0) (λ _. 0) (λ c. 0)
+      kept-step = advances-weaker (GivesEntry found i' j' (data_at x true)) (GivesEntry found i' j' (data_at x true)) (λ q. ⊥) (λ q. ⊥)
+          (IsOfEntry m.header.fields i' j') (IsOfEntry m.header.fields i' j') (λ _. 0) (λ _. 0) (λ c. 0)
           (newly x (Some (x, 1))) found set (λ p v given. given) (λ q none. none) (λ g is. is)
           (λ c. let none = kept-newly x c in omega (arith, none)) (λ c used none. refl)
           (dropped-advances found i' j' (zeroes (Some x) true) (data_at x true) (λ _. 0) cached' sound' drops (λ c. omega arith))
@@ -320,8 +320,8 @@ module _ (m : Metadata) (table guest x : ℕ) (sound : IsSound m) (able : IsName
         wider = named-wider (zeroes (Some x) true) None;
         used = used-after found i' j' (zeroes (Some x) true) cached' (data_at x true) drops.changed x (kept-used found guest x sound' kept);
         owed = λ c. let covered = kept-step.sound.covered c in omega (arith, covered);
-        spared = refl;
-        spares = λ c apart none. refl;
+        left_untouched = refl;
+        untouched_unless_begun = λ c apart none. refl;
       }
 
       pub kept-named-by : (before : Option FreeEntry) → before ≡ freed (replaced x (allocation_of m.header.fields.cluster_bits (mapping_in t j')))

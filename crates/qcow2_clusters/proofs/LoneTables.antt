@@ -6,10 +6,10 @@ use Rattle.std.specs.Option.{option_map}
 use Rattle.std.specs.Map.{lookup}
 use Rattle.std.proofs.lemmas.Bool.{cases_Bool}
 use Rattle.imago_storage.specs.State.{StorageState}
-use Rattle.imago_storage.specs.Calls.{Kept}
+use Rattle.imago_storage.specs.Calls.{UnchangedButFaults}
 use Rattle.imago_storage.specs.declared.fault.Fault.{Fault}
 use Rattle.qcow2_types.specs.Bytes.{bytes_of}
-use Rattle.qcow2_types.specs.Header.{words_of_cluster}
+use Rattle.qcow2_types.specs.Header.{entries_of_cluster}
 use Rattle.qcow2_metadata.specs.Tables.{TableValue, table_in}
 use Rattle.qcow2_alloc.specs.declared.async_lru_cache.Slot.{Slot}
 use Rattle.qcow2_alloc.specs.declared.cache.MetadataCaches.{MetadataCaches}
@@ -20,9 +20,9 @@ use Rattle.qcow2_alloc.specs.Caches.{cached_in, cached_file}
 use Rattle.qcow2_alloc.specs.CachesLending.{with_tables}
 use Rattle.qcow2_alloc.specs.Finding.{IsPinnedFull, TableFound, with_room}
 use Rattle.qcow2_alloc.specs.Memory.{Cached, written_block, written_table}
-use Rattle.qcow2_alloc.specs.Safety.{AreBlocksClean, AreTablesClean}
-use Rattle.qcow2_clusters.specs.Rest.{AreEmpty, HasEntries, nothing_cached}
-use Rattle.qcow2_clusters.specs.Settling.{AreUnpinned}
+use Rattle.qcow2_alloc.specs.WellFormedness.{AreBlocksClean, AreTablesClean}
+use Rattle.qcow2_clusters.specs.Flushed.{AreEmpty, HasEntries, nothing_cached}
+use Rattle.qcow2_clusters.specs.WritingBack.{AreUnpinned}
 
 -- An entry alone.
 pub lone-hit : {V : Type 0} (key : ℕ) (s : Slot V) (w : V) → hit (nat_eq key) ((key, s) ∷ []) w ≡ (key, record s { value = w }) ∷ []
@@ -62,21 +62,21 @@ module _ {S : Type 0} (state : S → StorageState) (key : ℕ) (old : MetadataCa
 
   module _ (answer : Result Unit Fault) (new : MetadataCaches S) (after : ImageFile S) (found : TableFound state key old before answer new after) where
     -- Nothing is written,
-    pub only-read : Kept (state before.image) (state after.image)
-    only-read = (found.still nothing-waits.0 nothing-waits.1).0
+    pub only-read : UnchangedButFaults (state before.image) (state after.image)
+    only-read = (found.has_no_dirty_data nothing-waits.0 nothing-waits.1).0
 
     blocks-still : (cached_in new).blocks ≡ []
-    blocks-still = none-of written_block (cached_in new).blocks (found.kept ∙ ap (map written_block) none-blocks)
+    blocks-still = none-of written_block (cached_in new).blocks (found.other_unchanged ∙ ap (map written_block) none-blocks)
 
   -- and the table is cached alone,
   pub found-alone : (new : MetadataCaches S) (after : ImageFile S) → TableFound state key old before (Ok tt) new after
-      → cached_in new ≡ lone_table key (table_in (bytes_of (state after.image).bytes) before.header.fields key (words_of_cluster before.header.fields))
+      → cached_in new ≡ lone_table key (table_in (bytes_of (state after.image).bytes) before.header.fields key (entries_of_cluster before.header.fields))
   found-alone new after found =
       let none : lookup (nat_eq key) (cached_in old).tables ≡ None = ap (λ (c : Cached). lookup (nat_eq key) c.tables) rest in
       let loaded = found.sought.loaded none in
       let blocks = blocks-still (Ok tt) new after found in
       let room = ap (with_room old.l2.slots.cap) none-cached ∙ room-of-none old.l2.slots.cap in
-      let table : TableValue = table_in (bytes_of (state after.image).bytes) before.header.fields key (words_of_cluster before.header.fields) in
+      let table : TableValue = table_in (bytes_of (state after.image).bytes) before.header.fields key (entries_of_cluster before.header.fields) in
       let tables : (cached_in new).tables ≡ (key, record { value = table; pins = 0 }) ∷ [] = loaded ∙ ap (λ es. (key, record { value = table; pins = 0 }) ∷ es) room in
       ap (λ es. record { tables = es; blocks = (cached_in new).blocks }) tables
       ∙ ap (λ es. record { tables = (key, record { value = table; pins = 0 }) ∷ []; blocks = es }) blocks
@@ -94,7 +94,7 @@ module _ {S : Type 0} (state : S → StorageState) (key : ℕ) (old : MetadataCa
   -- It is the file's.
   pub used-read : (mid : MetadataCaches S) (after : ImageFile S) → TableFound state key old before (Ok tt) mid after → (table : TableValue)
       → option_map (λ s. s.value) (lookup (nat_eq key) (cached_in mid).tables) ≡ Some table
-      → table ≡ table_in (bytes_of (state after.image).bytes) before.header.fields key (words_of_cluster before.header.fields)
+      → table ≡ table_in (bytes_of (state after.image).bytes) before.header.fields key (entries_of_cluster before.header.fields)
   used-read mid after found table there =
       lone-value key _ table (subst (λ (c : Cached). option_map (λ s. s.value) (lookup (nat_eq key) c.tables) ≡ Some table) (found-alone mid after found) there)
 

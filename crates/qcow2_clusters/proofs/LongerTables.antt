@@ -9,7 +9,7 @@ use Rattle.std.proofs.lemmas.Bool.{cases_lt, ne_eqb}
 use Rattle.std.proofs.lemmas.Bool.Decides.{nat_tests}
 use Rattle.std.proofs.lemmas.List.{ext_get_or, get_or-append_right, get_or-replicate, length-append, length-replicate}
 use Rattle.std.proofs.lemmas.Nat.{pow_pos}
-use Rattle.qcow2_types.specs.Bytes.{Bytes, bytes_of, splice, word}
+use Rattle.qcow2_types.specs.Bytes.{Bytes, bytes_of, splice, raw_entry}
 use Rattle.qcow2_types.specs.Counts.{count}
 use Rattle.qcow2_types.specs.Frames.{Outside}
 use Rattle.qcow2_types.specs.Header.{Fields, Header, cluster_size, first_fault, header_of, layout_of, rules_of_size}
@@ -25,17 +25,17 @@ use Rattle.qcow2_types.proofs.Switching.HeaderSwitch.{first-fields-fit, length-f
 use Rattle.qcow2_types.proofs.Changes.Over.{words-length, words-read}
 use Rattle.qcow2_types.proofs.Numbers.Splices.{be-same}
 use Rattle.qcow2_metadata.specs.Places.{place_of}
-use Rattle.qcow2_metadata.specs.Tables.{TableValue, padded, table_place, words_in}
+use Rattle.qcow2_metadata.specs.Tables.{TableValue, padded, table_start, raw_entries_in}
 use Rattle.qcow2_metadata.proofs.TableFacts.{words_at, words_long}
 use Rattle.qcow2_alloc.specs.FreeList.{covers}
 use Rattle.qcow2_alloc.specs.MakingRoom.{run_of}
 use Rattle.qcow2_alloc.specs.Opening.{IsL1Of}
-use Rattle.qcow2_alloc.specs.Quiet.{Metadata, IsSound, counted, named_at_all, waiting}
+use Rattle.qcow2_alloc.specs.GuestView.{Metadata, IsSound, counted, referenced_at_all, waiting}
 use Rattle.qcow2_steps.specs.LongerL1.{IsReadyL1Table, NamesL1Table, new_l1, old_l1, with_longer_l1}
 use Rattle.qcow2_steps.proofs.LongerL1.{counts-there, longer-advances, old-unnamed}
 use Rattle.qcow2_clusters.specs.Lengthening.{clusters_for, l1_run, naming_l1}
 use Rattle.qcow2_clusters.specs.Progress.{handing}
-use Rattle.qcow2_clusters.specs.Rest.{nothing_cached}
+use Rattle.qcow2_clusters.specs.Flushed.{nothing_cached}
 use Rattle.qcow2_clusters.specs.Storing.{AreReserved}
 use Rattle.qcow2_clusters.proofs.ProgressSums.{AdvancesBy}
 use Rattle.qcow2_clusters.proofs.TableNames.{l1-long, l1-sound, l1-word, resting-memory}
@@ -94,14 +94,14 @@ pub record IsStoredL1 (m : Metadata) (table old : TableValue) (n first : ℕ) : 
   pub rest : m.cached ≡ nothing_cached
   pub of : IsL1Of m.file m.header.fields old
   pub layout : table.layout ≡ layout_of m.header.fields
-  pub words : table.words ≡ padded old.words n
-  pub longer : length old.words ≤ n
-  pub place : table_place table ≡ first * cluster_size m.header.fields
+  pub raw_entries : table.raw_entries ≡ padded old.raw_entries n
+  pub longer : length old.raw_entries ≤ n
+  pub place : table_start table ≡ first * cluster_size m.header.fields
   pub some : first ≢ 0
-  pub fit : AreFit table.words
-  pub stored : (k : ℕ) → k < length (table_bytes table.words)
-      → m.file (first * cluster_size m.header.fields + k) ≡ slice_index (table_bytes table.words) k
-  pub reserved : AreReserved (clusters_for m.header.fields (length table.words)) m first
+  pub fit : AreFit table.raw_entries
+  pub stored : (k : ℕ) → k < length (table_bytes table.raw_entries)
+      → m.file (first * cluster_size m.header.fields + k) ≡ slice_index (table_bytes table.raw_entries) k
+  pub reserved : AreReserved (clusters_for m.header.fields (length table.raw_entries)) m first
   pub bytes : (p : ℕ) → m.file p < 256
   pub sizes : first_fault (rules_of_size (naming_l1 m.header table).fields) ≡ None
 
@@ -118,43 +118,43 @@ module _ (m : Metadata) (table old : TableValue) (n first : ℕ) (sound : IsSoun
   abbrev x : Bytes
   x = splice m.file 0 (first_bytes (naming_l1 m.header table).fields)
 
-  old-long : length old.words ≡ h.l1_entries
+  old-long : length old.raw_entries ≡ h.l1_entries
   old-long = l1-long m.file h old is.of
 
-  pub table-long : length table.words ≡ n
-  table-long = ap length is.words ∙ length-append old.words (replicate (n - length old.words) 0)
-      ∙ (let zeroes = length-replicate {A = ℕ} (n - length old.words) 0 in let longer = is.longer in omega (arith, zeroes, longer))
+  pub table-long : length table.raw_entries ≡ n
+  table-long = ap length is.raw_entries ∙ length-append old.raw_entries (replicate (n - length old.raw_entries) 0)
+      ∙ (let zeroes = length-replicate {A = ℕ} (n - length old.raw_entries) 0 in let longer = is.longer in omega (arith, zeroes, longer))
 
-  all-words : h.l1_entries + more ≡ length table.words
+  all-words : h.l1_entries + more ≡ length table.raw_entries
   all-words = let longer = is.longer in omega (arith, old-long, table-long, longer)
 
   -- A word is what was stored of it.
-  word-there : (i : ℕ) → i < length table.words → word m.file (first * cluster_size h) i ≡ slice_index table.words i
-  unfolding word
+  word-there : (i : ℕ) → i < length table.raw_entries → raw_entry m.file (first * cluster_size h) i ≡ slice_index table.raw_entries i
+  unfolding raw_entry
   word-there i lt =
-      be-same m.file (bytes_of (table_bytes table.words)) (first * cluster_size h + 8 * i) (8 * i) 8
+      be-same m.file (bytes_of (table_bytes table.raw_entries)) (first * cluster_size h + 8 * i) (8 * i) 8
       (λ k less.
       let at : first * cluster_size h + (8 * i + k) ≡ first * cluster_size h + 8 * i + k = omega arith in
-      ap m.file (sym at) ∙ is.stored (8 * i + k) (let size = words-length table.words in omega (arith, size, lt, less)))
-      ∙ words-read table.words i is.fit lt
+      ap m.file (sym at) ∙ is.stored (8 * i + k) (let size = words-length table.raw_entries in omega (arith, size, lt, less)))
+      ∙ words-read table.raw_entries i is.fit lt
 
-  word-old : (i : ℕ) → i < h.l1_entries → slice_index table.words i ≡ word m.file h.l1_offset i
+  word-old : (i : ℕ) → i < h.l1_entries → slice_index table.raw_entries i ≡ raw_entry m.file h.l1_offset i
   word-old i lt =
-      ap (λ (ws : List ℕ). slice_index ws i) is.words
-      ∙ get_or-append old.words (replicate (n - length old.words) 0) 0 i (omega (arith, lt, old-long))
+      ap (λ (ws : List ℕ). slice_index ws i) is.raw_entries
+      ∙ get_or-append old.raw_entries (replicate (n - length old.raw_entries) 0) 0 i (omega (arith, lt, old-long))
       ∙ l1-word m.file h old is.of i lt
 
-  word-new : (i : ℕ) → h.l1_entries ≤ i → i < h.l1_entries + more → slice_index table.words i ≡ 0
+  word-new : (i : ℕ) → h.l1_entries ≤ i → i < h.l1_entries + more → slice_index table.raw_entries i ≡ 0
   word-new i from to =
-      ap (λ (ws : List ℕ). slice_index ws i) is.words
-      ∙ get_or-append_right old.words (replicate (n - length old.words) 0) h.l1_entries i 0 old-long from
-      ∙ get_or-replicate (n - length old.words) (i - h.l1_entries) 0 0 (omega (arith, from, to, old-long))
+      ap (λ (ws : List ℕ). slice_index ws i) is.raw_entries
+      ∙ get_or-append_right old.raw_entries (replicate (n - length old.raw_entries) 0) h.l1_entries i 0 old-long from
+      ∙ get_or-replicate (n - length old.raw_entries) (i - h.l1_entries) 0 0 (omega (arith, from, to, old-long))
 
-  new-is : (d : ℕ) → new_l1 m (table_place table) more d ≡ covers d (run_of first (clusters_for h (length table.words)))
+  new-is : (d : ℕ) → new_l1 m (table_start table) more d ≡ covers d (run_of first (clusters_for h (length table.raw_entries)))
   new-is d =
       ap (λ p. meets h d p ((h.l1_entries + more) * 8)) is.place
       ∙ ap (λ k. meets h d (first * cluster_size h) (k * 8)) all-words
-      ∙ part-meets h d first (length table.words)
+      ∙ part-meets h d first (length table.raw_entries)
 
   in-run : (d first n : ℕ) → 0 < covers d (run_of first n) → (first ≤ d) × (d < first + n)
   in-run d first n some = elim (cases_lt d first) [
@@ -166,61 +166,61 @@ module _ (m : Metadata) (table old : TableValue) (n first : ℕ) (sound : IsSoun
   ]
 
   -- So it is ready to become the L1 table,
-  ready : IsReadyL1Table m (table_place table) more
+  ready : IsReadyL1Table m (table_start table) more
   ready = record {
-    words = λ i lt. ap (λ p. word m.file p i) is.place ∙ word-there i (omega (arith, lt, all-words)) ∙ word-old i lt;
-    zeroes = λ i from to. ap (λ p. word m.file p i) is.place ∙ word-there i (omega (arith, to, all-words)) ∙ word-new i from to;
+    raw_entries = λ i lt. ap (λ p. raw_entry m.file p i) is.place ∙ word-there i (omega (arith, lt, all-words)) ∙ word-old i lt;
+    zeroes = λ i from to. ap (λ p. raw_entry m.file p i) is.place ∙ word-there i (omega (arith, to, all-words)) ∙ word-new i from to;
     reserved = λ d met.
-        let within = in-run d first (clusters_for h (length table.words)) (let same = new-is d in omega (arith, met, same)) in
+        let within = in-run d first (clusters_for h (length table.raw_entries)) (let same = new-is d in omega (arith, met, same)) in
         let reserved = is.reserved d within.0 within.1 in
         let less = subst (λ (g : Bytes). waiting m d < count g h d) (resting-memory m is.rest) reserved.used.taken in
         (reserved, omega (arith, less));
   }
 
-  header-is : H' ≡ with_l1_table m.header (table_place table) (h.l1_entries + more)
-  header-is = ap (λ k. with_l1_table m.header (table_place table) k) (sym all-words)
+  header-is : H' ≡ with_l1_table m.header (table_start table) (h.l1_entries + more)
+  header-is = ap (λ k. with_l1_table m.header (table_start table) k) (sym all-words)
 
   loads : header_of true x ≡ Ok H'
   loads =
-      let was = sound.safe.consistent.readable.loads in
+      let was = sound.well_formed.consistent.readable.loads in
       let only : OnlyPlaces m.header H' = record { same = refl } in
       switch-header true m.file m.header H' was only (first-fields-fit true m.file m.header H' is.bytes was only is.sizes) is.sizes (name-behind m.file m.header was)
 
   outside : Outside m.file x 0 64
   outside = subst (λ k. Outside m.file x 0 k) (length-first_bytes H'.fields) (splice-is-outside m.file 0 (first_bytes H'.fields))
 
-  names : NamesL1Table m (table_place table) more x
+  names : NamesL1Table m (table_start table) more x
   names = record { loads = subst (λ (K : Header). header_of true x ≡ Ok K) header-is loads; outside = outside }
 
   abbrev pub later : Metadata
   later = record m { file = splice m.file 0 (first_bytes (naming_l1 m.header table).fields); header = naming_l1 m.header table }
 
-  later-is : with_longer_l1 m (table_place table) more x ≡ later
+  later-is : with_longer_l1 m (table_start table) more x ≡ later
   later-is = ap (λ (K : Header). record m { file = x; header = K }) (sym header-is)
 
   -- and the image advances where the header names it.
-  pub stored-advances : AdvancesBy (handing (old_l1 m) (λ d. covers d (run_of first (clusters_for m.header.fields (length table.words))))) m later
+  pub stored-advances : AdvancesBy (handing (old_l1 m) (λ d. covers d (run_of first (clusters_for m.header.fields (length table.raw_entries))))) m later
   stored-advances =
       subst (λ (taken : ℕ → ℕ). AdvancesBy (handing (old_l1 m) taken) m later) (fun_ext new-is)
-      (subst (λ (k : Metadata). AdvancesBy (handing (old_l1 m) (new_l1 m (table_place table) more)) m k) later-is
-      (longer-advances m (table_place table) more x sound ready names))
+      (subst (λ (k : Metadata). AdvancesBy (handing (old_l1 m) (new_l1 m (table_start table) more)) m k) later-is
+      (longer-advances m (table_start table) more x sound ready names))
 
-  pub stored-unnamed : (d : ℕ) → old_l1 m d ≡ 1 → named_at_all later d ≡ 0
-  stored-unnamed d own = subst (λ (k : Metadata). named_at_all k d ≡ 0) later-is (old-unnamed m (table_place table) more x sound ready names d own)
+  pub stored-unnamed : (d : ℕ) → old_l1 m d ≡ 1 → referenced_at_all later d ≡ 0
+  stored-unnamed d own = subst (λ (k : Metadata). referenced_at_all k d ≡ 0) later-is (old-unnamed m (table_start table) more x sound ready names d own)
 
   -- and as much is counted.
   pub stored-counts : (d : ℕ) → counted later d ≡ counted m d
-  stored-counts d = subst (λ (k : Metadata). counted k d ≡ counted m d) later-is (counts-there m (table_place table) more x sound ready names d)
+  stored-counts d = subst (λ (k : Metadata). counted k d ≡ counted m d) later-is (counts-there m (table_start table) more x sound ready names d)
 
   far : 64 ≤ first * cluster_size h
   far =
-      let shaped = consistent-shaped m.file m.header sound.safe.consistent in
+      let shaped = consistent-shaped m.file m.header sound.well_formed.consistent in
       let low : 2 ^ 9 ≤ cluster_size h = pow_mono shaped.low in
       let more : 1 * cluster_size h ≤ first * cluster_size h = mul-le-mul_right (cluster_size h) (let some = is.some in omega (arith, some)) in
       omega (arith, low, more)
 
-  word-still : (i : ℕ) → word x (first * cluster_size h) i ≡ word m.file (first * cluster_size h) i
-  unfolding word
+  word-still : (i : ℕ) → raw_entry x (first * cluster_size h) i ≡ raw_entry m.file (first * cluster_size h) i
+  unfolding raw_entry
   word-still i = be-same x m.file (first * cluster_size h + 8 * i) (first * cluster_size h + 8 * i) 8
       (λ k less. outside (first * cluster_size h + 8 * i + k) (inr (omega (arith, far))))
 
@@ -228,8 +228,8 @@ module _ (m : Metadata) (table old : TableValue) (n first : ℕ) (sound : IsSoun
   pub stored-entered : IsL1Of later.file later.header.fields table
   stored-entered = record {
     layout = is.layout;
-    words = ext_get_or 0 table.words (words_in x (table_place table) (length table.words)) (sym (words_long x (table_place table) (length table.words)))
-        (λ i lt. sym (word-there i lt) ∙ sym (word-still i) ∙ ap (λ p. word x p i) (sym is.place)
-        ∙ sym (words_at x (table_place table) (length table.words) i lt));
-    sound = l1-sound x H'.fields stored-advances.sound.safe.consistent.readable.tables;
+    raw_entries = ext_get_or 0 table.raw_entries (raw_entries_in x (table_start table) (length table.raw_entries)) (sym (words_long x (table_start table) (length table.raw_entries)))
+        (λ i lt. sym (word-there i lt) ∙ sym (word-still i) ∙ ap (λ p. raw_entry x p i) (sym is.place)
+        ∙ sym (words_at x (table_start table) (length table.raw_entries) i lt));
+    sound = l1-sound x H'.fields stored-advances.sound.well_formed.consistent.readable.tables;
   }

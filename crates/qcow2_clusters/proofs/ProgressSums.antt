@@ -1,15 +1,15 @@
 -- Calls one behind the other, and what is quiet as a call of its kind.
 use Rattle.std.proofs.Common.{◌≡◌, ℕ, ◌+◌, ◌<◌, arith, refl, ◌∙◌, List, Option, inl, inr}
 use Rattle.std.specs.Prelude.{IsTrue}
-use Rattle.imago_storage.specs.State.{StorageState, Rose}
-use Rattle.imago_storage.specs.Calls.{Later}
+use Rattle.imago_storage.specs.State.{StorageState, HasRisen}
+use Rattle.imago_storage.specs.Calls.{CountsNotFallen}
 use Rattle.imago_storage.specs.Disk.{Value}
-use Rattle.imago_storage.specs.Passing.{Passes}
+use Rattle.imago_storage.specs.Passing.{UnrefusedCrashImages}
 use Rattle.imago_storage.proofs.Composing.{keeps_on, later_both, later_same, no_stops, rose_before, rose_behind, stops_both, stops_weaker}
 use Rattle.qcow2_types.specs.Bytes.{bytes_of}
 use Rattle.qcow2_types.specs.Header.{Header}
-use Rattle.qcow2_alloc.specs.Quiet.{Metadata, IsSound, IsUsed, Quietly, referenced}
-use Rattle.qcow2_steps.specs.Advancing.{Advances, MayBeLeft}
+use Rattle.qcow2_alloc.specs.GuestView.{Metadata, IsSound, IsUsed, PreservesGuest, referenced}
+use Rattle.qcow2_steps.specs.Advancing.{Advances, MayBeCrashImage}
 use Rattle.qcow2_steps.proofs.StepSums.{advances-then, advances-weaker, left-then, left-weaker}
 use Rattle.qcow2_steps.proofs.QuietValues.{quiet-left}
 use Rattle.qcow2_steps.proofs.Steps.{quiet-advances}
@@ -17,11 +17,11 @@ use Rattle.qcow2_clusters.specs.Progress.{Kind, Progresses, both, handing}
 
 -- the image advances by a call of this kind
 abbrev pub AdvancesBy : Kind → Metadata → Metadata → Type 0
-AdvancesBy kind m m' = Advances kind.gives kind.written kind.set kind.handed kind.taken m m'
+AdvancesBy kind m m' = Advances kind.gives kind.written kind.set kind.newly_allocated kind.taken m m'
 
 -- the files that may be left in one
 abbrev pub LeftBy : Kind → Metadata → List ℕ → Type 0
-LeftBy kind m x = (H : Header) × MayBeLeft kind.gives m (bytes_of x) H
+LeftBy kind m x = (H : Header) × MayBeCrashImage kind.gives m (bytes_of x) H
 
 -- The second kind gives, writes and sets all that the first one does.
 pub record IsWider (kind wider : Kind) : Type 0 where
@@ -53,20 +53,20 @@ wider-handing handed taken wider = record { gives = λ p v none. absurd none; wr
 
 -- What may be left where this is given may be left where more is.
 wider-passes : (kind wider : Kind) (s : StorageState) (m : Metadata) (s' : StorageState)
-    → ((p : ℕ) (v : Option Value) → kind.gives p v → wider.gives p v) → (IsTrue s.shape.keeps → IsSound m → Passes (LeftBy kind m) s s')
-    → IsTrue s.shape.keeps → IsSound m → Passes (LeftBy wider m) s s'
-wider-passes kind wider s m s' more passes keeps sound calm =
-    let told = passes keeps sound calm in
+    → ((p : ℕ) (v : Option Value) → kind.gives p v → wider.gives p v) → (IsTrue s.shape.keeps → IsSound m → UnrefusedCrashImages (LeftBy kind m) s s')
+    → IsTrue s.shape.keeps → IsSound m → UnrefusedCrashImages (LeftBy wider m) s s'
+wider-passes kind wider s m s' more passes keeps sound no_change_refused =
+    let told = passes keeps sound no_change_refused in
     (told.0, stops_weaker (LeftBy kind m) (LeftBy wider m) s s' (λ _ x left. (left.0, left-weaker kind.gives wider.gives more m (bytes_of x) left.0 left.1)) told.1)
 
 -- What is quiet, and takes nothing that is named, is a call that gives nothing.
 pub quiet-progresses : (ok : Type 0) (handed taken : ℕ → ℕ) (s : StorageState) (m : Metadata) (s' : StorageState) (m' : Metadata)
-    → (IsSound m → (c : ℕ) → 0 < referenced m c → taken c ≡ 0) → Quietly ok handed taken s m s' m' → Progresses ok (handing handed taken) s m s' m'
+    → (IsSound m → (c : ℕ) → 0 < referenced m c → taken c ≡ 0) → PreservesGuest ok handed taken s m s' m' → Progresses ok (handing handed taken) s m s' m'
 quiet-progresses ok handed taken s m s' m' spared quietly = record {
   shape = quietly.shape;
-  later = quietly.later;
-  passes = λ keeps sound calm.
-      let told = quietly.passes keeps sound calm in
+  counts_not_fallen = quietly.counts_not_fallen;
+  passes = λ keeps sound no_change_refused.
+      let told = quietly.passes keeps sound no_change_refused in
       (told.0, stops_weaker _ (LeftBy (handing handed taken) m) s s' (λ _ x shows. (shows.0, quiet-left (λ p v. ⊥) m (bytes_of x) shows.0 sound shows.1)) told.1);
   holds = λ keeps sound done. let left = quietly.holds keeps sound done in quiet-advances m m' handed taken sound left.0 left.1 (spared sound);
 }
@@ -75,21 +75,21 @@ quiet-progresses ok handed taken s m s' m' spared quietly = record {
 -- for less.
 pub progresses-otherwise : (ok ok' : Type 0) (kind wider : Kind) (s : StorageState) (m : Metadata) (s' : StorageState) (m' : Metadata)
     → IsWider kind wider → (IsTrue s.shape.keeps → IsSound m → ok' → ok)
-    → (IsTrue s.shape.keeps → IsSound m → ok' → (c : ℕ) → kind.handed c + wider.taken c ≡ wider.handed c + kind.taken c)
+    → (IsTrue s.shape.keeps → IsSound m → ok' → (c : ℕ) → kind.newly_allocated c + wider.taken c ≡ wider.newly_allocated c + kind.taken c)
     → (IsTrue s.shape.keeps → IsSound m → ok' → (c : ℕ) → IsUsed m c → wider.taken c ≡ 0 → kind.taken c ≡ 0)
     → Progresses ok kind s m s' m' → Progresses ok' wider s m s' m'
 progresses-otherwise ok ok' kind wider s m s' m' is from same spared progress = record {
   shape = progress.shape;
-  later = progress.later;
+  counts_not_fallen = progress.counts_not_fallen;
   passes = wider-passes kind wider s m s' is.gives progress.passes;
   holds = λ keeps sound done.
-      advances-weaker kind.gives wider.gives kind.written wider.written kind.set wider.set kind.handed kind.taken wider.handed wider.taken m m'
+      advances-weaker kind.gives wider.gives kind.written wider.written kind.set wider.set kind.newly_allocated kind.taken wider.newly_allocated wider.taken m m'
       is.gives is.written is.set (same keeps sound done) (spared keeps sound done) (progress.holds keeps sound (from keeps sound done));
 }
 
 -- It may be said to give, write and set more,
 pub progresses-weaker : (ok ok' : Type 0) (kind wider : Kind) (s : StorageState) (m : Metadata) (s' : StorageState) (m' : Metadata)
-    → IsWider kind wider → (ok' → ok) → ((c : ℕ) → wider.handed c ≡ kind.handed c) → ((c : ℕ) → wider.taken c ≡ kind.taken c)
+    → IsWider kind wider → (ok' → ok) → ((c : ℕ) → wider.newly_allocated c ≡ kind.newly_allocated c) → ((c : ℕ) → wider.taken c ≡ kind.taken c)
     → Progresses ok kind s m s' m' → Progresses ok' wider s m s' m'
 progresses-weaker ok ok' kind wider s m s' m' is from handed taken progress =
     progresses-otherwise ok ok' kind wider s m s' m' is (λ keeps sound done. from done)
@@ -101,7 +101,7 @@ pub progresses-halted : (ok ok' : Type 0) (kind wider : Kind) (s : StorageState)
     → IsWider kind wider → (IsTrue s.shape.keeps → IsSound m → ok' → ⊥) → Progresses ok kind s m s' m' → Progresses ok' wider s m s' m''
 progresses-halted ok ok' kind wider s m s' m' m'' is never progress = record {
   shape = progress.shape;
-  later = progress.later;
+  counts_not_fallen = progress.counts_not_fallen;
   passes = wider-passes kind wider s m s' is.gives progress.passes;
   holds = λ keeps sound done. absurd (never keeps sound done);
 }
@@ -111,37 +111,37 @@ pub progresses-in-memory : (ok : Type 0) (kind : Kind) (s : StorageState) (m m' 
     → Progresses ok kind s m s m'
 progresses-in-memory ok kind s m m' advances = record {
   shape = refl;
-  later = later_same s;
-  passes = λ keeps sound calm. (λ same. same, no_stops _ s s refl refl);
+  counts_not_fallen = later_same s;
+  passes = λ keeps sound no_change_refused. (λ same. same, no_stops _ s s refl refl);
   holds = λ keeps sound done. advances sound done;
 }
 
 -- Two calls, where the first wasn't cut off, and the second may use what the first left.
 pub progresses-then-given : (ok done : Type 0) (one two : Kind) (s : StorageState) (m : Metadata) (s1 : StorageState) (m1 : Metadata)
-    (s2 : StorageState) (m2 : Metadata) → done → Progresses done one s m s1 m1 → s2.shape ≡ s1.shape → Later s1 s2
+    (s2 : StorageState) (m2 : Metadata) → done → Progresses done one s m s1 m1 → s2.shape ≡ s1.shape → CountsNotFallen s1 s2
     → (IsTrue s.shape.keeps → IsSound m → AdvancesBy one m m1 → Progresses ok two s1 m1 s2 m2) → Progresses ok (both one two) s m s2 m2
 progresses-then-given ok done one two s m s1 m1 s2 m2 was first shape later second = record {
   shape = shape ∙ first.shape;
-  later = later_both s s1 s2 first.later later;
-  passes = λ keeps sound calm.
-      let calm-first : Rose s.refusals s1.refusals → ⊥ = λ r. calm (rose_before s.refusals s1.refusals s2.refusals r later.refusals) in
-      let calm-second : Rose s1.refusals s2.refusals → ⊥ = λ r. calm (rose_behind s.refusals s1.refusals s2.refusals first.later.refusals r) in
+  counts_not_fallen = later_both s s1 s2 first.counts_not_fallen later;
+  passes = λ keeps sound no_change_refused.
+      let calm-first : HasRisen s.refusals s1.refusals → ⊥ = λ r. no_change_refused (rose_before s.refusals s1.refusals s2.refusals r later.refusals) in
+      let calm-second : HasRisen s1.refusals s2.refusals → ⊥ = λ r. no_change_refused (rose_behind s.refusals s1.refusals s2.refusals first.counts_not_fallen.refusals r) in
       let mid = first.holds keeps sound was in
       let a = first.passes keeps sound calm-first in
       let b = (second keeps sound mid).passes (keeps_on s s1 first.shape keeps) mid.sound calm-second in (
         λ same. b.0 (a.0 same),
         stops_both (LeftBy one m) (LeftBy two m1) (LeftBy (both one two) m) s s1 s2 first.shape a.0
             (λ _ x left. (left.0, left-weaker one.gives (both one two).gives (wider-first one two).gives m (bytes_of x) left.0 left.1))
-            (λ _ x left. (left.0, left-then one.gives two.gives one.written one.set one.handed one.taken m m1 mid (bytes_of x) left.0 left.1)) a.1 b.1,
+            (λ _ x left. (left.0, left-then one.gives two.gives one.written one.set one.newly_allocated one.taken m m1 mid (bytes_of x) left.0 left.1)) a.1 b.1,
       );
   holds = λ keeps sound whole.
       let mid = first.holds keeps sound was in
       let last = (second keeps sound mid).holds (keeps_on s s1 first.shape keeps) mid.sound whole in
-      advances-then one.gives two.gives one.written one.set one.handed one.taken m m1 mid two.written two.set two.handed two.taken m2 last;
+      advances-then one.gives two.gives one.written one.set one.newly_allocated one.taken m m1 mid two.written two.set two.newly_allocated two.taken m2 last;
 }
 
 -- Two calls, where the first wasn't cut off.
 pub progresses-then : (ok done : Type 0) (one two : Kind) (s : StorageState) (m : Metadata) (s1 : StorageState) (m1 : Metadata)
     (s2 : StorageState) (m2 : Metadata) → done → Progresses done one s m s1 m1 → Progresses ok two s1 m1 s2 m2 → Progresses ok (both one two) s m s2 m2
 progresses-then ok done one two s m s1 m1 s2 m2 was first second =
-    progresses-then-given ok done one two s m s1 m1 s2 m2 was first second.shape second.later (λ keeps sound step. second)
+    progresses-then-given ok done one two s m s1 m1 s2 m2 was first second.shape second.counts_not_fallen (λ keeps sound step. second)

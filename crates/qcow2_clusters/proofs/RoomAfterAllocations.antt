@@ -7,17 +7,17 @@ use Rattle.imago_storage.specs.declared.fault.Fault.TheVariants.{Limit}
 use Rattle.qcow2_types.specs.Counts.{counters_of_block}
 use Rattle.qcow2_types.specs.Header.{Header}
 use Rattle.qcow2_types.specs.Pending.{FreeEntry}
-use Rattle.qcow2_metadata.specs.Places.{IsInReach}
+use Rattle.qcow2_metadata.specs.Places.{IsAddressable}
 use Rattle.qcow2_metadata.specs.Tables.{TableValue}
 use Rattle.qcow2_alloc.specs.Causes.{HasCause}
 use Rattle.qcow2_alloc.specs.Crowding.{IsCrowded, IsRoomy, TakesLittle, room_for, space}
 use Rattle.qcow2_alloc.specs.GrowingTables.{NoPlaceToGrow}
 use Rattle.qcow2_alloc.specs.HandingOut.{IsFreed}
-use Rattle.qcow2_alloc.specs.Quiet.{Metadata, counted}
-use Rattle.qcow2_alloc.specs.ReadyingRuns.{IsRunCounted, IsRunTold, mark_behind}
+use Rattle.qcow2_alloc.specs.GuestView.{Metadata, counted}
+use Rattle.qcow2_alloc.specs.ReadyingRuns.{IsRunCounted, IsRunTold, first_free_after}
 use Rattle.qcow2_alloc.specs.SearchingClusters.{IsFirstRun}
-use Rattle.qcow2_alloc.specs.State.{MarkedMetadata}
-use Rattle.qcow2_alloc.specs.Freeing.{IsMarked}
+use Rattle.qcow2_alloc.specs.State.{MetadataWithFirstFree}
+use Rattle.qcow2_alloc.specs.Freeing.{NoneFreeBefore}
 use Rattle.qcow2_alloc.proofs.Causes.{cause-weaker, cause-told}
 use Rattle.qcow2_alloc.proofs.Handing.BlocksBeforeTables.{no-place-as}
 use Rattle.qcow2_clusters.specs.Room.{HasFreeClusters, IsFull, LeavesRoom}
@@ -36,7 +36,7 @@ storing-as full full' before after from fault told why = cause-weaker (record {
 }) fault (cause-told _ fault why)
 
 -- The same clusters are marked where as much is counted.
-pub marked-as : (m m' : Metadata) (mark : ℕ) → ((c : ℕ) → counted m' c ≡ counted m c) → IsMarked m mark → IsMarked m' mark
+pub marked-as : (m m' : Metadata) (mark : ℕ) → ((c : ℕ) → counted m' c ≡ counted m c) → NoneFreeBefore m mark → NoneFreeBefore m' mark
 marked-as m m' mark same marked c below = subst (λ n. 0 < n) (sym (same c)) (marked c below)
 
 -- As much is free where as much is counted.
@@ -44,7 +44,7 @@ pub room-as : (m m' : Metadata) (mark total : ℕ) → space m'.header.fields �
     → HasFreeClusters m mark total → HasFreeClusters m' mark total
 room-as m m' mark total large same room = record {
   first = room.first;
-  behind = room.behind;
+  not_before_start = room.not_before_start;
   below = subst (λ n. room.first + total ≤ n) (sym large) room.below;
   free = λ c from to. same c ∙ room.free c from to;
 }
@@ -68,7 +68,7 @@ told-as m m1 header table same mark n number told = record {
   told = elim told.told [
     | inl last ↦ inl (
       last.0,
-      both (λ t H. IsInReach H.fields.cluster_bits (told.first + (n - 1)) → length t.words ≤ (told.first + (n - 1)) / counters_of_block H.fields) last.1,
+      both (λ t H. IsAddressable H.fields.cluster_bits (told.first + (n - 1)) → length t.raw_entries ≤ (told.first + (n - 1)) / counters_of_block H.fields) last.1,
     )
     | inr none ↦ inr (no-place-as m m1 header table same mark _ number
         (both (λ t H. NoPlaceToGrow m1 mark ((told.first + (n - 1)) / counters_of_block H.fields + (n / counters_of_block H.fields + 2)) number) none))
@@ -86,7 +86,7 @@ full-as n m m' m1 mark mark' number header table same full = record {
 }
 
 -- The image where a call begins, where the allocation begins, and once what waited is freed:
-module _ (m0 : Metadata) (m mid : MarkedMetadata) (n : ℕ) (begins : m.header ≡ m0.header)
+module _ (m0 : Metadata) (m mid : MetadataWithFirstFree) (n : ℕ) (begins : m.header ≡ m0.header)
     (same : (c : ℕ) → counted m.image c ≡ counted m0 c) (freed : IsFreed m mid) where
   header-is : mid.header ≡ m0.header
   header-is = freed.header ∙ begins
@@ -96,7 +96,7 @@ module _ (m0 : Metadata) (m mid : MarkedMetadata) (n : ℕ) (begins : m.header �
   roomy-there total enough room = record {
     first = room.first;
     total = total;
-    behind = let lower = freed.lower in let behind = room.behind in omega (arith, lower, behind);
+    not_before_start = let lower = freed.lower in let behind = room.not_before_start in omega (arith, lower, behind);
     below = subst (λ (H : Header). room.first + total ≤ space H.fields) (sym header-is) room.below;
     free = λ c from to.
         let none = room.free c from to in
@@ -110,14 +110,14 @@ module _ (m0 : Metadata) (m mid : MarkedMetadata) (n : ℕ) (begins : m.header �
   pub crowded-there : IsCrowded mid.image mid.mark n → IsCrowded m0 m.mark n
   crowded-there none roomy = none (roomy-there roomy.total roomy.enough record {
     first = roomy.first;
-    behind = roomy.behind;
+    not_before_start = roomy.not_before_start;
     below = roomy.below;
     free = roomy.free;
   })
 
   -- What is taken is little.
   module _ (m' : Metadata) (mark' : ℕ) (entry : FreeEntry) (large : space m'.header.fields ≡ space m0.header.fields)
-      (little : TakesLittle mid.mark n mid.image m') (taken : IsRunCounted mid.mark n m' entry) (moved : mark' ≡ mark_behind mid.mark n entry.first) where
+      (little : TakesLittle mid.mark n mid.image m') (taken : IsRunCounted mid.mark n m' entry) (moved : mark' ≡ first_free_after mid.mark n entry.first) where
     module _ (total : ℕ) (some : 0 < total) (room : HasFreeClusters m0 m.mark (room_for m0.header.fields n + total)) where
       abbrev need : ℕ
       need = room_for m0.header.fields n
@@ -141,7 +141,7 @@ module _ (m0 : Metadata) (m mid : MarkedMetadata) (n : ℕ) (begins : m.header �
               let none = still-free entry.first (omega (arith, behind)) (omega (arith, same, some)) in
               omega (arith, once, none))
           | inr apart ↦ absurd (
-              let low : mid.mark ≤ room.first = roomy.behind in
+              let low : mid.mark ≤ room.first = roomy.not_before_start in
               let far : room.first + need < entry.first = omega (arith, behind, apart) in
               let least = taken.least (room.first + need) (omega (arith, low)) far in
               let at : least.0 ≡ room.first + need = (let from = least.1 in let to = least.2 in omega (arith, from, to, one)) in
@@ -155,17 +155,17 @@ module _ (m0 : Metadata) (m mid : MarkedMetadata) (n : ℕ) (begins : m.header �
       unfolding roomy roomy-there
       mark-there = elim (cases_eq entry.first mid.mark) [
         | inl at ↦
-            let is : mark_behind mid.mark n entry.first ≡ entry.first + n = rw (eq-eqb entry.first mid.mark at) refl in
-            let low : mid.mark ≤ room.first = roomy.behind in
+            let is : first_free_after mid.mark n entry.first ≡ entry.first + n = rw (eq-eqb entry.first mid.mark at) refl in
+            let low : mid.mark ≤ room.first = roomy.not_before_start in
             omega (arith, moved, is, at, low)
         | inr apart ↦ elim (cases_eq n 1) [
           | inl one ↦
-              let is : mark_behind mid.mark n entry.first ≡ entry.first + 1 = rw (ne_eqb entry.first mid.mark apart, eq-eqb n 1 one) refl in
+              let is : first_free_after mid.mark n entry.first ≡ entry.first + 1 = rw (ne_eqb entry.first mid.mark apart, eq-eqb n 1 one) refl in
               let before = early one in
               omega (arith, moved, is, before)
           | inr more ↦
-              let is : mark_behind mid.mark n entry.first ≡ mid.mark = rw (ne_eqb entry.first mid.mark apart, ne_eqb n 1 more) refl in
-              let low : mid.mark ≤ room.first = roomy.behind in
+              let is : first_free_after mid.mark n entry.first ≡ mid.mark = rw (ne_eqb entry.first mid.mark apart, ne_eqb n 1 more) refl in
+              let low : mid.mark ≤ room.first = roomy.not_before_start in
               omega (arith, moved, is, low)
         ]
       ]
@@ -173,7 +173,7 @@ module _ (m0 : Metadata) (m mid : MarkedMetadata) (n : ℕ) (begins : m.header �
       room-left : HasFreeClusters m' mark' total
       room-left = record {
         first = room.first + need;
-        behind = mark-there;
+        not_before_start = mark-there;
         below = subst (λ k. room.first + need + total ≤ k) (sym large) (let below = room.below in omega (arith, below));
         free = λ c from to. still-free c from (omega (arith, to));
       }

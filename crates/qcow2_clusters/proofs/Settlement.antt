@@ -3,7 +3,7 @@ use Rattle.std.proofs.Common.{◌≡◌, ℕ, refl, arith, ap, sym, subst, ◌�
 use Rattle.std.specs.Prelude.{⊤, IsTrue, MatchResult, OnOk, length, map}
 use Rattle.std.specs.List.{AllByRecursion}
 use Rattle.std.proofs.lemmas.List.{length-map}
-use Rattle.imago_storage.specs.Calls.{IsFaultless, Kept}
+use Rattle.imago_storage.specs.Calls.{IsFaultless, UnchangedButFaults}
 use Rattle.imago_storage.specs.State.{StorageState}
 use Rattle.imago_storage.specs.declared.fault.Fault.{Fault}
 use Rattle.imago_storage.proofs.Composing.{later_same, no_stops}
@@ -22,19 +22,19 @@ use Rattle.qcow2_alloc.specs.Cache.{kept_pinned}
 use Rattle.qcow2_alloc.specs.Caches.{HasRoomOf, cached_in}
 use Rattle.qcow2_alloc.specs.CachesLending.{with_tables}
 use Rattle.qcow2_alloc.specs.Causes.{HasCause, FailsFor}
-use Rattle.qcow2_alloc.specs.Going.{Always, AreBlocksInReach, AreTablesInReach, Going, InTurn, IsMild, IsNoShorter, WasNotCutOff, WritesBlocks, WritesTables, writing_causes}
+use Rattle.qcow2_alloc.specs.Going.{Always, AreBlocksAddressable, AreTablesAddressable, WritesBackCached, InTurn, IsNotResourceError, IsNoShorter, HadNoResourceError, WritesBlocks, WritesTables, writing_causes}
 use Rattle.qcow2_alloc.specs.declared.cache.CacheDependency.{CacheDependency}
 use Rattle.qcow2_alloc.specs.Memory.{Cached, memory, written, written_block, written_table}
-use Rattle.qcow2_alloc.specs.Quiet.{IsIn, IsQuiet, IsSound, Metadata, Quietly, counted}
-use Rattle.qcow2_alloc.specs.Safety.{AreBlocksClean, AreTablesClean, IsCachedTable, IsLeft, IsSettled, Safe}
+use Rattle.qcow2_alloc.specs.GuestView.{IsIn, GuestUnchanged, IsSound, Metadata, PreservesGuest, counted}
+use Rattle.qcow2_alloc.specs.WellFormedness.{AreBlocksClean, AreTablesClean, IsCachedTable, IsCrashImage, IsSettled, WellFormed}
 use Rattle.qcow2_alloc.proofs.Caching.EmptyCaches.{empty-safe}
 use Rattle.qcow2_alloc.proofs.Caching.Admission.{blocks-none, is-order, tables-none}
 use Rattle.qcow2_alloc.proofs.Flushing.WriteSequences.{kept-same}
 use Rattle.qcow2_alloc.proofs.Memory.SafeLaws.{clean-memory, safe-reach}
-use Rattle.qcow2_alloc.proofs.Quiet.QuietAnnouncements.{written-whole}
-use Rattle.qcow2_alloc.proofs.Quiet.QuietFlushes.{going-quietly, quietly-weaker, stays-quiet}
-use Rattle.qcow2_clusters.specs.Rest.{AreEmpty, nothing_cached}
-use Rattle.qcow2_clusters.specs.Settling.{AreUnpinned, KeepsCachedTables, Settles, at_rest, without_tables}
+use Rattle.qcow2_alloc.proofs.GuestView.QuietAnnouncements.{written-whole}
+use Rattle.qcow2_alloc.proofs.GuestView.QuietFlushes.{going-quietly, quietly-weaker, stays-quiet}
+use Rattle.qcow2_clusters.specs.Flushed.{AreEmpty, nothing_cached}
+use Rattle.qcow2_clusters.specs.WritingBack.{AreUnpinned, KeepsCachedTables, WritesBack, all_flushed, without_tables}
 
 -- None of these entries is pinned.
 abbrev pub Unpinned : {V : Type 0} → List (ℕ × Slot V) → Type 0
@@ -83,75 +83,75 @@ dropped-empty old mid new loose tables stay blocks stay' =
 -- What was flushed whole is what is at rest then.
 rest-quiet : (m : Metadata) (old new : List ℕ) (cached' : Cached) → m.file ≡ bytes_of old → IsSound m → IsSettled m.header m.order old m.cached new cached'
     → AreTablesClean cached' → AreBlocksClean cached'
-    → IsSound (at_rest (record m { file = bytes_of new })) × IsQuiet (λ _. 0) (λ _. 0) m (at_rest (record m { file = bytes_of new }))
+    → IsSound (all_flushed (record m { file = bytes_of new })) × GuestUnchanged (λ _. 0) (λ _. 0) m (all_flushed (record m { file = bytes_of new }))
 unfolding over
 rest-quiet m old new cached' at sound settled tables blocks =
-    stays-quiet m (bytes_of new) nothing_cached Unset sound (empty-safe (bytes_of new) m.header settled.safe.consistent)
+    stays-quiet m (bytes_of new) nothing_cached Unset sound (empty-safe (bytes_of new) m.header settled.well_formed.consistent)
     (sym (clean-memory (bytes_of new) m.header.fields cached' tables blocks) ∙ settled.memory_same ∙ sym (ap (λ (f : Bytes). memory f m.header.fields m.cached) at))
-    (subst (λ (f : Bytes). IsLeft f (memory f m.header.fields m.cached) m.header (bytes_of new)) (sym at) settled.left)
+    (subst (λ (f : Bytes). IsCrashImage f (memory f m.header.fields m.cached) m.header (bytes_of new)) (sym at) settled.left)
 
 -- So a flush that wasn't cut off leaves the image at rest quietly, once all is dropped.
 pub rests-quietly : (m : Metadata) (flushed : Result Unit Fault) (old new : StorageState) (cached' : Cached) → IsIn old m
-    → Going m.header m.order Always (flushed ≡ Ok tt) old m.cached new cached'
-    → FailsFor (writing_causes (AreTablesInReach m.cached × AreBlocksInReach m.cached) old.faults new.faults) flushed
+    → WritesBackCached m.header m.order Always (flushed ≡ Ok tt) old m.cached new cached'
+    → FailsFor (writing_causes (AreTablesAddressable m.cached × AreBlocksAddressable m.cached) old.faults new.faults) flushed
     → OnOk flushed (AreTablesClean cached') → OnOk flushed (AreBlocksClean cached')
-    → Quietly (WasNotCutOff flushed) (λ _. 0) (λ _. 0) old m new (at_rest (record m { file = bytes_of new.bytes }))
+    → PreservesGuest (HadNoResourceError flushed) (λ _. 0) (λ _. 0) old m new (all_flushed (record m { file = bytes_of new.bytes }))
 rests-quietly m flushed old new cached' at going counts tables blocks = record {
   shape = going.shape;
-  later = going.later;
+  counts_not_fallen = going.counts_not_fallen;
   passes = (going-quietly m (flushed ≡ Ok tt) old new cached' at going).passes;
   holds = λ keeps sound whole.
-      let reach = safe-reach m.file m.header m.cached m.order sound.safe in
-      let done = written-whole (AreTablesInReach m.cached × AreBlocksInReach m.cached) old.faults new.faults flushed counts reach whole in
-      let safe : Safe (bytes_of old.bytes) m.header m.cached m.order = subst (λ (f : Bytes). Safe f m.header m.cached m.order) at sound.safe in
-      rest-quiet m old.bytes new.bytes cached' at sound (going.holds keeps safe tt (inl done))
+      let reach = safe-reach m.file m.header m.cached m.order sound.well_formed in
+      let done = written-whole (AreTablesAddressable m.cached × AreBlocksAddressable m.cached) old.faults new.faults flushed counts reach whole in
+      let well_formed : WellFormed (bytes_of old.bytes) m.header m.cached m.order = subst (λ (f : Bytes). WellFormed f m.header m.cached m.order) at sound.well_formed in
+      rest-quiet m old.bytes new.bytes cached' at sound (going.holds keeps well_formed tt (inl done))
       (subst (λ (r : Result Unit Fault). OnOk r (AreTablesClean cached')) done tables) (subst (λ (r : Result Unit Fault). OnOk r (AreBlocksClean cached')) done blocks);
 }
 
 -- Each cluster is counted as often then.
 counts-kept : (m : Metadata) (old new : List ℕ) (cached' : Cached) → m.file ≡ bytes_of old → IsSettled m.header m.order old m.cached new cached'
-    → AreTablesClean cached' → AreBlocksClean cached' → (c : ℕ) → counted (at_rest (record m { file = bytes_of new })) c ≡ counted m c
+    → AreTablesClean cached' → AreBlocksClean cached' → (c : ℕ) → counted (all_flushed (record m { file = bytes_of new })) c ≡ counted m c
 unfolding over
 counts-kept m old new cached' at settled tables blocks c = ap (λ (g : Bytes). count g m.header.fields c)
     (sym (clean-memory (bytes_of new) m.header.fields cached' tables blocks) ∙ settled.memory_same ∙ sym (ap (λ (f : Bytes). memory f m.header.fields m.cached) at))
 
 pub rests-counting : (m : Metadata) (flushed : Result Unit Fault) (old new : StorageState) (cached' : Cached) → IsIn old m
-    → Going m.header m.order Always (flushed ≡ Ok tt) old m.cached new cached'
-    → FailsFor (writing_causes (AreTablesInReach m.cached × AreBlocksInReach m.cached) old.faults new.faults) flushed
+    → WritesBackCached m.header m.order Always (flushed ≡ Ok tt) old m.cached new cached'
+    → FailsFor (writing_causes (AreTablesAddressable m.cached × AreBlocksAddressable m.cached) old.faults new.faults) flushed
     → OnOk flushed (AreTablesClean cached') → OnOk flushed (AreBlocksClean cached')
-    → IsTrue old.shape.keeps → IsSound m → WasNotCutOff flushed → (c : ℕ)
-    → counted (at_rest (record m { file = bytes_of new.bytes })) c ≡ counted m c
+    → IsTrue old.shape.keeps → IsSound m → HadNoResourceError flushed → (c : ℕ)
+    → counted (all_flushed (record m { file = bytes_of new.bytes })) c ≡ counted m c
 rests-counting m flushed old new cached' at going counts tables blocks keeps sound whole =
-    let reach = safe-reach m.file m.header m.cached m.order sound.safe in
-    let done = written-whole (AreTablesInReach m.cached × AreBlocksInReach m.cached) old.faults new.faults flushed counts reach whole in
-    let safe : Safe (bytes_of old.bytes) m.header m.cached m.order = subst (λ (f : Bytes). Safe f m.header m.cached m.order) at sound.safe in
-    counts-kept m old.bytes new.bytes cached' at (going.holds keeps safe tt (inl done))
+    let reach = safe-reach m.file m.header m.cached m.order sound.well_formed in
+    let done = written-whole (AreTablesAddressable m.cached × AreBlocksAddressable m.cached) old.faults new.faults flushed counts reach whole in
+    let well_formed : WellFormed (bytes_of old.bytes) m.header m.cached m.order = subst (λ (f : Bytes). WellFormed f m.header m.cached m.order) at sound.well_formed in
+    counts-kept m old.bytes new.bytes cached' at (going.holds keeps well_formed tt (inl done))
     (subst (λ (r : Result Unit Fault). OnOk r (AreTablesClean cached')) done tables) (subst (λ (r : Result Unit Fault). OnOk r (AreBlocksClean cached')) done blocks)
 
 -- Where nothing was done before it was cut off, no request is made.
-pub cut-quietly : (ok : Type 0) (s : StorageState) (m m' : Metadata) → (ok → ⊥) → Quietly ok (λ _. 0) (λ _. 0) s m s m'
+pub cut-quietly : (ok : Type 0) (s : StorageState) (m m' : Metadata) → (ok → ⊥) → PreservesGuest ok (λ _. 0) (λ _. 0) s m s m'
 cut-quietly ok s m m' never = record {
   shape = refl;
-  later = later_same s;
-  passes = λ keeps sound calm. (λ same. same, no_stops _ s s refl refl);
+  counts_not_fallen = later_same s;
+  passes = λ keeps sound no_change_refused. (λ same. same, no_stops _ s s refl refl);
   holds = λ keeps sound done. absurd (never done);
 }
 
 -- A flush of what isn't modified changes nothing.
 pub flushed-still : (order : CacheDependency) (a b : StorageState) (c c' : Cached) (flushed : Result Unit Fault)
     → (order ≡ L2DependsOnRb → InTurn WritesBlocks WritesTables a c flushed b c')
-    → ((order ≡ L2DependsOnRb → ⊥) → InTurn WritesTables WritesBlocks a c flushed b c') → AreTablesClean c → AreBlocksClean c → Kept a b
+    → ((order ≡ L2DependsOnRb → ⊥) → InTurn WritesTables WritesBlocks a c flushed b c') → AreTablesClean c → AreBlocksClean c → UnchangedButFaults a b
 flushed-still order a b c c' flushed blocks_first tables_first tables blocks = elim (is-order order L2DependsOnRb) [
   | inl is ↦
       let t = blocks_first is in
       let first = blocks-none a t.mid c t.between t.answer t.first blocks in
       let second = tables-none t.mid b t.between c' flushed (t.second first.0) (subst AreTablesClean (sym first.2) tables) in
-      subst (λ (s : StorageState). Kept a s) (sym (second.1 ∙ first.1)) (kept-same a)
+      subst (λ (s : StorageState). UnchangedButFaults a s) (sym (second.1 ∙ first.1)) (kept-same a)
   | inr apart ↦
       let t = tables_first apart in
       let first = tables-none a t.mid c t.between t.answer t.first tables in
       let second = blocks-none t.mid b t.between c' flushed (t.second first.0) (subst AreBlocksClean (sym first.2) blocks) in
-      subst (λ (s : StorageState). Kept a s) (sym (second.1 ∙ first.1)) (kept-same a)
+      subst (λ (s : StorageState). UnchangedButFaults a s) (sym (second.1 ∙ first.1)) (kept-same a)
 ]
 
 -- the answers of a flush
@@ -169,88 +169,88 @@ ok-same (Err fault) = tt
 module _ {S T : Type 0} (state : S → StorageState) (given : Result T Fault) (before : ImageFile S) (old new : MetadataCaches S)
     (empty : AreEmpty new) (room : HasRoomOf old new) where
   -- What was cut off is settled where nothing is cached any more,
-  pub settled-cut : (WasNotCutOff given → ⊥) → Settles state given before old given before new
+  pub settled-cut : (HadNoResourceError given → ⊥) → WritesBack state given before old given before new
   settled-cut cut = record {
     empty = empty;
     room = room;
     header = refl;
     no_shorter = omega arith;
-    quiet = λ table pending.
-        cut-quietly (WasNotCutOff given) (state before.image) (metadata_of state before old table pending) (at_rest (metadata_of state before old table pending)) cut;
+    guest_unchanged = λ table pending.
+        cut-quietly (HadNoResourceError given) (state before.image) (metadata_of state before old table pending) (all_flushed (metadata_of state before old table pending)) cut;
     counts = λ table pending keeps sound whole. absurd (cut whole);
     faults = λ whole. absurd (cut whole);
-    still = λ tables blocks. kept-same (state before.image);
+    has_no_dirty_data = λ tables blocks. kept-same (state before.image);
     cut = λ _. (refl, refl);
     ok = ok-same given;
     answer = inl refl;
   }
 
   -- and what wasn't once it was flushed:
-  module _ (whole : WasNotCutOff given) (after : ImageFile S) (cached' : Cached) (header : after.header ≡ before.header)
+  module _ (whole : HadNoResourceError given) (after : ImageFile S) (cached' : Cached) (header : after.header ≡ before.header)
       (long : IsNoShorter (state before.image) (state after.image))
-      (still : AreTablesClean (cached_in old) → AreBlocksClean (cached_in old) → Kept (state before.image) (state after.image)) where
+      (has_no_dirty_data : AreTablesClean (cached_in old) → AreBlocksClean (cached_in old) → UnchangedButFaults (state before.image) (state after.image)) where
     module _ (flushed : Result Unit Fault)
-        (going : Going before.header old.order Always (flushed ≡ Ok tt) (state before.image) (cached_in old) (state after.image) cached')
-        (counts : FailsFor (writing_causes (AreTablesInReach (cached_in old) × AreBlocksInReach (cached_in old)) (state before.image).faults (state after.image).faults) flushed)
+        (going : WritesBackCached before.header old.order Always (flushed ≡ Ok tt) (state before.image) (cached_in old) (state after.image) cached')
+        (counts : FailsFor (writing_causes (AreTablesAddressable (cached_in old) × AreBlocksAddressable (cached_in old)) (state before.image).faults (state after.image).faults) flushed)
         (tables : OnOk flushed (AreTablesClean cached')) (blocks : OnOk flushed (AreBlocksClean cached')) where
       quietly-settled : (table : TableValue) (pending : List FreeEntry)
-          → Quietly (WasNotCutOff flushed) (λ _. 0) (λ _. 0) (state before.image) (metadata_of state before old table pending) (state after.image) (at_rest (metadata_of state after old table pending))
+          → PreservesGuest (HadNoResourceError flushed) (λ _. 0) (λ _. 0) (state before.image) (metadata_of state before old table pending) (state after.image) (all_flushed (metadata_of state after old table pending))
       quietly-settled table pending =
-          subst (λ (H : Header). Quietly (WasNotCutOff flushed) (λ _. 0) (λ _. 0) (state before.image) (metadata_of state before old table pending) (state after.image)
-          (at_rest (record (metadata_of state after old table pending) { header = H }))) (sym header)
+          subst (λ (H : Header). PreservesGuest (HadNoResourceError flushed) (λ _. 0) (λ _. 0) (state before.image) (metadata_of state before old table pending) (state after.image)
+          (all_flushed (record (metadata_of state after old table pending) { header = H }))) (sym header)
           (rests-quietly (metadata_of state before old table pending) flushed (state before.image) (state after.image) cached' refl going counts tables blocks)
 
       settled-counts : (table : TableValue) (pending : List FreeEntry) → IsTrue (state before.image).shape.keeps
-          → IsSound (metadata_of state before old table pending) → WasNotCutOff flushed → (c : ℕ)
-          → counted (at_rest (metadata_of state after old table pending)) c ≡ counted (metadata_of state before old table pending) c
+          → IsSound (metadata_of state before old table pending) → HadNoResourceError flushed → (c : ℕ)
+          → counted (all_flushed (metadata_of state after old table pending)) c ≡ counted (metadata_of state before old table pending) c
       settled-counts table pending keeps sound done c =
-          subst (λ (H : Header). counted (at_rest (record (metadata_of state after old table pending) { header = H })) c ≡ counted (metadata_of state before old table pending) c)
+          subst (λ (H : Header). counted (all_flushed (record (metadata_of state after old table pending) { header = H })) c ≡ counted (metadata_of state before old table pending) c)
           (sym header)
           (rests-counting (metadata_of state before old table pending) flushed (state before.image) (state after.image) cached' refl going counts tables blocks keeps sound done c)
 
     -- with the same answer where that succeeded,
-    pub settled-whole : Going before.header old.order Always (done_so ≡ done_so) (state before.image) (cached_in old) (state after.image) cached'
+    pub settled-whole : WritesBackCached before.header old.order Always (done_so ≡ done_so) (state before.image) (cached_in old) (state after.image) cached'
         → (state after.image).faults ≡ (state before.image).faults → AreTablesClean cached' → AreBlocksClean cached' → IsFaultless (state before.image) (state after.image)
-        → Settles state given before old given after new
+        → WritesBack state given before old given after new
     settled-whole going counts tables blocks faultless = record {
       empty = empty;
       room = room;
       header = header;
       no_shorter = long;
-      quiet = λ table pending.
-          quietly-weaker ⊤ (WasNotCutOff given) (λ _. 0) (λ _. 0) (state before.image) (metadata_of state before old table pending) (state after.image)
-          (at_rest (metadata_of state after old table pending)) (λ sound done. tt) (quietly-settled done_so going counts tables blocks table pending);
+      guest_unchanged = λ table pending.
+          quietly-weaker ⊤ (HadNoResourceError given) (λ _. 0) (λ _. 0) (state before.image) (metadata_of state before old table pending) (state after.image)
+          (all_flushed (metadata_of state after old table pending)) (λ sound done. tt) (quietly-settled done_so going counts tables blocks table pending);
       counts = λ table pending keeps sound done. settled-counts done_so going counts tables blocks table pending keeps sound tt;
       faults = λ done. faultless;
-      still = still;
+      has_no_dirty_data = has_no_dirty_data;
       cut = λ cut. absurd (cut whole);
       ok = ok-same given;
       answer = inl refl;
     }
 
     -- and else with the fault of that.
-    pub settled-refused : (fault : Fault) → Going before.header old.order Always (refused_so fault ≡ done_so) (state before.image) (cached_in old) (state after.image) cached'
-        → HasCause (writing_causes (AreTablesInReach (cached_in old) × AreBlocksInReach (cached_in old)) (state before.image).faults (state after.image).faults) fault
-        → (IsMild fault → IsFaultless (state before.image) (state after.image)) → Settles state given before old (Err fault) after new
+    pub settled-refused : (fault : Fault) → WritesBackCached before.header old.order Always (refused_so fault ≡ done_so) (state before.image) (cached_in old) (state after.image) cached'
+        → HasCause (writing_causes (AreTablesAddressable (cached_in old) × AreBlocksAddressable (cached_in old)) (state before.image).faults (state after.image).faults) fault
+        → (IsNotResourceError fault → IsFaultless (state before.image) (state after.image)) → WritesBack state given before old (Err fault) after new
     settled-refused fault going counts faultless = record {
       empty = empty;
       room = room;
       header = header;
       no_shorter = long;
-      quiet = quietly-settled (refused_so fault) going counts tt tt;
+      guest_unchanged = quietly-settled (refused_so fault) going counts tt tt;
       counts = settled-counts (refused_so fault) going counts tt tt;
       faults = faultless;
-      still = still;
+      has_no_dirty_data = has_no_dirty_data;
       cut = λ cut. absurd (cut whole);
       ok = tt;
       answer = inr (fault, refl, counts);
     }
 
     -- Which of the two, the answer of the flush tells.
-    pub settled-flushed : (flushed : Result Unit Fault) → Going before.header old.order Always (flushed ≡ done_so) (state before.image) (cached_in old) (state after.image) cached'
-        → FailsFor (writing_causes (AreTablesInReach (cached_in old) × AreBlocksInReach (cached_in old)) (state before.image).faults (state after.image).faults) flushed
-        → OnOk flushed (AreTablesClean cached') → OnOk flushed (AreBlocksClean cached') → (WasNotCutOff flushed → IsFaultless (state before.image) (state after.image))
-        → MatchResult flushed (λ _. Settles state given before old given after new) (λ fault. Settles state given before old (Err fault) after new)
+    pub settled-flushed : (flushed : Result Unit Fault) → WritesBackCached before.header old.order Always (flushed ≡ done_so) (state before.image) (cached_in old) (state after.image) cached'
+        → FailsFor (writing_causes (AreTablesAddressable (cached_in old) × AreBlocksAddressable (cached_in old)) (state before.image).faults (state after.image).faults) flushed
+        → OnOk flushed (AreTablesClean cached') → OnOk flushed (AreBlocksClean cached') → (HadNoResourceError flushed → IsFaultless (state before.image) (state after.image))
+        → MatchResult flushed (λ _. WritesBack state given before old given after new) (λ fault. WritesBack state given before old (Err fault) after new)
     settled-flushed (Ok done) going counts tables blocks faultless = settled-whole going counts tables blocks (faultless tt)
     settled-flushed (Err fault) going counts tables blocks faultless = settled-refused fault going counts faultless
 
@@ -281,7 +281,7 @@ module _ {S : Type 0} (state : S → StorageState) (before : ImageFile S) (old :
   none-kept (Ok done) refused empty = absurd (refused refl)
   none-kept (Err fault) refused empty = record {
     clean = subst AreTablesClean (sym empty) tt;
-    loose = subst (λ (c : Cached). Unpinned c.tables) (sym empty) tt;
+    unpinned = subst (λ (c : Cached). Unpinned c.tables) (sym empty) tt;
     none = ap (λ (c : Cached). c.tables) empty;
     same = tt;
     fit = λ table pending keeps sound. tt;
@@ -304,17 +304,17 @@ module _ {S : Type 0} (state : S → StorageState) (before : ImageFile S) (old :
   module _ (flushed : MetadataCaches S) (header : after.header ≡ before.header) (loose : AreUnpinned old)
       (written : map written_table (cached_in flushed).tables ≡ map written_table (cached_in old).tables)
       (stay : (cached_in new).tables ≡ (cached_in flushed).tables) (clean : AreTablesClean (cached_in flushed))
-      (going : Going before.header old.order Always (done_so ≡ done_so) (state before.image) (cached_in old) (state after.image) (cached_in flushed)) where
+      (going : WritesBackCached before.header old.order Always (done_so ≡ done_so) (state before.image) (cached_in old) (state after.image) (cached_in flushed)) where
     abbrev Fit : Header → List (ℕ × Slot TableValue) → Type 0
     Fit H es = AllByRecursion (λ e. IsCachedTable (bytes_of (state after.image).bytes) H.fields e.0 e.1.value) es
 
     pub tables-kept : KeepsCachedTables state before old done_so after new
     tables-kept = record {
       clean = subst (AllByRecursion (λ e. e.1.value.modified ≡ false)) (sym stay) clean;
-      loose = subst Unpinned (sym stay) (unpinned-tables (cached_in flushed).tables (cached_in old).tables written loose.tables);
+      unpinned = subst Unpinned (sym stay) (unpinned-tables (cached_in flushed).tables (cached_in old).tables written loose.tables);
       none = tt;
       same = ap (map written_table) stay ∙ written;
       fit = λ table pending keeps sound.
           subst (λ H. Fit H (cached_in new).tables) (sym header)
-          (subst (Fit before.header) (sym stay) (going.holds keeps sound.safe tt (inl refl)).safe.tables);
+          (subst (Fit before.header) (sym stay) (going.holds keeps sound.well_formed tt (inl refl)).well_formed.tables);
     }

@@ -5,11 +5,11 @@ use Rattle.std.proofs.lemmas.Bool.{cases_lt, lt-ltb}
 use Rattle.std.proofs.lemmas.List.Sums.{sum_by-cons}
 use Rattle.imago_storage.specs.State.{StorageState}
 use Rattle.imago_storage.specs.declared.fault.Fault.{Fault}
-use Rattle.qcow2_types.specs.Bytes.{Bytes, word}
+use Rattle.qcow2_types.specs.Bytes.{Bytes, raw_entry}
 use Rattle.qcow2_types.specs.Counts.{count}
 use Rattle.qcow2_types.specs.Entries.{l1_table_sound}
 use Rattle.qcow2_types.specs.Header.{Fields, Header}
-use Rattle.qcow2_types.specs.Words.{l1_word_sound}
+use Rattle.qcow2_types.specs.Words.{l1_entry_valid}
 use Rattle.qcow2_types.proofs.Counting.Bounded.{all-below}
 use Rattle.qcow2_types.proofs.Counting.Sound.{all-below-holds}
 use Rattle.qcow2_metadata.specs.Tables.{TableValue}
@@ -21,16 +21,16 @@ use Rattle.qcow2_alloc.specs.declared.cache.MetadataCaches.{MetadataCaches}
 use Rattle.qcow2_alloc.specs.Allocating.{MovedTable}
 use Rattle.qcow2_alloc.specs.Caches.{KeepsTables, cached_in}
 use Rattle.qcow2_alloc.specs.Finding.{PinsNothing, pinned_among, pinned_in}
-use Rattle.qcow2_alloc.specs.Freeing.{IsLoose}
-use Rattle.qcow2_alloc.specs.Going.{WasNotCutOff}
+use Rattle.qcow2_alloc.specs.Freeing.{HasUnpinnedRoom}
+use Rattle.qcow2_alloc.specs.Going.{HadNoResourceError}
 use Rattle.qcow2_alloc.specs.Memory.{Cached, memory}
 use Rattle.qcow2_alloc.specs.Opening.{IsL1Of}
-use Rattle.qcow2_alloc.specs.Quiet.{IsQuiet, IsSound, Metadata, Quietly, counted}
-use Rattle.qcow2_alloc.specs.Safety.{IsOrdered, Safe}
+use Rattle.qcow2_alloc.specs.GuestView.{GuestUnchanged, IsSound, Metadata, PreservesGuest, counted}
+use Rattle.qcow2_alloc.specs.WellFormedness.{IsOrdered, WellFormed}
 use Rattle.qcow2_alloc.proofs.Caching.UnpinnedCaches.{loose-none}
-use Rattle.qcow2_alloc.proofs.Quiet.QuietFlushes.{memory-quietly, order-quiet}
-use Rattle.qcow2_clusters.specs.Rest.{AreEmpty, Clusters, HasEntries, KeepsL1, changed, nothing_cached, resting, storage}
-use Rattle.qcow2_clusters.specs.Settling.{AreUnpinned, at_rest}
+use Rattle.qcow2_alloc.proofs.GuestView.QuietFlushes.{memory-quietly, order-quiet}
+use Rattle.qcow2_clusters.specs.Flushed.{AreEmpty, Clusters, HasEntries, KeepsL1, changed, nothing_cached, flushed_metadata, storage}
+use Rattle.qcow2_clusters.specs.WritingBack.{AreUnpinned, all_flushed}
 use Rattle.qcow2_clusters.proofs.Settlement.{Unpinned, unpinned-tables}
 
 -- What is in any order before one was announced is in each.
@@ -40,10 +40,10 @@ ordered-any L2DependsOnRb f g h both = both.0
 ordered-any RbDependsOnL2 f g h both = both.1
 
 -- An image that is sound at rest is so where nothing is cached, in whatever order: that is quiet.
-pub begun-quiet : (m : Metadata) → m.cached ≡ nothing_cached → IsSound (at_rest m) → IsSound m × IsQuiet (λ _. 0) (λ _. 0) (at_rest m) m
+pub begun-quiet : (m : Metadata) → m.cached ≡ nothing_cached → IsSound (all_flushed m) → IsSound m × GuestUnchanged (λ _. 0) (λ _. 0) (all_flushed m) m
 begun-quiet m none sound =
-    let was = sound.safe in
-    let safe : Safe m.file m.header nothing_cached m.order = record {
+    let was = sound.well_formed in
+    let well_formed : WellFormed m.file m.header nothing_cached m.order = record {
       consistent = was.consistent;
       tables_apart = was.tables_apart;
       blocks_apart = was.blocks_apart;
@@ -53,20 +53,20 @@ begun-quiet m none sound =
       ordered = ordered-any m.order m.file (memory m.file m.header.fields nothing_cached) m.header.fields was.ordered;
       covered = was.covered;
     } in
-    subst (λ (cached : Cached). IsSound (record m { cached = cached }) × IsQuiet (λ _. 0) (λ _. 0) (at_rest m) (record m { cached = cached })) (sym none)
-    (order-quiet (at_rest m) m.order sound safe)
+    subst (λ (cached : Cached). IsSound (record m { cached = cached }) × GuestUnchanged (λ _. 0) (λ _. 0) (all_flushed m) (record m { cached = cached })) (sym none)
+    (order-quiet (all_flushed m) m.order sound well_formed)
 
-pub begun-sound : (m : Metadata) → m.cached ≡ nothing_cached → IsSound (at_rest m) → IsSound m
+pub begun-sound : (m : Metadata) → m.cached ≡ nothing_cached → IsSound (all_flushed m) → IsSound m
 begun-sound m none sound = (begun-quiet m none sound).0
 
-pub begun-quietly : (ok : Type 0) (s : StorageState) (m : Metadata) → m.cached ≡ nothing_cached → Quietly ok (λ _. 0) (λ _. 0) s (at_rest m) s m
-begun-quietly ok s m none = memory-quietly ok (λ _. 0) (λ _. 0) s (at_rest m) m (λ sound done. begun-quiet m none sound)
+pub begun-quietly : (ok : Type 0) (s : StorageState) (m : Metadata) → m.cached ≡ nothing_cached → PreservesGuest ok (λ _. 0) (λ _. 0) s (all_flushed m) s m
+begun-quietly ok s m none = memory-quietly ok (λ _. 0) (λ _. 0) s (all_flushed m) m (λ sound done. begun-quiet m none sound)
 
 -- In it each cluster is counted as often.
 pub begun-counts : {S : Type 0} (state : S → StorageState) (c : Clusters S) → AreEmpty c.caches → (d : ℕ)
-    → counted (changed state c) d ≡ counted (resting state c) d
+    → counted (changed state c) d ≡ counted (flushed_metadata state c) d
 begun-counts state c empty d =
-    ap (λ (cached : Cached). count (memory (resting state c).file c.file.header.fields cached) c.file.header.fields d) empty
+    ap (λ (cached : Cached). count (memory (flushed_metadata state c).file c.file.header.fields cached) c.file.header.fields d) empty
 
 -- Of no entries none is pinned,
 pub empty-unpinned : {S : Type 0} (caches : MetadataCaches S) → AreEmpty caches → AreUnpinned caches
@@ -76,7 +76,7 @@ empty-unpinned caches none = record {
 }
 
 -- and so there is room to spare.
-pub empty-loose : {S : Type 0} (table : TableValue) (caches : MetadataCaches S) → AreEmpty caches → HasEntries caches → IsLoose table caches false
+pub empty-loose : {S : Type 0} (table : TableValue) (caches : MetadataCaches S) → AreEmpty caches → HasEntries caches → HasUnpinnedRoom table caches false
 empty-loose table caches none room = loose-none table caches (ap (λ (c : Cached). pinned_in c.blocks) none) room.blocks
 
 -- Where none is pinned under any key, none is;
@@ -121,30 +121,30 @@ freed-unpinned old new empty keeps pins = kept-unpinned old new empty keeps (λ 
     omega (arith, were, fewer))
 
 -- and those that allocate.
-pub loose-unpinned : {S : Type 0} (table : TableValue) (old new : MetadataCaches S) → AreEmpty old → KeepsTables old new → IsLoose table new false → AreUnpinned new
+pub loose-unpinned : {S : Type 0} (table : TableValue) (old new : MetadataCaches S) → AreEmpty old → KeepsTables old new → HasUnpinnedRoom table new false → AreUnpinned new
 loose-unpinned table old new empty keeps loose = kept-unpinned old new empty keeps (λ key. elim (cases_lt 0 (pinned_among (nat_eq key) (cached_in new).blocks)) [
   | inl some ↦ absurd (let no = (loose.named key some).0 in cc)
   | inr none ↦ omega (arith, none)
 ])
 
 -- The L1 table in memory is the file's still where words of that stay.
-sound-still : (f x : Bytes) (h : Fields) → ((i : ℕ) → i < h.l1_entries → word x h.l1_offset i ≡ word f h.l1_offset i) → l1_table_sound f h ≡ true → l1_table_sound x h ≡ true
+sound-still : (f x : Bytes) (h : Fields) → ((i : ℕ) → i < h.l1_entries → raw_entry x h.l1_offset i ≡ raw_entry f h.l1_offset i) → l1_table_sound f h ≡ true → l1_table_sound x h ≡ true
 unfolding l1_table_sound
-sound-still f x h same sound = all-below-holds h.l1_entries (λ i. l1_word_sound h.cluster_bits (word x h.l1_offset i)) (λ i lt.
-    ap (l1_word_sound h.cluster_bits) (same i lt) ∙ all-below h.l1_entries (λ j. l1_word_sound h.cluster_bits (word f h.l1_offset j)) sound i lt)
+sound-still f x h same sound = all-below-holds h.l1_entries (λ i. l1_entry_valid h.cluster_bits (raw_entry x h.l1_offset i)) (λ i lt.
+    ap (l1_entry_valid h.cluster_bits) (same i lt) ∙ all-below h.l1_entries (λ j. l1_entry_valid h.cluster_bits (raw_entry f h.l1_offset j)) sound i lt)
 
 pub l1-stays : (f x : Bytes) (H H' : Header) (l1 : TableValue) → MovedTable H H'
-    → ((i : ℕ) → i < H.fields.l1_entries → word x H.fields.l1_offset i ≡ word f H.fields.l1_offset i) → IsL1Of f H.fields l1 → IsL1Of x H'.fields l1
+    → ((i : ℕ) → i < H.fields.l1_entries → raw_entry x H.fields.l1_offset i ≡ raw_entry f H.fields.l1_offset i) → IsL1Of f H.fields l1 → IsL1Of x H'.fields l1
 unfolding l1_table_sound
 l1-stays f x H H' l1 moved same of = subst (λ (K : Header). IsL1Of x K.fields l1) (sym moved.2) (record {
   layout = of.layout;
-  words = of.words ∙ sym (words_same x f H.fields.l1_offset H.fields.l1_offset H.fields.l1_entries same);
+  raw_entries = of.raw_entries ∙ sym (words_same x f H.fields.l1_offset H.fields.l1_offset H.fields.l1_entries same);
   sound = sound-still f x H.fields same of.sound;
 })
 
 -- So it is where the image stays quietly.
 pub l1-kept : {S T : Type 0} (state : S → StorageState) (c : Clusters S) (result : Result T Fault) (c' : Clusters S) (handed taken : ℕ → ℕ)
-    → Quietly (WasNotCutOff result) handed taken (storage state c) (resting state c) (storage state c') (resting state c') → KeepsL1 state c result c'
-l1-kept state c result c' handed taken quiet ready whole l1 of =
-    let both = quiet.holds ready.keeps ready.sound whole in
-    l1-stays (resting state c).file (resting state c').file c.file.header c'.file.header l1 both.1.shows.moved both.1.shows.l1 of
+    → PreservesGuest (HadNoResourceError result) handed taken (storage state c) (flushed_metadata state c) (storage state c') (flushed_metadata state c') → KeepsL1 state c result c'
+l1-kept state c result c' handed taken guest_unchanged ready whole l1 of =
+    let both = guest_unchanged.holds ready.keeps ready.sound whole in
+    l1-stays (flushed_metadata state c).file (flushed_metadata state c').file c.file.header c'.file.header l1 both.1.shows.moved both.1.shows.l1 of

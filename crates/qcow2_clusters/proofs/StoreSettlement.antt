@@ -8,27 +8,27 @@ use Rattle.imago_storage.specs.declared.fault.Fault.{Fault}
 use Rattle.imago_storage.proofs.Composing.{keeps_on}
 use Rattle.qcow2_types.specs.Frames.{Same}
 use Rattle.qcow2_types.specs.Header.{Header, cluster_size}
-use Rattle.qcow2_metadata.specs.Places.{IsInReach}
+use Rattle.qcow2_metadata.specs.Places.{IsAddressable}
 use Rattle.qcow2_alloc.specs.declared.cache.MetadataCaches.{MetadataCaches}
 use Rattle.qcow2_alloc.specs.declared.file.ImageFile.{ImageFile}
 use Rattle.qcow2_alloc.specs.Allocators.{table_of}
 use Rattle.qcow2_alloc.specs.Caches.{cached_in}
 use Rattle.qcow2_alloc.specs.Causes.{HasCause}
 use Rattle.qcow2_alloc.specs.Crowding.{room_for, space}
-use Rattle.qcow2_alloc.specs.Going.{AreBlocksInReach, AreTablesInReach, IsMild, WasNotCutOff}
+use Rattle.qcow2_alloc.specs.Going.{AreBlocksAddressable, AreTablesAddressable, IsNotResourceError, HadNoResourceError}
 use Rattle.qcow2_alloc.specs.MakingRoom.{run_of}
-use Rattle.qcow2_alloc.specs.Quiet.{IsQuiet, IsSound, Quietly, counted}
-use Rattle.qcow2_alloc.specs.Freeing.{IsMarked}
+use Rattle.qcow2_alloc.specs.GuestView.{GuestUnchanged, IsSound, PreservesGuest, counted}
+use Rattle.qcow2_alloc.specs.Freeing.{NoneFreeBefore}
 use Rattle.qcow2_alloc.proofs.Flushing.FlushRefusals.{never-refused, writing-implies}
 use Rattle.qcow2_alloc.proofs.Causes.{cause-weaker}
 use Rattle.qcow2_alloc.proofs.Freeing.ClusterOccurrences.{covers-one}
 use Rattle.qcow2_alloc.proofs.Memory.SafeLaws.{safe-reach}
-use Rattle.qcow2_alloc.proofs.Quiet.QuietPremises.{quietly-given}
+use Rattle.qcow2_alloc.proofs.GuestView.QuietPremises.{quietly-given}
 use Rattle.qcow2_steps.proofs.StepSums.{reserved-still}
 use Rattle.qcow2_steps.proofs.Steps.{quiet-advances}
-use Rattle.qcow2_clusters.specs.Rest.{Clusters, IsReady, changed, lent, resting, storage}
-use Rattle.qcow2_clusters.specs.Room.{IsFull, LeavesRoom, mark_in}
-use Rattle.qcow2_clusters.specs.Settling.{Settles}
+use Rattle.qcow2_clusters.specs.Flushed.{Clusters, IsReady, changed, clusters_state, flushed_metadata, storage}
+use Rattle.qcow2_clusters.specs.Room.{IsFull, LeavesRoom, first_free_in}
+use Rattle.qcow2_clusters.specs.WritingBack.{WritesBack}
 use Rattle.qcow2_clusters.specs.Storing.{AreReserved, Stores, StoresRun, StoresRunUnsettled, handed_by, held_by, run_handed_by, storing_causes}
 use Rattle.qcow2_clusters.proofs.ProgressSums.{progresses-weaker, quiet-progresses, wider-handing}
 use Rattle.qcow2_clusters.specs.Progress.{handing}
@@ -38,38 +38,38 @@ use Rattle.qcow2_clusters.proofs.StartsAtRest.{l1-kept}
 
 -- A cause that says so only of a call that wasn't cut off says so.
 if-mild : (ready : Type 0) (full : ℕ → Type 0) (before after : ℕ) (r : Result ℕ Fault)
-    → IfErr r (HasCause (storing_causes ready (λ number. WasNotCutOff r → full number) before after)) → IfErr r (HasCause (storing_causes ready full before after))
+    → IfErr r (HasCause (storing_causes ready (λ number. HadNoResourceError r → full number) before after)) → IfErr r (HasCause (storing_causes ready full before after))
 if-mild ready full before after (Ok x) why = tt
-if-mild ready full before after (Err fault) why = storing-as (λ number. WasNotCutOff {T = ℕ} (Err fault) → full number) full before after (λ is. is) fault
-    (λ number at is told. told (subst (λ (f : Fault). IsMild f) (sym at) tt)) why
+if-mild ready full before after (Err fault) why = storing-as (λ number. HadNoResourceError {T = ℕ} (Err fault) → full number) full before after (λ is. is) fault
+    (λ number at is told. told (subst (λ (f : Fault). IsNotResourceError f) (sym at) tt)) why
 
 module _ {S : Type 0} (state : S → StorageState) (n : ℕ) (content : List ℕ) (c : Clusters S) (long : length content ≤ n * cluster_size c.file.header.fields) (was : Result ℕ Fault) (mid : Clusters S)
-    (stored : StoresRunUnsettled state n content c was mid) (result : Result ℕ Fault) (after : ImageFile S) (new : MetadataCaches S) (settles : Settles state was mid.file mid.caches result after new)
+    (stored : StoresRunUnsettled state n content c was mid) (result : Result ℕ Fault) (after : ImageFile S) (new : MetadataCaches S) (settles : WritesBack state was mid.file mid.caches result after new)
     (held : ℕ) where
   abbrev c' : Clusters S
-  c' = lent after new (record { allocator = mid.space.allocator; to_free = record { entries = mid.space.to_free.entries; held = held } })
+  c' = clusters_state after new (record { allocator = mid.space.allocator; to_free = record { entries = mid.space.to_free.entries; held = held } })
 
   abbrev Reach : Type 0
-  Reach = AreTablesInReach (cached_in mid.caches) × AreBlocksInReach (cached_in mid.caches)
+  Reach = AreTablesAddressable (cached_in mid.caches) × AreBlocksAddressable (cached_in mid.caches)
 
-  in-reach : IsReady state c → WasNotCutOff was → Reach
-  in-reach ready whole = safe-reach (changed state mid).file mid.file.header (cached_in mid.caches) mid.caches.order (stored.quiet.holds ready.keeps ready.sound whole).0.safe
+  in-reach : IsReady state c → HadNoResourceError was → Reach
+  in-reach ready whole = safe-reach (changed state mid).file mid.file.header (cached_in mid.caches) mid.caches.order (stored.guest_unchanged.holds ready.keeps ready.sound whole).0.well_formed
 
   -- The image stays as it was to the disk, with what was handed out,
-  as-was : Quietly (WasNotCutOff result) (run_handed_by n was) (λ _. 0) (storage state c) (resting state c) (storage state c') (resting state c')
+  as-was : PreservesGuest (HadNoResourceError result) (run_handed_by n was) (λ _. 0) (storage state c) (flushed_metadata state c) (storage state c') (flushed_metadata state c')
   as-was =
-      settled-quietly state was mid.file mid.caches result after new settles (table_of mid.space.allocator) mid.space.to_free.entries (storage state c) (resting state c) (run_handed_by n was) stored.quiet
+      settled-quietly state was mid.file mid.caches result after new settles (table_of mid.space.allocator) mid.space.to_free.entries (storage state c) (flushed_metadata state c) (run_handed_by n was) stored.guest_unchanged
 
   -- which is nothing where it is refused.
-  all-quietly : Quietly (WasNotCutOff result) (run_handed_by n result) (λ _. 0) (storage state c) (resting state c) (storage state c') (resting state c')
+  all-quietly : PreservesGuest (HadNoResourceError result) (run_handed_by n result) (λ _. 0) (storage state c) (flushed_metadata state c) (storage state c') (flushed_metadata state c')
   all-quietly = elim (settled-cases state was mid.file mid.caches result after new settles) [
     | inl same ↦
-        subst (λ (r : Result ℕ Fault). Quietly (WasNotCutOff result) (run_handed_by n r) (λ _. 0) (storage state c) (resting state c) (storage state c') (resting state c')) (sym same) as-was
+        subst (λ (r : Result ℕ Fault). PreservesGuest (HadNoResourceError result) (run_handed_by n r) (λ _. 0) (storage state c) (flushed_metadata state c) (storage state c') (flushed_metadata state c')) (sym same) as-was
     | inr refused ↦
-        subst (λ (r : Result ℕ Fault). Quietly (WasNotCutOff r) (run_handed_by n r) (λ _. 0) (storage state c) (resting state c) (storage state c') (resting state c')) (sym refused.2)
-        (quietly-given (IsMild refused.1) (λ _. 0) (λ _. 0) (storage state c) (resting state c) (storage state c') (resting state c') as-was.shape as-was.later (λ keeps sound.
-        quiet-halted (WasNotCutOff result) (IsMild refused.1) (run_handed_by n was) (λ _. 0) (λ _. 0) (λ _. 0) (storage state c) (resting state c) (storage state c') (resting state c') (resting state c')
-        (λ mild. never-refused Reach (storage state mid).faults (storage state c').faults refused.1 (in-reach (record { keeps = keeps; sound = sound }) refused.0) mild refused.3) as-was))
+        subst (λ (r : Result ℕ Fault). PreservesGuest (HadNoResourceError r) (run_handed_by n r) (λ _. 0) (storage state c) (flushed_metadata state c) (storage state c') (flushed_metadata state c')) (sym refused.2)
+        (quietly-given (IsNotResourceError refused.1) (λ _. 0) (λ _. 0) (storage state c) (flushed_metadata state c) (storage state c') (flushed_metadata state c') as-was.shape as-was.counts_not_fallen (λ keeps sound.
+        quiet-halted (HadNoResourceError result) (IsNotResourceError refused.1) (run_handed_by n was) (λ _. 0) (λ _. 0) (λ _. 0) (storage state c) (flushed_metadata state c) (storage state c') (flushed_metadata state c') (flushed_metadata state c')
+        (λ not_resource_error. never-refused Reach (storage state mid).faults (storage state c').faults refused.1 (in-reach (record { keeps = keeps; sound = sound }) refused.0) not_resource_error refused.3) as-was))
   ]
 
   -- What is settled keeps what is reserved, with its bytes.
@@ -83,22 +83,22 @@ module _ {S : Type 0} (state : S → StorageState) (n : ℕ) (content : List ℕ
     before : was ≡ Ok x
     before = sym stays ∙ is
 
-    done : WasNotCutOff result
-    done = subst (λ (r : Result ℕ Fault). WasNotCutOff r) (sym is) tt
+    done : HadNoResourceError result
+    done = subst (λ (r : Result ℕ Fault). HadNoResourceError r) (sym is) tt
 
     sound : IsSound (changed state mid)
-    sound = (stored.quiet.holds ready.keeps ready.sound (subst (λ (r : Result ℕ Fault). WasNotCutOff r) (sym before) tt)).0
+    sound = (stored.guest_unchanged.holds ready.keeps ready.sound (subst (λ (r : Result ℕ Fault). HadNoResourceError r) (sym before) tt)).0
 
-    step : IsSound (resting state c') × IsQuiet (λ _. 0) (λ _. 0) (changed state mid) (resting state c')
-    step = (settles.quiet (table_of mid.space.allocator) mid.space.to_free.entries).holds (keeps_on (storage state c) (storage state mid) stored.quiet.shape ready.keeps) sound done
+    step : IsSound (flushed_metadata state c') × GuestUnchanged (λ _. 0) (λ _. 0) (changed state mid) (flushed_metadata state c')
+    step = (settles.guest_unchanged (table_of mid.space.allocator) mid.space.to_free.entries).holds (keeps_on (storage state c) (storage state mid) stored.guest_unchanged.shape ready.keeps) sound done
 
     reserved : AreReserved n (changed state mid) x
     reserved = subst (λ (r : Result ℕ Fault). IfOk r (AreReserved n (changed state mid))) before (stored.reserved ready)
 
-    reserved-there : AreReserved n (resting state c') x
+    reserved-there : AreReserved n (flushed_metadata state c') x
     reserved-there d from to =
-        reserved-still (λ p v. ⊥) (λ q. ⊥) (λ guest. ⊥) (λ _. 0) (λ _. 0) (changed state mid) (resting state c')
-        (quiet-advances (changed state mid) (resting state c') (λ _. 0) (λ _. 0) sound step.0 step.1 (λ k some. refl)) d (reserved d from to) refl
+        reserved-still (λ p v. ⊥) (λ q. ⊥) (λ guest. ⊥) (λ _. 0) (λ _. 0) (changed state mid) (flushed_metadata state c')
+        (quiet-advances (changed state mid) (flushed_metadata state c') (λ _. 0) (λ _. 0) sound step.0 step.1 (λ k some. refl)) d (reserved d from to) refl
 
     bytes : (i : ℕ) → i < length content → (changed state mid).file (x * cluster_size c.file.header.fields + i) ≡ slice_index content i
     bytes = subst (λ (r : Result ℕ Fault). IfOk r (λ x. (i : ℕ) → i < length content → (changed state mid).file (x * cluster_size c.file.header.fields + i) ≡ slice_index content i)) before (stored.stored ready)
@@ -107,11 +107,11 @@ module _ {S : Type 0} (state : S → StorageState) (n : ℕ) (content : List ℕ
     size = ap (λ (H : Header). cluster_size H.fields) stored.header.2
 
     kept : (d : ℕ) → x ≤ d → d < x + n
-        → Same (changed state mid).file (resting state c').file (d * cluster_size c.file.header.fields) (cluster_size c.file.header.fields)
-    kept d from to = subst (λ k. Same (changed state mid).file (resting state c').file (d * k) k) size (step.1.kept d (reserved d from to).used refl)
+        → Same (changed state mid).file (flushed_metadata state c').file (d * cluster_size c.file.header.fields) (cluster_size c.file.header.fields)
+    kept d from to = subst (λ k. Same (changed state mid).file (flushed_metadata state c').file (d * k) k) size (step.1.used_bytes_unchanged d (reserved d from to).used refl)
 
     -- Byte i of them is in cluster x + i / size.
-    bytes-there : (i : ℕ) → i < length content → (resting state c').file (x * cluster_size c.file.header.fields + i) ≡ slice_index content i
+    bytes-there : (i : ℕ) → i < length content → (flushed_metadata state c').file (x * cluster_size c.file.header.fields + i) ≡ slice_index content i
     bytes-there i lt =
         let s : ℕ = cluster_size c.file.header.fields in
         let some : 0 < cluster_size c.file.header.fields = pow_pos c.file.header.fields.cluster_bits in
@@ -120,69 +120,69 @@ module _ {S : Type 0} (state : S → StorageState) (n : ℕ) (content : List ℕ
         let rest : i % s ≡ i - i / s * s = mod-eq-sub-div-mul i s in
         let whole : (x + i / s) * s ≡ x * s + i / s * s = add-mul x (i / s) s in
         let at : (x + i / s) * s + i % s ≡ x * s + i = omega (arith, row, rest, whole) in
-        subst (λ p. (resting state c').file p ≡ (changed state mid).file p) at
+        subst (λ p. (flushed_metadata state c').file p ≡ (changed state mid).file p) at
         (kept (x + i / s) (omega arith) (omega (arith, inside)) (i % s) (mod_below i s some))
         ∙ bytes i lt
 
-  reserved-if : (r : Result ℕ Fault) → result ≡ r → IsReady state c → IfOk r (AreReserved n (resting state c'))
+  reserved-if : (r : Result ℕ Fault) → result ≡ r → IsReady state c → IfOk r (AreReserved n (flushed_metadata state c'))
   reserved-if (Ok x) is ready = reserved-there x is ready
   reserved-if (Err fault) is ready = tt
 
   bytes-if : (r : Result ℕ Fault) → result ≡ r → IsReady state c
-      → IfOk r (λ x. (i : ℕ) → i < length content → (resting state c').file (x * cluster_size c.file.header.fields + i) ≡ slice_index content i)
+      → IfOk r (λ x. (i : ℕ) → i < length content → (flushed_metadata state c').file (x * cluster_size c.file.header.fields + i) ≡ slice_index content i)
   bytes-if (Ok x) is ready = bytes-there x is ready
   bytes-if (Err fault) is ready = tt
 
   -- As much is counted once it is settled.
-  counts-there : IsReady state c → WasNotCutOff was → WasNotCutOff result → (d : ℕ) → counted (resting state c') d ≡ counted (changed state mid) d
+  counts-there : IsReady state c → HadNoResourceError was → HadNoResourceError result → (d : ℕ) → counted (flushed_metadata state c') d ≡ counted (changed state mid) d
   counts-there ready whole done d = settles.counts (table_of mid.space.allocator) mid.space.to_free.entries
-      (keeps_on (storage state c) (storage state mid) stored.quiet.shape ready.keeps) (stored.quiet.holds ready.keeps ready.sound whole).0 done d
+      (keeps_on (storage state c) (storage state mid) stored.guest_unchanged.shape ready.keeps) (stored.guest_unchanged.holds ready.keeps ready.sound whole).0 done d
 
   leaves-ok : (x : ℕ) → result ≡ Ok x → (ready : IsReady state c)
-      → LeavesRoom (room_for c.file.header.fields n) (resting state c) (mark_in c) (resting state c') (mark_in mid)
-  leaves-ok x is ready = leaves-as (room_for c.file.header.fields n) (resting state c) (resting state c) (changed state mid) (resting state c') (mark_in c) (mark_in mid)
+      → LeavesRoom (room_for c.file.header.fields n) (flushed_metadata state c) (first_free_in c) (flushed_metadata state c') (first_free_in mid)
+  leaves-ok x is ready = leaves-as (room_for c.file.header.fields n) (flushed_metadata state c) (flushed_metadata state c) (changed state mid) (flushed_metadata state c') (first_free_in c) (first_free_in mid)
       refl (λ d. refl) (ap (λ (H : Header). space H.fields) settles.header)
-      (counts-there ready (subst (λ (r : Result ℕ Fault). WasNotCutOff r) (sym (before x is ready)) tt) (done x is ready))
-      (subst (λ (r : Result ℕ Fault). OnOk r (LeavesRoom (room_for c.file.header.fields n) (resting state c) (mark_in c) (changed state mid) (mark_in mid)))
+      (counts-there ready (subst (λ (r : Result ℕ Fault). HadNoResourceError r) (sym (before x is ready)) tt) (done x is ready))
+      (subst (λ (r : Result ℕ Fault). OnOk r (LeavesRoom (room_for c.file.header.fields n) (flushed_metadata state c) (first_free_in c) (changed state mid) (first_free_in mid)))
       (before x is ready) (stored.leaves ready))
 
   leaves-if : (r : Result ℕ Fault) → result ≡ r → IsReady state c
-      → OnOk r (LeavesRoom (room_for c.file.header.fields n) (resting state c) (mark_in c) (resting state c') (mark_in mid))
+      → OnOk r (LeavesRoom (room_for c.file.header.fields n) (flushed_metadata state c) (first_free_in c) (flushed_metadata state c') (first_free_in mid))
   leaves-if (Ok x) is ready = leaves-ok x is ready
   leaves-if (Err fault) is ready = tt
 
   -- No cluster before the mark is free then, where none was.
-  marked-there : IsReady state c → WasNotCutOff result → IsMarked (resting state c) (mark_in c) → IsMarked (resting state c') (mark_in mid)
+  marked-there : IsReady state c → HadNoResourceError result → NoneFreeBefore (flushed_metadata state c) (first_free_in c) → NoneFreeBefore (flushed_metadata state c') (first_free_in mid)
   marked-there ready done marked =
-      let whole : WasNotCutOff was = elim (settled-cases state was mid.file mid.caches result after new settles) [
-        | inl same ↦ subst (λ (r : Result ℕ Fault). WasNotCutOff r) same done
+      let whole : HadNoResourceError was = elim (settled-cases state was mid.file mid.caches result after new settles) [
+        | inl same ↦ subst (λ (r : Result ℕ Fault). HadNoResourceError r) same done
         | inr refused ↦ refused.0
       ] in
-      marked-as (changed state mid) (resting state c') (mark_in mid) (counts-there ready whole done) (stored.marked ready whole marked)
+      marked-as (changed state mid) (flushed_metadata state c') (first_free_in mid) (counts-there ready whole done) (stored.marked ready whole marked)
 
   -- Where there was no place, and that is answered, a number tells the same.
   abbrev full-if : ℕ → Type 0
-  full-if number = WasNotCutOff result → IsFull n (resting state c) (mark_in c) (resting state c') (mark_in mid) number
+  full-if number = HadNoResourceError result → IsFull n (flushed_metadata state c) (first_free_in c) (flushed_metadata state c') (first_free_in mid) number
 
   full-was : (r : Result ℕ Fault) → was ≡ r
-      → IfErr r (HasCause (storing_causes (IsReady state c) (IsFull n (resting state c) (mark_in c) (changed state mid) (mark_in mid)) (storage state c).faults (storage state mid).faults))
+      → IfErr r (HasCause (storing_causes (IsReady state c) (IsFull n (flushed_metadata state c) (first_free_in c) (changed state mid) (first_free_in mid)) (storage state c).faults (storage state mid).faults))
       → IfErr r (HasCause (storing_causes (IsReady state c) full-if (storage state c).faults (storage state mid).faults))
   full-was (Ok x) is why = tt
   full-was (Err fault) is why = storing-as
-      (IsFull n (resting state c) (mark_in c) (changed state mid) (mark_in mid)) full-if
+      (IsFull n (flushed_metadata state c) (first_free_in c) (changed state mid) (first_free_in mid)) full-if
       (storage state c).faults (storage state mid).faults (λ ready. ready) fault (λ number at ready full done.
-      full-as n (resting state c) (changed state mid) (resting state c') (mark_in c) (mark_in mid) number (sym settles.header) refl
-      (λ d. sym (counts-there ready (subst (λ (r : Result ℕ Fault). WasNotCutOff r) (sym is) (subst (λ (f : Fault). IsMild f) (sym at) tt)) done d)) full) why
+      full-as n (flushed_metadata state c) (changed state mid) (flushed_metadata state c') (first_free_in c) (first_free_in mid) number (sym settles.header) refl
+      (λ d. sym (counts-there ready (subst (λ (r : Result ℕ Fault). HadNoResourceError r) (sym is) (subst (λ (f : Fault). IsNotResourceError f) (sym at) tt)) done d)) full) why
 
   pub run-settled : held ≡ held_by result c.space.to_free.held → StoresRun state n content c result c'
   run-settled room = record {
-    progress = quiet-progresses (WasNotCutOff result) (run_handed_by n result) (λ _. 0) (storage state c) (resting state c) (storage state c') (resting state c') (λ sound k some. refl) all-quietly;
+    progress = quiet-progresses (HadNoResourceError result) (run_handed_by n result) (λ _. 0) (storage state c) (flushed_metadata state c) (storage state c') (flushed_metadata state c') (λ sound k some. refl) all-quietly;
     rests = record {
       empty = settles.empty;
       room = record { tables = settles.room.tables ∙ stored.room.tables; blocks = settles.room.blocks ∙ stored.room.blocks };
       header = (stored.header.0, stored.header.1, settles.header ∙ stored.header.2);
       shape = all-quietly.shape;
-      later = all-quietly.later;
+      counts_not_fallen = all-quietly.counts_not_fallen;
       faults = settled-faultless state was mid.file mid.caches result after new settles (storage state c) stored.faults;
     };
     held = room;
@@ -193,23 +193,23 @@ module _ {S : Type 0} (state : S → StorageState) (n : ℕ) (content : List ℕ
     stored = bytes-if result refl;
     leaves = leaves-if result refl;
     marked = marked-there;
-    cause = if-mild (IsReady state c) (IsFull n (resting state c) (mark_in c) (resting state c') (mark_in mid)) (storage state c).faults (storage state c').faults result
+    cause = if-mild (IsReady state c) (IsFull n (flushed_metadata state c) (first_free_in c) (flushed_metadata state c') (first_free_in mid)) (storage state c).faults (storage state c').faults result
         (settled-cause state was mid.file mid.caches result after new settles (λ count. HasCause (storing_causes (IsReady state c) full-if (storage state c).faults count))
         (full-was was refl stored.cause) (λ whole fault why.
-        cause-weaker (writing-implies _ stored.quiet.later.faults (omega arith) (λ far ready. far (in-reach ready whole))) fault why));
+        cause-weaker (writing-implies _ stored.guest_unchanged.counts_not_fallen.faults (omega arith) (λ far ready. far (in-reach ready whole))) fault why));
   }
 
 -- A run of one cluster is that one.
 pub one-stored : {S : Type 0} (state : S → StorageState) (content : List ℕ) (c : Clusters S) (result : Result ℕ Fault) (c' : Clusters S)
     → StoresRun state 1 content c result c' → Stores state content c result c'
 one-stored state content c (Ok x) c' run = record {
-  progress = progresses-weaker (WasNotCutOff {T = ℕ} (Ok x)) (WasNotCutOff {T = ℕ} (Ok x)) (handing (run_handed_by 1 (Ok x)) (λ _. 0)) (handing (handed_by (Ok x)) (λ _. 0))
-      (storage state c) (resting state c) (storage state c') (resting state c') (wider-handing (run_handed_by 1 (Ok x)) (λ _. 0) (handing (handed_by (Ok x)) (λ _. 0)))
+  progress = progresses-weaker (HadNoResourceError {T = ℕ} (Ok x)) (HadNoResourceError {T = ℕ} (Ok x)) (handing (run_handed_by 1 (Ok x)) (λ _. 0)) (handing (handed_by (Ok x)) (λ _. 0))
+      (storage state c) (flushed_metadata state c) (storage state c') (flushed_metadata state c') (wider-handing (run_handed_by 1 (Ok x)) (λ _. 0) (handing (handed_by (Ok x)) (λ _. 0)))
       (λ whole. whole) (λ d. sym (covers-one d (run_of x 1) refl)) (λ d. refl) run.progress;
   rests = run.rests;
   held = run.held;
   l1 = run.l1;
-  named = (run.named.0, subst (λ n. IsInReach c.file.header.fields.cluster_bits n) (let same : x + (1 - 1) ≡ x = omega arith in same) run.named.1);
+  named = (run.named.0, subst (λ n. IsAddressable c.file.header.fields.cluster_bits n) (let same : x + (1 - 1) ≡ x = omega arith in same) run.named.1);
   reserved = λ ready. run.reserved ready x (omega arith) (omega arith);
   stored = run.stored;
   leaves = run.leaves;

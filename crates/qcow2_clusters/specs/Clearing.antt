@@ -4,15 +4,15 @@ use Rattle.std.specs.Option.{is_some}
 use Rattle.imago_storage.specs.declared.fault.Fault.{Fault}
 use Rattle.imago_storage.specs.declared.fault.Fault.TheVariants.{Memory}
 use Rattle.qcow2_types.specs.Entries.{entry}
-use Rattle.qcow2_types.specs.Header.{words_of_cluster}
+use Rattle.qcow2_types.specs.Header.{entries_of_cluster}
 use Rattle.qcow2_types.specs.Pending.{FreeEntry}
 use Rattle.qcow2_types.specs.Words.{Mapping, mapping_of, unmapped}
-use Rattle.qcow2_metadata.specs.Allocations.{Conserves, allocation_of, freed, holds, kept_where, unkept, zeroed_word}
-use Rattle.qcow2_metadata.specs.Tables.{TableValue, mapping_in, with_word}
+use Rattle.qcow2_metadata.specs.Allocations.{Conserves, allocation_of, freed, holds, kept_where, unkept, zeroed_raw_entry}
+use Rattle.qcow2_metadata.specs.Tables.{TableValue, mapping_in, with_raw_entry}
 use Rattle.qcow2_alloc.specs.Changes.{zeroed}
-use Rattle.qcow2_alloc.specs.Quiet.{Metadata}
-use Rattle.qcow2_steps.specs.Words.{GivesWord, IsOfWord}
-use Rattle.qcow2_clusters.specs.Naming.{IsUnder, Listed, listed_of}
+use Rattle.qcow2_alloc.specs.GuestView.{Metadata}
+use Rattle.qcow2_steps.specs.Words.{GivesEntry, IsOfEntry}
+use Rattle.qcow2_clusters.specs.Linking.{IsUnder, Listed, listed_of}
 use Rattle.qcow2_clusters.specs.Progress.{Kind, both, handing}
 use Rattle.qcow2_clusters.specs.Setting.{Setting}
 use Rattle.qcow2_clusters.specs.declared.clearing.Clearing.{Clearing}
@@ -31,10 +31,10 @@ cleared GiveUp old = zeroed (kept_where false old)
 cleared Unmap old = unmapped
 
 -- the word that is written then
-abbrev pub cleared_word : (cluster_bits : ℕ) → Clearing → Mapping → ℕ
-cleared_word bits Keep old = zeroed_word bits (kept_where true old)
-cleared_word bits GiveUp old = zeroed_word bits (kept_where false old)
-cleared_word bits Unmap old = 0
+abbrev pub cleared_raw_entry : (cluster_bits : ℕ) → Clearing → Mapping → ℕ
+cleared_raw_entry bits Keep old = zeroed_raw_entry bits (kept_where true old)
+cleared_raw_entry bits GiveUp old = zeroed_raw_entry bits (kept_where false old)
+cleared_raw_entry bits Unmap old = 0
 
 -- and what it gives up
 abbrev pub given_up : (cluster_bits : ℕ) → Clearing → Mapping → Option FreeEntry
@@ -45,26 +45,26 @@ given_up bits Unmap old = freed (allocation_of bits old)
 -- The word at an index of a table is cleared, and this is what it gives up: what it named and doesn't name any more.
 pub record ClearsAt (how : Clearing) (index : ℕ) (old : TableValue) (given : Option FreeEntry) (new : TableValue) : Type 0 where
   pub possible : IsPossible how old.layout.version
-  pub set : new ≡ with_word old index (cleared_word old.layout.cluster_bits how (mapping_in old index))
+  pub set : new ≡ with_raw_entry old index (cleared_raw_entry old.layout.cluster_bits how (mapping_in old index))
   pub back : given ≡ given_up old.layout.cluster_bits how (mapping_in old index)
   pub conserved : Conserves old.layout.cluster_bits (mapping_in old index)
-      (mapping_of old.layout (cleared_word old.layout.cluster_bits how (mapping_in old index))) given (λ c. 0)
+      (mapping_of old.layout (cleared_raw_entry old.layout.cluster_bits how (mapping_in old index))) given (λ c. 0)
 
 -- That waits to be freed then.
-pub record ClearsWord (how : Clearing) (index : ℕ) (old new : Listed) : Type 0 where
+pub record ClearsEntry (how : Clearing) (index : ℕ) (old new : Listed) : Type 0 where
   pub given : Option FreeEntry
   pub clears : ClearsAt how index old.table given new.table
   pub put : new.list ≡ record old.list { entries = old.list.entries ++ listed_of given }
 
 -- So are the n words from an index on.
-unfoldable pub ClearsWords : Clearing → (index n : ℕ) → Listed → Listed → Type 0
-ClearsWords how index zero old new = new ≡ old
-ClearsWords how index (suc n) old new = (between : Listed) × ClearsWords how index n old between × ClearsWord how (index + n) between new
+unfoldable pub ClearsEntries : Clearing → (index n : ℕ) → Listed → Listed → Type 0
+ClearsEntries how index zero old new = new ≡ old
+ClearsEntries how index (suc n) old new = (between : Listed) × ClearsEntries how index n old between × ClearsEntry how (index + n) between new
 
 -- So they are, or the table is for clusters of another size or for a version that knows no zeroes, or there is no memory to have something
 -- wait.
 pub record ClearsIn (how : Clearing) (bits index n : ℕ) (old : Listed) (result : Result Unit Fault) (new : Listed) : Type 0 where
-  pub ok : OnOk result ((old.table.layout.cluster_bits ≡ bits) × ClearsWords how index n old new)
+  pub ok : OnOk result ((old.table.layout.cluster_bits ≡ bits) × ClearsEntries how index n old new)
   pub err : IfErr result (λ fault. (fault ≡ Memory)
       ⊎ (old.table.layout.cluster_bits ≡ bits → IsPossible how old.table.layout.version → ⊥))
 
@@ -81,11 +81,11 @@ given_up_for how m guest = given_up m.header.fields.cluster_bits how (meant m gu
 
 -- What is given, set, handed out and taken where it is cleared: what it gives up is handed out, and waits to be freed.
 abbrev pub clearing : Clearing → Metadata → (guest : ℕ) → Kind
-clearing how m guest = let i = guest / words_of_cluster m.header.fields in let j = guest % words_of_cluster m.header.fields in record {
-  gives = GivesWord m i j (cleared how (meant m guest));
+clearing how m guest = let i = guest / entries_of_cluster m.header.fields in let j = guest % entries_of_cluster m.header.fields in record {
+  gives = GivesEntry m i j (cleared how (meant m guest));
   written = λ q. ⊥;
-  set = IsOfWord m.header.fields i j;
-  handed = λ c. holds c (given_up_for how m guest);
+  set = IsOfEntry m.header.fields i j;
+  newly_allocated = λ c. holds c (given_up_for how m guest);
   taken = λ c. holds c (given_up_for how m guest);
 }
 

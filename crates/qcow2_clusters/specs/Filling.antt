@@ -7,13 +7,13 @@ use Rattle.imago_storage.specs.declared.fault.Fault.{Fault}
 use Rattle.qcow2_types.specs.Header.{Fields, cluster_size}
 use Rattle.qcow2_alloc.specs.declared.cache.MetadataCaches.{MetadataCaches}
 use Rattle.qcow2_alloc.specs.declared.file.ImageFile.{ImageFile}
-use Rattle.qcow2_alloc.specs.Going.{WasNotCutOff}
+use Rattle.qcow2_alloc.specs.Going.{HadNoResourceError}
 use Rattle.qcow2_steps.specs.Data.{IsKeptFor}
 use Rattle.qcow2_clusters.specs.Progress.{Kind, Progresses}
-use Rattle.qcow2_clusters.specs.Rest.{AreEmpty, Clusters, IsReady, KeepsL1, lent, resting, storage}
+use Rattle.qcow2_clusters.specs.Flushed.{AreEmpty, Clusters, IsReady, KeepsL1, clusters_state, flushed_metadata, storage}
 use Rattle.qcow2_clusters.specs.Storing.{Rests}
 use Rattle.qcow2_clusters.specs.declared.space.Space.{Space}
-use Rattle.qcow2_clusters.specs.Room.{KeepsMarked}
+use Rattle.qcow2_clusters.specs.Room.{KeepsNoneFreeBefore}
 
 -- Bytes of this cluster are written: nothing is given, set, handed out or taken.
 abbrev pub filling : Fields → ℕ → Kind
@@ -21,25 +21,25 @@ filling h x = record {
   gives = λ p v. ⊥;
   written = IsIn (x * cluster_size h) (cluster_size h);
   set = λ guest. ⊥;
-  handed = λ c. 0;
+  newly_allocated = λ c. 0;
   taken = λ c. 0;
 }
 
 -- Bytes are written to the cluster that a guest cluster keeps for its zeroes, as copied: it keeps that still, and the disk stays as it was.
 pub record Fills {S : Type 0} (state : S → StorageState) (guest x : ℕ) (content : List ℕ) (c : Clusters S) (result : Result Unit Fault)
     (c' : Clusters S) : Type 0 where
-  pub progress : IsKeptFor (resting state c) guest x → Progresses (WasNotCutOff result) (filling c.file.header.fields x) (storage state c)
-      (resting state c) (storage state c') (resting state c')
+  pub progress : IsKeptFor (flushed_metadata state c) guest x → Progresses (HadNoResourceError result) (filling c.file.header.fields x) (storage state c)
+      (flushed_metadata state c) (storage state c') (flushed_metadata state c')
   pub rests : Rests state c result c'
   pub header : c'.file.header ≡ c.file.header
-  pub l1 : IsKeptFor (resting state c) guest x → KeepsL1 state c result c'
-  pub marked : IsKeptFor (resting state c) guest x → KeepsMarked state c result c'
-  pub kept : IsReady state c → IsKeptFor (resting state c) guest x → OnOk result (IsKeptFor (resting state c') guest x)
+  pub l1 : IsKeptFor (flushed_metadata state c) guest x → KeepsL1 state c result c'
+  pub marked : IsKeptFor (flushed_metadata state c) guest x → KeepsNoneFreeBefore state c result c'
+  pub stays_kept : IsReady state c → IsKeptFor (flushed_metadata state c) guest x → OnOk result (IsKeptFor (flushed_metadata state c') guest x)
   pub stored : IsTrue (storage state c).shape.keeps → OnOk result ((i : ℕ) → i < length content
-      → (resting state c').file (x * cluster_size c.file.header.fields + i) ≡ slice_index content i)
+      → (flushed_metadata state c').file (x * cluster_size c.file.header.fields + i) ≡ slice_index content i)
   pub cause : IfErr result (Cause (storage state c).faults (storage state c').faults)
 
 -- So they are in an image file of which nothing is cached, whatever is free.
 abbrev pub FillsFile : {S : Type 0} → (S → StorageState) → (x : ℕ) → List ℕ → ImageFile S → Result Unit Fault → ImageFile S → Type 0
 FillsFile {S} state x content before result after = (guest : ℕ) (caches : MetadataCaches S) (space : Space) → AreEmpty caches
-    → Fills state guest x content (lent before caches space) result (lent after caches space)
+    → Fills state guest x content (clusters_state before caches space) result (clusters_state after caches space)

@@ -3,11 +3,11 @@ use Rattle.std.specs.Prelude.{◌≡◌, [], ℕ, Result, OnOk, IfErr}
 use Rattle.imago_storage.specs.State.{StorageState}
 use Rattle.imago_storage.specs.declared.fault.Fault.{Fault}
 use Rattle.qcow2_alloc.specs.Causes.{HasCause, Causes}
-use Rattle.qcow2_alloc.specs.Going.{IsNoShorter, WasNotCutOff}
+use Rattle.qcow2_alloc.specs.Going.{IsNoShorter, HadNoResourceError}
 use Rattle.qcow2_clusters.specs.Progress.{Progresses, handing}
-use Rattle.qcow2_clusters.specs.Rest.{Clusters, IsReady, KeepsL1, resting, storage}
+use Rattle.qcow2_clusters.specs.Flushed.{Clusters, IsReady, KeepsL1, flushed_metadata, storage}
 use Rattle.qcow2_clusters.specs.Storing.{Rests}
-use Rattle.qcow2_clusters.specs.Room.{KeepsMarked}
+use Rattle.qcow2_clusters.specs.Room.{KeepsNoneFreeBefore}
 
 -- Calls that free fail, but for want of memory or by a storage, as a damaged table or for a counter that can't change, only where the image
 -- isn't ready.
@@ -16,15 +16,15 @@ releasing_causes ready before after =
     record { damaged = ready → ⊥; counter = ready → ⊥; full = ⊥; limit = λ number. ⊥; before = before; after = after }
 
 -- What waits is freed: the disk stays as it was. Whatever is answered, the file gets no shorter.
-pub record FreesWaiting {S : Type 0} (state : S → StorageState) (c : Clusters S) (result : Result Unit Fault)
+pub record FreesPendingClusters {S : Type 0} (state : S → StorageState) (c : Clusters S) (result : Result Unit Fault)
     (c' : Clusters S) : Type 0 where
-  pub progress : Progresses (WasNotCutOff result) (handing (λ _. 0) (λ _. 0)) (storage state c) (resting state c)
-      (storage state c') (resting state c')
+  pub progress : Progresses (HadNoResourceError result) (handing (λ _. 0) (λ _. 0)) (storage state c) (flushed_metadata state c)
+      (storage state c') (flushed_metadata state c')
   pub rests : Rests state c result c'
   pub held : c'.space.to_free.held ≡ c.space.to_free.held
   pub l1 : KeepsL1 state c result c'
   pub emptied : OnOk result (c'.space.to_free.entries ≡ [])
   pub header : c'.file.header ≡ c.file.header
   pub no_shorter : IsNoShorter (storage state c) (storage state c')
-  pub marked : KeepsMarked state c result c'
+  pub marked : KeepsNoneFreeBefore state c result c'
   pub cause : IfErr result (HasCause (releasing_causes (IsReady state c) (storage state c).faults (storage state c').faults))

@@ -2,28 +2,28 @@
 use Rattle.std.specs.Prelude.{◌≡◌, ◌+◌, ◌-◌, ◌*◌, ◌/◌, ◌^◌, ◌<◌, ◌≤◌, ◌⊎◌, ◌==◌, ℕ, List, length, [], ◌∷◌, ◌++◌, if◌then◌else◌}
 use Rattle.std.specs.Prelude.{max, min, slice_index, EachIndex, None, Result, Ok, Err, OnOk, OnErr, IfOk, IfErr}
 use Rattle.imago_storage.specs.State.{StorageState}
-use Rattle.imago_storage.specs.Calls.{IsFaultless, Later}
-use Rattle.imago_storage.specs.Through.{PutAtOnce}
+use Rattle.imago_storage.specs.Calls.{IsFaultless, CountsNotFallen}
+use Rattle.imago_storage.specs.Through.{AtomicWriteOutcome}
 use Rattle.imago_storage.specs.declared.fault.Fault.{Fault}
 use Rattle.imago_storage.specs.declared.fault.Fault.TheVariants.{Limit}
 use Rattle.qcow2_types.specs.Header.{Fields, Header, cluster_size, first_fault, rules_of_size}
 use Rattle.qcow2_types.specs.HeaderBytes.{first_bytes}
 use Rattle.qcow2_types.specs.Pending.{FreeEntry}
 use Rattle.qcow2_types.specs.Switched.{with_l1_table}
-use Rattle.qcow2_metadata.specs.Tables.{TableValue, IsPlacedTable, padded, table_place}
+use Rattle.qcow2_metadata.specs.Tables.{TableValue, IsPlacedTable, padded, table_start}
 use Rattle.qcow2_alloc.specs.declared.file.ImageFile.{ImageFile}
 use Rattle.qcow2_alloc.specs.Caches.{HasRoomOf}
 use Rattle.qcow2_alloc.specs.Causes.{HasCause}
 use Rattle.qcow2_alloc.specs.Crowding.{room_for}
-use Rattle.qcow2_alloc.specs.Going.{WasNotCutOff}
+use Rattle.qcow2_alloc.specs.Going.{HadNoResourceError}
 use Rattle.qcow2_alloc.specs.MakingRoom.{run_of}
 use Rattle.qcow2_alloc.specs.Opening.{IsL1Of}
-use Rattle.qcow2_alloc.specs.Quiet.{Metadata}
+use Rattle.qcow2_alloc.specs.GuestView.{Metadata}
 use Rattle.qcow2_steps.specs.Advancing.{KeepsHeader}
 use Rattle.qcow2_steps.specs.LongerL1.{old_l1}
 use Rattle.qcow2_clusters.specs.Progress.{Kind, Progresses, handing}
-use Rattle.qcow2_clusters.specs.Rest.{AreEmpty, Clusters, IsReady, resting, storage}
-use Rattle.qcow2_clusters.specs.Room.{IsFull, KeepsMarked, LeavesRoom, mark_in}
+use Rattle.qcow2_clusters.specs.Flushed.{AreEmpty, Clusters, IsReady, flushed_metadata, storage}
+use Rattle.qcow2_clusters.specs.Room.{IsFull, KeepsNoneFreeBefore, LeavesRoom, first_free_in}
 use Rattle.qcow2_clusters.specs.Storing.{storing_causes}
 
 -- how many clusters so many words take, of which the last may be filled in part
@@ -38,18 +38,18 @@ l1_run cluster_bits place n =
 -- The same words stand in clusters from the one that was answered on.
 pub record StandsIn (h : Fields) (table : TableValue) (result : Result ℕ Fault) (table' : TableValue) : Type 0 where
   pub layout : table'.layout ≡ table.layout
-  pub words : table'.words ≡ table.words
-  pub placed : IfOk result (λ first. IsPlacedTable table' × (table_place table' ≡ first * cluster_size h))
+  pub raw_entries : table'.raw_entries ≡ table.raw_entries
+  pub placed : IfOk result (λ first. IsPlacedTable table' × (table_start table' ≡ first * cluster_size h))
 
 -- the header that names this L1 table
 abbrev pub naming_l1 : Header → TableValue → Header
-naming_l1 H table = with_l1_table H (table_place table) (length table.words)
+naming_l1 H table = with_l1_table H (table_start table) (length table.raw_entries)
 
 -- The header comes to name an L1 table in place of an old one, in the file by one request; where that is refused it names the old one in
 -- memory.
-pub record NamesL1 {S : Type 0} (state : S → StorageState) (table old : TableValue) (before : ImageFile S) (result : Result Unit Fault)
+pub record LinksL1 {S : Type 0} (state : S → StorageState) (table old : TableValue) (before : ImageFile S) (result : Result Unit Fault)
     (after : ImageFile S) : Type 0 where
-  pub put : PutAtOnce (state before.image) (state after.image) 0 (first_bytes (naming_l1 before.header table).fields) result
+  pub put : AtomicWriteOutcome (state before.image) (state after.image) 0 (first_bytes (naming_l1 before.header table).fields) result
   pub ok : OnOk result (after.header ≡ naming_l1 before.header table)
   pub err : OnErr result (after.header ≡ naming_l1 before.header old)
   pub bytes : EachIndex (state before.image).bytes (λ k. slice_index (state before.image).bytes k < 256)
@@ -63,39 +63,39 @@ lengthening m m' (Err fault) = handing (λ _. 0) (λ _. 0)
 
 -- how many clusters the L1 table takes that comes to have a word at index i
 abbrev pub l1_clusters : Fields → TableValue → (i : ℕ) → ℕ
-l1_clusters h top i = clusters_for h (max (length top.words) (i + 1))
+l1_clusters h top i = clusters_for h (max (length top.raw_entries) (i + 1))
 
 -- It would have more than 2^22 words, of which the number is told, or there was no room for its clusters.
 abbrev pub IsTooLong : {S : Type 0} → (S → StorageState) → TableValue → (i : ℕ) → Clusters S → Clusters S → ℕ → Type 0
 IsTooLong state top i c c' number = ((2 ^ 22 < i + 1) × (number ≡ min (i + 1) (2 ^ 64 - 1)))
     ⊎ ((i + 1 ≤ 2 ^ 22)
-    × IsFull (l1_clusters c.file.header.fields top i) (resting state c) (mark_in c) (resting state c') (mark_in c') number)
+    × IsFull (l1_clusters c.file.header.fields top i) (flushed_metadata state c) (first_free_in c) (flushed_metadata state c') (first_free_in c') number)
 
 -- Where the L1 table in memory is the file's,
 abbrev pub IsTop : {S : Type 0} → (S → StorageState) → TableValue → Clusters S → Type 0
-IsTop state top c = IsL1Of (resting state c).file c.file.header.fields top
+IsTop state top c = IsL1Of (flushed_metadata state c).file c.file.header.fields top
 
 -- the header comes to name a longer one, with a word at this index: it has the words of the old one, and then 0. The disk stays as it was.
 pub record LengthensL1 {S : Type 0} (state : S → StorageState) (top : TableValue) (i : ℕ) (c : Clusters S) (result : Result Unit Fault)
     (top' : TableValue) (c' : Clusters S) : Type 0 where
-  pub progress : IsTop state top c → Progresses (WasNotCutOff result) (lengthening (resting state c) (resting state c') result)
-      (storage state c) (resting state c) (storage state c') (resting state c')
+  pub progress : IsTop state top c → Progresses (HadNoResourceError result) (lengthening (flushed_metadata state c) (flushed_metadata state c') result)
+      (storage state c) (flushed_metadata state c) (storage state c') (flushed_metadata state c')
   pub empty : AreEmpty c'.caches
   pub room : HasRoomOf c.caches c'.caches
   pub header : KeepsHeader c.file.header c'.file.header
   pub shape : (storage state c').shape ≡ (storage state c).shape
-  pub later : Later (storage state c) (storage state c')
-  pub faults : WasNotCutOff result → IsFaultless (storage state c) (storage state c')
+  pub counts_not_fallen : CountsNotFallen (storage state c) (storage state c')
+  pub faults : HadNoResourceError result → IsFaultless (storage state c) (storage state c')
   pub held : c'.space.to_free.held ≡ c.space.to_free.held
-  pub l1 : IsReady state c → IsTop state top c → WasNotCutOff result → IsTop state top' c'
+  pub l1 : IsReady state c → IsTop state top c → HadNoResourceError result → IsTop state top' c'
   pub long : OnOk result (i < c'.file.header.fields.l1_entries)
-  pub words : OnOk result (top'.words ≡ padded top.words (max (length top.words) (i + 1)))
+  pub raw_entries : OnOk result (top'.raw_entries ≡ padded top.raw_entries (max (length top.raw_entries) (i + 1)))
   pub waits : IsTop state top c → OnOk result (let h = c.file.header.fields in (before : List FreeEntry)
       × (c'.space.to_free.entries ≡ before ++ l1_run h.cluster_bits h.l1_offset h.l1_entries))
   pub far : IsReady state c → IsTop state top c → 2 ^ 22 < i + 1 → result ≡ Err (Limit (min (i + 1) (2 ^ 64 - 1)))
   pub leaves : IsReady state c → IsTop state top c → OnOk result ((i + 1 ≤ 2 ^ 22)
-      × LeavesRoom (room_for c.file.header.fields (l1_clusters c.file.header.fields top i)) (resting state c) (mark_in c) (resting state c')
-      (mark_in c'))
-  pub marked : IsTop state top c → KeepsMarked state c result c'
+      × LeavesRoom (room_for c.file.header.fields (l1_clusters c.file.header.fields top i)) (flushed_metadata state c) (first_free_in c) (flushed_metadata state c')
+      (first_free_in c'))
+  pub marked : IsTop state top c → KeepsNoneFreeBefore state c result c'
   pub cause : IfErr result (HasCause (storing_causes (IsReady state c × IsTop state top c) (IsTooLong state top i c c')
       (storage state c).faults (storage state c').faults))

@@ -1,11 +1,11 @@
-pub mod Rest
+pub mod Flushed
 pub mod Room
 pub mod Progress
-pub mod Settling
-pub mod Sparing
+pub mod WritingBack
+pub mod LeftUntouched
 pub mod Storing
 pub mod Filling
-pub mod Naming
+pub mod Linking
 pub mod Setting
 pub mod Clearing
 pub mod Freeing

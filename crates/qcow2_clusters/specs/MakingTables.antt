@@ -4,26 +4,26 @@ use Rattle.std.specs.Prelude.{Result, Ok, Err, OnOk, OnErr, IfOk, IfErr, IsTrue,
 use Rattle.std.specs.Int.{w64, to_be_bytes}
 use Rattle.imago_storage.specs.State.{StorageState}
 use Rattle.imago_storage.specs.Calls.{Reads}
-use Rattle.imago_storage.specs.Through.{PutAtOnce}
+use Rattle.imago_storage.specs.Through.{AtomicWriteOutcome}
 use Rattle.imago_storage.specs.declared.fault.Fault.{Fault}
 use Rattle.imago_storage.specs.declared.fault.Fault.TheVariants.{DamagedTable}
-use Rattle.qcow2_types.specs.Bytes.{bytes_of, word}
+use Rattle.qcow2_types.specs.Bytes.{bytes_of, raw_entry}
 use Rattle.qcow2_types.specs.Entries.{l2_mapping, l2_table}
-use Rattle.qcow2_types.specs.Header.{Fields, cluster_size, layout_of, words_of_cluster}
+use Rattle.qcow2_types.specs.Header.{Fields, cluster_size, layout_of, entries_of_cluster}
 use Rattle.qcow2_types.specs.Pending.{FreeEntry}
-use Rattle.qcow2_types.specs.Words.{is_copied, is_place, table_offset}
-use Rattle.qcow2_metadata.specs.Places.{IsInReach}
-use Rattle.qcow2_metadata.specs.Tables.{TableValue, IsPlacedTable, table_place}
+use Rattle.qcow2_types.specs.Words.{is_copied, is_cluster_offset, table_offset}
+use Rattle.qcow2_metadata.specs.Places.{IsAddressable}
+use Rattle.qcow2_metadata.specs.Tables.{TableValue, IsPlacedTable, table_start}
 use Rattle.qcow2_alloc.specs.declared.file.ImageFile.{ImageFile}
 use Rattle.qcow2_alloc.specs.Causes.{HasCause}
 use Rattle.qcow2_alloc.specs.Crowding.{room_for}
-use Rattle.qcow2_alloc.specs.Going.{WasNotCutOff}
+use Rattle.qcow2_alloc.specs.Going.{HadNoResourceError}
 use Rattle.qcow2_alloc.specs.Opening.{IsL1Of}
-use Rattle.qcow2_alloc.specs.Quiet.{Metadata, named_at_all}
+use Rattle.qcow2_alloc.specs.GuestView.{Metadata, referenced_at_all}
 use Rattle.qcow2_steps.specs.NewTables.{old_table, slot_or_none}
 use Rattle.qcow2_clusters.specs.Progress.{Kind, Progresses, handing}
-use Rattle.qcow2_clusters.specs.Rest.{Clusters, IsReady, resting, storage}
-use Rattle.qcow2_clusters.specs.Room.{IsFull, KeepsMarked, LeavesRoom, mark_in}
+use Rattle.qcow2_clusters.specs.Flushed.{Clusters, IsReady, flushed_metadata, storage}
+use Rattle.qcow2_clusters.specs.Room.{IsFull, KeepsNoneFreeBefore, LeavesRoom, first_free_in}
 use Rattle.qcow2_clusters.specs.Storing.{Rests, handed_by, held_by, storing_causes}
 
 -- the cluster of the table that is replaced, which nothing names any more where it is
@@ -45,31 +45,31 @@ copying m i result =
     handing (λ c. handed_by result c + given_up m i result c) (λ c. handed_by result c + given_up m i result c)
 
 -- Word i of the L1 table in memory is the file's,
-pub record IsTopWord {S : Type 0} (state : S → StorageState) (top : TableValue) (i : ℕ) (c : Clusters S) : Type 0 where
-  pub l1 : IsL1Of (resting state c).file c.file.header.fields top
+pub record IsTopRawEntry {S : Type 0} (state : S → StorageState) (top : TableValue) (i : ℕ) (c : Clusters S) : Type 0 where
+  pub l1 : IsL1Of (flushed_metadata state c).file c.file.header.fields top
   pub inside : i < c.file.header.fields.l1_entries
 
 -- and names no table,
 pub record IsTableless {S : Type 0} (state : S → StorageState) (top : TableValue) (i : ℕ) (c : Clusters S) : Type 0 where
-  pub top_word : IsTopWord state top i c
-  pub none : l2_table (resting state c).file c.file.header.fields i ≡ 0
+  pub top_word : IsTopRawEntry state top i c
+  pub none : l2_table (flushed_metadata state c).file c.file.header.fields i ≡ 0
 
 -- or a table,
 pub record HasTable {S : Type 0} (state : S → StorageState) (top : TableValue) (i : ℕ) (c : Clusters S) : Type 0 where
-  pub top_word : IsTopWord state top i c
-  pub some : l2_table (resting state c).file c.file.header.fields i ≢ 0
+  pub top_word : IsTopRawEntry state top i c
+  pub table_exists : l2_table (flushed_metadata state c).file c.file.header.fields i ≢ 0
 
 -- whose words mean what those in these bytes do; where there is none, nothing is mapped.
 pub record IsContent {S : Type 0} (state : S → StorageState) (content : List ℕ) (top : TableValue) (i : ℕ) (c : Clusters S)
     : Type 0 where
-  pub top_word : IsTopWord state top i c
-  pub words : let h = c.file.header.fields in (j : ℕ) → j < words_of_cluster h
-      → l2_mapping (bytes_of content) h 0 j ≡ slot_or_none (resting state c).file h i j
+  pub top_word : IsTopRawEntry state top i c
+  pub raw_entries : let h = c.file.header.fields in (j : ℕ) → j < entries_of_cluster h
+      → l2_mapping (bytes_of content) h 0 j ≡ slot_or_none (flushed_metadata state c).file h i j
 
 -- Word w of an L1 table names a table that begins with this cluster, which words can name; or it names none.
 abbrev pub FindsTable : (cluster_bits w : ℕ) → Option ℕ → Type 0
-FindsTable cluster_bits w None = table_offset w ≢ 0 → IsTrue (is_place cluster_bits (table_offset w)) → ⊥
-FindsTable cluster_bits w (Some t) = (t ≢ 0) × IsInReach cluster_bits t × (table_offset w ≡ t * 2 ^ cluster_bits)
+FindsTable cluster_bits w None = table_offset w ≢ 0 → IsTrue (is_cluster_offset cluster_bits (table_offset w)) → ⊥
+FindsTable cluster_bits w (Some t) = (t ≢ 0) × IsAddressable cluster_bits t × (table_offset w ≡ t * 2 ^ cluster_bits)
 
 -- These are the bytes of a cluster of a file.
 pub record IsClusterOf (file : List ℕ) (h : Fields) (cluster : ℕ) (bytes : List ℕ) : Type 0 where
@@ -77,54 +77,54 @@ pub record IsClusterOf (file : List ℕ) (h : Fields) (cluster : ℕ) (bytes : L
   pub reads : Reads file (cluster * cluster_size h) bytes
 
 -- The same words.
-pub record HasWordsOf (l1 l1' : TableValue) : Type 0 where
+pub record HasEntriesOf (l1 l1' : TableValue) : Type 0 where
   pub layout : l1'.layout ≡ l1.layout
-  pub words : l1'.words ≡ l1.words
+  pub raw_entries : l1'.raw_entries ≡ l1.raw_entries
 
 -- The L1 table in memory comes to stand where the header says. That is refused only where it isn't one of an image with this header.
 pub record PlacesL1 (h : Fields) (l1 : TableValue) (result : Result Unit Fault) (l1' : TableValue) : Type 0 where
-  pub same : HasWordsOf l1 l1'
+  pub same : HasEntriesOf l1 l1'
   pub bits : OnOk result (l1.layout.cluster_bits ≡ h.cluster_bits)
   pub placed : OnOk result (IsPlacedTable l1')
-  pub place : OnOk result (table_place l1' ≡ h.l1_offset)
+  pub place : OnOk result (table_start l1' ≡ h.l1_offset)
   pub err : OnErr result (result ≡ Err DamagedTable)
-  pub cause : OnErr result (l1.layout ≡ layout_of h → IsTrue (is_place h.cluster_bits h.l1_offset) → ⊥)
+  pub cause : OnErr result (l1.layout ≡ layout_of h → IsTrue (is_cluster_offset h.cluster_bits h.l1_offset) → ⊥)
 
 -- Word i of the L1 table comes to name a table as one whose cluster is counted once, in memory, and in the file by one request.
 pub record EntersTable {S : Type 0} (state : S → StorageState) (i : ℕ) (table l1 : TableValue) (before : ImageFile S)
     (result : Result Unit Fault) (l1' : TableValue) (after : ImageFile S) : Type 0 where
   pub layout : l1'.layout ≡ l1.layout
-  pub words : l1'.words ≡ slice_set l1.words i (2 ^ 63 + table_place table)
+  pub raw_entries : l1'.raw_entries ≡ slice_set l1.raw_entries i (2 ^ 63 + table_start table)
   pub header : after.header ≡ before.header
-  pub put : PutAtOnce (state before.image) (state after.image) (table_place l1 + 8 * i) (to_be_bytes w64 (2 ^ 63 + table_place table))
+  pub put : AtomicWriteOutcome (state before.image) (state after.image) (table_start l1 + 8 * i) (to_be_bytes w64 (2 ^ 63 + table_start table))
       result
 
 -- Where the image is as it is asked, word i of the L1 table comes to name a new table, as one whose cluster is counted once, in the file
 -- and in memory.
 pub record NamesNewTable {S : Type 0} (state : S → StorageState) (asked : Type 0) (kind : Kind) (i : ℕ) (c : Clusters S)
     (result : Result ℕ Fault) (top' : TableValue) (c' : Clusters S) : Type 0 where
-  pub progress : asked → Progresses (WasNotCutOff result) kind (storage state c) (resting state c) (storage state c') (resting state c')
+  pub progress : asked → Progresses (HadNoResourceError result) kind (storage state c) (flushed_metadata state c) (storage state c') (flushed_metadata state c')
   pub rests : Rests state c result c'
-  pub l1 : IsReady state c → asked → WasNotCutOff result → IsL1Of (resting state c').file c.file.header.fields top'
-  pub there : IsReady state c → asked
-      → IfOk result (λ t. (t ≢ 0) × (l2_table (resting state c').file c.file.header.fields i ≡ t * cluster_size c.file.header.fields))
+  pub l1 : IsReady state c → asked → HadNoResourceError result → IsL1Of (flushed_metadata state c').file c.file.header.fields top'
+  pub table_linked : IsReady state c → asked
+      → IfOk result (λ t. (t ≢ 0) × (l2_table (flushed_metadata state c').file c.file.header.fields i ≡ t * cluster_size c.file.header.fields))
   pub copied : IsReady state c → asked
-      → IfOk result (λ t. is_copied (word (resting state c').file c.file.header.fields.l1_offset i) ≡ true)
-  pub leaves : IsReady state c → asked → OnOk result (LeavesRoom (room_for c.file.header.fields 1) (resting state c) (mark_in c)
-      (resting state c') (mark_in c'))
-  pub marked : asked → KeepsMarked state c result c'
+      → IfOk result (λ t. is_copied (raw_entry (flushed_metadata state c').file c.file.header.fields.l1_offset i) ≡ true)
+  pub leaves : IsReady state c → asked → OnOk result (LeavesRoom (room_for c.file.header.fields 1) (flushed_metadata state c) (first_free_in c)
+      (flushed_metadata state c') (first_free_in c'))
+  pub marked : asked → KeepsNoneFreeBefore state c result c'
   pub cause : IfErr result (HasCause (storing_causes (IsReady state c × asked)
-      (IsFull 1 (resting state c) (mark_in c) (resting state c') (mark_in c')) (storage state c).faults (storage state c').faults))
+      (IsFull 1 (flushed_metadata state c) (first_free_in c) (flushed_metadata state c') (first_free_in c')) (storage state c).faults (storage state c').faults))
 
 -- A table of these bytes takes the place of the one that word i named, if it named one: nothing names that any more, and room is held for
 -- an entry of it on the list of clusters to free.
 pub record PlacesTable {S : Type 0} (state : S → StorageState) (content : List ℕ) (top : TableValue) (i : ℕ) (c : Clusters S)
     (result : Result ℕ Fault) (top' : TableValue) (c' : Clusters S) : Type 0 where
-  pub named : NamesNewTable state (IsContent state content top i c) (replacing (resting state c) i result) i c result top' c'
+  pub named : NamesNewTable state (IsContent state content top i c) (replacing (flushed_metadata state c) i result) i c result top' c'
   pub held : c'.space.to_free.held ≡ held_by result c.space.to_free.held
-  pub words : IfOk result (λ t. top'.words ≡ slice_set top.words i (2 ^ 63 + t * cluster_size c.file.header.fields))
+  pub raw_entries : IfOk result (λ t. top'.raw_entries ≡ slice_set top.raw_entries i (2 ^ 63 + t * cluster_size c.file.header.fields))
   pub old : IsReady state c → IsContent state content top i c → IfOk result (λ t. let h = c.file.header.fields in
-      (d : ℕ) → d ≢ 0 → l2_table (resting state c).file h i ≡ d * cluster_size h → named_at_all (resting state c') d ≡ 0)
+      (d : ℕ) → d ≢ 0 → l2_table (flushed_metadata state c).file h i ≡ d * cluster_size h → referenced_at_all (flushed_metadata state c') d ≡ 0)
 
 -- An L2 table comes to be there in which nothing is mapped; the disk stays as it was.
 pub record MakesTable {S : Type 0} (state : S → StorageState) (top : TableValue) (i : ℕ) (c : Clusters S) (result : Result ℕ Fault)
@@ -140,8 +140,8 @@ table_entry cluster = record { first = cluster; count = 1; metadata = true }
 -- table changes. The old table is put behind what waits to be freed.
 pub record CopiesTable {S : Type 0} (state : S → StorageState) (top : TableValue) (i : ℕ) (c : Clusters S) (result : Result ℕ Fault)
     (top' : TableValue) (c' : Clusters S) : Type 0 where
-  pub named : NamesNewTable state (HasTable state top i c) (copying (resting state c) i result) i c result top' c'
+  pub named : NamesNewTable state (HasTable state top i c) (copying (flushed_metadata state c) i result) i c result top' c'
   pub held : c'.space.to_free.held ≡ c.space.to_free.held
-  pub words : IfOk result (λ t. top'.words ≡ slice_set top.words i (2 ^ 63 + t * cluster_size c.file.header.fields))
+  pub raw_entries : IfOk result (λ t. top'.raw_entries ≡ slice_set top.raw_entries i (2 ^ 63 + t * cluster_size c.file.header.fields))
   pub waits : HasTable state top i c → IfOk result (λ t. let h = c.file.header.fields in (old : ℕ) × (before : List FreeEntry)
-      × (l2_table (resting state c).file h i ≡ old * cluster_size h) × (c'.space.to_free.entries ≡ before ++ table_entry old ∷ []))
+      × (l2_table (flushed_metadata state c).file h i ≡ old * cluster_size h) × (c'.space.to_free.entries ≡ before ++ table_entry old ∷ []))

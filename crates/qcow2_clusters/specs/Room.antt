@@ -2,27 +2,27 @@
 use Rattle.std.specs.Prelude.{◌≡◌, ◌+◌, ◌<◌, ◌≤◌, ℕ, Result}
 use Rattle.imago_storage.specs.State.{StorageState}
 use Rattle.imago_storage.specs.declared.fault.Fault.{Fault}
-use Rattle.qcow2_alloc.specs.Allocators.{mark_of}
+use Rattle.qcow2_alloc.specs.Allocators.{first_free_of}
 use Rattle.qcow2_alloc.specs.Crowding.{IsCrowded, space}
-use Rattle.qcow2_alloc.specs.Quiet.{Metadata, counted}
+use Rattle.qcow2_alloc.specs.GuestView.{Metadata, counted}
 use Rattle.qcow2_alloc.specs.ReadyingRuns.{IsRunTold}
-use Rattle.qcow2_alloc.specs.Freeing.{IsMarked}
-use Rattle.qcow2_alloc.specs.Going.{WasNotCutOff}
-use Rattle.qcow2_clusters.specs.Rest.{Clusters, IsReady, resting}
+use Rattle.qcow2_alloc.specs.Freeing.{NoneFreeBefore}
+use Rattle.qcow2_alloc.specs.Going.{HadNoResourceError}
+use Rattle.qcow2_clusters.specs.Flushed.{Clusters, IsReady, flushed_metadata}
 
 -- where the search for free clusters begins
-abbrev pub mark_in : {S : Type 0} → Clusters S → ℕ
-mark_in c = mark_of c.space.allocator
+abbrev pub first_free_in : {S : Type 0} → Clusters S → ℕ
+first_free_in c = first_free_of c.space.allocator
 
 -- Where no cluster before that is free, none is so later.
-abbrev pub KeepsMarked : {S T : Type 0} → (S → StorageState) → Clusters S → Result T Fault → Clusters S → Type 0
-KeepsMarked state c result c' = IsReady state c → WasNotCutOff result
-    → IsMarked (resting state c) (mark_in c) → IsMarked (resting state c') (mark_in c')
+abbrev pub KeepsNoneFreeBefore : {S T : Type 0} → (S → StorageState) → Clusters S → Result T Fault → Clusters S → Type 0
+KeepsNoneFreeBefore state c result c' = IsReady state c → HadNoResourceError result
+    → NoneFreeBefore (flushed_metadata state c) (first_free_in c) → NoneFreeBefore (flushed_metadata state c') (first_free_in c')
 
 -- So many clusters in a row aren't counted, from the mark on and below this end.
 pub record HasFree (counts : ℕ → ℕ) (mark end total : ℕ) : Type 0 where
   pub first : ℕ
-  pub behind : mark ≤ first
+  pub not_before_start : mark ≤ first
   pub below : first + total ≤ end
   pub free : (c : ℕ) → first ≤ c → c < first + total → counts c ≡ 0
 

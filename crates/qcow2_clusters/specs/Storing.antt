@@ -1,26 +1,26 @@
 -- How bytes are stored in a cluster that was free.
 use Rattle.std.specs.Prelude.{◌≡◌, ◌≢◌, ◌+◌, ◌-◌, ◌*◌, ◌<◌, ◌≤◌, ℕ, List, length, slice_index, Result, Ok, Err, IfOk, IfErr, IsTrue, OnOk}
 use Rattle.imago_storage.specs.State.{StorageState}
-use Rattle.imago_storage.specs.Calls.{IsFaultless, Later}
-use Rattle.imago_storage.specs.Through.{Put}
+use Rattle.imago_storage.specs.Calls.{IsFaultless, CountsNotFallen}
+use Rattle.imago_storage.specs.Through.{WriteOutcome}
 use Rattle.imago_storage.specs.declared.fault.Fault.{Fault}
 use Rattle.qcow2_types.specs.Header.{cluster_size}
-use Rattle.qcow2_metadata.specs.Places.{IsInReach}
+use Rattle.qcow2_metadata.specs.Places.{IsAddressable}
 use Rattle.qcow2_alloc.specs.declared.file.ImageFile.{ImageFile}
 use Rattle.qcow2_alloc.specs.Allocating.{MovedTable}
 use Rattle.qcow2_alloc.specs.Caches.{HasRoomOf}
 use Rattle.qcow2_alloc.specs.Causes.{HasCause, Causes}
 use Rattle.qcow2_alloc.specs.Crowding.{room_for}
 use Rattle.qcow2_alloc.specs.FreeList.{covers}
-use Rattle.qcow2_alloc.specs.Going.{WasNotCutOff}
+use Rattle.qcow2_alloc.specs.Going.{HadNoResourceError}
 use Rattle.qcow2_alloc.specs.MakingRoom.{run_of}
-use Rattle.qcow2_alloc.specs.Quiet.{IsUsed, Metadata, Quietly, one_at}
-use Rattle.qcow2_alloc.specs.Freeing.{IsMarked}
+use Rattle.qcow2_alloc.specs.GuestView.{IsUsed, Metadata, PreservesGuest, one_at}
+use Rattle.qcow2_alloc.specs.Freeing.{NoneFreeBefore}
 use Rattle.qcow2_steps.specs.Words.{IsReserved}
 use Rattle.qcow2_clusters.specs.Progress.{Progresses, handing}
-use Rattle.qcow2_clusters.specs.Rest.{Clusters, AreEmpty, IsReady, KeepsL1, changed, resting, storage}
-use Rattle.qcow2_clusters.specs.Room.{IsFull, KeepsMarked, LeavesRoom, mark_in}
-use Rattle.qcow2_clusters.specs.Settling.{AreUnpinned}
+use Rattle.qcow2_clusters.specs.Flushed.{Clusters, AreEmpty, IsReady, KeepsL1, changed, flushed_metadata, storage}
+use Rattle.qcow2_clusters.specs.Room.{IsFull, KeepsNoneFreeBefore, LeavesRoom, first_free_in}
+use Rattle.qcow2_clusters.specs.WritingBack.{AreUnpinned}
 
 -- Calls that allocate fail, but for want of memory or by a storage, since there is no place left, of which `full` says what number tells it
 -- where the image is ready; as a damaged table or for a counter that can't change only where it isn't.
@@ -50,8 +50,8 @@ pub record Rests {S T : Type 0} (state : S → StorageState) (c : Clusters S) (r
   pub room : HasRoomOf c.caches c'.caches
   pub header : MovedTable c.file.header c'.file.header
   pub shape : (storage state c').shape ≡ (storage state c).shape
-  pub later : Later (storage state c) (storage state c')
-  pub faults : WasNotCutOff result → IsFaultless (storage state c) (storage state c')
+  pub counts_not_fallen : CountsNotFallen (storage state c) (storage state c')
+  pub faults : HadNoResourceError result → IsFaultless (storage state c) (storage state c')
 
 -- what a call hands out that answers the first of n clusters in a row
 abbrev pub run_handed_by : ℕ → Result ℕ Fault → ℕ → ℕ
@@ -69,61 +69,61 @@ AreUnused n m first = (d : ℕ) → first ≤ d → d < first + n → IsUsed m d
 -- Bytes are written to n clusters in a row that were free, and what is modified for that waits to be written.
 pub record StoresRunUnsettled {S : Type 0} (state : S → StorageState) (n : ℕ) (content : List ℕ) (c : Clusters S)
     (result : Result ℕ Fault) (c' : Clusters S) : Type 0 where
-  pub quiet : Quietly (WasNotCutOff result) (run_handed_by n result) (λ _. 0) (storage state c) (resting state c) (storage state c')
+  pub guest_unchanged : PreservesGuest (HadNoResourceError result) (run_handed_by n result) (λ _. 0) (storage state c) (flushed_metadata state c) (storage state c')
       (changed state c')
   pub unpinned : AreUnpinned c'.caches
   pub room : HasRoomOf c.caches c'.caches
   pub header : MovedTable c.file.header c'.file.header
-  pub faults : WasNotCutOff result → IsFaultless (storage state c) (storage state c')
+  pub faults : HadNoResourceError result → IsFaultless (storage state c) (storage state c')
   pub held : c'.space.to_free.held ≡ held_by result c.space.to_free.held
-  pub named : IfOk result (λ x. (x ≢ 0) × IsInReach c.file.header.fields.cluster_bits (x + (n - 1)))
-  pub unused : IsReady state c → IfOk result (AreUnused n (resting state c))
+  pub named : IfOk result (λ x. (x ≢ 0) × IsAddressable c.file.header.fields.cluster_bits (x + (n - 1)))
+  pub unused : IsReady state c → IfOk result (AreUnused n (flushed_metadata state c))
   pub reserved : IsReady state c → IfOk result (AreReserved n (changed state c'))
   pub stored : IsReady state c → IfOk result (λ x. (i : ℕ) → i < length content
       → (changed state c').file (x * cluster_size c.file.header.fields + i) ≡ slice_index content i)
-  pub leaves : IsReady state c → OnOk result (LeavesRoom (room_for c.file.header.fields n) (resting state c) (mark_in c) (changed state c')
-      (mark_in c'))
-  pub marked : IsReady state c → WasNotCutOff result
-      → IsMarked (resting state c) (mark_in c) → IsMarked (changed state c') (mark_in c')
+  pub leaves : IsReady state c → OnOk result (LeavesRoom (room_for c.file.header.fields n) (flushed_metadata state c) (first_free_in c) (changed state c')
+      (first_free_in c'))
+  pub marked : IsReady state c → HadNoResourceError result
+      → NoneFreeBefore (flushed_metadata state c) (first_free_in c) → NoneFreeBefore (changed state c') (first_free_in c')
   pub cause : IfErr result (HasCause (storing_causes (IsReady state c)
-      (IsFull n (resting state c) (mark_in c) (changed state c') (mark_in c')) (storage state c).faults (storage state c').faults))
+      (IsFull n (flushed_metadata state c) (first_free_in c) (changed state c') (first_free_in c')) (storage state c).faults (storage state c').faults))
 
 -- The same once that is settled: they are reserved, nothing names them, and the disk stays as it was.
 pub record StoresRun {S : Type 0} (state : S → StorageState) (n : ℕ) (content : List ℕ) (c : Clusters S) (result : Result ℕ Fault)
     (c' : Clusters S) : Type 0 where
-  pub progress : Progresses (WasNotCutOff result) (handing (run_handed_by n result) (λ _. 0)) (storage state c)
-      (resting state c) (storage state c') (resting state c')
+  pub progress : Progresses (HadNoResourceError result) (handing (run_handed_by n result) (λ _. 0)) (storage state c)
+      (flushed_metadata state c) (storage state c') (flushed_metadata state c')
   pub rests : Rests state c result c'
   pub held : c'.space.to_free.held ≡ held_by result c.space.to_free.held
   pub l1 : KeepsL1 state c result c'
-  pub named : IfOk result (λ x. (x ≢ 0) × IsInReach c.file.header.fields.cluster_bits (x + (n - 1)))
-  pub unused : IsReady state c → IfOk result (AreUnused n (resting state c))
-  pub reserved : IsReady state c → IfOk result (AreReserved n (resting state c'))
+  pub named : IfOk result (λ x. (x ≢ 0) × IsAddressable c.file.header.fields.cluster_bits (x + (n - 1)))
+  pub unused : IsReady state c → IfOk result (AreUnused n (flushed_metadata state c))
+  pub reserved : IsReady state c → IfOk result (AreReserved n (flushed_metadata state c'))
   pub stored : IsReady state c → IfOk result (λ x. (i : ℕ) → i < length content
-      → (resting state c').file (x * cluster_size c.file.header.fields + i) ≡ slice_index content i)
-  pub leaves : IsReady state c → OnOk result (LeavesRoom (room_for c.file.header.fields n) (resting state c) (mark_in c) (resting state c')
-      (mark_in c'))
-  pub marked : KeepsMarked state c result c'
+      → (flushed_metadata state c').file (x * cluster_size c.file.header.fields + i) ≡ slice_index content i)
+  pub leaves : IsReady state c → OnOk result (LeavesRoom (room_for c.file.header.fields n) (flushed_metadata state c) (first_free_in c) (flushed_metadata state c')
+      (first_free_in c'))
+  pub marked : KeepsNoneFreeBefore state c result c'
   pub cause : IfErr result (HasCause (storing_causes (IsReady state c)
-      (IsFull n (resting state c) (mark_in c) (resting state c') (mark_in c')) (storage state c).faults (storage state c').faults))
+      (IsFull n (flushed_metadata state c) (first_free_in c) (flushed_metadata state c') (first_free_in c')) (storage state c).faults (storage state c').faults))
 
 -- The same of one cluster.
 pub record Stores {S : Type 0} (state : S → StorageState) (content : List ℕ) (c : Clusters S) (result : Result ℕ Fault)
     (c' : Clusters S) : Type 0 where
-  pub progress : Progresses (WasNotCutOff result) (handing (handed_by result) (λ _. 0)) (storage state c)
-      (resting state c) (storage state c') (resting state c')
+  pub progress : Progresses (HadNoResourceError result) (handing (handed_by result) (λ _. 0)) (storage state c)
+      (flushed_metadata state c) (storage state c') (flushed_metadata state c')
   pub rests : Rests state c result c'
   pub held : c'.space.to_free.held ≡ held_by result c.space.to_free.held
   pub l1 : KeepsL1 state c result c'
-  pub named : IfOk result (λ x. (x ≢ 0) × IsInReach c.file.header.fields.cluster_bits x)
-  pub reserved : IsReady state c → IfOk result (IsReserved (resting state c'))
+  pub named : IfOk result (λ x. (x ≢ 0) × IsAddressable c.file.header.fields.cluster_bits x)
+  pub reserved : IsReady state c → IfOk result (IsReserved (flushed_metadata state c'))
   pub stored : IsReady state c → IfOk result (λ x. (i : ℕ) → i < length content
-      → (resting state c').file (x * cluster_size c.file.header.fields + i) ≡ slice_index content i)
-  pub leaves : IsReady state c → OnOk result (LeavesRoom (room_for c.file.header.fields 1) (resting state c) (mark_in c) (resting state c')
-      (mark_in c'))
-  pub marked : KeepsMarked state c result c'
+      → (flushed_metadata state c').file (x * cluster_size c.file.header.fields + i) ≡ slice_index content i)
+  pub leaves : IsReady state c → OnOk result (LeavesRoom (room_for c.file.header.fields 1) (flushed_metadata state c) (first_free_in c) (flushed_metadata state c')
+      (first_free_in c'))
+  pub marked : KeepsNoneFreeBefore state c result c'
   pub cause : IfErr result (HasCause (storing_causes (IsReady state c)
-      (IsFull 1 (resting state c) (mark_in c) (resting state c') (mark_in c')) (storage state c).faults (storage state c').faults))
+      (IsFull 1 (flushed_metadata state c) (first_free_in c) (flushed_metadata state c') (first_free_in c')) (storage state c).faults (storage state c').faults))
 
 -- The file is at least as long as the end of n clusters in a row.
 abbrev pub ReachesEnd : {S : Type 0} → (S → StorageState) → (x n : ℕ) → (before after : ImageFile S) → Type 0
@@ -136,7 +136,7 @@ pub record ReachesRun {S : Type 0} (state : S → StorageState) (x n : ℕ) (bef
   pub bytes : List ℕ
   pub low : x * cluster_size before.header.fields ≤ place
   pub high : place + length bytes ≤ (x + n) * cluster_size before.header.fields
-  pub put : Put (state before.image) (state after.image) place bytes result
+  pub put : WriteOutcome (state before.image) (state after.image) place bytes result
   pub header : after.header ≡ before.header
   pub same : IsTrue (state before.image).shape.keeps
       → OnOk result ((p : ℕ) → slice_index (state after.image).bytes p ≡ slice_index (state before.image).bytes p)

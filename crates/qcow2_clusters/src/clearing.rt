@@ -1,25 +1,25 @@
 // Guest clusters come to read as zeroes or to be unmapped. In qemu that is `zero_in_l2_slice` and `discard_in_l2_slice`, and in imago
 // `ensure_fixed_mapping`.
 ghost use Rattle.std.specs.Prelude.{◌≡◌, ◌≢◌, ◌+◌, ◌<◌, ◌≤◌, ◌^◌, ◌⊎◌, ◌%◌, ◌++◌, IfErr, IfOk, OnOk, length, ℕ};
-ghost use Rattle.qcow2_types.specs.Header.{words_of_cluster};
+ghost use Rattle.qcow2_types.specs.Header.{entries_of_cluster};
 ghost use Rattle.qcow2_types.specs.Entries.{entry};
 ghost use Rattle.qcow2_metadata.specs.Tables.{TableValue, table_in};
 ghost use Rattle.qcow2_alloc.specs.declared.cache.CacheDependency.{CacheDependency};
 ghost use Rattle.qcow2_alloc.specs.FreeList.{FreeList};
-ghost use Rattle.qcow2_alloc.specs.Quiet.{IsQuiet, IsSound, Metadata, in_memory};
+ghost use Rattle.qcow2_alloc.specs.GuestView.{GuestUnchanged, IsSound, Metadata, in_memory};
 ghost use Rattle.qcow2_steps.specs.Advancing.{Advances};
-ghost use Rattle.qcow2_clusters.specs.Clearing.{AreUnder, ClearsAt, ClearsIn, ClearsWord, ClearsWords, IsPossible, cleared, clearing_run, clearing_setting, given_up_run};
-ghost use Rattle.qcow2_clusters.specs.Rest.{AreEmpty, HasEntries, lent, resting};
+ghost use Rattle.qcow2_clusters.specs.Clearing.{AreUnder, ClearsAt, ClearsIn, ClearsEntry, ClearsEntries, IsPossible, cleared, clearing_run, clearing_setting, given_up_run};
+ghost use Rattle.qcow2_clusters.specs.Flushed.{AreEmpty, HasEntries, clusters_state, flushed_metadata};
 ghost use Rattle.qcow2_clusters.specs.Setting.{SetsRun, StaysCached, cached_alone};
-ghost use Rattle.qcow2_clusters.specs.Settling.{without_tables};
+ghost use Rattle.qcow2_clusters.specs.WritingBack.{without_tables};
 ghost use Rattle.qcow2_alloc.specs.Allocators.{UsesTable};
 ghost use Rattle.qcow2_alloc.specs.Caches.{cached_file};
 ghost use Rattle.qcow2_types.specs.Entries.{l2_entries};
-ghost use Rattle.qcow2_clusters.specs.Naming.{Listed, listing};
+ghost use Rattle.qcow2_clusters.specs.Linking.{Listed, listing};
 
-use crate::naming::put_off;
-use crate::settling::{settle, settle_keeping_tables};
+use crate::linking::defer_free;
 use crate::space::Space;
+use crate::writing_back::{write_back, write_back_keeping_tables};
 use imago_storage::{Fault, Storage};
 use qcow2_alloc::{ClustersToFreeList, ImageFile, MetadataCaches};
 use qcow2_metadata::{L2Table, Table};
@@ -42,7 +42,7 @@ fn clear_at(
     index: usize,
     clearing: Clearing,
 ) -> Result<Option<ClustersToFreeEntry>, Fault>
-    requires inside { index < length table.old.words }
+    requires inside { index < length table.old.raw_entries }
     ensures ok { IfOk result (λ given. ClearsAt clearing index table.old given table.new) }
     ensures err { IfErr result (λ e. (e ≡ Fault.VersionLimit) × (IsPossible clearing table.old.layout.version → ⊥)) }
 {
@@ -55,38 +55,38 @@ fn clear_at(
 }
 
 // Clears it, and what it gives up waits to be freed then.
-fn clear_word(
+fn clear_entry(
     table: &mut L2Table,
     to_free: &mut ClustersToFreeList,
     index: usize,
     clearing: Clearing,
 ) -> Result<(), Fault>
-    requires inside { index < length table.old.words }
-    ensures ok { OnOk result (ClearsWord clearing index (listing table.old to_free.old) (listing table.new to_free.new)) }
+    requires inside { index < length table.old.raw_entries }
+    ensures ok { OnOk result (ClearsEntry clearing index (listing table.old to_free.old) (listing table.new to_free.new)) }
     ensures err { IfErr result (λ e. (e ≡ Fault.Memory) ⊎ ((e ≡ Fault.VersionLimit) × (IsPossible clearing table.old.layout.version → ⊥))) }
     ensures held { to_free.new.held ≡ to_free.old.held }
 {
     let given = clear_at(table, index, clearing)?;
-    put_off(to_free, given)
+    defer_free(to_free, given)
 }
 
 // Clears the words from an index on.
-fn clear_words(
+fn clear_entries(
     table: &mut L2Table,
     to_free: &mut ClustersToFreeList,
     index: usize,
     count: ClusterCount,
     clearing: Clearing,
 ) -> Result<(), Fault>
-    requires inside { index + count ≤ length table.old.words }
-    requires few { index + count < 2 ^ 32 }
-    ensures ok { OnOk result (ClearsWords clearing index count (listing table.old to_free.old) (listing table.new to_free.new)) }
+    requires inside { index + count ≤ length table.old.raw_entries }
+    requires end_bounded { index + count < 2 ^ 32 }
+    ensures ok { OnOk result (ClearsEntries clearing index count (listing table.old to_free.old) (listing table.new to_free.new)) }
     ensures err { IfErr result (λ e. (e ≡ Fault.Memory) ⊎ (IsPossible clearing table.old.layout.version → ⊥)) }
     ensures held { to_free.new.held ≡ to_free.old.held }
 {
     for next in 0..count.0 {
-        let word = index + next as usize;
-        clear_word(table, to_free, word, clearing)?;
+        let raw_entry = index + next as usize;
+        clear_entry(table, to_free, raw_entry, clearing)?;
     }
     Ok(())
 }
@@ -109,7 +109,7 @@ fn clear_in(
         return Err(Fault::DamagedTable);
     }
     let index = guest.l2_index(cluster_bits);
-    clear_words(table, to_free, index, count, clearing)
+    clear_entries(table, to_free, index, count, clearing)
 }
 
 // The same in the L2 table in a cluster.
@@ -122,7 +122,7 @@ fn clear_in_table<S: Storage>(
     count: ClusterCount,
     clearing: Clearing,
 ) -> Result<(), Fault>
-    requires row { let words = l2_entries file.old.header.fields.cluster_bits in guest % words + count ≤ words }
+    requires row { let raw_entries = l2_entries file.old.header.fields.cluster_bits in guest % raw_entries + count ≤ raw_entries }
     ensures cleared { let bits = file.old.header.fields.cluster_bits in UsesTable S.state table
         (λ t r t'. ClearsIn clearing bits (guest % l2_entries bits) count (listing t to_free.old) r (listing t' to_free.new))
         (cached_file caches.old file.old) result (cached_file caches.new file.new) }
@@ -143,16 +143,16 @@ pub fn clear_run<S: Storage>(
     count: ClusterCount,
     clearing: Clearing,
 ) -> Result<(), Fault>
-    requires rest { AreEmpty caches.old }
+    requires caches_empty { AreEmpty caches.old }
     requires room { HasEntries caches.old }
     requires any { 0 < count }
     requires possible { IsPossible clearing file.old.header.fields.version }
-    requires row { let words = l2_entries file.old.header.fields.cluster_bits in guest % words + count ≤ words }
-    ensures clears { let c = lent file.old caches.old space.old in let m = resting S.state c in
+    requires row { let raw_entries = l2_entries file.old.header.fields.cluster_bits in guest % raw_entries + count ≤ raw_entries }
+    ensures clears { let c = clusters_state file.old caches.old space.old in let m = flushed_metadata S.state c in
         SetsRun S.state guest count (AreUnder count m table guest) (clearing_setting clearing m guest count) c result
-        (lent file.new (without_tables caches.new) space.new) }
-    ensures leaves { let c = lent file.old caches.old space.old in
-        StaysCached S.state table (AreUnder count (resting S.state c) table guest) c result (lent file.new caches.new space.new) }
+        (clusters_state file.new (without_tables caches.new) space.new) }
+    ensures leaves { let c = clusters_state file.old caches.old space.old in
+        StaysCached S.state table (AreUnder count (flushed_metadata S.state c) table guest) c result (clusters_state file.new caches.new space.new) }
 {
     let cleared = clear_in_table(
         file,
@@ -164,22 +164,22 @@ pub fn clear_run<S: Storage>(
         clearing,
     );
     match cleared {
-        Ok(()) => settle_keeping_tables(file, caches),
-        Err(fault) => settle(file, caches, Err(fault)),
+        Ok(()) => write_back_keeping_tables(file, caches),
+        Err(fault) => write_back(file, caches, Err(fault)),
     }
 }
 
 /// Words in a row of a table that is cached alone, of an image that rested, may be cleared: what they gave up waits to be freed, and each
 /// file that is left shows what it did or, in those guest clusters, zeroes or what is below.
-pub fn clearing_words()
+pub fn clearing_entries()
     ensures cleared { (clearing : Clearing) (m : Metadata) (table guest n : ℕ) (order : CacheDependency) (t : TableValue) (list : FreeList)
         (after : Listed) → IsSound m → 0 < n → AreUnder n m table guest → IsPossible clearing m.header.fields.version
-        → t ≡ table_in m.file m.header.fields table (words_of_cluster m.header.fields)
-        → guest % words_of_cluster m.header.fields + n ≤ words_of_cluster m.header.fields
-        → let found = cached_alone m order table (listing t list) in IsSound found → IsQuiet (λ _. 0) (λ _. 0) m found
-        → ClearsWords clearing (guest % words_of_cluster m.header.fields) n (listing t list) after
+        → t ≡ table_in m.file m.header.fields table (entries_of_cluster m.header.fields)
+        → guest % entries_of_cluster m.header.fields + n ≤ entries_of_cluster m.header.fields
+        → let found = cached_alone m order table (listing t list) in IsSound found → GuestUnchanged (λ _. 0) (λ _. 0) m found
+        → ClearsEntries clearing (guest % entries_of_cluster m.header.fields) n (listing t list) after
         → let kind = clearing_run clearing m guest n in let set = cached_alone m order table after in
-        Advances kind.gives kind.written kind.set kind.handed kind.taken found set
+        Advances kind.gives kind.written kind.set kind.newly_allocated kind.taken found set
         × (after.list.entries ≡ list.entries ++ given_up_run clearing m guest n)
         × ((d : ℕ) → d < n → entry (in_memory set) m.header.fields (guest + d)
         ≡ cleared clearing (entry m.file m.header.fields (guest + d))) }

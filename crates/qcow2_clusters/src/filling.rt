@@ -1,9 +1,9 @@
 // The content of a guest cluster is written to the cluster that it keeps for its zeroes. qemu calls that a preallocated zero cluster
 // (`QCOW2_CLUSTER_ZERO_ALLOC`), and imago a zero mapping that retains its allocation.
 ghost use Rattle.std.specs.Prelude.{◌≡◌, OnOk, false, length};
-ghost use Rattle.imago_storage.specs.Calls.{Kept};
+ghost use Rattle.imago_storage.specs.Calls.{UnchangedButFaults};
 ghost use Rattle.qcow2_types.specs.Header.{cluster_size};
-ghost use Rattle.qcow2_metadata.specs.Places.{IsInReach};
+ghost use Rattle.qcow2_metadata.specs.Places.{IsAddressable};
 ghost use Rattle.qcow2_clusters.specs.Filling.{FillsFile};
 ghost use Rattle.qcow2_clusters.specs.Storing.{ReachesEnd};
 
@@ -26,12 +26,12 @@ pub fn fill<S: Storage>(
     content: &[u8],
     begun: &mut bool,
 ) -> Result<(), Fault>
-    requires reach { IsInReach file.old.header.fields.cluster_bits cluster }
+    requires reach { IsAddressable file.old.header.fields.cluster_bits cluster }
     requires whole { length content.now ≡ cluster_size file.old.header.fields }
     ensures fills { FillsFile S.state cluster content.now file.old result file.new }
     ensures reaches { OnOk result (ReachesEnd S.state cluster 1 file.old file.new) }
-    ensures spares { begun.new ≡ false
-        → (begun.old ≡ false) × OnOk result ⊥ × Kept (S.state file.old.image) (S.state file.new.image) }
+    ensures untouched_unless_begun { begun.new ≡ false
+        → (begun.old ≡ false) × OnOk result ⊥ × UnchangedButFaults (S.state file.old.image) (S.state file.new.image) }
 {
     write_cluster(alloc, file, cluster, content, begun)
 }

@@ -1,9 +1,9 @@
 // What waits to be freed is freed. The call is imago's `process_clusters_to_free`. For qemu nothing waits, as its refcounts fall at once.
-ghost use Rattle.qcow2_clusters.specs.Freeing.{FreesWaiting};
-ghost use Rattle.qcow2_clusters.specs.Rest.{AreEmpty, HasEntries, lent};
+ghost use Rattle.qcow2_clusters.specs.Freeing.{FreesPendingClusters};
+ghost use Rattle.qcow2_clusters.specs.Flushed.{AreEmpty, HasEntries, clusters_state};
 
-use crate::settling::settle;
 use crate::space::Space;
+use crate::writing_back::write_back;
 use imago_storage::{Fault, Storage};
 use qcow2_alloc::{ImageFile, MetadataCaches};
 
@@ -11,17 +11,17 @@ use qcow2_alloc::{ImageFile, MetadataCaches};
 ///
 /// It refuses with `Fault::Memory` and `Fault::Storage`, and with `Fault::Counter` and `Fault::DamagedTable`, which no sound image has.
 /// Unless it was cut off, what wasn't counted down stays on the list. Whatever it answers, the file gets no shorter.
-pub fn free_waiting<S: Storage>(
+pub fn free_pending_clusters<S: Storage>(
     file: &mut ImageFile<S>,
     caches: &mut MetadataCaches<S>,
     space: &mut Space,
 ) -> Result<(), Fault>
-    requires rest { AreEmpty caches.old }
+    requires caches_empty { AreEmpty caches.old }
     requires room { HasEntries caches.old }
-    ensures { FreesWaiting S.state (lent file.old caches.old space.old) result (lent file.new caches.new space.new) }
+    ensures { FreesPendingClusters S.state (clusters_state file.old caches.old space.old) result (clusters_state file.new caches.new space.new) }
 {
     let freed = space
         .allocator
         .process_clusters_to_free(file, caches, &mut space.to_free);
-    settle(file, caches, freed)
+    write_back(file, caches, freed)
 }

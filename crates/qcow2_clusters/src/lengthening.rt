@@ -1,17 +1,17 @@
 // The L1 table comes to be longer. It grows for qemu (`qcow2_grow_l1_table`) and imago (`grow_l1_table`).
 ghost use Rattle.std.specs.Prelude.{◌≡◌, ◌<◌, ◌++◌, ◌-◌, length};
 ghost use Rattle.qcow2_types.specs.TableBytes.{AreFit, table_bytes};
-ghost use Rattle.qcow2_metadata.specs.Tables.{IsPlacedTable, table_place};
-ghost use Rattle.qcow2_clusters.specs.Lengthening.{LengthensL1, NamesL1, StandsIn, clusters_for, l1_run};
-ghost use Rattle.qcow2_clusters.specs.Rest.{AreEmpty, HasEntries, lent};
-ghost use Rattle.qcow2_clusters.specs.Sparing.{Spares, SparesTop, SparesUnsettled};
+ghost use Rattle.qcow2_metadata.specs.Tables.{IsPlacedTable, table_start};
+ghost use Rattle.qcow2_clusters.specs.Lengthening.{LengthensL1, LinksL1, StandsIn, clusters_for, l1_run};
+ghost use Rattle.qcow2_clusters.specs.Flushed.{AreEmpty, HasEntries, clusters_state};
+ghost use Rattle.qcow2_clusters.specs.LeftUntouched.{LeavesUntouched, LeavesTopUntouched, LeavesUnsettledUntouched};
 ghost use Rattle.qcow2_clusters.specs.Storing.{StoresRun, StoresRunUnsettled};
 
 use crate::making_tables::place_l1;
 use crate::space::Space;
-use crate::storing::{Stored, settle_stored};
+use crate::storing::{Stored, write_back_stored};
 use imago_storage::{Fault, Storage};
-use qcow2_alloc::{ClustersToFreeList, HeldRoom, ImageFile, MetadataCaches, PendingAllocation};
+use qcow2_alloc::{ClustersToFreeList, ImageFile, MetadataCaches, PendingAllocation, ReservedSlot};
 use qcow2_metadata::{L1Table, Table};
 use qcow2_types::{ClustersToFreeEntry, PendingClusters};
 use std::alloc::Global;
@@ -25,16 +25,16 @@ fn allocate_and_write<S: Storage>(
     table: &mut L1Table,
     begun: &mut bool,
 ) -> Result<Stored, Fault>
-    requires rest { AreEmpty caches.old }
+    requires caches_empty { AreEmpty caches.old }
     requires room { HasEntries caches.old }
     requires bits { table.old.layout.cluster_bits ≡ file.old.header.fields.cluster_bits }
-    requires some { 0 < length table.old.words }
-    ensures stores { StoresRunUnsettled S.state (clusters_for file.old.header.fields (length table.old.words)) (table_bytes table.old.words)
-        (lent file.old caches.old space.old) result (lent file.new caches.new space.new) }
+    requires nonempty { 0 < length table.old.raw_entries }
+    ensures stores { StoresRunUnsettled S.state (clusters_for file.old.header.fields (length table.old.raw_entries)) (table_bytes table.old.raw_entries)
+        (clusters_state file.old caches.old space.old) result (clusters_state file.new caches.new space.new) }
     ensures stands { StandsIn file.old.header.fields table.old result table.new }
-    ensures fit { AreFit table.old.words }
-    ensures spares { SparesUnsettled S.state begun.old (lent file.old caches.old space.old) result begun.new
-        (lent file.new caches.new space.new) }
+    ensures fit { AreFit table.old.raw_entries }
+    ensures untouched_unless_begun { LeavesUnsettledUntouched S.state begun.old (clusters_state file.old caches.old space.old) result begun.new
+        (clusters_state file.new caches.new space.new) }
 {
     let _words = table.entries();
     let count = table.cluster_count();
@@ -63,23 +63,23 @@ fn store_l1<S: Storage>(
     table: &mut L1Table,
     begun: &mut bool,
 ) -> Result<Stored, Fault>
-    requires rest { AreEmpty caches.old }
+    requires caches_empty { AreEmpty caches.old }
     requires room { HasEntries caches.old }
     requires bits { table.old.layout.cluster_bits ≡ file.old.header.fields.cluster_bits }
-    requires some { 0 < length table.old.words }
-    ensures stores { StoresRun S.state (clusters_for file.old.header.fields (length table.old.words)) (table_bytes table.old.words)
-        (lent file.old caches.old space.old) result (lent file.new caches.new space.new) }
+    requires nonempty { 0 < length table.old.raw_entries }
+    ensures stores { StoresRun S.state (clusters_for file.old.header.fields (length table.old.raw_entries)) (table_bytes table.old.raw_entries)
+        (clusters_state file.old caches.old space.old) result (clusters_state file.new caches.new space.new) }
     ensures stands { StandsIn file.old.header.fields table.old result table.new }
-    ensures fit { AreFit table.old.words }
-    ensures spares { Spares S.state begun.old (lent file.old caches.old space.old) result begun.new (lent file.new caches.new space.new) }
+    ensures fit { AreFit table.old.raw_entries }
+    ensures untouched_unless_begun { LeavesUntouched S.state begun.old (clusters_state file.old caches.old space.old) result begun.new (clusters_state file.new caches.new space.new) }
 {
     let stored = allocate_and_write(alloc, file, caches, space, table, begun);
-    settle_stored(file, caches, space, stored)
+    write_back_stored(file, caches, space, stored)
 }
 
 // Has the header name an L1 table, in memory and then in the file by one request. Where that is refused the header in memory names the old
 // one.
-fn name_l1<S: Storage>(
+fn link_l1<S: Storage>(
     alloc: Global,
     file: &mut ImageFile<S>,
     table: &L1Table,
@@ -89,7 +89,7 @@ fn name_l1<S: Storage>(
     requires placed { IsPlacedTable table.now }
     requires old_bits { old.now.layout.cluster_bits ≡ file.old.header.fields.cluster_bits }
     requires old_placed { IsPlacedTable old.now }
-    ensures { NamesL1 S.state table.now old.now file.old result file.new }
+    ensures { LinksL1 S.state table.now old.now file.old result file.new }
 {
     // Its contract says that the file's bytes are bytes, so that the header's fields fit theirs.
     let _length = file.image.size();
@@ -104,11 +104,11 @@ fn name_l1<S: Storage>(
 }
 
 // Puts the clusters of an L1 table behind what waits to be freed, for which room is held: where it has none the room is let go.
-fn give_up_l1(to_free: &mut ClustersToFreeList, hold: HeldRoom, l1: &L1Table)
+fn give_up_l1(to_free: &mut ClustersToFreeList, hold: ReservedSlot, l1: &L1Table)
     requires placed { IsPlacedTable l1.now }
     requires held { 0 < to_free.old.held }
     ensures { to_free.new ≡ record {
-      entries = to_free.old.entries ++ l1_run l1.now.layout.cluster_bits (table_place l1.now) (length l1.now.words);
+      entries = to_free.old.entries ++ l1_run l1.now.layout.cluster_bits (table_start l1.now) (length l1.now.raw_entries);
       held = to_free.old.held - 1;
     } }
 {
@@ -138,12 +138,12 @@ pub fn lengthen_l1<S: Storage>(
     index: usize,
     begun: &mut bool,
 ) -> Result<(), Fault>
-    requires rest { AreEmpty caches.old }
+    requires caches_empty { AreEmpty caches.old }
     requires room { HasEntries caches.old }
-    ensures lengthens { LengthensL1 S.state l1.old index (lent file.old caches.old space.old) result l1.new
-        (lent file.new caches.new space.new) }
-    ensures spares { SparesTop S.state begun.old l1.old (lent file.old caches.old space.old) result begun.new l1.new
-        (lent file.new caches.new space.new) }
+    ensures lengthens { LengthensL1 S.state l1.old index (clusters_state file.old caches.old space.old) result l1.new
+        (clusters_state file.new caches.new space.new) }
+    ensures untouched_unless_begun { LeavesTopUntouched S.state begun.old l1.old (clusters_state file.old caches.old space.old) result begun.new l1.new
+        (clusters_state file.new caches.new space.new) }
 {
     place_l1(l1, &file.header)?;
     let mut grown = l1.clone_and_grow(alloc, index, &file.header)?;
@@ -152,7 +152,7 @@ pub fn lengthen_l1<S: Storage>(
         cluster: _cluster,
         hold,
     } = stored;
-    match name_l1(alloc, file, &grown, l1) {
+    match link_l1(alloc, file, &grown, l1) {
         Ok(()) => {
             give_up_l1(&mut space.to_free, hold, l1);
             *l1 = grown;

@@ -1,4 +1,4 @@
-//! Single changes of an image's clusters, each begun and ended at rest: with nothing cached, but for the table behind `name_run`, and
+//! Single changes of an image's clusters, each begun and ended at rest: with nothing cached, but for the table behind `link_run`, and
 //! nothing that waits in memory to be written. What a word of a table names, its entry references for qemu and imago. A stop is a crash
 //! or a power cut.
 //!
@@ -9,17 +9,17 @@ mod clearing;
 mod filling;
 mod freeing;
 mod lengthening;
+mod linking;
 mod making_tables;
-mod naming;
-mod settling;
 mod space;
 mod storing;
+mod writing_back;
 
-pub use clearing::{Clearing, clear_run, clearing_words};
+pub use clearing::{Clearing, clear_run, clearing_entries};
 pub use filling::fill;
-pub use freeing::free_waiting;
+pub use freeing::free_pending_clusters;
 pub use lengthening::lengthen_l1;
+pub use linking::link_run;
 pub use making_tables::{copy_table, make_table};
-pub use naming::name_run;
 pub use space::Space;
 pub use storing::{Stored, store_run};

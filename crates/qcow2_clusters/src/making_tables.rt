@@ -1,12 +1,12 @@
 // A word of the L1 table comes to name a new L2 table. The word is an L1 entry for qemu (`l2_allocate`) and imago (`ensure_l2`), which
 // comes to reference the table.
 ghost use Rattle.std.specs.Prelude.{◌≡◌, ◌<◌, IfOk, IsOkUnless, length, replicate, slice_index};
-ghost use Rattle.imago_storage.specs.Calls.{CountsFaults, Kept, Later};
+ghost use Rattle.imago_storage.specs.Calls.{CountsFaults, UnchangedButFaults, CountsNotFallen};
 ghost use Rattle.qcow2_types.specs.Header.{cluster_size};
-ghost use Rattle.qcow2_metadata.specs.Places.{IsInReach};
-ghost use Rattle.qcow2_metadata.specs.Tables.{IsNamable, IsPlacedTable};
-ghost use Rattle.qcow2_clusters.specs.Rest.{AreEmpty, HasEntries, lent};
-ghost use Rattle.qcow2_clusters.specs.Sparing.{SparesTop};
+ghost use Rattle.qcow2_metadata.specs.Places.{IsAddressable};
+ghost use Rattle.qcow2_metadata.specs.Tables.{CanBeReferenced, IsPlacedTable};
+ghost use Rattle.qcow2_clusters.specs.Flushed.{AreEmpty, HasEntries, clusters_state};
+ghost use Rattle.qcow2_clusters.specs.LeftUntouched.{LeavesTopUntouched};
 ghost use Rattle.qcow2_clusters.specs.MakingTables.{CopiesTable, EntersTable, FindsTable, IsClusterOf, MakesTable, PlacesL1, PlacesTable};
 
 use crate::space::Space;
@@ -51,9 +51,9 @@ fn enter_table<S: Storage>(
     index: usize,
     table: &L2Table,
 ) -> Result<(), Fault>
-    requires bounds { index < length l1.old.words }
+    requires bounds { index < length l1.old.raw_entries }
     requires bits { table.now.layout.cluster_bits ≡ l1.old.layout.cluster_bits }
-    requires namable { IsNamable l1.old.layout.cluster_bits table.now.cluster }
+    requires can_be_referenced { CanBeReferenced l1.old.layout.cluster_bits table.now.cluster }
     requires placed { IsPlacedTable l1.old }
     ensures { EntersTable S.state index table.now l1.old file.old result l1.new file.new }
 {
@@ -73,14 +73,14 @@ fn place_table<S: Storage>(
     content: &[u8],
     begun: &mut bool,
 ) -> Result<Stored, Fault>
-    requires rest { AreEmpty caches.old }
+    requires caches_empty { AreEmpty caches.old }
     requires room { HasEntries caches.old }
-    requires bounds { index < length l1.old.words }
+    requires bounds { index < length l1.old.raw_entries }
     requires whole { length content.now ≡ cluster_size file.old.header.fields }
-    ensures places { PlacesTable S.state content.now l1.old index (lent file.old caches.old space.old) result l1.new
-        (lent file.new caches.new space.new) }
-    ensures spares { SparesTop S.state begun.old l1.old (lent file.old caches.old space.old) result begun.new l1.new
-        (lent file.new caches.new space.new) }
+    ensures places { PlacesTable S.state content.now l1.old index (clusters_state file.old caches.old space.old) result l1.new
+        (clusters_state file.new caches.new space.new) }
+    ensures untouched_unless_begun { LeavesTopUntouched S.state begun.old l1.old (clusters_state file.old caches.old space.old) result begun.new l1.new
+        (clusters_state file.new caches.new space.new) }
 {
     place_l1(l1, &file.header)?;
     let mut table = L2Table::new_cleared(alloc, &file.header)?;
@@ -110,13 +110,13 @@ pub fn make_table<S: Storage>(
     index: usize,
     begun: &mut bool,
 ) -> Result<HostCluster, Fault>
-    requires rest { AreEmpty caches.old }
+    requires caches_empty { AreEmpty caches.old }
     requires room { HasEntries caches.old }
-    requires bounds { index < length l1.old.words }
-    ensures makes { MakesTable S.state l1.old index (lent file.old caches.old space.old) result l1.new
-        (lent file.new caches.new space.new) }
-    ensures spares { SparesTop S.state begun.old l1.old (lent file.old caches.old space.old) result begun.new l1.new
-        (lent file.new caches.new space.new) }
+    requires bounds { index < length l1.old.raw_entries }
+    ensures makes { MakesTable S.state l1.old index (clusters_state file.old caches.old space.old) result l1.new
+        (clusters_state file.new caches.new space.new) }
+    ensures untouched_unless_begun { LeavesTopUntouched S.state begun.old l1.old (clusters_state file.old caches.old space.old) result begun.new l1.new
+        (clusters_state file.new caches.new space.new) }
 {
     let content = clear_content(alloc, &file.header)?;
     let Stored { cluster, hold } = place_table(
@@ -128,7 +128,7 @@ pub fn make_table<S: Storage>(
 
 // The cluster of the L2 table that the word at an index of the L1 table names, if it names one that there can be.
 fn table_at(l1: &L1Table, index: usize, header: &Header) -> Option<HostCluster>
-    ensures { FindsTable header.now.fields.cluster_bits (slice_index l1.now.words index) result }
+    ensures { FindsTable header.now.fields.cluster_bits (slice_index l1.now.raw_entries index) result }
 {
     let Some(offset) = l1.get(index).l2_offset() else {
         return None;
@@ -145,11 +145,11 @@ fn read_cluster<S: Storage>(
     file: &mut ImageFile<S>,
     cluster: HostCluster,
 ) -> Result<Vec<u8>, Fault>
-    requires reach { IsInReach file.old.header.fields.cluster_bits cluster }
+    requires reach { IsAddressable file.old.header.fields.cluster_bits cluster }
     ensures ok { IfOk result (λ bytes. IsClusterOf (S.state file.old.image).bytes file.old.header.fields cluster bytes.items) }
-    ensures kept { Kept (S.state file.old.image) (S.state file.new.image) }
+    ensures unchanged_but_faults { UnchangedButFaults (S.state file.old.image) (S.state file.new.image) }
     ensures faults { CountsFaults (S.state file.old.image).faults (S.state file.new.image).faults result }
-    ensures later { Later (S.state file.old.image) (S.state file.new.image) }
+    ensures counts_not_fallen { CountsNotFallen (S.state file.old.image) (S.state file.new.image) }
     ensures header { file.new.header ≡ file.old.header }
 {
     let mut bytes = clear_content(alloc, &file.header)?;
@@ -171,13 +171,13 @@ pub fn copy_table<S: Storage>(
     index: usize,
     begun: &mut bool,
 ) -> Result<HostCluster, Fault>
-    requires rest { AreEmpty caches.old }
+    requires caches_empty { AreEmpty caches.old }
     requires room { HasEntries caches.old }
-    requires bounds { index < length l1.old.words }
-    ensures copies { CopiesTable S.state l1.old index (lent file.old caches.old space.old) result l1.new
-        (lent file.new caches.new space.new) }
-    ensures spares { SparesTop S.state begun.old l1.old (lent file.old caches.old space.old) result begun.new l1.new
-        (lent file.new caches.new space.new) }
+    requires bounds { index < length l1.old.raw_entries }
+    ensures copies { CopiesTable S.state l1.old index (clusters_state file.old caches.old space.old) result l1.new
+        (clusters_state file.new caches.new space.new) }
+    ensures untouched_unless_begun { LeavesTopUntouched S.state begun.old l1.old (clusters_state file.old caches.old space.old) result begun.new l1.new
+        (clusters_state file.new caches.new space.new) }
 {
     let Some(old) = table_at(l1, index, &file.header) else {
         return Err(Fault::DamagedTable);

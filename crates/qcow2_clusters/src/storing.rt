@@ -1,19 +1,19 @@
 // Bytes are stored in clusters that were free. They are allocated for qemu (`qcow2_alloc_clusters`) and imago (`allocate_clusters`), and
 // pending until a word names them.
 ghost use Rattle.std.specs.Prelude.{◌≡◌, ◌≤◌, ◌<◌, ◌+◌, ◌-◌, ◌*◌, ◌^◌, ℕ, Bool, List, IfOk, OnOk, false, length};
-ghost use Rattle.imago_storage.specs.Calls.{Kept};
-ghost use Rattle.imago_storage.specs.Through.{Put};
+ghost use Rattle.imago_storage.specs.Calls.{UnchangedButFaults};
+ghost use Rattle.imago_storage.specs.Through.{WriteOutcome};
 ghost use Rattle.qcow2_types.specs.Header.{cluster_size};
-ghost use Rattle.qcow2_metadata.specs.Places.{IsInReach};
-ghost use Rattle.qcow2_clusters.specs.Rest.{AreEmpty, Clusters, HasEntries, lent};
-ghost use Rattle.qcow2_clusters.specs.Settling.{AreUnpinned};
-ghost use Rattle.qcow2_clusters.specs.Sparing.{Spares, SparesUnsettled};
+ghost use Rattle.qcow2_metadata.specs.Places.{IsAddressable};
+ghost use Rattle.qcow2_clusters.specs.Flushed.{AreEmpty, Clusters, HasEntries, clusters_state};
+ghost use Rattle.qcow2_clusters.specs.WritingBack.{AreUnpinned};
+ghost use Rattle.qcow2_clusters.specs.LeftUntouched.{LeavesUntouched, LeavesUnsettledUntouched};
 ghost use Rattle.qcow2_clusters.specs.Storing.{ReachesEnd, ReachesRun, Stores, StoresRun, StoresRunUnsettled};
 
-use crate::settling::end_change;
 use crate::space::Space;
+use crate::writing_back::end_change;
 use imago_storage::{Fault, Storage, StorageExt, WriteFault};
-use qcow2_alloc::{HeldRoom, ImageFile, MetadataCaches, PendingAllocation};
+use qcow2_alloc::{ImageFile, MetadataCaches, PendingAllocation, ReservedSlot};
 use qcow2_types::{ClusterCount, HostCluster};
 use std::alloc::Global;
 use std::marker::Model;
@@ -27,7 +27,7 @@ pub struct Stored {
     /// The first of the clusters.
     pub cluster: HostCluster,
     /// The room for an entry.
-    pub hold: HeldRoom,
+    pub hold: ReservedSlot,
 }
 
 impl Model for Stored {
@@ -57,13 +57,13 @@ pub(crate) fn write_cluster<S: Storage>(
     content: &[u8],
     begun: &mut bool,
 ) -> Result<(), Fault>
-    requires reach { IsInReach file.old.header.fields.cluster_bits cluster }
+    requires reach { IsAddressable file.old.header.fields.cluster_bits cluster }
     requires whole { length content.now ≡ cluster_size file.old.header.fields }
-    ensures put { Put (S.state file.old.image) (S.state file.new.image) (cluster * cluster_size file.old.header.fields) content.now result }
+    ensures put { WriteOutcome (S.state file.old.image) (S.state file.new.image) (cluster * cluster_size file.old.header.fields) content.now result }
     ensures header { file.new.header ≡ file.old.header }
     ensures reaches { OnOk result (ReachesEnd S.state cluster 1 file.old file.new) }
-    ensures spares { begun.new ≡ false
-        → (begun.old ≡ false) × OnOk result ⊥ × Kept (S.state file.old.image) (S.state file.new.image) }
+    ensures untouched_unless_begun { begun.new ≡ false
+        → (begun.old ≡ false) × OnOk result ⊥ × UnchangedButFaults (S.state file.old.image) (S.state file.new.image) }
 {
     let place = cluster.offset(file.header.cluster_bits());
     match file.image.try_write(alloc, content, place.0) {
@@ -89,14 +89,14 @@ fn allocate_and_write<S: Storage>(
     count: ClusterCount,
     begun: &mut bool,
 ) -> Result<Stored, Fault>
-    requires rest { AreEmpty caches.old }
+    requires caches_empty { AreEmpty caches.old }
     requires room { HasEntries caches.old }
     requires whole { length content.now ≡ cluster_size file.old.header.fields }
     requires any { 0 < count }
-    ensures stores { StoresRunUnsettled S.state count content.now (lent file.old caches.old space.old)
-        result (lent file.new caches.new space.new) }
-    ensures spares { SparesUnsettled S.state begun.old (lent file.old caches.old space.old) result begun.new
-        (lent file.new caches.new space.new) }
+    ensures stores { StoresRunUnsettled S.state count content.now (clusters_state file.old caches.old space.old)
+        result (clusters_state file.new caches.new space.new) }
+    ensures untouched_unless_begun { LeavesUnsettledUntouched S.state begun.old (clusters_state file.old caches.old space.old) result begun.new
+        (clusters_state file.new caches.new space.new) }
 {
     let pending = space
         .allocator
@@ -114,20 +114,20 @@ fn allocate_and_write<S: Storage>(
 }
 
 // Ends what was stored so: what is modified is written, and then nothing is cached. Where that is refused no room is held.
-pub(crate) fn settle_stored<S: Storage>(
+pub(crate) fn write_back_stored<S: Storage>(
     file: &mut ImageFile<S>,
     caches: &mut MetadataCaches<S>,
     space: &mut Space,
     stored: Result<Stored, Fault>,
 ) -> Result<Stored, Fault>
-    requires loose { AreUnpinned caches.old }
+    requires unpinned { AreUnpinned caches.old }
     requires held { OnOk stored (0 < space.old.to_free.held) }
     ensures stores { (n : ℕ) (content : List ℕ) (c : Clusters S) → length content ≤ n * cluster_size c.file.header.fields
-        → StoresRunUnsettled S.state n content c stored (lent file.old caches.old space.old)
-        → StoresRun S.state n content c result (lent file.new caches.new space.new) }
+        → StoresRunUnsettled S.state n content c stored (clusters_state file.old caches.old space.old)
+        → StoresRun S.state n content c result (clusters_state file.new caches.new space.new) }
     ensures same { OnOk result (result ≡ stored) }
-    ensures spares { (was now : Bool) (c : Clusters S) → SparesUnsettled S.state was c stored now (lent file.old caches.old space.old)
-        → Spares S.state was c result now (lent file.new caches.new space.new) }
+    ensures untouched_unless_begun { (was now : Bool) (c : Clusters S) → LeavesUnsettledUntouched S.state was c stored now (clusters_state file.old caches.old space.old)
+        → LeavesUntouched S.state was c result now (clusters_state file.new caches.new space.new) }
 {
     match end_change(file, caches, &stored) {
         Ok(()) => stored,
@@ -148,8 +148,8 @@ fn reach_end<S: Storage>(
     first: HostCluster,
     count: ClusterCount,
 ) -> Result<(), Fault>
-    requires reach { IsInReach file.old.header.fields.cluster_bits (first + (count - 1)) }
-    requires near { first + count < 2 ^ 64 }
+    requires reach { IsAddressable file.old.header.fields.cluster_bits (first + (count - 1)) }
+    requires end_bounded { first + count < 2 ^ 64 }
     requires any { 0 < count }
     ensures { ReachesRun S.state first count file.old result file.new }
 {
@@ -181,16 +181,16 @@ pub fn store_run<S: Storage>(
     count: ClusterCount,
     begun: &mut bool,
 ) -> Result<Stored, Fault>
-    requires rest { AreEmpty caches.old }
+    requires caches_empty { AreEmpty caches.old }
     requires room { HasEntries caches.old }
     requires whole { length content.now ≡ cluster_size file.old.header.fields }
     requires any { 0 < count }
-    ensures stores { StoresRun S.state count content.now (lent file.old caches.old space.old) result (lent file.new caches.new space.new) }
+    ensures stores { StoresRun S.state count content.now (clusters_state file.old caches.old space.old) result (clusters_state file.new caches.new space.new) }
     ensures reaches { IfOk result (λ first. ReachesEnd S.state first count file.old file.new) }
-    ensures spares { Spares S.state begun.old (lent file.old caches.old space.old) result begun.new (lent file.new caches.new space.new) }
+    ensures untouched_unless_begun { LeavesUntouched S.state begun.old (clusters_state file.old caches.old space.old) result begun.new (clusters_state file.new caches.new space.new) }
 {
     let stored = allocate_and_write(alloc, file, caches, space, content, count, begun);
-    let first = settle_stored(file, caches, space, stored)?;
+    let first = write_back_stored(file, caches, space, stored)?;
     let Stored { cluster, hold } = first;
     match reach_end(alloc, file, cluster, count) {
         Ok(()) => Ok(Stored { cluster, hold }),
@@ -210,11 +210,11 @@ pub(crate) fn store<S: Storage>(
     content: &[u8],
     begun: &mut bool,
 ) -> Result<Stored, Fault>
-    requires rest { AreEmpty caches.old }
+    requires caches_empty { AreEmpty caches.old }
     requires room { HasEntries caches.old }
     requires whole { length content.now ≡ cluster_size file.old.header.fields }
-    ensures stores { Stores S.state content.now (lent file.old caches.old space.old) result (lent file.new caches.new space.new) }
-    ensures spares { Spares S.state begun.old (lent file.old caches.old space.old) result begun.new (lent file.new caches.new space.new) }
+    ensures stores { Stores S.state content.now (clusters_state file.old caches.old space.old) result (clusters_state file.new caches.new space.new) }
+    ensures untouched_unless_begun { LeavesUntouched S.state begun.old (clusters_state file.old caches.old space.old) result begun.new (clusters_state file.new caches.new space.new) }
 {
     store_run(alloc, file, caches, space, content, ClusterCount(1), begun)
 }

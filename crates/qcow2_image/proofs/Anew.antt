@@ -5,7 +5,7 @@ use Rattle.std.specs.List.{AllByRecursion}
 use Rattle.std.proofs.lemmas.Bool.{cases_Bool}
 use Rattle.std.proofs.lemmas.List.Sums.{sum_by-cons}
 use Rattle.imago_storage.specs.State.{StorageState}
-use Rattle.imago_storage.specs.Calls.{Cause, Kept, Later}
+use Rattle.imago_storage.specs.Calls.{Cause, UnchangedButFaults, CountsNotFallen}
 use Rattle.imago_storage.specs.declared.fault.Fault.{Fault}
 use Rattle.imago_storage.specs.declared.storage.Storage.{Ghosts}
 use Rattle.imago_storage.specs.declared.fault.Fault.TheVariants.{DamagedHeader, DamagedTable, Unsupported, Limit, CacheFull, Memory, Storage}
@@ -22,20 +22,20 @@ use Rattle.qcow2_alloc.specs.Memory.{Cached}
 use Rattle.qcow2_alloc.specs.Opening.{IsL1Of}
 use Rattle.qcow2_alloc.specs.declared.async_lru_cache.Slot.{Slot}
 use Rattle.qcow2_image.specs.Opening.{WhyNoSpace, header_for}
-use Rattle.qcow2_image.specs.Seen.{IsOfFile, IsSeen, file_of}
+use Rattle.qcow2_image.specs.Seen.{IsOfFile, IsCacheCoherent, file_of}
 use Rattle.qcow2_image.specs.declared.tables.Tables.{Tables}
-use Rattle.qcow2_image.specs.Steps.{DiffersElsewhere, IsFirstFault, WhyNotReloaded, header_anew}
+use Rattle.qcow2_image.specs.Steps.{DiffersElsewhere, IsFirstFault, WhyNotReloaded, reloaded_header}
 use Rattle.qcow2_image.proofs.OpenRefusals.{reading-refusal}
 
 -- A storage that dropped what it has cached is the same.
-pub same-state : (s s' : StorageState) → Kept s s' → s'.faults ≡ s.faults → s' ≡ s
+pub same-state : (s s' : StorageState) → UnchangedButFaults s s' → s'.faults ≡ s.faults → s' ≡ s
 same-state s s' kept faults = λ i. record {
   shape = kept.shape i;
   bytes = kept.bytes i;
   faults = faults i;
   refusals = kept.refusals i;
-  stop = kept.stop i;
-  past = kept.past i;
+  crash_image = kept.crash_image i;
+  past_crash_images = kept.past_crash_images i;
 }
 
 -- Where it refuses, nothing is loaded for that.
@@ -45,13 +45,13 @@ refused-why r s s' Storage why = why
 refused-why r s s' fault why = absurd why
 
 -- What keeps a file from being opened for reading keeps it from being read anew, and so does a damaged refcount table, where it is written.
-anew-refused : (w : Bool) (f : Bytes) (fault : Fault) → header_for false f ≡ Err fault → header_anew w f ≡ Err fault
-unfolding header_anew
+anew-refused : (w : Bool) (f : Bytes) (fault : Fault) → header_for false f ≡ Err fault → reloaded_header w f ≡ Err fault
+unfolding reloaded_header
 anew-refused w f fault is = rw is refl
 
 counts-refused : (w : Bool) (f : Bytes) (H : Header) → header_for false f ≡ Ok H → w ≡ true → refcount_table_sound f H.fields ≡ false
-    → header_anew w f ≡ Err DamagedTable
-unfolding header_anew
+    → reloaded_header w f ≡ Err DamagedTable
+unfolding reloaded_header
 counts-refused w f H opens is bad = rw (opens, is, bad) refl
 
 -- Why the header isn't loaded,
@@ -106,12 +106,12 @@ updating-why w f H H' a b fault loads differs is =
     subst (WhyNotReloaded w f H a b) (sym is) (inr (subst (λ r. DiffersElsewhere r H) (sym loads) differs))
 
 -- A refusal to load the free space leaves no fewer faults.
-pub counts-later : (f : Bytes) (H : Header) (w : Bool) (s s' : StorageState) (fault : Fault) → Kept s s' → WhyNoSpace f H.fields w s.faults s'.faults fault
-    → Later s s'
+pub counts-later : (f : Bytes) (H : Header) (w : Bool) (s s' : StorageState) (fault : Fault) → UnchangedButFaults s s' → WhyNoSpace f H.fields w s.faults s'.faults fault
+    → CountsNotFallen s s'
 counts-later f H w s s' fault kept why = record { faults = more fault why; refusals = omega (arith, kept.refusals) } where
   more : (fault : Fault) → WhyNoSpace f H.fields w s.faults s'.faults fault → s.faults ≤ s'.faults
   more Memory why = omega (arith, why)
-  more Storage why = why.kept
+  more Storage why = why.not_fallen
   more DamagedTable why = let same = why.2 in omega (arith, same)
   more fault why = absurd why
 
@@ -139,7 +139,7 @@ counts-fine f H H' w a b fault first was loads sound is why = of-first is where
 -- What was loaded is the file's, while nothing is cached.
 pub seen-anew : {S : Type 0} (g : Ghosts S) (t : Tables S g) (before : StorageState) (H : Header) → g.state t.file.image ≡ before → t.file.header ≡ H
     → cached_in t.caches ≡ record { tables = []; blocks = [] } → header_of false (bytes_of before.bytes) ≡ Ok H
-    → has_external_data H.fields ≡ false → IsL1Of (bytes_of before.bytes) H.fields t.l1 → IsSeen g t
+    → has_external_data H.fields ≡ false → IsL1Of (bytes_of before.bytes) H.fields t.l1 → IsCacheCoherent g t
 seen-anew g t before H same header empty loads inside l1 = record {
   loads = subst (λ (s : StorageState). header_of false (bytes_of s.bytes) ≡ Ok t.file.header) (sym same) (loads ∙ ap Ok (sym header));
   inside = subst (λ (K : Header). has_external_data K.fields ≡ false) (sym header) inside;
@@ -171,7 +171,7 @@ module _ {V : Type 0} where
 
   -- so that all is dropped,
   pub drops-all : (es es' : List (ℕ × Slot V)) (result : Result Unit Fault) → Dropped es result es' → pinned_in es ≡ 0 → es' ≡ []
-  drops-all es es' result dropped none = dropped.kept ∙ none-kept es none
+  drops-all es es' result dropped none = dropped.keeps_pinned ∙ none-kept es none
 
   -- and nothing refuses that.
   pub drops-ok : (es es' : List (ℕ × Slot V)) (result : Result Unit Fault) → Dropped es result es' → pinned_in es ≡ 0 → IsOk result

@@ -8,16 +8,16 @@ use Rattle.imago_storage.specs.Causes.{offset_of, length_of}
 use Rattle.imago_storage.specs.Steps.{Call}
 use Rattle.imago_storage.specs.declared.storage.Storage.{Ghosts}
 use Rattle.imago_access.specs.Chain.{at}
-use Rattle.imago_access.specs.Changes.{Asked, Settles, TakesByte, Wrote}
+use Rattle.imago_access.specs.Changes.{Asked, CommitsPlace, TakesByte, Wrote}
 use Rattle.imago_access.specs.Layer.{Cell, Held, Layer, beside, inside, loose, own, through}
 use Rattle.imago_access.specs.Parts.{IsUncutPart, announces}
 use Rattle.imago_access.specs.Room.{IsOfUnit, IsUncutAt, IsWholeUnit}
-use Rattle.imago_access.specs.declared.seen.SeenBelow.{Ghosts as GhostsBelow}
+use Rattle.imago_access.specs.declared.driver_model.LayersBelowModel.{Ghosts as GhostsBelow}
 use Rattle.imago_access.proofs.Holding.{at_inside}
 use Rattle.qcow2_types.specs.Header.{Fields, cluster_size}
 use Rattle.qcow2_image.specs.Filling.{IsNeededFor, NeedsShown}
 use Rattle.qcow2_image.specs.Preparing.{first_part}
-use Rattle.qcow2_image.specs.Seen.{homes_of, layer_of}
+use Rattle.qcow2_image.specs.Seen.{writable_locations_of, layer_of}
 use Rattle.qcow2_image.specs.Writing.{ComesToBytes, IsNeeded, NeedsValue, Since}
 use Rattle.qcow2_image.specs.declared.qcow2.Qcow2.{Qcow2}
 use Rattle.qcow2_image.specs.Leaking.{KeepsLeaks}
@@ -33,13 +33,13 @@ bytes-then a b c first second p = elim (second p) [
 ]
 
 -- An image that has become another in which each place that can be written can be still, and shows what it did or a byte of its own.
-pub since-as : {S : Type 0} (g : Ghosts S) (d old new : Qcow2 S g) → ((p : ℕ) (at : ℕ × ℕ) → homes_of g old p ≡ Some at → homes_of g new p ≡ Some at)
+pub since-as : {S : Type 0} (g : Ghosts S) (d old new : Qcow2 S g) → ((p : ℕ) (at : ℕ × ℕ) → writable_locations_of g old p ≡ Some at → writable_locations_of g new p ≡ Some at)
     → ComesToBytes (layer_of g old).cell (layer_of g new).cell
     → new.tables.file.header.fields.size ≡ old.tables.file.header.fields.size
     → new.tables.file.header.fields.cluster_bits ≡ old.tables.file.header.fields.cluster_bits → KeepsLeaks g old new → Since g d old
     → Since g d new
-since-as g d old new homes cells size bits leaks since = record {
-  homes = λ p at is. homes p at (since.homes p at is);
+since-as g d old new writable_locations cells size bits leaks since = record {
+  writable_locations = λ p at is. writable_locations p at (since.writable_locations p at is);
   cells = bytes-then (layer_of g d).cell (layer_of g old).cell (layer_of g new).cell since.cells cells;
   size = size ∙ since.size;
   bits = bits ∙ since.bits;
@@ -47,7 +47,7 @@ since-as g d old new homes cells size bits leaks since = record {
 }
 
 -- A place shows what it did, or a byte, behind a commit,
-pub settles-byte : (h : Held) (was is : Cell) → Settles h was is → (is ≡ was) ⊎ ((b : ℕ) × (is ≡ own (byte b)))
+pub settles-byte : (h : Held) (was is : Cell) → CommitsPlace h was is → (is ≡ was) ⊎ ((b : ℕ) × (is ≡ own (byte b)))
 settles-byte loose was is done = inl done
 settles-byte (beside b) was is done = inr (b, done)
 settles-byte (inside copied (Some b) announced) was is done = inr (b, done)
@@ -133,7 +133,7 @@ module _ {S : Type 0} (g : Ghosts S) (old d : Qcow2 S g) (since : Since g d old)
     here = of-unit c h.size asked.offset asked.length one some inside p n.first.0 n.first.1;
     met = asked.offset;
     in_range = (uncut.part.start, omega (arith, some, uncut.part.end));
-    there = first-of c h.size asked.offset asked.length one some inside;
+    in_unit = first-of c h.size asked.offset asked.length one some inside;
     part = λ announced whole. n.part (some-true asked.overwrite (same ∙ announced))
         (whole-part c h.size asked.offset asked.length one some inside (offset_of call) (length_of call) uncut.start uncut.end whole);
   }
@@ -146,7 +146,7 @@ module _ {S : Type 0} (g : Ghosts S) (old d : Qcow2 S g) (since : Since g d old)
     | inr given ↦ absurd (none given.0 (sym (ap (λ (x : Cell). through x (at below p)) given.1) ∙ shows))
   ]
 
-  pub needs-shown : {B : Type 0} (u : GhostsBelow B) (x : B) → below ≡ u.under x → (value : Value) → ((b : ℕ) → byte b ≡ value → ⊥)
+  pub needs-shown : {B : Type 0} (u : GhostsBelow B) (x : B) → below ≡ u.layers_below x → (value : Value) → ((b : ℕ) → byte b ≡ value → ⊥)
       → NeedsShown g u (first_part h asked) (old, x) value → NeedsValue g d below call value
   needs-shown u x is value none which =
       let p : ℕ = which.0 in

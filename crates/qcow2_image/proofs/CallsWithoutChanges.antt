@@ -5,18 +5,18 @@ use Rattle.imago_storage.specs.Disk.{Value}
 use Rattle.imago_storage.specs.Steps.{shrink}
 use Rattle.imago_storage.specs.declared.fault.Fault.{Fault}
 use Rattle.imago_storage.specs.declared.fault.Fault.TheVariants.{Failed, Outdated, ReadOnly, Unsupported}
-use Rattle.imago_access.specs.declared.seen.Seen.{Ghosts}
-use Rattle.imago_access.specs.declared.seen.SeenBelow.{Ghosts as GhostsBelow}
+use Rattle.imago_access.specs.declared.driver_model.DriverModel.{Ghosts}
+use Rattle.imago_access.specs.declared.driver_model.LayersBelowModel.{Ghosts as GhostsBelow}
 use Rattle.imago_access.specs.declared.format.PreallocateMode.{PreallocateMode}
-use Rattle.imago_access.specs.Layer.{Layer, IsFree, IsLike}
+use Rattle.imago_access.specs.Layer.{Layer, IsFree, KeepsLayerState}
 use Rattle.imago_access.specs.Changes.{Asked}
-use Rattle.imago_access.specs.Files.{IsMild}
-use Rattle.imago_access.specs.Going.{AtOnce}
+use Rattle.imago_access.specs.Files.{IsNotResourceError}
+use Rattle.imago_access.specs.Going.{EarlyOutcome}
 use Rattle.imago_access.specs.Parts.{IsMappedAt}
 use Rattle.imago_access.specs.PreparingCalls.{Prepares, WritesMapped, WritingRefused}
-use Rattle.imago_access.specs.Refusals.{barrier, own_refusal}
+use Rattle.imago_access.specs.Refusals.{unusable_fault, own_refusal}
 use Rattle.imago_access.specs.ResizeCalls.{Grows, GrowthRefused, Resizes, ShrinkRefused, Shrinks}
-use Rattle.imago_access.specs.Stops.{Left, KeepsStopsTo, GivesBytes, GivesNone, GivesPast, GivesBelowPast}
+use Rattle.imago_access.specs.Stops.{Left, KeepsCrashImagesTo, GivesBytes, GivesNone, GivesPast, GivesBelowPast}
 use Rattle.imago_access.proofs.Room.{room_same}
 use Rattle.imago_access.proofs.Running.{went_same}
 use Rattle.imago_access.proofs.Stopping.{passes_none}
@@ -24,21 +24,21 @@ use Rattle.imago_access.proofs.Untouched.{unchanged_same}
 use borrow.Author.Tests.{ne_eqb}
 
 -- a layer that has failed refuses each call
-pub failed-barrier : (layer : Layer) → layer.failed ≡ true → barrier layer ≡ Some Failed
+pub failed-barrier : (layer : Layer) → layer.failed ≡ true → unusable_fault layer ≡ Some Failed
 failed-barrier layer failed = rw failed refl
 
 pub failed-refusal : (layer : Layer) (offset n : ℕ) → layer.failed ≡ true → own_refusal layer offset n ≡ Some Failed
 failed-refusal layer offset n failed = rw failed refl
 
 -- one that runs, and has its storages, refuses none for itself, nor an empty range
-pub runs-barrier : (layer : Layer) → layer.failed ≡ false → layer.fixed.missing ≡ false → barrier layer ≡ None
+pub runs-barrier : (layer : Layer) → layer.failed ≡ false → layer.fixed.missing ≡ false → unusable_fault layer ≡ None
 runs-barrier layer runs there = rw (runs, there) refl
 
 pub empty-refusal : (layer : Layer) (offset n : ℕ) → layer.failed ≡ false → layer.fixed.missing ≡ false → n ≡ 0
     → own_refusal layer offset n ≡ None
 empty-refusal layer offset n runs there none = rw (runs, there, none) refl
 
-pub failed-runs : (layer : Layer) → layer.failed ≡ true → barrier layer ≡ None → ⊥
+pub failed-runs : (layer : Layer) → layer.failed ≡ true → unusable_fault layer ≡ None → ⊥
 failed-runs layer failed runs = absurd (cc (runs, failed-barrier layer failed))
 
 -- Facts of a range that has nothing to do.
@@ -71,44 +71,44 @@ pub empty-run : (offset size asked : ℕ) → offset < size → asked ≡ 0 → 
 empty-run offset size asked inside none = (inside, omega (arith), omega (arith, inside), λ some. absurd (not-some some none))
 
 module _ {D St : Type 0} (g : Ghosts D St) where
-  like-same : (d : D) → IsLike (g.layer d) (g.layer d)
+  like-same : (d : D) → KeepsLayerState (g.layer d) (g.layer d)
   like-same d = record { fixed = refl; size = refl; unspent = refl; failed = λ f. f }
 
-  stops-same : (below : List Layer) (least most : ℕ) (gives : ℕ → Value → Type 0) (d : D) → KeepsStopsTo g below least most gives d d
+  stops-same : (below : List Layer) (least most : ℕ) (gives : ℕ → Value → Type 0) (d : D) → KeepsCrashImagesTo g below least most gives d d
   stops-same below least most gives d =
       passes_none (Left below (g.layer d) (g.image d).bytes g.sound least most gives) (g.image d) (g.image d) refl (refl, refl, refl, refl)
 
   -- What a call does at once: of a driver that has failed, and where it has nothing to do.
-  pub failed-at_once : {T : Type 0} (refusal : Option Fault) (nothing : Type 0) (d : D) → barrier (g.layer d) ≡ Some Failed
+  pub failed-early_outcome : {T : Type 0} (refusal : Option Fault) (nothing : Type 0) (d : D) → unusable_fault (g.layer d) ≡ Some Failed
       → refusal ≡ Some Failed
-      → AtOnce {T = T} g refusal nothing (Err Failed) d d
-  failed-at_once refusal nothing d barred is = record {
+      → EarlyOutcome {T = T} g refusal nothing (Err Failed) d d
+  failed-early_outcome refusal nothing d barred is = record {
     refused = λ f told. let same : Some Failed ≡ Some f = sym is ∙ told in cc same;
     idle = λ none runs. absurd (cc (runs, barred));
     unchanged = λ h. unchanged_same g d;
   }
 
-  pub idle-at_once : {T : Type 0} (refusal : Option Fault) (nothing : Type 0) (v : T) (d : D) → refusal ≡ None
-      → AtOnce g refusal nothing (Ok v) d d
-  idle-at_once refusal nothing v d is = record {
+  pub idle-early_outcome : {T : Type 0} (refusal : Option Fault) (nothing : Type 0) (v : T) (d : D) → refusal ≡ None
+      → EarlyOutcome g refusal nothing (Ok v) d d
+  idle-early_outcome refusal nothing v d is = record {
     refused = λ f told. absurd (cc (told, is));
     idle = λ none runs. refl;
     unchanged = λ h. unchanged_same g d;
   }
 
-  pub refused-at_once : {T : Type 0} (refusal : Option Fault) (nothing : Type 0) (e : Fault) (d : D) → refusal ≡ Some e → (nothing → ⊥)
-      → AtOnce {T = T} g refusal nothing (Err e) d d
-  refused-at_once refusal nothing e d is busy = record {
+  pub refused-early_outcome : {T : Type 0} (refusal : Option Fault) (nothing : Type 0) (e : Fault) (d : D) → refusal ≡ Some e → (nothing → ⊥)
+      → EarlyOutcome {T = T} g refusal nothing (Err e) d d
+  refused-early_outcome refusal nothing e d is busy = record {
     refused = λ f told. let same : Some e ≡ Some f = sym is ∙ told in cc same;
     idle = λ none runs. absurd (busy none);
     unchanged = λ h. unchanged_same g d;
   }
 
   -- a call that isn't refused at once and has something to do may do anything
-  pub busy-at_once : {T : Type 0} (refusal : Option Fault) (nothing : Type 0) (r : Result T Fault) (old new : D) → refusal ≡ None
+  pub busy-early_outcome : {T : Type 0} (refusal : Option Fault) (nothing : Type 0) (r : Result T Fault) (old new : D) → refusal ≡ None
       → (nothing → ⊥)
-      → AtOnce g refusal nothing r old new
-  busy-at_once refusal nothing r old new is busy = record {
+      → EarlyOutcome g refusal nothing r old new
+  busy-early_outcome refusal nothing r old new is busy = record {
     refused = λ f told. absurd (cc (told, is));
     idle = λ none runs. absurd (busy none);
     unchanged = λ h. elim h [ inl none ↦ absurd (busy none) | inr some ↦ absurd (cc (some, is)) ];
@@ -118,30 +118,30 @@ module _ {D St : Type 0} (g : Ghosts D St) where
   busy-neither refusal nothing is busy h = elim h [ inl none ↦ busy none | inr some ↦ absurd (cc (some, is)) ]
 
   -- What a resize does at once.
-  pub resizes-failed : (first second : ℕ) (d : D) → IsFree (g.layer d) → barrier (g.layer d) ≡ Some Failed
+  pub resizes-failed : (first second : ℕ) (d : D) → IsFree (g.layer d) → unusable_fault (g.layer d) ≡ Some Failed
       → Resizes g first second (Err Failed) d d
   resizes-failed first second d free barred = record {
     nothing = λ le. tt;
     free = free;
-    at_once = failed-at_once (barrier (g.layer d)) (first ≤ second) d barred barred;
+    early_outcome = failed-early_outcome (unusable_fault (g.layer d)) (first ≤ second) d barred barred;
     read_only = λ runs lt closed. absurd (cc (runs, barred));
   }
 
-  pub resizes-idle : (first second : ℕ) (d : D) → IsFree (g.layer d) → barrier (g.layer d) ≡ None → first ≤ second
+  pub resizes-idle : (first second : ℕ) (d : D) → IsFree (g.layer d) → unusable_fault (g.layer d) ≡ None → first ≤ second
       → Resizes g first second (Ok tt) d d
   resizes-idle first second d free runs le = record {
     nothing = λ _. refl;
     free = free;
-    at_once = idle-at_once (barrier (g.layer d)) (first ≤ second) tt d runs;
+    early_outcome = idle-early_outcome (unusable_fault (g.layer d)) (first ≤ second) tt d runs;
     read_only = λ _ lt closed. absurd (omega (arith, le, lt));
   }
 
-  pub resizes-declined : (first second : ℕ) (e : Fault) (d : D) → IsFree (g.layer d) → barrier (g.layer d) ≡ None → second < first
+  pub resizes-declined : (first second : ℕ) (e : Fault) (d : D) → IsFree (g.layer d) → unusable_fault (g.layer d) ≡ None → second < first
       → (IsFalse (g.layer d).fixed.writable → e ≡ ReadOnly) → Resizes g first second (Err e) d d
   resizes-declined first second e d free runs lt why = record {
     nothing = λ le. tt;
     free = free;
-    at_once = record {
+    early_outcome = record {
       refused = λ f is. absurd (cc (runs, is));
       idle = λ le _. absurd (omega (arith, le, lt));
       unchanged = λ h. unchanged_same g d;
@@ -152,118 +152,118 @@ module _ {D St : Type 0} (g : Ghosts D St) where
   -- What a shrink does.
   pub shrinks-idle : (size : ℕ) (d : D) → (g.layer d).size ≤ size → Shrinks g size (Ok tt) d d
   shrinks-idle size d high = record {
-    ok = λ safe low. absurd (omega (arith, low, high));
-    err = λ safe. tt;
-    stops = λ safe below backed. stops-same below size (g.layer d).size (GivesBelowPast below size) d;
-    went = went_same g ⊤ ⊤ d;
+    ok = λ well_formed low. absurd (omega (arith, low, high));
+    err = λ well_formed. tt;
+    crash_images = λ well_formed below backed. stops-same below size (g.layer d).size (GivesBelowPast below size) d;
+    mutating_call = went_same g ⊤ ⊤ d;
   }
 
   pub shrinks-refused : (size : ℕ) (e : Fault) (d : D) → Shrinks g size (Err e) d d
   shrinks-refused size e d = record {
-    ok = λ safe low. tt;
-    err = λ safe mild. record { like = like-same d; kept = λ p low. refl };
-    stops = λ safe below backed. stops-same below size (g.layer d).size (GivesBelowPast below size) d;
-    went = went_same g (IsMild e) (IsMild e) d;
+    ok = λ well_formed low. tt;
+    err = λ well_formed not_resource_error. record { keeps_layer_state = like-same d; data_unchanged = λ p low. refl };
+    crash_images = λ well_formed below backed. stops-same below size (g.layer d).size (GivesBelowPast below size) d;
+    mutating_call = went_same g (IsNotResourceError e) (IsNotResourceError e) d;
   }
 
   -- Why it is refused.
-  pub shrink-failed : (size : ℕ) (d : D) → barrier (g.layer d) ≡ Some Failed → ShrinkRefused g size (Err Failed) d d
-  shrink-failed size d barred = record { failed = tt; marks = tt; cause = λ safe below. inl barred }
+  pub shrink-failed : (size : ℕ) (d : D) → unusable_fault (g.layer d) ≡ Some Failed → ShrinkRefused g size (Err Failed) d d
+  shrink-failed size d barred = record { failed = tt; marks_failed = tt; cause = λ well_formed below. inl barred }
 
   pub shrink-idle : (size : ℕ) (d : D) → ShrinkRefused g size (Ok tt) d d
-  shrink-idle size d = record { failed = tt; marks = tt; cause = λ safe below. tt }
+  shrink-idle size d = record { failed = tt; marks_failed = tt; cause = λ well_formed below. tt }
 
   pub shrink-declined : (size : ℕ) (writable : Bool) (d : D) → (g.layer d).fixed.writable ≡ writable → size < (g.layer d).size
       → ((below : List Layer) → g.own_cause d below (shrink size) Unsupported)
       → ShrinkRefused g size (Err (if writable then Unsupported else ReadOnly)) d d
-  shrink-declined size true d is lt own = record { failed = tt; marks = tt; cause = λ safe below. own below }
-  shrink-declined size false d is lt own = record { failed = tt; marks = tt; cause = λ safe below. (lt, is) }
+  shrink-declined size true d is lt own = record { failed = tt; marks_failed = tt; cause = λ well_formed below. own below }
+  shrink-declined size false d is lt own = record { failed = tt; marks_failed = tt; cause = λ well_formed below. (lt, is) }
 
   -- What a write to a mapping does.
   pub writes-nothing : (guest place : ℕ) (bytes : List ℕ) (d : D) → length bytes ≡ 0 → WritesMapped g guest place bytes (Ok tt) d d
   writes-nothing guest place bytes d none = record {
     mapped = λ seen some. absurd (not-some some none);
     empty = λ _. refl;
-    like = like-same d;
-    ok = λ safe. record {
-      like = like-same d;
-      home = refl;
+    keeps_layer_state = like-same d;
+    ok = λ well_formed. record {
+      keeps_layer_state = like-same d;
+      writable_location = refl;
       range = λ i low. absurd (below-empty low none);
       others = λ p out. (refl, refl);
     };
-    err = λ safe. tt;
-    room = λ safe whole. room_same g (λ _. ⊤) (λ _. ⊤) d;
-    stops = λ safe below. stops-same below (g.layer d).size (g.layer d).size (GivesBytes guest bytes) d;
-    went = went_same g ⊤ ⊤ d;
-    began = λ e call begun. begun;
+    err = λ well_formed. tt;
+    room = λ well_formed whole. room_same g (λ _. ⊤) (λ _. ⊤) d;
+    crash_images = λ well_formed below. stops-same below (g.layer d).size (g.layer d).size (GivesBytes guest bytes) d;
+    mutating_call = went_same g ⊤ ⊤ d;
+    stays_begun = λ e call begun. begun;
   }
 
   pub writes-refused : (guest place : ℕ) (bytes : List ℕ) (e : Fault) (d : D) → WritesMapped g guest place bytes (Err e) d d
   writes-refused guest place bytes e d = record {
     mapped = λ seen. tt;
     empty = λ _. refl;
-    like = like-same d;
-    ok = λ safe. tt;
-    err = λ safe mild. refl;
-    room = λ safe whole. room_same g (λ _. ⊤) (λ _. ⊤) d;
-    stops = λ safe below. stops-same below (g.layer d).size (g.layer d).size (GivesBytes guest bytes) d;
-    went = went_same g (IsMild e) (IsMild e) d;
-    began = λ e call begun. tt;
+    keeps_layer_state = like-same d;
+    ok = λ well_formed. tt;
+    err = λ well_formed not_resource_error. refl;
+    room = λ well_formed whole. room_same g (λ _. ⊤) (λ _. ⊤) d;
+    crash_images = λ well_formed below. stops-same below (g.layer d).size (g.layer d).size (GivesBytes guest bytes) d;
+    mutating_call = went_same g (IsNotResourceError e) (IsNotResourceError e) d;
+    stays_begun = λ e call begun. tt;
   }
 
   -- Why it is refused.
-  pub writing-failed : (guest place n : ℕ) (d : D) → barrier (g.layer d) ≡ Some Failed → WritingRefused g guest place n (Err Failed) d d
-  writing-failed guest place n d barred = record { failed = tt; marks = tt; cause = λ safe. inl barred }
+  pub writing-failed : (guest place n : ℕ) (d : D) → unusable_fault (g.layer d) ≡ Some Failed → WritingRefused g guest place n (Err Failed) d d
+  writing-failed guest place n d barred = record { failed = tt; marks_failed = tt; cause = λ well_formed. inl barred }
 
   pub writing-done : (guest place n : ℕ) (old new : D) → WritingRefused g guest place n (Ok tt) old new
-  writing-done guest place n old new = record { failed = tt; marks = tt; cause = λ safe. tt }
+  writing-done guest place n old new = record { failed = tt; marks_failed = tt; cause = λ well_formed. tt }
 
-  pub writing-outdated : (guest place n : ℕ) (old new : D) → 0 < n → (g.safe old → IsMappedAt (g.layer old) guest place n → ⊥)
+  pub writing-outdated : (guest place n : ℕ) (old new : D) → 0 < n → (g.well_formed old → IsMappedAt (g.layer old) guest place n → ⊥)
       → WritingRefused g guest place n (Err Outdated) old new
-  writing-outdated guest place n old new some unmapped = record { failed = tt; marks = tt; cause = λ safe. (some, unmapped safe) }
+  writing-outdated guest place n old new some unmapped = record { failed = tt; marks_failed = tt; cause = λ well_formed. (some, unmapped well_formed) }
 
 module _ {D St B : Type 0} (g : Ghosts D St) (u : GhostsBelow B) where
   -- What a preparation does of a driver that has failed.
-  pub prepares-failed : (asked : Asked) (d : D) (b : B) → barrier (g.layer d) ≡ Some Failed → Prepares g u asked (Err Failed) (d, b) (d, b)
+  pub prepares-failed : (asked : Asked) (d : D) (b : B) → unusable_fault (g.layer d) ≡ Some Failed → Prepares g u asked (Err Failed) (d, b) (d, b)
   prepares-failed asked d b barred = record {
-    ok = λ safe see. tt;
-    err = λ safe see mild. record { like = like-same g d; cell = refl; held = refl };
-    uncut = λ safe see. tt;
-    near = λ safe see. tt;
-    room = λ safe see whole. room_same g (λ _. ⊤) (λ _. ⊤) d;
-    stops = λ safe see. stops-same g (u.under b) (g.layer d).size (g.layer d).size GivesNone d;
-    went = went_same g ⊤ (⊤ × u.sees_under b) d;
-    began = λ e call begun part whole. begun;
-    refused = record { failed = tt; marks = tt; cause = λ safe see e call begun part over. inl barred };
+    ok = λ well_formed see. tt;
+    err = λ well_formed see not_resource_error. record { keeps_layer_state = like-same g d; cell = refl; held = refl };
+    uncut = λ well_formed see. tt;
+    no_range_overflow = λ well_formed see. tt;
+    room = λ well_formed see whole. room_same g (λ _. ⊤) (λ _. ⊤) d;
+    crash_images = λ well_formed see. stops-same g (u.layers_below b) (g.layer d).size (g.layer d).size GivesNone d;
+    mutating_call = went_same g ⊤ (⊤ × u.coherent_below b) d;
+    stays_begun = λ e call begun part whole. begun;
+    refused = record { failed = tt; marks_failed = tt; cause = λ well_formed see e call begun part over. inl barred };
   }
 
   -- What a growth does.
   pub grows-idle : (size : ℕ) (mode : PreallocateMode) (d : D) (b : B) → size ≤ (g.layer d).size → Grows g u size mode (Ok tt) (d, b) (d, b)
   grows-idle size mode d b low = record {
-    ok = λ safe see high. absurd (omega (arith, low, high));
-    err = λ safe see. tt;
-    stops = λ safe see. stops-same g (u.under b) (g.layer d).size (max (g.layer d).size size) (GivesPast (g.layer d).size) d;
-    went = went_same g ⊤ (⊤ × u.sees_under b) d;
+    ok = λ well_formed see high. absurd (omega (arith, low, high));
+    err = λ well_formed see. tt;
+    crash_images = λ well_formed see. stops-same g (u.layers_below b) (g.layer d).size (max (g.layer d).size size) (GivesPast (g.layer d).size) d;
+    mutating_call = went_same g ⊤ (⊤ × u.coherent_below b) d;
   }
 
   pub grows-refused : (size : ℕ) (mode : PreallocateMode) (e : Fault) (d : D) (b : B) → Grows g u size mode (Err e) (d, b) (d, b)
   grows-refused size mode e d b = record {
-    ok = λ safe see high. tt;
-    err = λ safe see mild. record { like = like-same g d; kept = λ p low. refl };
-    stops = λ safe see. stops-same g (u.under b) (g.layer d).size (max (g.layer d).size size) (GivesPast (g.layer d).size) d;
-    went = went_same g (IsMild e) (IsMild e × u.sees_under b) d;
+    ok = λ well_formed see high. tt;
+    err = λ well_formed see not_resource_error. record { keeps_layer_state = like-same g d; data_unchanged = λ p low. refl };
+    crash_images = λ well_formed see. stops-same g (u.layers_below b) (g.layer d).size (max (g.layer d).size size) (GivesPast (g.layer d).size) d;
+    mutating_call = went_same g (IsNotResourceError e) (IsNotResourceError e × u.coherent_below b) d;
   }
 
   -- Why it is refused.
-  pub growth-failed : (size : ℕ) (mode : PreallocateMode) (d : D) (b : B) → barrier (g.layer d) ≡ Some Failed
+  pub growth-failed : (size : ℕ) (mode : PreallocateMode) (d : D) (b : B) → unusable_fault (g.layer d) ≡ Some Failed
       → GrowthRefused g u size mode (Err Failed) (d, b) (d, b)
-  growth-failed size mode d b barred = record { failed = tt; marks = tt; cause = λ safe see. inl barred }
+  growth-failed size mode d b barred = record { failed = tt; marks_failed = tt; cause = λ well_formed see. inl barred }
 
   pub growth-idle : (size : ℕ) (mode : PreallocateMode) (d : D) (b : B) → GrowthRefused g u size mode (Ok tt) (d, b) (d, b)
-  growth-idle size mode d b = record { failed = tt; marks = tt; cause = λ safe see. tt }
+  growth-idle size mode d b = record { failed = tt; marks_failed = tt; cause = λ well_formed see. tt }
 
   pub growth-declined : (size : ℕ) (mode : PreallocateMode) (writable : Bool) (d : D) (b : B) → (g.layer d).fixed.writable ≡ writable
-      → (g.layer d).size < size → g.growth_cause d (u.under b) size mode Unsupported
+      → (g.layer d).size < size → g.growth_cause d (u.layers_below b) size mode Unsupported
       → GrowthRefused g u size mode (Err (if writable then Unsupported else ReadOnly)) (d, b) (d, b)
-  growth-declined size mode true d b is lt own = record { failed = tt; marks = tt; cause = λ safe see. own }
-  growth-declined size mode false d b is lt own = record { failed = tt; marks = tt; cause = λ safe see. (lt, is) }
+  growth-declined size mode true d b is lt own = record { failed = tt; marks_failed = tt; cause = λ well_formed see. own }
+  growth-declined size mode false d b is lt own = record { failed = tt; marks_failed = tt; cause = λ well_formed see. (lt, is) }

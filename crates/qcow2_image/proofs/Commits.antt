@@ -7,59 +7,59 @@ use Rattle.std.specs.List.{AllByRecursion}
 use Rattle.std.proofs.lemmas.List.Sums.{sum_by-cons}
 use Rattle.imago_storage.specs.State.{Shape, StorageState}
 use Rattle.imago_storage.specs.Disk.{Value, byte}
-use Rattle.imago_storage.specs.Passing.{Passes}
+use Rattle.imago_storage.specs.Passing.{UnrefusedCrashImages}
 use Rattle.imago_storage.specs.declared.fault.Fault.{Fault}
 use Rattle.imago_storage.specs.declared.fault.Fault.TheVariants.{DamagedTable, Memory, Storage}
 use Rattle.imago_storage.specs.declared.storage.Storage.{Ghosts}
 use Rattle.imago_access.specs.Chain.{at}
-use Rattle.imago_access.specs.Changes.{Committed, Settles}
-use Rattle.imago_access.specs.Files.{IsMild}
+use Rattle.imago_access.specs.Changes.{Committed, CommitsPlace}
+use Rattle.imago_access.specs.Files.{IsNotResourceError}
 use Rattle.imago_access.specs.Layer.{Cell, Layer, beside, inside, loose, own}
 use Rattle.imago_access.specs.Stops.{GivesSettled, Left, May}
 use Rattle.imago_access.specs.declared.mapping.PreparedDataMapping.{PreparedDataMapping}
 use Rattle.imago_access.proofs.Stopping.{passes_weaker}
 use Rattle.qcow2_types.specs.Bytes.{Bytes, bytes_of}
-use Rattle.qcow2_types.specs.Header.{Fields, Header, cluster_size, words_of_cluster}
+use Rattle.qcow2_types.specs.Header.{Fields, Header, cluster_size, entries_of_cluster}
 use Rattle.qcow2_types.specs.Words.{Mapping, data_at}
 use Rattle.qcow2_types.specs.Entries.{entry, l2_table}
 use Rattle.qcow2_types.specs.Consistency.{IsConsistent}
 use Rattle.qcow2_types.proofs.Counting.Consistent.{header-reading}
 use Rattle.qcow2_metadata.proofs.TableSteps.{past_end}
-use Rattle.qcow2_alloc.specs.Allocators.{table_of, mark_of}
+use Rattle.qcow2_alloc.specs.Allocators.{table_of, first_free_of}
 use Rattle.qcow2_alloc.specs.Causes.{HasCause}
-use Rattle.qcow2_alloc.specs.Going.{WasNotCutOff, writing_causes}
+use Rattle.qcow2_alloc.specs.Going.{HadNoResourceError, writing_causes}
 use Rattle.qcow2_alloc.specs.Caches.{HasRoomOf, cached_in}
 use Rattle.qcow2_alloc.specs.Finding.{pinned_in}
 use Rattle.qcow2_alloc.specs.Memory.{Cached}
 use Rattle.qcow2_alloc.specs.Opening.{IsL1Of}
-use Rattle.qcow2_alloc.specs.Quiet.{Metadata, IsSound, in_memory}
-use Rattle.qcow2_alloc.specs.Safety.{IsCachedTable}
+use Rattle.qcow2_alloc.specs.GuestView.{Metadata, IsSound, in_memory}
+use Rattle.qcow2_alloc.specs.WellFormedness.{IsCachedTable}
 use Rattle.qcow2_alloc.proofs.Flushing.FlushRefusals.{writing-implies}
 use Rattle.qcow2_alloc.proofs.Causes.{cause-weaker}
 use Rattle.qcow2_alloc.proofs.Memory.SafeLaws.{clean-memory}
-use Rattle.qcow2_steps.specs.Advancing.{Advances, MayBeLeft}
+use Rattle.qcow2_steps.specs.Advancing.{Advances, MayBeCrashImage}
 use Rattle.qcow2_steps.specs.Values.{own_value, own_value_by}
 use Rattle.qcow2_steps.specs.Data.{IsKeptFor}
 use Rattle.qcow2_steps.specs.Words.{IsReserved}
 use Rattle.qcow2_alloc.specs.declared.async_lru_cache.Slot.{Slot}
 use Rattle.qcow2_alloc.specs.declared.cache.MetadataCaches.{MetadataCaches}
 use Rattle.qcow2_alloc.specs.declared.file.ImageFile.{ImageFile}
-use Rattle.qcow2_clusters.specs.Naming.{AreNameable, IsUnder, LeavesTable, NamesRun, naming_run}
+use Rattle.qcow2_clusters.specs.Linking.{CanAllBeLinked, IsUnder, LeavesTable, LinksRun, linking_run}
 use Rattle.qcow2_clusters.specs.Progress.{Kind, Progresses}
 use Rattle.qcow2_clusters.specs.declared.space.Space.{Space}
 use Rattle.qcow2_clusters.proofs.RunNames.{run-gives, run-sets}
-use Rattle.qcow2_clusters.specs.Rest.{Clusters, IsReady, lent, nothing_cached, resting}
-use Rattle.qcow2_clusters.specs.Settling.{without_tables}
+use Rattle.qcow2_clusters.specs.Flushed.{Clusters, IsReady, clusters_state, nothing_cached, flushed_metadata}
+use Rattle.qcow2_clusters.specs.WritingBack.{without_tables}
 use Rattle.qcow2_image.specs.Caching.{IsClean, IsUnpinned}
-use Rattle.qcow2_image.specs.Committing.{CommitsUnspent, NamesHost, NamesWith, SpendsUnspent, answer_of, failed_behind_any, held_behind, reserved_of}
-use Rattle.qcow2_image.specs.Holding.{Holding, IsOwnAs, IsUncopied, claim_held, copied_to, held_home, held_of, held_place, held_with, home_or, homes_with, in_clusters, in_run, written_to}
+use Rattle.qcow2_image.specs.Committing.{CommitsUnspent, LinksHost, NamesWith, SpendsUnspent, answer_of, failed_after_any, held_after, reserved_of}
+use Rattle.qcow2_image.specs.Holding.{PreparedMappingRun, IsOwnAs, IsUncopied, mapping_id_held, copied_to, held_writable_location, held_of, held_place, held_with, writable_location_or, writable_locations_with, in_clusters, in_run, written_to}
 use Rattle.qcow2_image.specs.HeldHomes.{clusters-from, clusters-of, free-homes, held-at, run-from, run-guest}
 use Rattle.qcow2_image.specs.Homes.{cluster-there}
 use Rattle.qcow2_image.proofs.Preparations.FreshRuns.{uncopied-homeless}
-use Rattle.qcow2_image.specs.ImageLayer.{blank_of, cell_by, cells, home_by, homes, qcow2_fixed}
-use Rattle.qcow2_image.specs.Rooms.{HasCluster, HasRoom, HoldsIn, IsSafe, is_sound, rest_of}
-use Rattle.qcow2_image.specs.Seen.{IsSeen, IsTableAt, file_of, homes_of, layer_of, memory_of}
-use Rattle.qcow2_image.specs.Unspent.{holding, holding_in}
+use Rattle.qcow2_image.specs.ImageLayer.{blank_of, cell_by, cells, writable_location_by, writable_locations, qcow2_fixed}
+use Rattle.qcow2_image.specs.Rooms.{HasCluster, HasRoom, HoldsIn, IsWellFormed, is_sound, rest_of}
+use Rattle.qcow2_image.specs.Seen.{IsCacheCoherent, IsTableAt, file_of, writable_locations_of, layer_of, memory_of}
+use Rattle.qcow2_image.specs.Unspent.{prepared_mapping_run, holding_in}
 use Rattle.qcow2_image.specs.declared.mappings.Reserved.{Reserved}
 use Rattle.qcow2_image.specs.declared.qcow2.PreparedMappingState.{PreparedMappingState}
 use Rattle.qcow2_image.specs.declared.qcow2.Qcow2.{Qcow2}
@@ -69,7 +69,7 @@ use Rattle.qcow2_image.proofs.DiskEffects.{cell-shown, cell_of, may-left, rest-m
 use Rattle.qcow2_image.proofs.FileWords.{tables-same}
 use Rattle.qcow2_image.proofs.Steps.{memory-is}
 use Rattle.qcow2_image.proofs.TableSearches.{tables-of-file}
-use Rattle.qcow2_alloc.specs.Freeing.{IsMarked}
+use Rattle.qcow2_alloc.specs.Freeing.{NoneFreeBefore}
 use Rattle.qcow2_alloc.specs.declared.allocation.Allocator.{Allocator}
 use Rattle.qcow2_image.proofs.SearchStart.{counted-at-rest, counted-in-file}
 
@@ -86,7 +86,7 @@ same-parts a b d rows columns =
 
 -- What stands in a host cluster is what was written or copied, or it was announced that all is going to be written.
 by-hold : (overwrite written : Bool) (copied there : ℕ) (was : Cell) → (written ≡ false → there ≡ copied) → there < 256
-    → Settles (inside (if overwrite then None else Some copied) (if written then Some there else None) overwrite) was (own (byte there))
+    → CommitsPlace (inside (if overwrite then None else Some copied) (if written then Some there else None) overwrite) was (own (byte there))
 by-hold true true copied there was same fits = refl
 by-hold false true copied there was same fits = refl
 by-hold true false copied there was same fits = inr (byte there, (there, fits, refl), refl)
@@ -98,20 +98,20 @@ each-byte bytes fit k = elim (cases_lt k (length bytes)) [
   | inr behind ↦ let none = past_end bytes k behind in omega (arith, none)
 ]
 
-run-home : (hold : Holding) (p : ℕ) (at : ℕ × ℕ) → held_home hold p ≡ Some at → (in_run hold p ≡ true) × (at ≡ (0, hold.place + (p - hold.offset)))
+run-home : (hold : PreparedMappingRun) (p : ℕ) (at : ℕ × ℕ) → held_writable_location hold p ≡ Some at → (in_run hold p ≡ true) × (at ≡ (0, hold.place + (p - hold.offset)))
 run-home hold p at is = from (in_run hold p) refl is where
   from : (b : Bool) → in_run hold p ≡ b → (if b then Some (0, hold.place + (p - hold.offset)) else None) ≡ Some at
       → (in_run hold p ≡ true) × (at ≡ (0, hold.place + (p - hold.offset)))
   from true same there = (same, cc (sym there))
   from false same there = absurd (cc there)
 
-module _ {S : Type 0} (g : Ghosts S) (claim : ℕ) (old new : Qcow2 S g)
-    (result : Result Unit (Fault × Option (PreparedDataMapping PreparedMappingState))) (s : SpendsUnspent g claim old result new) where
-  abbrev pub hold : Holding
-  hold = holding g s.spent
+module _ {S : Type 0} (g : Ghosts S) (mapping_id : ℕ) (old new : Qcow2 S g)
+    (result : Result Unit (Fault × Option (PreparedDataMapping PreparedMappingState))) (s : SpendsUnspent g mapping_id old result new) where
+  abbrev pub hold : PreparedMappingRun
+  hold = prepared_mapping_run g s.spent
 
   pub hold-is : holding_in g old.unspent ≡ Some hold
-  hold-is = ap (holding_in g) s.there
+  hold-is = ap (holding_in g) s.was_unspent
 
   abbrev f : Bytes
   f = file_of g old.tables
@@ -137,7 +137,7 @@ module _ {S : Type 0} (g : Ghosts S) (claim : ℕ) (old new : Qcow2 S g)
   number-same : new.number ≡ old.number
   number-same = ap (λ (d : Qcow2 S g). d.number) s.others
 
-  pub failed-is : new.failed ≡ failed_behind_any s.named old.failed
+  pub failed-is : new.failed ≡ failed_after_any s.named old.failed
   failed-is = ap (λ (d : Qcow2 S g). d.failed) s.others
 
   pub free-now : new.unspent ≡ None
@@ -147,7 +147,7 @@ module _ {S : Type 0} (g : Ghosts S) (claim : ℕ) (old new : Qcow2 S g)
   none-held = ap (holding_in g) free-now
 
   pub is-free : (layer_of g new).unspent ≡ None
-  is-free = ap claim_held none-held
+  is-free = ap mapping_id_held none-held
 
   pub fixed-same : (layer_of g new).fixed ≡ (layer_of g old).fixed
   fixed-same = λ i. qcow2_fixed (s.names.shape i) (fields-same i) (mode-same i) (number-same i)
@@ -156,58 +156,58 @@ module _ {S : Type 0} (g : Ghosts S) (claim : ℕ) (old new : Qcow2 S g)
   size-same = ap (λ (k : Fields). k.size) fields-same
 
   -- Of a safe image.
-  module _ (safe : IsSafe g old) where
+  module _ (well_formed : IsWellFormed g old) where
     pub holds : HoldsIn g old.tables hold
-    holds = subst (λ o. IfSome o (HoldsIn g old.tables)) hold-is safe.held
+    holds = subst (λ o. IfSome o (HoldsIn g old.tables)) hold-is well_formed.held
 
     abbrev pub before : Metadata
     before = rest_of g old.tables holds.space
 
     pub sound : IsSound before
-    sound = safe-sound g old holds.space holds.there safe
+    sound = safe-sound g old holds.space holds.space_known well_formed
 
-    able : AreNameable hold.count before hold.table hold.guest hold.host
+    able : CanAllBeLinked hold.count before hold.table hold.guest hold.host
     able d less = record {
-      under = holds.held.under d less;
+      layers_below = holds.held.layers_below d less;
       own = own-either hold.is_kept before (hold.guest + d) (hold.host + d) (holds.held.own d less);
     }
 
     pub with-space : NamesWith g (reserved_of g s.spent) hold.guest old.tables holds.space s.named new.tables
-    with-space = s.names.known holds.space holds.there (record {
-      some = let some = holds.held.some in omega (arith, some);
+    with-space = s.names.known holds.space holds.space_known (record {
+      cluster_nonzero = let some = holds.held.host_nonzero in omega (arith, some);
       any = holds.held.any;
       reach = holds.held.reach;
       row = holds.held.row;
     })
 
     abbrev c : Clusters S
-    c = lent old.tables.file with-space.caches holds.space
+    c = clusters_state old.tables.file with-space.caches holds.space
 
     abbrev c' : Clusters S
-    c' = lent new.tables.file (without_tables new.tables.caches) with-space.between
+    c' = clusters_state new.tables.file (without_tables new.tables.caches) with-space.between
 
     -- what is given, set, handed out and taken
     abbrev pub kind : Kind
-    kind = naming_run before hold.guest hold.host hold.count
+    kind = linking_run before hold.guest hold.host hold.count
 
     ready : IsReady g.state c
-    ready = record { keeps = safe.keeps; sound = sound }
+    ready = record { keeps = well_formed.keeps; sound = sound }
 
     progress : Progresses (s.named ≡ Ok tt) kind (g.state old.tables.file.image) before
-        (g.state new.tables.file.image) (resting g.state c')
+        (g.state new.tables.file.image) (flushed_metadata g.state c')
     progress = with-space.names.progress able
 
     -- It is refused for want of memory or by a storage alone.
-    pub refused-hard : (fault : Fault) → s.named ≡ Err fault → IsMild fault → ⊥
-    refused-hard fault is mild =
-        never fault (subst (λ r. IfErr r (HasCause (writing_causes (IsReady g.state c × AreNameable hold.count before hold.table hold.guest hold.host)
-        (g.state old.tables.file.image).faults (g.state new.tables.file.image).faults))) is with-space.names.cause) mild where
-          never : (e : Fault) → HasCause (writing_causes (IsReady g.state c × AreNameable hold.count before hold.table hold.guest hold.host)
-              (g.state old.tables.file.image).faults (g.state new.tables.file.image).faults) e → IsMild e → ⊥
-          never Memory why mild = mild
-          never Storage why mild = mild
-          never DamagedTable why mild = why (ready, able)
-          never e why mild = why
+    pub refused-hard : (fault : Fault) → s.named ≡ Err fault → IsNotResourceError fault → ⊥
+    refused-hard fault is not_resource_error =
+        never fault (subst (λ r. IfErr r (HasCause (writing_causes (IsReady g.state c × CanAllBeLinked hold.count before hold.table hold.guest hold.host)
+        (g.state old.tables.file.image).faults (g.state new.tables.file.image).faults))) is with-space.names.cause) not_resource_error where
+          never : (e : Fault) → HasCause (writing_causes (IsReady g.state c × CanAllBeLinked hold.count before hold.table hold.guest hold.host)
+              (g.state old.tables.file.image).faults (g.state new.tables.file.image).faults) e → IsNotResourceError e → ⊥
+          never Memory why not_resource_error = not_resource_error
+          never Storage why not_resource_error = not_resource_error
+          never DamagedTable why not_resource_error = why (ready, able)
+          never e why not_resource_error = why
 
     -- a guest cluster of the run
     abbrev pub IsOurs : ℕ → Type 0
@@ -215,13 +215,13 @@ module _ {S : Type 0} (g : Ghosts S) (claim : ℕ) (old new : Qcow2 S g)
 
     -- What a place of the guest clusters shows then is what stands in its host cluster, which settles what is held of it.
     settled-byte : (p : ℕ) → IsOurs (p / cs) → p < h.size → (was : Cell)
-        → Settles ((layer_of g old).held p) was (own (byte (f (held_place h hold p))))
+        → CommitsPlace ((layer_of g old).held p) was (own (byte (f (held_place h hold p))))
     settled-byte p is low was =
-        subst (λ o. Settles (held_with h f o p) was (own (byte (f (held_place h hold p))))) (sym hold-is) (elim (cases_Bool (in_run hold p)) [
+        subst (λ o. CommitsPlace (held_with h f o p) was (own (byte (f (held_place h hold p))))) (sym hold-is) (elim (cases_Bool (in_run hold p)) [
           | inl run ↦ rw (there, run) (by-hold hold.overwrite (hold.written p) (hold.copied (held_place h hold p))
-              (f (held_place h hold p)) was (holds.held.kept p there)
+              (f (held_place h hold p)) was (holds.held.unwritten_is_copied p there)
               (each-byte (g.state old.tables.file.image).bytes s.bytes (held_place h hold p)))
-          | inr out ↦ rw (there, out) (ap (λ b. own (byte b)) (holds.held.kept p there (holds.held.beside p there out)))
+          | inr out ↦ rw (there, out) (ap (λ b. own (byte b)) (holds.held.unwritten_is_copied p there (holds.held.beside p there out)))
         ]) where
           there : in_clusters h hold p ≡ true
           there = clusters-of h hold p is low
@@ -242,7 +242,7 @@ module _ {S : Type 0} (g : Ghosts S) (claim : ℕ) (old new : Qcow2 S g)
         → IsOurs (p / cs) × (v ≡ own_value_by f h p (data_at (hold.host + (p / cs - hold.guest)) true))
     given-at p v gave =
         let one = run-gives before hold.guest hold.host hold.count p v gave in
-        let same = same-parts (p / cs) (hold.guest + one.0) (words_of_cluster h) one.2.0.0 one.2.0.1 in
+        let same = same-parts (p / cs) (hold.guest + one.0) (entries_of_cluster h) one.2.0.0 one.2.0.1 in
         let back : one.0 ≡ p / cs - hold.guest = omega (arith, same) in (
           (omega (arith, same), omega (arith, same, one.1)),
           one.2.1 ∙ ap (λ d. own_value_by f h p (data_at (hold.host + d) true)) back,
@@ -251,36 +251,36 @@ module _ {S : Type 0} (g : Ghosts S) (claim : ℕ) (old new : Qcow2 S g)
     set-at : (x : ℕ) → kind.set x → IsOurs x
     set-at x set =
         let one = run-sets before hold.guest hold.host hold.count x set in
-        let same = same-parts x (hold.guest + one.0) (words_of_cluster h) one.2.0 one.2.1 in
+        let same = same-parts x (hold.guest + one.0) (entries_of_cluster h) one.2.0 one.2.1 in
         (omega (arith, same), omega (arith, same, one.1))
 
     -- A stop in it shows that too.
-    pub stops-settled : (below : List Layer) → Passes (Left below (layer_of g old) (g.state old.tables.file.image).bytes is_sound
+    pub stops-settled : (below : List Layer) → UnrefusedCrashImages (Left below (layer_of g old) (g.state old.tables.file.image).bytes is_sound
         (layer_of g old).size (layer_of g old).size (GivesSettled below (layer_of g old)))
         (g.state old.tables.file.image) (g.state new.tables.file.image)
     stops-settled below =
-        passes_weaker (λ x. (K : Header) × MayBeLeft kind.gives before (bytes_of x) K)
+        passes_weaker (λ x. (K : Header) × MayBeCrashImage kind.gives before (bytes_of x) K)
         (Left below (layer_of g old) (g.state old.tables.file.image).bytes is_sound h.size h.size (GivesSettled below (layer_of g old)))
         (g.state old.tables.file.image) (g.state new.tables.file.image)
-        (may-left g old holds.space safe below kind.gives (GivesSettled below (layer_of g old)) shows)
-        (progress.passes safe.keeps sound) where
+        (may-left g old holds.space well_formed below kind.gives (GivesSettled below (layer_of g old)) shows)
+        (progress.passes well_formed.keeps sound) where
           shows : (p : ℕ) (v : Option Value) → p < h.size → kind.gives p v
-              → May below (layer_of g old) (g.state old.tables.file.image).bytes (GivesSettled below (layer_of g old)) p (seen_as g old holds.space safe below p v)
+              → May below (layer_of g old) (g.state old.tables.file.image).bytes (GivesSettled below (layer_of g old)) p (seen_as g old holds.space well_formed below p v)
           shows p v low given =
               let here = given-at p v given in
               inr (inr (
                 own (byte (f (held_place h hold p))),
                 settled-byte p here.0 low ((layer_of g old).cell p),
-                ap (seen_as g old holds.space safe below p) here.1 ∙ rw (lt-ltb p h.size low) refl,
+                ap (seen_as g old holds.space well_formed below p) here.1 ∙ rw (lt-ltb p h.size low) refl,
               ))
 
     -- It succeeded.
     module _ (ok : s.named ≡ Ok tt) where
       abbrev pub after : Metadata
-      after = resting g.state c'
+      after = flushed_metadata g.state c'
 
-      pub advances : Advances kind.gives kind.written kind.set kind.handed kind.taken before after
-      advances = progress.holds safe.keeps sound ok
+      pub advances : Advances kind.gives kind.written kind.set kind.newly_allocated kind.taken before after
+      advances = progress.holds well_formed.keeps sound ok
 
       words-named : (d : ℕ) → d < hold.count → entry f' h (hold.guest + d) ≡ data_at (hold.host + d) true
       words-named = subst (λ r. OnOk r ((d : ℕ) → d < hold.count → entry f' h (hold.guest + d) ≡ data_at (hold.host + d) true)) ok
@@ -312,7 +312,7 @@ module _ {S : Type 0} (g : Ghosts S) (claim : ℕ) (old new : Qcow2 S g)
       memory-then = rest-memory g old.tables holds.space
 
       word-is : (x : ℕ) → IsOurs x ⊎ (entry f' h x ≡ entry f h x)
-      word-is x = elim (advances.words x) [
+      word-is x = elim (advances.raw_entries x) [
         | inl same ↦ inr (ap (λ k. entry f' k x) (sym fields-same) ∙ ap (λ b. entry b h' x) (sym memory-now) ∙ same
             ∙ ap (λ b. entry b h x) memory-then)
         | inr set ↦ inl (set-at x set)
@@ -348,55 +348,55 @@ module _ {S : Type 0} (g : Ghosts S) (claim : ℕ) (old new : Qcow2 S g)
         ])
       ] ∙ sym (cell-then p)
 
-      cell-settles : (p : ℕ) → Settles ((layer_of g old).held p) ((layer_of g old).cell p) ((layer_of g new).cell p)
+      cell-settles : (p : ℕ) → CommitsPlace ((layer_of g old).held p) ((layer_of g old).cell p) ((layer_of g new).cell p)
       cell-settles p = elim (cases_Bool (in_clusters h hold p)) [
         | inl there ↦
             let place = clusters-from h hold p there in
-            subst (Settles ((layer_of g old).held p) ((layer_of g old).cell p)) (sym (cell-there p place.0 place.1))
+            subst (CommitsPlace ((layer_of g old).held p) ((layer_of g old).cell p)) (sym (cell-there p place.0 place.1))
             (settled-byte p place.0 place.1 ((layer_of g old).cell p))
         | inr out ↦
             let same = cell-elsewhere p (λ is low. let there = clusters-of h hold p is low in cc (sym out ∙ there)) in
             let none : loose ≡ (layer_of g old).held p = sym (ap (λ o. held_with h f o p) hold-is ∙ rw out refl) in
-            subst (λ k. Settles k ((layer_of g old).cell p) ((layer_of g new).cell p)) none same
+            subst (λ k. CommitsPlace k ((layer_of g old).cell p) ((layer_of g new).cell p)) none same
       ]
 
-      home-now : (p : ℕ) → homes_of g new p ≡ homes old.mode.writable f' h p
-      home-now p = λ i. homes (mode-same i).writable (memory-is g new.tables i) (fields-same i) p
+      home-now : (p : ℕ) → writable_locations_of g new p ≡ writable_locations old.mode.writable f' h p
+      home-now p = λ i. writable_locations (mode-same i).writable (memory-is g new.tables i) (fields-same i) p
 
-      home-then : (p : ℕ) → homes_of g old p ≡ homes old.mode.writable f h p
-      home-then p = λ i. homes old.mode.writable (memory-is g old.tables i) h p
+      home-then : (p : ℕ) → writable_locations_of g old p ≡ writable_locations old.mode.writable f h p
+      home-then p = λ i. writable_locations old.mode.writable (memory-is g old.tables i) h p
 
       -- A place that could be written by its word can be so still,
-      pub home-grows : (p : ℕ) (at : ℕ × ℕ) → homes_of g old p ≡ Some at → homes_of g new p ≡ Some at
+      pub home-grows : (p : ℕ) (at : ℕ × ℕ) → writable_locations_of g old p ≡ Some at → writable_locations_of g new p ≡ Some at
       home-grows p at is = elim (word-is (p / cs)) [
         | inl guest ↦
             absurd (let none : None ≡ Some at = sym (uncopied-homeless old.mode.writable f h p (uncopied-at (p / cs) guest)) ∙ sym (home-then p) ∙ is in cc none)
         | inr same ↦
-            home-now p ∙ ap (λ w. if old.mode.writable && ltb p h.size then home_by h p w else None) same ∙ sym (home-then p) ∙ is
+            home-now p ∙ ap (λ w. if old.mode.writable && ltb p h.size then writable_location_by h p w else None) same ∙ sym (home-then p) ∙ is
       ]
 
       -- and so can one of the run, by its word now.
-      home-held-now : (p : ℕ) (at : ℕ × ℕ) → held_home hold p ≡ Some at → homes_of g new p ≡ Some at
+      home-held-now : (p : ℕ) (at : ℕ × ℕ) → held_writable_location hold p ≡ Some at → writable_locations_of g new p ≡ Some at
       home-held-now p at is =
           let there = run-home hold p at is in
           let guest = run-guest before hold holds.held p there.0 in
           let place = held-at before hold holds.held p there.0 in
           let low : p < h.size = let in-run = run-from hold p there.0 in let end = holds.held.on_disk in omega (arith, in-run.1, end) in
-          let writable : old.mode.writable ≡ true = safe.writable (subst IsSome (sym s.there) refl) in
-          let here : homes old.mode.writable f' h p ≡ Some (0, held_place h hold p) =
-          rw (writable, lt-ltb p h.size low) (ap (home_by h p) (word-named (p / cs) guest)) in
+          let writable : old.mode.writable ≡ true = well_formed.writable (subst IsSome (sym s.was_unspent) refl) in
+          let here : writable_locations old.mode.writable f' h p ≡ Some (0, held_place h hold p) =
+          rw (writable, lt-ltb p h.size low) (ap (writable_location_by h p) (word-named (p / cs) guest)) in
           home-now p ∙ here ∙ ap (λ (x : ℕ). Some (0, x)) (sym place) ∙ ap Some (sym there.1)
 
-      home-settles : (p : ℕ) (at : ℕ × ℕ) → (layer_of g old).home p ≡ Some at → (layer_of g new).home p ≡ Some at
+      home-settles : (p : ℕ) (at : ℕ × ℕ) → (layer_of g old).writable_location p ≡ Some at → (layer_of g new).writable_location p ≡ Some at
       home-settles p at is =
-          free-homes (holding_in g new.unspent) (homes_of g new) p is-free
-          ∙ from (homes_of g old p) refl (subst (λ o. homes_with o (homes_of g old) p ≡ Some at) hold-is is) where
-            from : (o : Option (ℕ × ℕ)) → homes_of g old p ≡ o → home_or o (held_home hold p) ≡ Some at → homes_of g new p ≡ Some at
+          free-homes (holding_in g new.unspent) (writable_locations_of g new) p is-free
+          ∙ from (writable_locations_of g old p) refl (subst (λ o. writable_locations_with o (writable_locations_of g old) p ≡ Some at) hold-is is) where
+            from : (o : Option (ℕ × ℕ)) → writable_locations_of g old p ≡ o → writable_location_or o (held_writable_location hold p) ≡ Some at → writable_locations_of g new p ≡ Some at
             from None same held = home-held-now p at held
             from (Some home) same there = home-grows p at (same ∙ there)
 
       pub committed : Committed (layer_of g old) (layer_of g new)
-      committed = record { fixed = fixed-same; size = size-same; is_free = is-free; cell = cell-settles; home = home-settles }
+      committed = record { fixed = fixed-same; size = size-same; is_free = is-free; cell = cell-settles; writable_location = home-settles }
 
       -- What is allocated stays so, and what isn't held stays vacant.
       room-now : (P : Bytes → Fields → Type 0) → P f' h → P (memory_of g new.tables) h'
@@ -431,79 +431,79 @@ module _ {S : Type 0} (g : Ghosts S) (claim : ℕ) (old new : Qcow2 S g)
           ])
 
       consistent-now : IsConsistent f' new.tables.file.header
-      consistent-now = advances.sound.safe.consistent
+      consistent-now = advances.sound.well_formed.consistent
 
       l1-now : IsL1Of f' h' new.tables.l1
-      l1-now = with-space.names.l1 able ready (subst WasNotCutOff (sym ok) tt) new.tables.l1 (subst (IsL1Of f h) (sym s.names.l1) safe.seen.l1)
+      l1-now = with-space.names.l1 able ready (subst HadNoResourceError (sym ok) tt) new.tables.l1 (subst (IsL1Of f h) (sym s.names.l1) well_formed.seen.l1)
 
       -- The table is named as it was.
       table-there : IsTableAt f' h' (hold.table * cluster_size h')
-      table-there = by (holds.held.under 0 holds.held.any) where
+      table-there = by (holds.held.layers_below 0 holds.held.any) where
         row : ℕ
-        row = (hold.guest + 0) / words_of_cluster h
+        row = (hold.guest + 0) / entries_of_cluster h
 
         place-same : l2_table f' h' row ≡ l2_table f h row
-        place-same = tables-same f f' h h' new.tables.l1 (subst (IsL1Of f h) (sym s.names.l1) safe.seen.l1) l1-now row
+        place-same = tables-same f f' h h' new.tables.l1 (subst (IsL1Of f h) (sym s.names.l1) well_formed.seen.l1) l1-now row
 
         by : IsUnder before hold.table (hold.guest + 0) → IsTableAt f' h' (hold.table * cluster_size h')
         by under = record {
           row = row;
           in_l1 = subst (λ k. row < k.l1_entries) (sym fields-same) under.inside;
           is_there = λ none.
-              let apart = under.some in
+              let apart = under.table_nonzero in
               let long = mul-pos {m = hold.table} (omega (arith, apart)) (pow_pos h.cluster_bits) in
-              let nowhere = sym under.there ∙ sym place-same ∙ none in
+              let nowhere = sym under.table_linked ∙ sym place-same ∙ none in
               omega (arith, long, nowhere);
-          at = place-same ∙ under.there ∙ ap (λ k. hold.table * cluster_size k) (sym fields-same);
+          at = place-same ∙ under.table_linked ∙ ap (λ k. hold.table * cluster_size k) (sym fields-same);
         }
 
-      seen-now : IsSeen g new.tables
+      seen-now : IsCacheCoherent g new.tables
       seen-now = record {
         loads = header-reading f' new.tables.file.header consistent-now.readable.loads;
         inside = consistent-now.readable.data_inside;
         l1 = l1-now;
-        tables = tables-of-file f' h' hold.table table-there (cached_in new.tables.caches).tables with-space.kept.alone
-            (subst (λ r. OnOk r (AllByRecursion (λ e. IsCachedTable f' h' e.0 e.1.value) (cached_in new.tables.caches).tables)) ok (with-space.kept.fit ready able))
-            with-space.kept.clean;
+        tables = tables-of-file f' h' hold.table table-there (cached_in new.tables.caches).tables with-space.leaves_table.alone
+            (subst (λ r. OnOk r (AllByRecursion (λ e. IsCachedTable f' h' e.0 e.1.value) (cached_in new.tables.caches).tables)) ok (with-space.leaves_table.fit ready able))
+            with-space.leaves_table.clean;
       }
 
       rest-now : rest_of g new.tables with-space.after ≡ after
       rest-now = λ i. record after { table = table_of (with-space.allocator i); pending = with-space.entries i }
 
-      pub safe-now : IsSafe g new
+      pub safe-now : IsWellFormed g new
       safe-now = record {
-        runs = failed-is ∙ ap (λ r. failed_behind_any r old.failed) ok ∙ safe.runs;
-        keeps = subst (λ (x : Shape). IsTrue x.keeps) (sym s.names.shape) safe.keeps;
+        runs = failed-is ∙ ap (λ r. failed_after_any r old.failed) ok ∙ well_formed.runs;
+        keeps = subst (λ (x : Shape). IsTrue x.keeps) (sym s.names.shape) well_formed.keeps;
         consistent = consistent-now;
         seen = seen-now;
-        sound = subst (λ o. IfSome o (λ x. IsSound (rest_of g new.tables x))) (sym with-space.there) (subst IsSound (sym rest-now) advances.sound);
-        searched = counted-in-file g new.tables with-space.after with-space.there
-            (subst (λ (a : Allocator). IsMarked after (mark_of a)) (sym with-space.allocator)
-            (with-space.names.marked able ready (subst WasNotCutOff (sym ok) tt) (counted-at-rest g old.tables holds.space holds.there safe.searched)));
+        sound = subst (λ o. IfSome o (λ x. IsSound (rest_of g new.tables x))) (sym with-space.space_known) (subst IsSound (sym rest-now) advances.sound);
+        searched = counted-in-file g new.tables with-space.after with-space.space_known
+            (subst (λ (a : Allocator). NoneFreeBefore after (first_free_of a)) (sym with-space.allocator)
+            (with-space.names.marked able ready (subst HadNoResourceError (sym ok) tt) (counted-at-rest g old.tables holds.space holds.space_known well_formed.searched)));
         held = subst (λ o. IfSome o (HoldsIn g new.tables)) (sym none-held) tt;
         writable = λ some. absurd (cc (subst IsSome free-now some));
       }
 
 -- What a commit is by its two calls: the mapping was taken out, and its cluster named.
-pub spends-by : {S : Type 0} (g : Ghosts S) (claim : ℕ) (old mid : Qcow2 S g) (u : Unspent S g)
-    → (u.claim ≡ claim) × (old.unspent ≡ Some u) × (mid ≡ record old { unspent = None }) → (named : Result Unit Fault) (tables : Tables S g)
-    → NamesHost g (reserved_of g u) u.guest mid.tables named tables → (new : Qcow2 S g)
-    → new ≡ record mid { tables = tables; failed = failed_behind_any named mid.failed }
+pub spends-by : {S : Type 0} (g : Ghosts S) (mapping_id : ℕ) (old mid : Qcow2 S g) (u : Unspent S g)
+    → (u.mapping_id ≡ mapping_id) × (old.unspent ≡ Some u) × (mid ≡ record old { unspent = None }) → (named : Result Unit Fault) (tables : Tables S g)
+    → LinksHost g (reserved_of g u) u.guest mid.tables named tables → (new : Qcow2 S g)
+    → new ≡ record mid { tables = tables; failed = failed_after_any named mid.failed }
     → (result : Result Unit (Fault × Option (PreparedDataMapping PreparedMappingState))) → result ≡ answer_of named
     → (let file = (g.state mid.tables.file.image).bytes in EachIndex file (λ k. slice_index file k < 256))
-    → CommitsUnspent g claim old result new
-spends-by g claim old mid u taken named tables names new is result answer bytes = inr (record {
+    → CommitsUnspent g mapping_id old result new
+spends-by g mapping_id old mid u taken named tables names new is result answer bytes = inr (record {
   spent = u;
-  there = taken.1;
+  was_unspent = taken.1;
   mine = taken.0;
   bytes = subst (λ (t : Tables _ g). let file = (g.state t.file.image).bytes in EachIndex file (λ k. slice_index file k < 256)) tables-same bytes;
   named = named;
-  names = subst (λ t. NamesHost g (reserved_of g u) u.guest t named new.tables) tables-same
-      (subst (NamesHost g (reserved_of g u) u.guest mid.tables named) (sym (ap (λ (d : Qcow2 _ g). d.tables) is)) names);
+  names = subst (λ t. LinksHost g (reserved_of g u) u.guest t named new.tables) tables-same
+      (subst (LinksHost g (reserved_of g u) u.guest mid.tables named) (sym (ap (λ (d : Qcow2 _ g). d.tables) is)) names);
   answer = answer;
   others = is
-      ∙ ap (λ (d : Qcow2 _ g). record d { tables = tables; failed = failed_behind_any named d.failed }) taken.2
-      ∙ ap (λ t. record old { tables = t; unspent = None; failed = failed_behind_any named old.failed }) (sym (ap (λ (d : Qcow2 _ g). d.tables) is));
+      ∙ ap (λ (d : Qcow2 _ g). record d { tables = tables; failed = failed_after_any named d.failed }) taken.2
+      ∙ ap (λ t. record old { tables = t; unspent = None; failed = failed_after_any named old.failed }) (sym (ap (λ (d : Qcow2 _ g). d.tables) is));
 }) where
   tables-same : mid.tables ≡ old.tables
   tables-same = ap (λ (d : Qcow2 _ g). d.tables) taken.2
@@ -519,8 +519,8 @@ none-pinned (e ∷ es) none =
     omega (arith, rest, others)
 
 module _ {S : Type 0} (state : S → StorageState) (table guest x n : ℕ) (c : Clusters S) (result : Result Unit Fault) (file : ImageFile S)
-    (caches : MetadataCaches S) (space : Space) (names : NamesRun state table guest x n c result (lent file (without_tables caches) space))
-    (kept : LeavesTable state table guest x n c result (lent file caches space)) where
+    (caches : MetadataCaches S) (space : Space) (names : LinksRun state table guest x n c result (clusters_state file (without_tables caches) space))
+    (kept : LeavesTable state table guest x n c result (clusters_state file caches space)) where
   no-blocks : caches.rb.slots.entries ≡ []
   no-blocks = ap (λ (k : Cached). k.blocks) names.rests.empty
 
@@ -529,7 +529,7 @@ module _ {S : Type 0} (state : S → StorageState) (table guest x n : ℕ) (c : 
 
   pub named-loose : (old : MetadataCaches S) → HasRoomOf old c.caches → IsUnpinned old → IsUnpinned caches
   named-loose old room free = (
-    none-pinned caches.l2.slots.entries kept.loose,
+    none-pinned caches.l2.slots.entries kept.unpinned,
     subst (λ es. pinned_in es ≡ 0) (sym no-blocks) refl,
     subst (λ k. 0 < k) (sym (names.rests.room.tables ∙ room.tables)) free.2,
     subst (λ k. 0 < k) (sym (names.rests.room.blocks ∙ room.blocks)) free.3,
@@ -538,19 +538,19 @@ module _ {S : Type 0} (state : S → StorageState) (table guest x n : ℕ) (c : 
 -- What naming a host cluster is by the call that does it, where words can name the cluster.
 module _ {S : Type 0} (g : Ghosts S) (r : Reserved) (guest : ℕ) (old new : Tables S g) (result : Result Unit Fault) (space : Space)
     (caches : MetadataCaches S) (between after : Space) (there : old.space ≡ Some space)
-    (names : NamesRun g.state r.table guest r.host r.count (lent old.file caches space) result (lent new.file (without_tables new.caches) between))
-    (kept : LeavesTable g.state r.table guest r.host r.count (lent old.file caches space) result (lent new.file new.caches between)) (l1 : new.l1 ≡ old.l1)
+    (names : LinksRun g.state r.table guest r.host r.count (clusters_state old.file caches space) result (clusters_state new.file (without_tables new.caches) between))
+    (kept : LeavesTable g.state r.table guest r.host r.count (clusters_state old.file caches space) result (clusters_state new.file new.caches between)) (l1 : new.l1 ≡ old.l1)
     (there' : new.space ≡ Some after) (allocator : after.allocator ≡ between.allocator)
     (entries : after.to_free.entries ≡ between.to_free.entries)
-    (let_go : OnOk result (after.to_free.held ≡ held_behind r.is_kept between.to_free.held)) where
+    (let_go : OnOk result (after.to_free.held ≡ held_after r.is_kept between.to_free.held)) where
   if-err : (r : Result Unit Fault) (P Q : Fault → Type 0) → ((fault : Fault) → P fault → Q fault) → IfErr r P → IfErr r Q
   if-err (Ok done) P Q each is = tt
   if-err (Err fault) P Q each is = each fault is
 
-  pub names-by : NamesHost g r guest old result new
+  pub names-by : LinksHost g r guest old result new
   names-by = record {
     shape = names.rests.shape;
-    later = names.rests.later;
+    counts_not_fallen = names.rests.counts_not_fallen;
     faults = names.rests.faults;
     header = names.header;
     no_shorter = names.no_shorter;
@@ -559,11 +559,11 @@ module _ {S : Type 0} (g : Ghosts S) (r : Reserved) (guest : ℕ) (old new : Tab
       caches = caches;
       between = between;
       after = after;
-      names = subst (λ x. NamesRun g.state r.table guest r.host r.count (lent old.file caches x) result (lent new.file (without_tables new.caches) between))
+      names = subst (λ x. LinksRun g.state r.table guest r.host r.count (clusters_state old.file caches x) result (clusters_state new.file (without_tables new.caches) between))
           (some-same known space (sym is ∙ there)) names;
-      kept = subst (λ x. LeavesTable g.state r.table guest r.host r.count (lent old.file caches x) result (lent new.file new.caches between))
+      leaves_table = subst (λ x. LeavesTable g.state r.table guest r.host r.count (clusters_state old.file caches x) result (clusters_state new.file new.caches between))
           (some-same known space (sym is ∙ there)) kept;
-      there = there';
+      space_known = there';
       allocator = allocator;
       entries = entries;
       let_go = let_go;

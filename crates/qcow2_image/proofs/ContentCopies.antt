@@ -16,10 +16,10 @@ use Rattle.imago_storage.specs.declared.fault.Fault.TheVariants.{Barred, Damaged
 use Rattle.imago_storage.specs.declared.storage.Storage.{Ghosts}
 use Rattle.imago_access.specs.Chain.{at, unit_of_chain}
 use Rattle.imago_access.specs.Changes.{Asked}
-use Rattle.imago_access.specs.Files.{WasNotCutOff}
+use Rattle.imago_access.specs.Files.{HadNoResourceError}
 use Rattle.imago_access.specs.Layer.{Cell, through}
 use Rattle.imago_access.specs.Refusals.{ReadCause, SomeIs}
-use Rattle.imago_access.specs.declared.seen.SeenBelow.{Ghosts as GhostsBelow}
+use Rattle.imago_access.specs.declared.driver_model.LayersBelowModel.{Ghosts as GhostsBelow}
 use Rattle.imago_access.proofs.Looking.{looked_under_same}
 use Rattle.imago_access.proofs.Units.{overflows_late}
 use Rattle.qcow2_types.specs.Bytes.{Bytes, bytes_of}
@@ -27,7 +27,7 @@ use Rattle.qcow2_types.specs.Entries.{entry}
 use Rattle.qcow2_types.specs.Header.{Fields, cluster_size}
 use Rattle.qcow2_types.specs.Words.{Mapping, damaged}
 use Rattle.qcow2_types.proofs.Fields.HeaderLimits.{header-limited}
-use Rattle.qcow2_metadata.specs.Places.{IsInReach}
+use Rattle.qcow2_metadata.specs.Places.{IsAddressable}
 use Rattle.qcow2_alloc.specs.Causes.{HasCause}
 use Rattle.qcow2_alloc.proofs.Causes.{storage-cause}
 use Rattle.qcow2_image.specs.Allocating.{TellsShown, shown_cell, reserving_causes}
@@ -36,8 +36,8 @@ use Rattle.qcow2_image.specs.Holding.{place_in}
 use Rattle.qcow2_image.specs.Homes.{memory_is}
 use Rattle.qcow2_image.specs.ImageLayer.{blank_of, cell_by}
 use Rattle.qcow2_image.specs.Looking.{looking_causes}
-use Rattle.qcow2_image.specs.Rooms.{IsSafe}
-use Rattle.qcow2_image.specs.Seen.{file_of, layer_of, IsSeen}
+use Rattle.qcow2_image.specs.Rooms.{IsWellFormed}
+use Rattle.qcow2_image.specs.Seen.{file_of, layer_of, IsCacheCoherent}
 use Rattle.qcow2_image.specs.Steps.{KeepsImage}
 use Rattle.qcow2_image.specs.declared.allocating.Shown.{Shown}
 use Rattle.qcow2_image.specs.declared.allocating.Shown.TheVariants as variant
@@ -118,7 +118,7 @@ module _ {S B : Type 0} (g : Ghosts S) (u : GhostsBelow B) where
     err = inr (record {
       failed = tt;
       cause = λ under. (0, omega (arith, some), refl);
-      near = λ under small is. absurd (cc is);
+      no_range_overflow = λ under small is. absurd (cc is);
     });
   }
 
@@ -132,7 +132,7 @@ module _ {S B : Type 0} (g : Ghosts S) (u : GhostsBelow B) where
 
     data-shows : (r : Result Unit Fault) → place ≡ place_in own-fields cluster first → first % cluster_size own-fields + n ≤ cluster_size own-fields
         → OnOk r (Reads (g.state old.tables.file.image).bytes place buf)
-        → OnOk r (u.sees_under x → (p : ℕ) → first ≤ p → p < first + n
+        → OnOk r (u.coherent_below x → (p : ℕ) → first ≤ p → p < first + n
         → byte (own-file (place_in own-fields cluster p)) ≡ byte (slice_index buf (p - first)))
     data-shows (Err e) there inside reads = tt
     data-shows (Ok done) there inside reads = λ under p low high.
@@ -155,18 +155,18 @@ module _ {S B : Type 0} (g : Ghosts S) (u : GhostsBelow B) where
 
     -- it ends far below 2^63
     data-near : place ≡ place_in own-fields cluster first → first % cluster_size own-fields + n ≤ cluster_size own-fields
-        → own-fields.cluster_bits ≤ 21 → IsInReach own-fields.cluster_bits cluster → place + n ≤ 2 ^ 63 + 2 ^ 22
+        → own-fields.cluster_bits ≤ 21 → IsAddressable own-fields.cluster_bits cluster → place + n ≤ 2 ^ 63 + 2 ^ 22
     data-near there inside high reach =
         let few : cluster_size own-fields ≤ 2 ^ 21 = pow-le-pow_right (omega arith) high in
         omega (arith, few, there, inside, reach)
 
     pub data-copied : (s' : StorageState) (r : Result Unit Fault) → place ≡ place_in own-fields cluster first
-        → first % cluster_size own-fields + n ≤ cluster_size own-fields → own-fields.cluster_bits ≤ 21 → IsInReach own-fields.cluster_bits cluster
+        → first % cluster_size own-fields + n ≤ cluster_size own-fields → own-fields.cluster_bits ≤ 21 → IsAddressable own-fields.cluster_bits cluster
         → IsAlignment (unit_of (g.state old.tables.file.image).shape) → KeepsImage g old r new → OnOk r (Reads (g.state old.tables.file.image).bytes place buf)
         → g.state new.tables.file.image ≡ s' → IfErr r (NotRead (g.state old.tables.file.image) s' place n)
         → CopiesShown g u (variant.Data cluster) (first, first + n) (old, x) r (new, x) (λ p. slice_index buf (p - first))
     data-copied s' r there inside high reach aligned keeps reads state why = record {
-      below = looked_under_same u (WasNotCutOff r) x;
+      below = looked_under_same u (HadNoResourceError r) x;
       keeps = keeps;
       shows = data-shows r there inside reads;
       err = data-why s' r state
@@ -189,8 +189,8 @@ module _ {S B : Type 0} (g : Ghosts S) (u : GhostsBelow B) where
     ends = omega (arith, long-mid, low, order)
 
     part-shows : (r : Result Unit Fault) → length buf ≡ length (mid_of a k content)
-        → OnOk r (u.sees_under old.1 → (p : ℕ) → part.0 ≤ p → p < part.1 → shown_over g u shown old p ≡ byte (slice_index buf (p - part.0)))
-        → OnOk r (u.sees_under old.1 → (p : ℕ) → part.0 ≤ p → p < part.1
+        → OnOk r (u.coherent_below old.1 → (p : ℕ) → part.0 ≤ p → p < part.1 → shown_over g u shown old p ≡ byte (slice_index buf (p - part.0)))
+        → OnOk r (u.coherent_below old.1 → (p : ℕ) → part.0 ≤ p → p < part.1
         → shown_over g u shown old p ≡ byte (slice_index (put_mid a k content buf) (p - start)))
     part-shows (Err e) same shows = tt
     part-shows (Ok done) same shows = λ under p from to.
@@ -213,19 +213,19 @@ module _ {S B : Type 0} (g : Ghosts S) (u : GhostsBelow B) where
 module _ {S : Type 0} (g : Ghosts S) where
   -- A lookup of a safe image isn't refused since a word is damaged.
   pub why-looked : (full : ℕ → Type 0) (old new : Qcow2 S g) (guest : ℕ) (e : Fault)
-      → (IsSeen g old.tables → HasCause (looking_causes (entry (file_of g old.tables) old.tables.file.header.fields guest ≡ damaged)
+      → (IsCacheCoherent g old.tables → HasCause (looking_causes (entry (file_of g old.tables) old.tables.file.header.fields guest ≡ damaged)
       (g.state old.tables.file.image).faults (g.state new.tables.file.image).faults) e)
       → HasCause (looking_causes ⊤ (g.state old.tables.file.image).faults (g.state new.tables.file.image).faults) e → HasCause (reserving_causes g full old new) e
   why-looked full old new guest Memory known why = tt
   why-looked full old new guest Storage known why = why
-  why-looked full old new guest DamagedTable known why = λ safe. never-damaged (file_of g old.tables) old.tables.file.header safe.consistent guest (known safe.seen)
+  why-looked full old new guest DamagedTable known why = λ well_formed. never-damaged (file_of g old.tables) old.tables.file.header well_formed.consistent guest (known well_formed.seen)
   why-looked full old new guest e known why = absurd why
 
   module _ {B : Type 0} (u : GhostsBelow B) (asked : Asked) (guest : ℕ) (old mid : Qcow2 S g) (x : B) where
     -- No content is made where the word of the guest cluster can't be read,
     pub content-unseen : (e : Fault) → TellsShown g guest old (Err e) mid → MakesContent g u asked (old, x) (Err e) (mid, x)
     content-unseen e t = record {
-      below = looked_under_same u (WasNotCutOff {T = Vec ℕ Global} (Err e)) x;
+      below = looked_under_same u (HadNoResourceError {T = Vec ℕ Global} (Err e)) x;
       keeps = keeps-as {T = Shown} {U = Vec ℕ Global} g old mid (Err e) (Err e) (λ w. w) (λ f. refl) t.keeps;
       ok = tt;
       err = inl (why-looked (λ number. ⊥) old mid guest e t.known_cause t.cause);
@@ -253,22 +253,22 @@ module _ {S : Type 0} (g : Ghosts S) where
     one : 0 < c
     one = pow_pos h.cluster_bits
 
-    abbrev word : Mapping
-    word = entry (file_of g old.tables) h (asked.offset / c)
+    abbrev raw_entry : Mapping
+    raw_entry = entry (file_of g old.tables) h (asked.offset / c)
 
     -- Each of its places says what it shows.
-    shown-at : IsSafe g old → (p : ℕ) → IsInFirst h asked p → (layer_of g old).cell p ≡ shown_cell (file_of g old.tables) h p shown
-    shown-at safe p first = rw (lt-ltb p h.size first.1)
+    shown-at : IsWellFormed g old → (p : ℕ) → IsInFirst h asked p → (layer_of g old).cell p ≡ shown_cell (file_of g old.tables) h p shown
+    shown-at well_formed p first = rw (lt-ltb p h.size first.1)
         (ap (cell_by (blank_of old.mode.backing) (file_of g old.tables) h p)
         (ap (λ (m : Bytes). entry m h (p / c)) (memory_is g old.tables) ∙ ap (entry (file_of g old.tables) h) first.0)
-        ∙ shown-says old.mode.backing shown (file_of g old.tables) h p word (sym (t.shown safe.seen)))
+        ∙ shown-says old.mode.backing shown (file_of g old.tables) h p raw_entry (sym (t.shown well_formed.seen)))
 
     -- a lookup leaves it
     shown-then : (p : ℕ) → shown_over g u shown (mid, x) p ≡ shown_over g u shown (old, x) p
-    shown-then p = λ i. through (shown_cell (bytes_of (t.keeps.tables.kept.bytes i)) (t.keeps.tables.header i).fields p shown) (at (u.under x) p)
+    shown-then p = λ i. through (shown_cell (bytes_of (t.keeps.tables.unchanged_but_faults.bytes i)) (t.keeps.tables.header i).fields p shown) (at (u.layers_below x) p)
 
-    over-is : IsSafe g old → (p : ℕ) → IsInFirst h asked p → through ((layer_of g old).cell p) (at (u.under x) p) ≡ shown_over g u shown (mid, x) p
-    over-is safe p first = ap (λ (k : Cell). through k (at (u.under x) p)) (shown-at safe p first) ∙ sym (shown-then p)
+    over-is : IsWellFormed g old → (p : ℕ) → IsInFirst h asked p → through ((layer_of g old).cell p) (at (u.layers_below x) p) ≡ shown_over g u shown (mid, x) p
+    over-is well_formed p first = ap (λ (k : Cell). through k (at (u.layers_below x) p)) (shown-at well_formed p first) ∙ sym (shown-then p)
 
     abbrev places : ℕ × ℕ
     places = first_places h asked.offset
@@ -299,10 +299,10 @@ module _ {S : Type 0} (g : Ghosts S) where
             (keeps-both {T = Unit} g old mid new (Ok tt) told done.keeps);
         ok = record {
           long = ap (λ (l : List ℕ). length l) is ∙ long;
-          shows = λ safe under p first left.
+          shows = λ well_formed under p first left.
               let on = in-places p first in
               let here = cut.all p on.0 on.1 left in
-              over-is safe p first ∙ done.shows under p here.0 here.1
+              over-is well_formed p first ∙ done.shows under p here.0 here.1
               ∙ ap (λ (b : ℕ). byte b) (ap (slice_index bytes) (place-row p first.0).1 ∙ ap (λ (l : List ℕ). slice_index l (p % c)) (sym is));
         };
         err = tt;
@@ -333,26 +333,26 @@ module _ {S : Type 0} (g : Ghosts S) where
           | inl own ↦ inl (let same = (told.tables.faults tt).0 in storage-cause _ _ _ (omega (arith, same)) (omega arith) e own)
           | inr below ↦ inr (record {
             failed = below.failed;
-            cause = λ safe under. why safe e
-                (below.near under (omega (arith, cut.high, (header-limited false (file_of g old.tables) old.tables.file.header safe.seen.loads).size)))
+            cause = λ well_formed under. why well_formed e
+                (below.no_range_overflow under (omega (arith, cut.high, (header-limited false (file_of g old.tables) old.tables.file.header well_formed.seen.loads).size)))
                 (below.cause under);
           })
         ];
       } where
-        read-at : IsSafe g old → (v : Value) → SomeIs (shown_over g u shown (mid, x)) part.0 (part.1 - part.0) v → NeedsShown g u asked (old, x) v
-        read-at safe v which =
+        read-at : IsWellFormed g old → (v : Value) → SomeIs (shown_over g u shown (mid, x)) part.0 (part.1 - part.0) v → NeedsShown g u asked (old, x) v
+        read-at well_formed v which =
             let from : part.0 ≤ part.0 + which.0 = omega arith in
             let to : part.0 + which.0 < part.1 = omega (arith, which.1) in
-            (part.0 + which.0, needed (part.0 + which.0) from to, over-is safe (part.0 + which.0) (first-at (part.0 + which.0) from to) ∙ which.2)
+            (part.0 + which.0, needed (part.0 + which.0) from to, over-is well_formed (part.0 + which.0) (first-at (part.0 + which.0) from to) ∙ which.2)
 
-        why : IsSafe g old → (f : Fault) → (f ≡ RangeOverflow → ⊥)
-            → ReadCause (u.under x) (shown_over g u shown (mid, x)) (unit_of_chain (u.under x)) part.0 (part.1 - part.0) (u.files_under x) (u.files_under y) f
+        why : IsWellFormed g old → (f : Fault) → (f ≡ RangeOverflow → ⊥)
+            → ReadCause (u.layers_below x) (shown_over g u shown (mid, x)) (unit_of_chain (u.layers_below x)) part.0 (part.1 - part.0) (u.files_of_layers_below x) (u.files_of_layers_below y) f
             → WhyNotCopied g u asked (old, x) y f
-        why safe Failed near is = is
-        why safe MissingData near is = is
-        why safe RangeOverflow near is = near refl
-        why safe DamagedTable near is = read-at safe damaged_place is
-        why safe Barred near is = read-at safe barred is
-        why safe Memory near is = tt
-        why safe Storage near is = is
-        why safe f near is = absurd is
+        why well_formed Failed near is = is
+        why well_formed MissingData near is = is
+        why well_formed RangeOverflow near is = near refl
+        why well_formed DamagedTable near is = read-at well_formed damaged_place is
+        why well_formed Barred near is = read-at well_formed barred is
+        why well_formed Memory near is = tt
+        why well_formed Storage near is = is
+        why well_formed f near is = absurd is

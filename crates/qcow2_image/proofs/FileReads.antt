@@ -1,13 +1,13 @@
 -- Reads of an image file, as it stands.
 use Rattle.std.proofs.Common.{◌≡◌, refl, Result, Err}
 use Rattle.std.specs.Borrow.{RattleType}
-use Rattle.imago_storage.specs.Calls.{Kept, Later, IsFaultless}
+use Rattle.imago_storage.specs.Calls.{UnchangedButFaults, CountsNotFallen, IsFaultless}
 use Rattle.imago_storage.specs.declared.fault.Fault.{Fault}
 use Rattle.imago_storage.specs.declared.fault.Fault.TheVariants.{Memory}
 use Rattle.imago_storage.specs.declared.storage.Storage.{Ghosts}
 use Rattle.imago_access.specs.FileReads.{FilesRead}
 use Rattle.qcow2_image.specs.Steps.{KeepsImage}
-use Rattle.qcow2_image.specs.contracts.qcow2.Qcow2Seen.TheImpl.{ghosts}
+use Rattle.qcow2_image.specs.contracts.qcow2.Qcow2DriverModel.TheImpl.{ghosts}
 use Rattle.qcow2_image.specs.declared.qcow2.Qcow2.{Qcow2}
 use Rattle.qcow2_image.proofs.RequestsWithoutChanges.{asked-keeps}
 use Rattle.qcow2_image.proofs.Steps.{layer-same, spared}
@@ -16,7 +16,7 @@ use Rattle.qcow2_image.proofs.LeaksByFile.{leaks-kept, surplus-kept}
 -- A request that only reads, and marks nothing: all but the count of faults is as it was. It keeps what one keeps that memory was wanting
 -- for, which marks nothing, either.
 pub file-read : (R : RattleType) (st : Ghosts R.Denot) (sd : mir.Syntax.Dict) (dd : mir.Syntax.Dict) (old new : Qcow2 R.Denot st) (whole : Type 0)
-    → Kept (st.state old.tables.file.image) (st.state new.tables.file.image) → Later (st.state old.tables.file.image) (st.state new.tables.file.image)
+    → UnchangedButFaults (st.state old.tables.file.image) (st.state new.tables.file.image) → CountsNotFallen (st.state old.tables.file.image) (st.state new.tables.file.image)
     → (whole → IsFaultless (st.state old.tables.file.image) (st.state new.tables.file.image))
     → new.tables.file.header ≡ old.tables.file.header → new.tables.l1 ≡ old.tables.l1 → new.tables.caches ≡ old.tables.caches → new.tables.space ≡ old.tables.space
     → new.mode ≡ old.mode → new.number ≡ old.number → new.unspent ≡ old.unspent → new.failed ≡ old.failed → FilesRead (ghosts R st sd dd) whole old new
@@ -26,13 +26,13 @@ file-read R st sd dd old new whole kept later faults header l1 caches space mode
     let all = spared R st sd dd {T = Unit} old new wanting keeps failed in
     record {
       layer = layer-same R st sd dd {T = Unit} old new wanting keeps failed;
-      kept = all.kept;
+      unchanged_but_faults = all.unchanged_but_faults;
       faults = λ w. (faults w, tt);
       seen = λ seen. (all.known.seen seen).1;
       safely = all.known.safely;
       stilled = all.stilled;
-      lasting = λ l. l;
-      surplus = λ safe. surplus-kept st old new (leaks-kept st {T = Unit} old new wanting keeps);
+      stays_stable = λ l. l;
+      excess_refcount = λ well_formed. surplus-kept st old new (leaks-kept st {T = Unit} old new wanting keeps);
       room = all.room;
-      began = all.began;
+      stays_begun = all.stays_begun;
     }

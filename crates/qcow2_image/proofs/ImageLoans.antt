@@ -17,7 +17,7 @@ loose-prop c = Prim.hlevel props
 
 -- Whatever it is left as, nothing waits to be written, and nothing is pinned.
 pub image-lent : {S : Type 0} {g : Ghosts S} (d : Qcow2 S g) (w : S) (k : IsClean (cached_in d.tables.caches)) (l : IsUnpinned d.tables.caches)
-    → record d { tables = record d.tables { file = record d.tables.file { image = w }; clean = k; loose = l } } ≡ with_image d w
+    → record d { tables = record d.tables { file = record d.tables.file { image = w }; clean = k; unpinned = l } } ≡ with_image d w
 image-lent d w k l =
-    ap (λ x. record d { tables = record d.tables { file = record d.tables.file { image = w }; clean = x; loose = l } }) (clean-prop (cached_in d.tables.caches) k d.tables.clean)
-    ∙ ap (λ x. record d { tables = record d.tables { file = record d.tables.file { image = w }; loose = x } }) (loose-prop d.tables.caches l d.tables.loose)
+    ap (λ x. record d { tables = record d.tables { file = record d.tables.file { image = w }; clean = x; unpinned = l } }) (clean-prop (cached_in d.tables.caches) k d.tables.clean)
+    ∙ ap (λ x. record d { tables = record d.tables { file = record d.tables.file { image = w }; unpinned = x } }) (loose-prop d.tables.caches l d.tables.unpinned)

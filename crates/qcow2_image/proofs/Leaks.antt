@@ -1,7 +1,7 @@
 -- What calls leave of the leaks of an image.
 use Rattle.std.proofs.Common.{◌≡◌, ℕ, ◌+◌, arith, ap, sym, ◌∙◌, [], Option, Some, None}
 use Rattle.imago_storage.specs.State.{StorageState}
-use Rattle.imago_storage.specs.Calls.{Kept}
+use Rattle.imago_storage.specs.Calls.{UnchangedButFaults}
 use Rattle.imago_storage.specs.declared.storage.Storage.{Ghosts}
 use Rattle.imago_access.specs.Changes.{Asked}
 use Rattle.imago_access.specs.declared.mapping.PreparedDataMapping.{PreparedDataMapping}
@@ -9,13 +9,13 @@ use Rattle.qcow2_types.specs.Bytes.{Bytes, bytes_of}
 use Rattle.qcow2_types.specs.Counts.{count}
 use Rattle.qcow2_types.specs.References.{refs}
 use Rattle.qcow2_alloc.specs.FreeList.{listed}
-use Rattle.qcow2_alloc.specs.Quiet.{counted, referenced}
+use Rattle.qcow2_alloc.specs.GuestView.{counted, referenced}
 use Rattle.qcow2_clusters.specs.Progress.{Kind, Progresses}
 use Rattle.qcow2_clusters.specs.declared.space.Space.{Space}
-use Rattle.qcow2_image.specs.Holding.{Holding, Notes}
+use Rattle.qcow2_image.specs.Holding.{PreparedMappingRun, Notes}
 use Rattle.qcow2_image.specs.Leaking.{KeepsLeaks, KeepsLeaksBut, counts_in, names_in, pending, reserved_as, reserved_in, waiting_in}
 use Rattle.qcow2_image.specs.Preparing.{KeepsMapping}
-use Rattle.qcow2_image.specs.Rooms.{IsSafe, rest_of}
+use Rattle.qcow2_image.specs.Rooms.{IsWellFormed, rest_of}
 use Rattle.qcow2_image.specs.Seen.{file_of}
 use Rattle.qcow2_image.specs.Unspent.{holding_in}
 use Rattle.qcow2_image.specs.declared.mappings.Reserved.{Reserved}
@@ -26,7 +26,7 @@ use Rattle.qcow2_image.proofs.DiskEffects.{rest-memory, safe-sound}
 use Rattle.qcow2_image.proofs.LeaksByFile.{leaks-same}
 
 -- What was noted of a mapping is reserved as it was.
-pub noted-reserved : (at n : ℕ) (old new : Option Holding) → Notes at n old new → (c : ℕ) → reserved_in new c ≡ reserved_in old c
+pub noted-reserved : (at n : ℕ) (old new : Option PreparedMappingRun) → Notes at n old new → (c : ℕ) → reserved_in new c ≡ reserved_in old c
 noted-reserved at n None new notes c = ap (λ o. reserved_in o c) notes
 noted-reserved at n (Some hold) new notes c = ap (λ o. reserved_in o c) notes.1
 
@@ -52,7 +52,7 @@ module _ {S : Type 0} (g : Ghosts S) where
       ∙ sym (ap (λ (d : Qcow2 S g). counts_in g old c + names_in g d c + pending g d c) is)
 
   -- A request that changes nothing leaks no more.
-  pub leaks-asked : (old new : Qcow2 S g) (s' : StorageState) → Kept (g.state old.tables.file.image) s' → g.state new.tables.file.image ≡ s'
+  pub leaks-asked : (old new : Qcow2 S g) (s' : StorageState) → UnchangedButFaults (g.state old.tables.file.image) s' → g.state new.tables.file.image ≡ s'
       → new.tables.file.header ≡ old.tables.file.header → new.tables.space ≡ old.tables.space → new.unspent ≡ old.unspent → KeepsLeaks g old new
   leaks-asked old new s' kept state header space unspent =
       leaks-same g old new (ap (λ (s : StorageState). bytes_of s.bytes) state ∙ ap bytes_of kept.bytes) header
@@ -60,7 +60,7 @@ module _ {S : Type 0} (g : Ghosts S) where
 
   -- Free space that is loaded has nothing that waits.
   pub leaks-loaded : (old new : Qcow2 S g) (space : Space) → old.tables.space ≡ None → new.tables.space ≡ Some space
-      → Kept (g.state old.tables.file.image) (g.state new.tables.file.image) → new.tables.file.header ≡ old.tables.file.header
+      → UnchangedButFaults (g.state old.tables.file.image) (g.state new.tables.file.image) → new.tables.file.header ≡ old.tables.file.header
       → new.unspent ≡ old.unspent → space.to_free.entries ≡ [] → KeepsLeaks g old new
   leaks-loaded old new space none there kept header unspent empty =
       leaks-same g old new (ap bytes_of kept.bytes) header (λ c.
@@ -84,11 +84,11 @@ module _ {S : Type 0} (g : Ghosts S) where
     waits-new c = ap (λ o. waiting_in o c) there'
 
     pub advanced-leaks : (ok : Type 0) (kind : Kind) (reserved : ℕ → ℕ) → new.unspent ≡ old.unspent
-        → ((c : ℕ) → kind.handed c ≡ kind.taken c + reserved c)
+        → ((c : ℕ) → kind.newly_allocated c ≡ kind.taken c + reserved c)
         → Progresses ok kind (g.state old.tables.file.image) (rest_of g old.tables space) (g.state new.tables.file.image) (rest_of g new.tables space')
-        → IsSafe g old → ok → KeepsLeaksBut g reserved old new
-    advanced-leaks ok kind reserved unspent given progress safe whole c =
-        let law = (progress.holds safe.keeps (safe-sound g old space there safe) whole).law c in
+        → IsWellFormed g old → ok → KeepsLeaksBut g reserved old new
+    advanced-leaks ok kind reserved unspent given progress well_formed whole c =
+        let law = (progress.holds well_formed.keeps (safe-sound g old space there well_formed) whole).law c in
         let h = old.tables.file.header.fields in
         let h' = new.tables.file.header.fields in
         let counts : counted (rest_of g old.tables space) c ≡ count was h c = ap (λ (b : Bytes). count b h c) (rest-memory g old.tables space) in
@@ -109,7 +109,7 @@ module _ {S : Type 0} (g : Ghosts S) where
   held-leaks asked clusters old new mapping holds free c =
       let tables : new.tables ≡ old.tables = ap (λ (d : Qcow2 S g). d.tables) holds.now in
       let held : reserved_in (holding_in g new.unspent) c ≡ reserved_as clusters.is_kept clusters.host clusters.count c =
-      ap (λ (d : Qcow2 S g). reserved_in (holding_in g d.unspent) c) holds.now ∙ ap (λ (h : Holding). reserved_in (Some h) c) holds.holds in
+      ap (λ (d : Qcow2 S g). reserved_in (holding_in g d.unspent) c) holds.now ∙ ap (λ (h : PreparedMappingRun). reserved_in (Some h) c) holds.holds in
       let none : reserved_in (holding_in g old.unspent) c ≡ 0 = ap (λ u. reserved_in (holding_in g u) c) free in
       let waits : waiting_in new.tables.space c ≡ waiting_in old.tables.space c = ap (λ (t : Tables S g). waiting_in t.space c) tables in (
         ap (λ (t : Tables S g). count (file_of g t) t.file.header.fields c) tables,

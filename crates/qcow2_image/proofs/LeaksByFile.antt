@@ -5,7 +5,7 @@ use Rattle.imago_storage.specs.declared.storage.Storage.{Ghosts}
 use Rattle.qcow2_types.specs.Bytes.{bytes_of}
 use Rattle.qcow2_types.specs.Counts.{count}
 use Rattle.qcow2_types.specs.References.{refs}
-use Rattle.qcow2_image.specs.Leaking.{KeepsLeaks, counts_in, names_in, pending, reserved_in, surplus_of, waiting_in}
+use Rattle.qcow2_image.specs.Leaking.{KeepsLeaks, counts_in, names_in, pending, reserved_in, excess_refcount_of, waiting_in}
 use Rattle.qcow2_image.specs.Seen.{file_of}
 use Rattle.qcow2_image.specs.Steps.{KeepsImage}
 use Rattle.qcow2_image.specs.Unspent.{holding_in}
@@ -13,7 +13,7 @@ use Rattle.qcow2_image.specs.declared.qcow2.Qcow2.{Qcow2}
 
 module _ {S : Type 0} (g : Ghosts S) where
   -- Where leaks are kept, each cluster is counted beyond what names it, and what is pending of it, as often as it was.
-  pub surplus-kept : (old new : Qcow2 S g) → KeepsLeaks g old new → (c : ℕ) → surplus_of g new c ≡ surplus_of g old c
+  pub surplus-kept : (old new : Qcow2 S g) → KeepsLeaks g old new → (c : ℕ) → excess_refcount_of g new c ≡ excess_refcount_of g old c
   surplus-kept old new keeps c = let one = keeps c in omega (arith, one)
 
   -- A file that stays as it was leaks no more.
@@ -27,5 +27,5 @@ module _ {S : Type 0} (g : Ghosts S) where
 
   -- Nor does a call that only looks.
   pub leaks-kept : {T : Type 0} (old new : Qcow2 S g) (result : Result T Fault) → KeepsImage g old result new → KeepsLeaks g old new
-  leaks-kept old new result k = leaks-same old new (ap bytes_of k.tables.kept.bytes) k.tables.header
+  leaks-kept old new result k = leaks-same old new (ap bytes_of k.tables.unchanged_but_faults.bytes) k.tables.header
       (λ c. λ i. waiting_in (k.tables.space i) c + reserved_in (holding_in g (k.unspent i)) c)

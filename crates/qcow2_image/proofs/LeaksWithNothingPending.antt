@@ -10,10 +10,10 @@ use Rattle.qcow2_types.specs.Pending.{FreeEntry}
 use Rattle.qcow2_alloc.specs.FreeList.{listed}
 use Rattle.qcow2_clusters.specs.declared.space.Space.{Space}
 use Rattle.qcow2_image.specs.Allocating.{waits_in}
-use Rattle.qcow2_image.specs.Holding.{Holding, claim_held}
-use Rattle.qcow2_image.specs.Leaking.{KeepsLeaks, counts_in, names_in, pending, reserved_in, surplus_of, waiting_in}
+use Rattle.qcow2_image.specs.Holding.{PreparedMappingRun, mapping_id_held}
+use Rattle.qcow2_image.specs.Leaking.{KeepsLeaks, counts_in, names_in, pending, reserved_in, excess_refcount_of, waiting_in}
 use Rattle.qcow2_image.specs.Opening.{IsOpenedAs}
-use Rattle.qcow2_image.specs.ImageLayer.{qcow2_leaks, surplus_in}
+use Rattle.qcow2_image.specs.ImageLayer.{qcow2_leaks, excess_refcount_in}
 use Rattle.qcow2_image.specs.Seen.{file_of, layer_of}
 use Rattle.qcow2_image.specs.Unspent.{holding_in}
 use Rattle.qcow2_image.specs.declared.qcow2.Qcow2.{Qcow2}
@@ -30,7 +30,7 @@ none-waiting : (o : Option Space) → waits_in o ≡ false → (c : ℕ) → wai
 none-waiting None none c = refl
 none-waiting (Some space) none c = none-listed space.to_free.entries none c
 
-none-reserved : (o : Option Holding) → claim_held o ≡ None → (c : ℕ) → reserved_in o c ≡ 0
+none-reserved : (o : Option PreparedMappingRun) → mapping_id_held o ≡ None → (c : ℕ) → reserved_in o c ≡ 0
 none-reserved None free c = refl
 none-reserved (Some hold) free c = absurd (cc free)
 
@@ -46,7 +46,7 @@ module _ {S : Type 0} (g : Ghosts S) where
   pub opened-pending : (before : StorageState) (writable : Bool) (backing : Option Bool) (number tables blocks : ℕ) (d : Qcow2 S g)
       → IsOpenedAs g before writable backing number tables blocks d → (c : ℕ) → pending g d c ≡ 0
   opened-pending before writable backing number tables blocks d opened =
-      none-pending d (idle-waits d.tables.space opened.tables.space.idle) (ap (λ u. claim_held (holding_in g u)) opened.free)
+      none-pending d (idle-waits d.tables.space opened.tables.space.idle) (ap (λ u. mapping_id_held (holding_in g u)) opened.free)
 
   -- Where nothing is, it leaks what it did.
   pub leaks-alike : (old new : Qcow2 S g) → KeepsLeaks g old new → ((c : ℕ) → pending g old c ≡ 0) → ((c : ℕ) → pending g new c ≡ 0)
@@ -55,9 +55,9 @@ module _ {S : Type 0} (g : Ghosts S) where
 
   -- Where nothing is, its file leaks what is counted beyond names.
   pub counted-idle : (d : Qcow2 S g) → header_of false (file_of g d.tables) ≡ Ok d.tables.file.header → waits_in d.tables.space ≡ false
-      → IsFree (layer_of g d) → (c : ℕ) → surplus_of g d c ≡ qcow2_leaks (g.state d.tables.file.image).bytes c
+      → IsFree (layer_of g d) → (c : ℕ) → excess_refcount_of g d c ≡ qcow2_leaks (g.state d.tables.file.image).bytes c
   counted-idle d loads none free c =
       let idle = none-pending d none free c in
-      let by : surplus_in (file_of g d.tables) (header_of false (file_of g d.tables)) c ≡ counts_in g d c - names_in g d c =
-      ap (λ r. surplus_in (file_of g d.tables) r c) loads in
+      let by : excess_refcount_in (file_of g d.tables) (header_of false (file_of g d.tables)) c ≡ counts_in g d c - names_in g d c =
+      ap (λ r. excess_refcount_in (file_of g d.tables) r c) loads in
       omega (arith, idle, by)

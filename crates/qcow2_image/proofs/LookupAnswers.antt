@@ -10,26 +10,26 @@ use Rattle.imago_storage.specs.declared.fault.Fault.{Fault}
 use Rattle.imago_storage.specs.declared.fault.Fault.TheVariants.{DamagedTable, Memory, Storage}
 use Rattle.imago_access.specs.Files.{byte_in}
 use Rattle.imago_access.specs.Layer.{Layer, Cell, own}
-use Rattle.imago_access.specs.Mappings.{IsOneOf, IsRun, IsInReach, HasStoredRoom, Looks, Names, NamesRoom, States}
+use Rattle.imago_access.specs.Mappings.{IsOneOf, IsRun, IsAddressable, HasStoredAllocation, Looks, Names, ReportsAllocation, ReportsExplicitZero}
 use Rattle.imago_access.specs.Refusals.{LookCause}
 use Rattle.imago_access.specs.declared.mapping.ShallowMapping.TheVariants as shallow
 use Rattle.imago_access.proofs.Units.{overflows_late, alignment_max}
 use Rattle.qcow2_types.specs.Bytes.{Bytes, bytes_of}
 use Rattle.qcow2_types.specs.Header.{Fields, cluster_size}
 use Rattle.qcow2_types.specs.Words.{Mapping, data_at, zeroes, packed, damaged, max_offset}
-use Rattle.qcow2_types.specs.Words as words
+use Rattle.qcow2_types.specs.Words as raw_entries
 use Rattle.qcow2_types.specs.Entries.{entry}
-use Rattle.qcow2_metadata.specs.MappingView.{mapping_seen, IsNamed}
+use Rattle.qcow2_metadata.specs.MappingView.{mapping_seen, IsHostAddressable}
 use Rattle.qcow2_metadata.specs.declared.mapping.L2Mapping.{L2Mapping}
 use Rattle.qcow2_metadata.specs.declared.mapping.L2Mapping.TheVariants.{DataFile, Backing, Zero, Compressed}
 use Rattle.qcow2_alloc.specs.Causes.{HasCause}
-use Rattle.qcow2_image.specs.ImageLayer.{blank_of, cell_by, cells, home_by, qcow2_layer, shallow_of, unmapped_answer, homes}
+use Rattle.qcow2_image.specs.ImageLayer.{blank_of, cell_by, cells, writable_location_by, qcow2_layer, shallow_of, unmapped_answer, writable_locations}
 use Rattle.qcow2_image.specs.declared.mode.OpenMode.{OpenMode}
 use Rattle.qcow2_image.specs.Looking.{EndsNear, Follows, IsRunOf, looking_causes}
-use Rattle.qcow2_clusters.specs.Naming.{TakesNone}
+use Rattle.qcow2_clusters.specs.Linking.{TakesNone}
 use Rattle.qcow2_image.specs.HeldHomes.{free-homes, words-first}
-use Rattle.qcow2_image.specs.Holding.{Holding}
-use Rattle.qcow2_image.specs.Rooms.{ReadsNone, StatesZero, IsStated, IsVacant, IsZeroed}
+use Rattle.qcow2_image.specs.Holding.{PreparedMappingRun}
+use Rattle.qcow2_image.specs.Rooms.{ReadsNone, MapsExplicitZero, IsExplicitZero, IsUnallocated, IsZeroed}
 use Rattle.qcow2_image.specs.Homes.{home-there}
 use Rattle.qcow2_image.proofs.Ranges.{cluster-of, in-run, byte-place}
 
@@ -37,7 +37,7 @@ use Rattle.qcow2_image.proofs.Ranges.{cluster-of, in-run, byte-place}
 abbrev IsOn : Mapping → ℕ → Mapping → Type 0
 IsOn (data_at c mark) k (data_at c' mark') = (c' ≡ c + k) × (mark' ≡ mark)
 IsOn (zeroes c mark) k (zeroes c' mark') = ⊤
-IsOn words.unmapped k words.unmapped = ⊤
+IsOn raw_entries.unmapped k raw_entries.unmapped = ⊤
 IsOn (packed o n) k (packed o' n') = ⊤
 IsOn m k m' = ⊥
 
@@ -58,15 +58,15 @@ on-zeroes (zeroes c x) b None y k on next = absurd next
 on-zeroes (zeroes c x) b (Some d) y k on next = absurd next
 on-zeroes m b d y k on next = absurd on
 
-on-unmapped : (m b : Mapping) (k : ℕ) → IsOn m k words.unmapped → Follows words.unmapped b → IsOn m (k + 1) b
-on-unmapped words.unmapped words.unmapped k on next = tt
-on-unmapped words.unmapped b k on next = absurd next
+on-unmapped : (m b : Mapping) (k : ℕ) → IsOn m k raw_entries.unmapped → Follows raw_entries.unmapped b → IsOn m (k + 1) b
+on-unmapped raw_entries.unmapped raw_entries.unmapped k on next = tt
+on-unmapped raw_entries.unmapped b k on next = absurd next
 on-unmapped m b k on next = absurd on
 
 on-next : (m a b : Mapping) (k : ℕ) → IsOn m k a → Follows a b → IsOn m (k + 1) b
 on-next m (data_at d y) b k on next = on-data m b d y k on next
 on-next m (zeroes d y) b k on next = on-zeroes m b d y k on next
-on-next m words.unmapped b k on next = on-unmapped m b k on next
+on-next m raw_entries.unmapped b k on next = on-unmapped m b k on next
 on-next m (packed o n) b k on next = absurd next
 on-next m damaged b k on next = absurd next
 
@@ -88,30 +88,30 @@ abbrev cell_on : Cell → Bytes → Fields → ℕ → ℕ → Mapping → Cell
 cell_on blank f h k p (data_at c mark) = own (byte (f ((c + k) * cluster_size h + p % cluster_size h)))
 cell_on blank f h k p (zeroes c mark) = own (byte 0)
 cell_on blank f h k p (packed o n) = own barred
-cell_on blank f h k p words.unmapped = blank
+cell_on blank f h k p raw_entries.unmapped = blank
 cell_on blank f h k p damaged = own damaged_place
 
 says-on : (blank : Cell) (f : Bytes) (h : Fields) (k p : ℕ) (m m' : Mapping) → IsOn m k m' → cell_by blank f h p m' ≡ cell_on blank f h k p m
 says-on blank f h k p (data_at c x) (data_at d y) on = ap (λ x. own (byte (f (x * cluster_size h + p % cluster_size h)))) on.0
 says-on blank f h k p (zeroes c x) (zeroes d y) on = refl
 says-on blank f h k p (packed o n) (packed o' n') on = refl
-says-on blank f h k p words.unmapped words.unmapped on = refl
+says-on blank f h k p raw_entries.unmapped raw_entries.unmapped on = refl
 says-on blank f h k p (data_at c x) m' on = absurd on
 says-on blank f h k p (zeroes c x) m' on = absurd on
 says-on blank f h k p (packed o n) m' on = absurd on
-says-on blank f h k p words.unmapped m' on = absurd on
+says-on blank f h k p raw_entries.unmapped m' on = absurd on
 says-on blank f h k p damaged m' on = absurd on
 
 -- Where a place can be written whose mapping goes on from copied data.
 home-on : (h : Fields) (c : ℕ) (mark : Bool) (k p : ℕ) (m : Mapping) → mark ≡ true → IsOn (data_at c mark) k m
-    → home_by h p m ≡ Some (0, (c + k) * cluster_size h + p % cluster_size h)
+    → writable_location_by h p m ≡ Some (0, (c + k) * cluster_size h + p % cluster_size h)
 home-on h c mark k p (data_at d y) marked on =
     let copied : y ≡ true = on.1 ∙ marked in
     rw copied (ap (λ x. Some (0, x * cluster_size h + p % cluster_size h)) on.0)
 home-on h c mark k p m marked on = absurd on
 
 -- A place that can be written is answered as such.
-home-named : (mode : OpenMode) (h : Fields) (p storage place : ℕ) (m : Mapping) → mode.writable ≡ true → home_by h p m ≡ Some (storage, place)
+home-named : (mode : OpenMode) (h : Fields) (p storage place : ℕ) (m : Mapping) → mode.writable ≡ true → writable_location_by h p m ≡ Some (storage, place)
     → shallow_of mode h.cluster_bits p (p % cluster_size h) m ≡ shallow.Raw storage place true
 home-named mode h p storage place (data_at c true) writable is =
     let same : ◌≡◌ {A = ℕ × ℕ} (0, c * cluster_size h + p % cluster_size h) (storage, place) = cc is in
@@ -119,7 +119,7 @@ home-named mode h p storage place (data_at c true) writable is =
 home-named mode h p storage place (data_at c false) writable is = absurd (cc is)
 home-named mode h p storage place (zeroes c x) writable is = absurd (cc is)
 home-named mode h p storage place (packed o n) writable is = absurd (cc is)
-home-named mode h p storage place words.unmapped writable is = absurd (cc is)
+home-named mode h p storage place raw_entries.unmapped writable is = absurd (cc is)
 home-named mode h p storage place damaged writable is = absurd (cc is)
 
 -- Data isn't vacant, nor zeroed.
@@ -135,12 +135,12 @@ packed-taken o l k (packed o' l') on (inr none) = none
 packed-taken o l k m on which = absurd on
 
 -- All of a run say themselves that they are 0, or none does.
-zero-first : (m m' : Mapping) (k : ℕ) → IsOn m k m' → StatesZero m' → StatesZero m
+zero-first : (m m' : Mapping) (k : ℕ) → IsOn m k m' → MapsExplicitZero m' → MapsExplicitZero m
 zero-first (zeroes c x) m' k on says = tt
 zero-first m (zeroes d y) k on says = absurd on
 zero-first m m' k on says = absurd says
 
-zero-on : (m m' : Mapping) (k : ℕ) → IsOn m k m' → StatesZero m → StatesZero m'
+zero-on : (m m' : Mapping) (k : ℕ) → IsOn m k m' → MapsExplicitZero m → MapsExplicitZero m'
 zero-on (zeroes c x) (zeroes d y) k on says = tt
 zero-on (zeroes c x) m' k on says = absurd on
 zero-on m m' k on says = absurd says
@@ -166,7 +166,7 @@ names-one mode bits offset within (Backing o) = by mode.backing where
   by false = tt
 
 -- It ends far below 2^64.
-pub ends-near : (mode : OpenMode) (bits offset within n : ℕ) (m : L2Mapping) → within < 2 ^ bits → IsNamed bits m → n ≤ 2 ^ 42 → bits ≤ 21
+pub ends-near : (mode : OpenMode) (bits offset within n : ℕ) (m : L2Mapping) → within < 2 ^ bits → IsHostAddressable bits m → n ≤ 2 ^ 42 → bits ≤ 21
     → EndsNear (shallow_of mode bits offset within (mapping_seen m)) n
 ends-near mode bits offset within n (DataFile c mark) inside near few small =
     let power : 2 ^ bits ≤ 2 ^ 21 = pow-le-pow_right (omega arith) small in
@@ -179,7 +179,7 @@ ends-near mode bits offset within n (Backing o) inside near few small = by mode.
   by false = tt
 
 -- The answer of a lookup, over the places from an offset on in some clusters of a run.
-module _ (s : StorageState) (words-there : Bytes) (h : Fields) (mode : OpenMode) (number : ℕ) (failed : Bool) (hold : Option Holding) (offset n most : ℕ) (run : L2Mapping × ℕ)
+module _ (s : StorageState) (words-there : Bytes) (h : Fields) (mode : OpenMode) (number : ℕ) (failed : Bool) (hold : Option PreparedMappingRun) (offset n most : ℕ) (run : L2Mapping × ℕ)
     (clean : words-there ≡ bytes_of s.bytes) (inside : offset + n ≤ h.size) (short : n ≤ run.1 * cluster_size h - offset % cluster_size h)
     (is : IsRunOf (offset / cluster_size h) most (entry (bytes_of s.bytes) h) run) where
   abbrev f : Bytes
@@ -220,7 +220,7 @@ module _ (s : StorageState) (words-there : Bytes) (h : Fields) (mode : OpenMode)
       λ both i lt.
           let parts = and_parts mode.writable mark both in
           let there = lt-ltb (offset + i) h.size (omega (arith, inside, lt)) in
-          words-first hold (homes mode.writable words-there h) (offset + i) _ (rw (parts.0, there, clean)
+          words-first hold (writable_locations mode.writable words-there h) (offset + i) _ (rw (parts.0, there, clean)
           (home-on h c mark ((within + i) / cluster_size h) (offset + i) (entry f h ((offset + i) / cluster_size h)) parts.1 (on i lt)
           ∙ ap (λ x. Some (0, x)) (byte-place (cluster_size h) offset i some c))),
     )
@@ -229,50 +229,50 @@ module _ (s : StorageState) (words-there : Bytes) (h : Fields) (mode : OpenMode)
     from (Backing o) each on = backing mode.backing each refl
 
   -- and no vacant or zeroed place as one of the file or as compressed.
-  pub room-run : NamesRoom layer (IsVacant words-there h) (IsZeroed words-there h) offset n (shallow_of mode h.cluster_bits offset within (mapping_seen run.0))
+  pub room-run : ReportsAllocation layer (IsUnallocated words-there h) (IsZeroed words-there h) offset n (shallow_of mode h.cluster_bits offset within (mapping_seen run.0))
   room-run = from run.0 on-place where
-    backing : (b : Bool) → NamesRoom layer (IsVacant words-there h) (IsZeroed words-there h) offset n (unmapped_answer b offset)
+    backing : (b : Bool) → ReportsAllocation layer (IsUnallocated words-there h) (IsZeroed words-there h) offset n (unmapped_answer b offset)
     backing true = tt
     backing false = tt
 
-    roomy : ((i : ℕ) → i < n → (TakesNone (entry f h ((offset + i) / cluster_size h)) ⊎ ReadsNone (entry f h ((offset + i) / cluster_size h))) → ⊥) → HasStoredRoom layer (IsVacant words-there h) (IsZeroed words-there h) offset n
+    roomy : ((i : ℕ) → i < n → (TakesNone (entry f h ((offset + i) / cluster_size h)) ⊎ ReadsNone (entry f h ((offset + i) / cluster_size h))) → ⊥) → HasStoredAllocation layer (IsUnallocated words-there h) (IsZeroed words-there h) offset n
     roomy taken states i lt which = elim which [
-      | inl vacant ↦ elim vacant [ inl behind ↦ absurd (omega (arith, behind, inside, lt)) | inr none ↦ taken i lt (inl (rw (sym clean) none)) ]
+      | inl unallocated ↦ elim unallocated [ inl behind ↦ absurd (omega (arith, behind, inside, lt)) | inr none ↦ taken i lt (inl (rw (sym clean) none)) ]
       | inr zeroed ↦ elim zeroed [ inl behind ↦ absurd (omega (arith, behind, inside, lt)) | inr none ↦ taken i lt (inr (rw (sym clean) none)) ]
     ]
 
-    from : (m : L2Mapping) → ((i : ℕ) → i < n → IsOn (mapping_seen m) ((within + i) / cluster_size h) (entry f h ((offset + i) / cluster_size h))) → NamesRoom layer (IsVacant words-there h) (IsZeroed words-there h) offset n (shallow_of mode h.cluster_bits offset within (mapping_seen m))
+    from : (m : L2Mapping) → ((i : ℕ) → i < n → IsOn (mapping_seen m) ((within + i) / cluster_size h) (entry f h ((offset + i) / cluster_size h))) → ReportsAllocation layer (IsUnallocated words-there h) (IsZeroed words-there h) offset n (shallow_of mode h.cluster_bits offset within (mapping_seen m))
     from (DataFile c mark) each = roomy (λ i lt. data-taken c ((within + i) / cluster_size h) mark (entry f h ((offset + i) / cluster_size h)) (each i lt))
     from (Zero c mark) each = tt
     from (Compressed o l) each = roomy (λ i lt. packed-taken o l ((within + i) / cluster_size h) (entry f h ((offset + i) / cluster_size h)) (each i lt))
     from (Backing o) each = backing mode.backing
 
   -- It is an explicit zero exactly where the words say so.
-  pub states-run : States (IsStated words-there h) offset (shallow_of mode h.cluster_bits offset within (mapping_seen run.0), n)
+  pub states-run : ReportsExplicitZero (IsExplicitZero words-there h) offset (shallow_of mode h.cluster_bits offset within (mapping_seen run.0), n)
   states-run = from run.0 on-place where
     none : (m : L2Mapping) → ((i : ℕ) → i < n → IsOn (mapping_seen m) ((within + i) / cluster_size h) (entry f h ((offset + i) / cluster_size h)))
-        → (StatesZero (mapping_seen m) → ⊥) → (i : ℕ) → i < n → IsStated words-there h (offset + i) → ⊥
-    none m each other i lt stated = other (zero-first (mapping_seen m) (entry f h ((offset + i) / cluster_size h)) ((within + i) / cluster_size h) (each i lt) (rw (sym clean) stated))
+        → (MapsExplicitZero (mapping_seen m) → ⊥) → (i : ℕ) → i < n → IsExplicitZero words-there h (offset + i) → ⊥
+    none m each other i lt explicit_zero = other (zero-first (mapping_seen m) (entry f h ((offset + i) / cluster_size h)) ((within + i) / cluster_size h) (each i lt) (rw (sym clean) explicit_zero))
 
-    backing : (b : Bool) → ((i : ℕ) → i < n → IsStated words-there h (offset + i) → ⊥) → States (IsStated words-there h) offset (unmapped_answer b offset, n)
+    backing : (b : Bool) → ((i : ℕ) → i < n → IsExplicitZero words-there h (offset + i) → ⊥) → ReportsExplicitZero (IsExplicitZero words-there h) offset (unmapped_answer b offset, n)
     backing true unsaid = unsaid
     backing false unsaid = unsaid
 
     from : (m : L2Mapping) → ((i : ℕ) → i < n → IsOn (mapping_seen m) ((within + i) / cluster_size h) (entry f h ((offset + i) / cluster_size h)))
-        → States (IsStated words-there h) offset (shallow_of mode h.cluster_bits offset within (mapping_seen m), n)
+        → ReportsExplicitZero (IsExplicitZero words-there h) offset (shallow_of mode h.cluster_bits offset within (mapping_seen m), n)
     from (DataFile c mark) each = none (DataFile c mark) each (λ is. is)
     from (Zero c mark) each = λ i lt. rw clean (zero-on (mapping_seen (Zero c mark)) (entry f h ((offset + i) / cluster_size h)) ((within + i) / cluster_size h) (each i lt) tt)
     from (Compressed o l) each = none (Compressed o l) each (λ is. is)
     from (Backing o) each = backing mode.backing (none (Backing o) each (λ is. is))
 
   -- Places that words can name are in reach of requests.
-  pub reach-run : IsAlignment s.shape.req_align → IsAlignment s.shape.mem_align → IsNamed h.cluster_bits run.0 → n ≤ 2 ^ 42 → cluster_size h ≤ 2 ^ 21 → IsInReach layer offset (shallow_of mode h.cluster_bits offset within (mapping_seen run.0)) n
+  pub reach-run : IsAlignment s.shape.req_align → IsAlignment s.shape.mem_align → IsHostAddressable h.cluster_bits run.0 → n ≤ 2 ^ 42 → cluster_size h ≤ 2 ^ 21 → IsAddressable layer offset (shallow_of mode h.cluster_bits offset within (mapping_seen run.0)) n
   reach-run requests memory named few small = from run.0 named where
-    backing : (b : Bool) → IsInReach layer offset (unmapped_answer b offset) n
+    backing : (b : Bool) → IsAddressable layer offset (unmapped_answer b offset) n
     backing true = tt
     backing false = tt
 
-    from : (m : L2Mapping) → IsNamed h.cluster_bits m → IsInReach layer offset (shallow_of mode h.cluster_bits offset within (mapping_seen m)) n
+    from : (m : L2Mapping) → IsHostAddressable h.cluster_bits m → IsAddressable layer offset (shallow_of mode h.cluster_bits offset within (mapping_seen m)) n
     from (DataFile c mark) near = λ over.
         let below : within < cluster_size h = mod_below offset (cluster_size h) some in
         absurd (overflows_late (max s.shape.req_align s.shape.mem_align) (c * cluster_size h + within) n (alignment_max s.shape.req_align s.shape.mem_align requests memory) (omega (arith, near, below, few, small)) over)
@@ -281,21 +281,21 @@ module _ (s : StorageState) (words-there : Bytes) (h : Fields) (mode : OpenMode)
     from (Backing o) near = backing mode.backing
 
   -- So it is what a lookup answers.
-  pub looks-run : (asked : ℕ) (ss : List StorageState) (s' : StorageState) → s'.bytes ≡ s.bytes → IsAlignment s.shape.req_align → IsAlignment s.shape.mem_align → IsNamed h.cluster_bits run.0 → n ≤ 2 ^ 42 → cluster_size h ≤ 2 ^ 21
+  pub looks-run : (asked : ℕ) (ss : List StorageState) (s' : StorageState) → s'.bytes ≡ s.bytes → IsAlignment s.shape.req_align → IsAlignment s.shape.mem_align → IsHostAddressable h.cluster_bits run.0 → n ≤ 2 ^ 42 → cluster_size h ≤ 2 ^ 21
       → Looks layer (byte_in (s' ∷ ss)) offset asked (shallow_of mode h.cluster_bits offset within (mapping_seen run.0)) n
   looks-run asked ss s' bytes requests memory named few small = record {
     names = names-run ss s' bytes;
     reach = reach-run requests memory named few small;
-    home = λ free some storage place at.
-        let word : homes mode.writable words-there h offset ≡ Some (storage, place) = sym (free-homes hold (homes mode.writable words-there h) offset free) ∙ at in
-        let there = home-there mode.writable words-there h offset (storage, place) word in
-        let here : home_by h offset (mapping_seen run.0) ≡ Some (storage, place) =
-        ap (home_by h offset) (is.first ∙ ap (λ m. entry m h (offset / cluster_size h)) (sym clean)) ∙ there.2 in
+    writable_location = λ free some storage place at.
+        let raw_entry : writable_locations mode.writable words-there h offset ≡ Some (storage, place) = sym (free-homes hold (writable_locations mode.writable words-there h) offset free) ∙ at in
+        let there = home-there mode.writable words-there h offset (storage, place) raw_entry in
+        let here : writable_location_by h offset (mapping_seen run.0) ≡ Some (storage, place) =
+        ap (writable_location_by h offset) (is.first ∙ ap (λ m. entry m h (offset / cluster_size h)) (sym clean)) ∙ there.2 in
         home-named mode h offset storage place (mapping_seen run.0) there.0 here;
   }
 
 -- Why a lookup is refused.
-pub look-cause : (s s' : StorageState) (ss ss' : List StorageState) (words-there : Bytes) (h : Fields) (mode : OpenMode) (number : ℕ) (failed : Bool) (hold : Option Holding) (offset asked : ℕ) (fault : Fault) → words-there ≡ bytes_of s.bytes → offset < h.size → 0 < asked
+pub look-cause : (s s' : StorageState) (ss ss' : List StorageState) (words-there : Bytes) (h : Fields) (mode : OpenMode) (number : ℕ) (failed : Bool) (hold : Option PreparedMappingRun) (offset asked : ℕ) (fault : Fault) → words-there ≡ bytes_of s.bytes → offset < h.size → 0 < asked
     → HasCause (looking_causes (entry (bytes_of s.bytes) h (offset / cluster_size h) ≡ damaged) s.faults s'.faults) fault → LookCause (qcow2_layer s words-there h mode number failed hold) offset asked (s ∷ ss) (s' ∷ ss') fault
 look-cause s s' ss ss' words-there h mode number failed hold offset asked DamagedTable clean lt some why =
     let there = lt-ltb offset h.size lt in

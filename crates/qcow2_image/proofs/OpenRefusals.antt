@@ -7,8 +7,8 @@ use Rattle.imago_storage.specs.State.{StorageState}
 use Rattle.imago_storage.specs.declared.fault.Fault.{Fault}
 use Rattle.imago_storage.specs.declared.fault.Fault.TheVariants.{Memory, Storage, Unsupported, DamagedTable, Limit}
 use Rattle.imago_storage.proofs.Failing.{may-fail}
-use Rattle.qcow2_types.specs.Bytes.{Bytes, all_below, bytes_of, word}
-use Rattle.qcow2_types.specs.Words.{Layout, l1_word_sound, max_offset}
+use Rattle.qcow2_types.specs.Bytes.{Bytes, all_below, bytes_of, raw_entry}
+use Rattle.qcow2_types.specs.Words.{Layout, l1_entry_valid, max_offset}
 use Rattle.qcow2_types.specs.Counts.{refcount_table_sound}
 use Rattle.qcow2_types.specs.Header.{Header, Limited, refcount_table_entries, first_fault, header_of, has_external_data, cluster_size, layout_of, ◌and-then◌, ◌>>=◌}
 use Rattle.qcow2_types.specs.Entries.{l1_table_sound}
@@ -18,8 +18,8 @@ use Rattle.qcow2_types.proofs.Fields.HeaderLimits.{header-limited}
 use Rattle.qcow2_types.proofs.Counting.Sound.{all-below-holds}
 use Rattle.qcow2_types.proofs.Changes.WriteBack.{place-near, place-whole}
 use Rattle.qcow2_metadata.specs.Loading.{NotLoaded}
-use Rattle.qcow2_metadata.specs.Places.{IsInReach}
-use Rattle.qcow2_metadata.specs.Tables.{TableValue, Kind, AreSound, HasUnsound, WhyNotLoaded, block_words, l1_words, table_in, word_sound, words_in}
+use Rattle.qcow2_metadata.specs.Places.{IsAddressable}
+use Rattle.qcow2_metadata.specs.Tables.{TableValue, Kind, AreSound, HasUnsound, WhyNotLoaded, refcount_table_kind, l1_table_kind, table_in, raw_entry_valid, raw_entries_in}
 use Rattle.qcow2_metadata.proofs.Refusals.{IsRefusal, header-refusal}
 use Rattle.qcow2_metadata.proofs.TableFacts.{words_long, words_at}
 use Rattle.qcow2_alloc.specs.Allocators.{IsTablePlaced, LoadsAllocator}
@@ -66,25 +66,25 @@ reads-too false f H loads = loads
 -- Of the words of a table in a file one without a meaning damages all of it,
 module _ (f : Bytes) (kind : Kind) (layout : Layout) (place n : ℕ) where
   abbrev are-sound : Bool
-  are-sound = all_below n (λ i. word_sound kind layout (word f place i))
+  are-sound = all_below n (λ i. raw_entry_valid kind layout (raw_entry f place i))
 
-  long-so : length (words_in f place n) ≡ n
+  long-so : length (raw_entries_in f place n) ≡ n
   long-so = words_long f place n
 
-  damaged-word : HasUnsound kind layout (words_in f place n) → are-sound ≡ false
+  damaged-word : HasUnsound kind layout (raw_entries_in f place n) → are-sound ≡ false
   damaged-word bad = elim (cases_Bool are-sound) [
     | inr broken ↦ broken
     | inl fine ↦
         let inside : bad.0 < n = let lt = bad.1 in omega (arith, lt, long-so) in
-        let good = all-below n (λ i. word_sound kind layout (word f place i)) fine bad.0 inside in
-        let no = subst (λ w. word_sound kind layout w ≡ false) (words_at f place n bad.0 inside) bad.2 in
+        let good = all-below n (λ i. raw_entry_valid kind layout (raw_entry f place i)) fine bad.0 inside in
+        let no = subst (λ w. raw_entry_valid kind layout w ≡ false) (words_at f place n bad.0 inside) bad.2 in
         absurd (let e = sym good ∙ no in cc)
   ]
 
   -- and with none it is sound.
-  sound-table : AreSound kind layout (words_in f place n) → are-sound ≡ true
-  sound-table sound = all-below-holds n (λ i. word_sound kind layout (word f place i))
-      (λ i inside. subst (λ w. word_sound kind layout w ≡ true) (words_at f place n i inside) (sound i (omega (arith, long-so, inside))))
+  sound-table : AreSound kind layout (raw_entries_in f place n) → are-sound ≡ true
+  sound-table sound = all-below-holds n (λ i. raw_entry_valid kind layout (raw_entry f place i))
+      (λ i inside. subst (λ w. raw_entry_valid kind layout w ≡ true) (words_at f place n i inside) (sound i (omega (arith, long-so, inside))))
 
 module _ (writable : Bool) (f : Bytes) where
   -- Where the file says why, that is why; else memory was wanting, or the storage failed.
@@ -127,20 +127,20 @@ module _ (writable : Bool) (f : Bytes) where
       -- Where it is loaded each of its words has a meaning,
       pub space-sound : (a : Allocator) → LoadsAllocator old H.fields (Ok a) new → refcount_table_sound f H.fields ≡ true
       unfolding refcount_table_sound
-      space-sound a loaded = sound-table f block_words (layout_of H.fields) H.fields.refcount_table_offset (refcount_table_entries H.fields)
-          (subst (λ (x : Bytes). AreSound block_words (layout_of H.fields) (words_in x H.fields.refcount_table_offset (refcount_table_entries H.fields)))
+      space-sound a loaded = sound-table f refcount_table_kind (layout_of H.fields) H.fields.refcount_table_offset (refcount_table_entries H.fields)
+          (subst (λ (x : Bytes). AreSound refcount_table_kind (layout_of H.fields) (raw_entries_in x H.fields.refcount_table_offset (refcount_table_entries H.fields)))
           same loaded.sound)
 
       module _ (written : Bool) (is : written ≡ true) where
-        counts-why : (fault : Fault) → WhyNotLoaded block_words (layout_of H.fields)
-            (words_in f H.fields.refcount_table_offset (refcount_table_entries H.fields)) old.faults new.faults fault
+        counts-why : (fault : Fault) → WhyNotLoaded refcount_table_kind (layout_of H.fields)
+            (raw_entries_in f H.fields.refcount_table_offset (refcount_table_entries H.fields)) old.faults new.faults fault
             → WhyNoSpace f H.fields written old.faults new.faults fault
         unfolding refcount_table_sound
         counts-why Memory why = why
         counts-why Storage why = why
         counts-why DamagedTable why = (
           is,
-          damaged-word f block_words (layout_of H.fields) H.fields.refcount_table_offset (refcount_table_entries H.fields) why.0,
+          damaged-word f refcount_table_kind (layout_of H.fields) H.fields.refcount_table_offset (refcount_table_entries H.fields) why.0,
           why.1,
         )
         counts-why (Limit n) why =
@@ -155,8 +155,8 @@ module _ (writable : Bool) (f : Bytes) where
         pub space-not-loaded : (fault : Fault) → LoadsAllocator old H.fields (Err fault) new
             → WhyNoSpace f H.fields written old.faults new.faults fault
         space-not-loaded fault loaded = counts-why fault
-            (subst (λ (x : Bytes). WhyNotLoaded block_words (layout_of H.fields)
-            (words_in x H.fields.refcount_table_offset (refcount_table_entries H.fields)) old.faults new.faults fault) same (loaded.err counts-placed))
+            (subst (λ (x : Bytes). WhyNotLoaded refcount_table_kind (layout_of H.fields)
+            (raw_entries_in x H.fields.refcount_table_offset (refcount_table_entries H.fields)) old.faults new.faults fault) same (loaded.err counts-placed))
 
     module _ (inside : has_external_data H.fields ≡ false) where
       -- and then that on the L1 table.
@@ -187,37 +187,37 @@ module _ (writable : Bool) (f : Bytes) where
         place = ap (λ k. k * cluster_size H.fields) at ∙ whole
 
         -- That stands where words can name it.
-        pub table-in-reach : IsInReach H.fields.cluster_bits cluster
+        pub table-in-reach : IsAddressable H.fields.cluster_bits cluster
         table-in-reach = subst (λ (p : ℕ). p ≤ max_offset) (sym place) (place-near H.fields.cluster_bits H.fields.l1_offset limited.l1_place)
 
-        abbrev words : List ℕ
-        words = words_in f (cluster * cluster_size H.fields) H.fields.l1_entries
+        abbrev raw_entries : List ℕ
+        raw_entries = raw_entries_in f (cluster * cluster_size H.fields) H.fields.l1_entries
 
-        word-of : (i : ℕ) → i < H.fields.l1_entries → slice_index words i ≡ word f H.fields.l1_offset i
-        word-of i inside = words_at f (cluster * cluster_size H.fields) H.fields.l1_entries i inside ∙ ap (λ p. word f p i) place
+        word-of : (i : ℕ) → i < H.fields.l1_entries → slice_index raw_entries i ≡ raw_entry f H.fields.l1_offset i
+        word-of i inside = words_at f (cluster * cluster_size H.fields) H.fields.l1_entries i inside ∙ ap (λ p. raw_entry f p i) place
 
-        long : length words ≡ H.fields.l1_entries
+        long : length raw_entries ≡ H.fields.l1_entries
         long = words_long f (cluster * cluster_size H.fields) H.fields.l1_entries
 
         -- What is loaded is the file's.
         pub table-loaded : (r : Result TableValue Fault) → IfOk r (λ table. table ≡ table_in f H.fields cluster H.fields.l1_entries)
-            → OnOk r (AreSound l1_words (layout_of H.fields) words) → IfOk r (IsL1Of f H.fields)
+            → OnOk r (AreSound l1_table_kind (layout_of H.fields) raw_entries) → IfOk r (IsL1Of f H.fields)
         unfolding l1_table_sound
         table-loaded (Ok table) is sound = record {
           layout = ap (λ (t : TableValue). t.layout) is;
-          words = ap (λ (t : TableValue). t.words) is ∙ ap (λ p. words_in f p H.fields.l1_entries) place;
-          sound = all-below-holds H.fields.l1_entries (λ i. l1_word_sound H.fields.cluster_bits (word f H.fields.l1_offset i))
-              (λ i inside. subst (λ w. l1_word_sound H.fields.cluster_bits w ≡ true) (word-of i inside) (sound i (omega (arith, long, inside))));
+          raw_entries = ap (λ (t : TableValue). t.raw_entries) is ∙ ap (λ p. raw_entries_in f p H.fields.l1_entries) place;
+          sound = all-below-holds H.fields.l1_entries (λ i. l1_entry_valid H.fields.cluster_bits (raw_entry f H.fields.l1_offset i))
+              (λ i inside. subst (λ w. l1_entry_valid H.fields.cluster_bits w ≡ true) (word-of i inside) (sound i (omega (arith, long, inside))));
         }
         table-loaded (Err fault) is sound = tt
 
         -- One of its words without a meaning damages all of it.
-        unsound : HasUnsound l1_words (layout_of H.fields) words → l1_table_sound f H.fields ≡ false
+        unsound : HasUnsound l1_table_kind (layout_of H.fields) raw_entries → l1_table_sound f H.fields ≡ false
         unfolding l1_table_sound
-        unsound bad = damaged-word f l1_words (layout_of H.fields) H.fields.l1_offset H.fields.l1_entries
-            (subst (λ p. HasUnsound l1_words (layout_of H.fields) (words_in f p H.fields.l1_entries)) place bad)
+        unsound bad = damaged-word f l1_table_kind (layout_of H.fields) H.fields.l1_offset H.fields.l1_entries
+            (subst (λ p. HasUnsound l1_table_kind (layout_of H.fields) (raw_entries_in f p H.fields.l1_entries)) place bad)
 
-        pub table-not-loaded : (old new : StorageState) (fault : Fault) → WhyNotLoaded l1_words (layout_of H.fields) words old.faults new.faults fault
+        pub table-not-loaded : (old new : StorageState) (fault : Fault) → WhyNotLoaded l1_table_kind (layout_of H.fields) raw_entries old.faults new.faults fault
             → NotLoaded (header_for writable f) old new fault
         table-not-loaded old new Memory why = why
         table-not-loaded old new Storage why = why

@@ -4,29 +4,29 @@ use Rattle.std.proofs.lemmas.Bool.{cases_lt, cases_Bool}
 use Rattle.std.proofs.lemmas.Nat.{le-div, pow_pos}
 use Rattle.std.proofs.Math.Nat.{div-mul-le_self, mul-le-mul_right}
 use Rattle.std.specs.Prelude.{Bool, true, false, IfSome, min, ltb}
-use Rattle.imago_storage.specs.State.{Rose}
+use Rattle.imago_storage.specs.State.{HasRisen}
 use Rattle.imago_storage.specs.Disk.{damaged_place}
 use Rattle.imago_storage.specs.declared.fault.Fault.{Fault}
 use Rattle.imago_storage.specs.declared.fault.Fault.TheVariants.{DamagedTable, Failed, MissingData, Memory, Storage}
 use Rattle.imago_storage.specs.declared.storage.Storage.{Ghosts}
 use Rattle.imago_access.specs.Layer.{Layer, own}
 use Rattle.imago_access.specs.Parts.{IsMappedAt}
-use Rattle.imago_access.specs.Refusals.{LookCause, barrier}
+use Rattle.imago_access.specs.Refusals.{LookCause, unusable_fault}
 use Rattle.imago_access.specs.declared.mapping.ShallowMapping.{ShallowMapping}
 use Rattle.qcow2_types.specs.Bytes.{Bytes, bytes_of}
 use Rattle.qcow2_types.specs.Entries.{entry}
 use Rattle.qcow2_types.specs.Header.{Fields, Header, cluster_size}
 use Rattle.qcow2_types.specs.Words.{Mapping, data_at, zeroes, packed, damaged}
-use Rattle.qcow2_types.specs.Words as words
+use Rattle.qcow2_types.specs.Words as raw_entries
 use Rattle.qcow2_alloc.specs.Causes.{HasCause}
 use Rattle.qcow2_image.specs.HeldHomes.{run-from, run-guest}
-use Rattle.qcow2_image.specs.Holding.{Holding, HoldsRun, IsUncopied, claim_held, held_home, home_or, homes_with, in_run}
+use Rattle.qcow2_image.specs.Holding.{PreparedMappingRun, HoldsRun, IsUncopied, mapping_id_held, held_writable_location, writable_location_or, writable_locations_with, in_run}
 use Rattle.qcow2_image.specs.Homes.{mapped}
-use Rattle.qcow2_image.specs.ImageLayer.{home_by, homes, shallow_of}
+use Rattle.qcow2_image.specs.ImageLayer.{writable_location_by, writable_locations, shallow_of}
 use Rattle.qcow2_image.specs.Looking.{Follows, IsWholeRun, IsWholeRunIn, answer_at, writable_place_of}
-use Rattle.qcow2_image.specs.Rooms.{HoldsIn, Sees, rest_of}
-use Rattle.qcow2_image.specs.Writing.{IsHomeAt, telling_causes}
-use Rattle.qcow2_image.specs.Seen.{IsSeen, file_of, homes_of, layer_of, memory_of}
+use Rattle.qcow2_image.specs.Rooms.{HoldsIn, IsCoherent, rest_of}
+use Rattle.qcow2_image.specs.Writing.{IsWritableAt, telling_causes}
+use Rattle.qcow2_image.specs.Seen.{IsCacheCoherent, file_of, writable_locations_of, layer_of, memory_of}
 use Rattle.qcow2_image.specs.Steps.{KeepsImage}
 use Rattle.qcow2_image.specs.Unspent.{holding_in}
 use Rattle.qcow2_image.specs.declared.mode.OpenMode.{OpenMode}
@@ -37,22 +37,22 @@ use Rattle.qcow2_image.proofs.Steps.{layer-by, memory-is}
 
 module _ (layer : Layer) (guest place : ℕ) where
   -- A range and the one behind it, from the place behind on.
-  pub home-both : (n m at : ℕ) → at ≡ place + n → IsHomeAt layer guest place n → IsHomeAt layer (guest + n) at m → IsHomeAt layer guest place (n + m)
+  pub home-both : (n m at : ℕ) → at ≡ place + n → IsWritableAt layer guest place n → IsWritableAt layer (guest + n) at m → IsWritableAt layer guest place (n + m)
   home-both n m at behind first second i lt = elim (cases_lt i n) [
     | inl low ↦ first i low
     | inr high ↦
         let k : ℕ = i - n in
         let from : guest + n + k ≡ guest + i = omega (arith, high) in
         let to : at + k ≡ place + i = omega (arith, high, behind) in
-        ap layer.home (sym from) ∙ second k (omega (arith, lt, high)) ∙ ap (λ x. Some (0, x)) to
+        ap layer.writable_location (sym from) ∙ second k (omega (arith, lt, high)) ∙ ap (λ x. Some (0, x)) to
   ]
 
   -- A place without a home is in no range that is mapped,
-  pub homeless-unmapped : (n k : ℕ) → k < n → layer.home (guest + k) ≡ None → IsMappedAt layer guest place n → ⊥
+  pub homeless-unmapped : (n k : ℕ) → k < n → layer.writable_location (guest + k) ≡ None → IsMappedAt layer guest place n → ⊥
   homeless-unmapped n k lt none mapped = cc (sym none ∙ mapped.1 k lt)
 
   -- nor one whose home is another.
-  pub elsewhere-unmapped : (n k at : ℕ) → k < n → layer.home (guest + k) ≡ Some (0, at) → at ≢ place + k → IsMappedAt layer guest place n → ⊥
+  pub elsewhere-unmapped : (n k at : ℕ) → k < n → layer.writable_location (guest + k) ≡ Some (0, at) → at ≢ place + k → IsMappedAt layer guest place n → ⊥
   elsewhere-unmapped n k at lt home other mapped =
       let same : ◌≡◌ {A = ℕ × ℕ} (0, at) (mapped.0, place + k) = cc (sym home ∙ mapped.1 k lt) in
       other (ap (λ (x : ℕ × ℕ). x.1) same)
@@ -68,29 +68,29 @@ why-told g entry now new offset n DamagedTable same runs faults why =
     (offset + why.0, there.0, there.1)
 why-told g entry now new offset n Memory same runs faults why = tt
 why-told g entry now new offset n Storage same runs faults why = elim why [
-  | inl rose ↦ subst (λ b. Rose b (g.state new.tables.file.image).faults) faults rose
+  | inl rose ↦ subst (λ b. HasRisen b (g.state new.tables.file.image).faults) faults rose
   | inr none ↦ absurd none
 ]
 why-told g entry now new offset n Failed same runs faults why =
-    let none : barrier (layer_of g now) ≡ None = rw runs refl in absurd (cc (sym none ∙ why))
+    let none : unusable_fault (layer_of g now) ≡ None = rw runs refl in absurd (cc (sym none ∙ why))
 why-told g entry now new offset n MissingData same runs faults why =
-    let none : barrier (layer_of g now) ≡ None = rw runs refl in absurd (cc (sym none ∙ why))
+    let none : unusable_fault (layer_of g now) ≡ None = rw runs refl in absurd (cc (sym none ∙ why))
 why-told g entry now new offset n fault same runs faults why = absurd why
 
 -- Lookups that succeed leave the layer, and all that was seen.
-pub kept-seen : {S : Type 0} (g : Ghosts S) (old new : Qcow2 S g) → KeepsImage {T = Unit} g old (Ok tt) new → IsSeen g old.tables
-    → (layer_of g new ≡ layer_of g old) × IsSeen g new.tables
+pub kept-seen : {S : Type 0} (g : Ghosts S) (old new : Qcow2 S g) → KeepsImage {T = Unit} g old (Ok tt) new → IsCacheCoherent g old.tables
+    → (layer_of g new ≡ layer_of g old) × IsCacheCoherent g new.tables
 kept-seen g old new k seen = (
   layer-by (g.state old.tables.file.image) (g.state new.tables.file.image) (memory_of g old.tables) (memory_of g new.tables) old.tables.file.header.fields
       new.tables.file.header.fields old.mode new.mode old.number new.number old.failed new.failed (holding_in g old.unspent) (holding_in g new.unspent)
-      k.tables.kept.shape k.tables.kept.bytes (memory-is g new.tables ∙ ap bytes_of k.tables.kept.bytes ∙ sym (memory-is g old.tables))
+      k.tables.unchanged_but_faults.shape k.tables.unchanged_but_faults.bytes (memory-is g new.tables ∙ ap bytes_of k.tables.unchanged_but_faults.bytes ∙ sym (memory-is g old.tables))
       (ap (λ (H : Header). H.fields) k.tables.header) k.mode k.number k.failed (ap (holding_in g) k.unspent),
   k.tables.seen seen,
 )
 
 -- no place of a guest cluster that is mapped so can be written by its word
 abbrev IsHomeless : Fields → Mapping → Type 0
-IsHomeless h m = (p : ℕ) → home_by h p m ≡ None
+IsHomeless h m = (p : ℕ) → writable_location_by h p m ≡ None
 
 -- So it is where a lookup doesn't answer that it can be, of an image that was opened for writing,
 answer-homeless : (h : Fields) (mode : OpenMode) (bits offset within : ℕ) (m : Mapping) → mode.writable ≡ true
@@ -99,11 +99,11 @@ answer-homeless h mode bits offset within (data_at c false) on none p = refl
 answer-homeless h mode bits offset within (data_at c true) on none p = absurd (cc (rw on at none))
 answer-homeless h mode bits offset within (zeroes c copied) on none p = refl
 answer-homeless h mode bits offset within (packed at n) on none p = refl
-answer-homeless h mode bits offset within words.unmapped on none p = refl
+answer-homeless h mode bits offset within raw_entries.unmapped on none p = refl
 answer-homeless h mode bits offset within damaged on none p = refl
 
 -- and where the mapping goes on from one that is so,
-unmarked-homeless : (h : Fields) (p c c' : ℕ) (mark mark' : Bool) → mark' ≡ mark → home_by h p (data_at c mark) ≡ None → home_by h p (data_at c' mark') ≡ None
+unmarked-homeless : (h : Fields) (p c c' : ℕ) (mark mark' : Bool) → mark' ≡ mark → writable_location_by h p (data_at c mark) ≡ None → writable_location_by h p (data_at c' mark') ≡ None
 unmarked-homeless h p c c' mark false same none = refl
 unmarked-homeless h p c c' false true same none = absurd (cc same)
 unmarked-homeless h p c c' true true same none = absurd (cc none)
@@ -113,11 +113,11 @@ follows-homeless h (data_at c mark) (data_at c' mark') follows none p = unmarked
 follows-homeless h (zeroes None mark) (data_at c' mark') follows none p = absurd follows
 follows-homeless h (zeroes (Some c) mark) (data_at c' mark') follows none p = absurd follows
 follows-homeless h (packed at n) (data_at c' mark') follows none p = absurd follows
-follows-homeless h words.unmapped (data_at c' mark') follows none p = absurd follows
+follows-homeless h raw_entries.unmapped (data_at c' mark') follows none p = absurd follows
 follows-homeless h damaged (data_at c' mark') follows none p = absurd follows
 follows-homeless h m (zeroes c copied) follows none p = refl
 follows-homeless h m (packed at n) follows none p = refl
-follows-homeless h m words.unmapped follows none p = refl
+follows-homeless h m raw_entries.unmapped follows none p = refl
 follows-homeless h m damaged follows none p = refl
 
 -- so at each place of the run.
@@ -145,7 +145,7 @@ module _ (h : Fields) (mapping : ℕ → Mapping) (offset asked n : ℕ) (run : 
       subst (λ x. IsHomeless h (mapping x)) is (cluster-homeless ((offset + i) / cluster_size h - begin) (omega (arith, same, high, lt)))
 
 -- what can't be written by its word has no home there
-no-homes : (writable : Bool) (m : Bytes) (h : Fields) (p : ℕ) → (writable ≡ true → home_by h p (mapped m h p) ≡ None) → homes writable m h p ≡ None
+no-homes : (writable : Bool) (m : Bytes) (h : Fields) (p : ℕ) → (writable ≡ true → writable_location_by h p (mapped m h p) ≡ None) → writable_locations writable m h p ≡ None
 no-homes false m h p none = refl
 no-homes true m h p none = elim (cases_Bool (ltb p h.size)) [ inl t ↦ rw t (none refl) | inr t ↦ rw t refl ]
 
@@ -158,17 +158,17 @@ module _ {S : Type 0} (g : Ghosts S) (d : Qcow2 S g) (offset asked n : ℕ) (ans
   first-homeless : d.mode.writable ≡ true → IsHomeless h (entry (file_of g d.tables) h (offset / cluster_size h))
   first-homeless on = answer-homeless h d.mode _ _ _ _ on (ap writable_place_of (sym is) ∙ none)
 
-  in-file : (p : ℕ) → (d.mode.writable ≡ true → home_by h p (mapped (file_of g d.tables) h p) ≡ None) → homes_of g d p ≡ None
-  in-file p none = no-homes d.mode.writable (memory_of g d.tables) h p (λ on. subst (λ m. home_by h p (mapped m h p) ≡ None) (sym (memory-is g d.tables)) (none on))
+  in-file : (p : ℕ) → (d.mode.writable ≡ true → writable_location_by h p (mapped (file_of g d.tables) h p) ≡ None) → writable_locations_of g d p ≡ None
+  in-file p none = no-homes d.mode.writable (memory_of g d.tables) h p (λ on. subst (λ m. writable_location_by h p (mapped m h p) ≡ None) (sym (memory-is g d.tables)) (none on))
 
-  pub word-none : homes_of g d offset ≡ None
+  pub word-none : writable_locations_of g d offset ≡ None
   word-none = in-file offset (λ on. first-homeless on offset)
 
-  pub words-none : IsWholeRunIn g d.tables offset asked n → (i : ℕ) → i < n → homes_of g d (offset + i) ≡ None
+  pub words-none : IsWholeRunIn g d.tables offset asked n → (i : ℕ) → i < n → writable_locations_of g d (offset + i) ≡ None
   words-none run i lt = in-file (offset + i) (λ on. run-homeless h (entry (file_of g d.tables) h) offset asked n run (first-homeless on) i lt (offset + i))
 
 -- Where a place of the run of a mapping lies:
-module _ (hold : Holding) (offset most : ℕ) where
+module _ (hold : PreparedMappingRun) (offset most : ℕ) where
   abbrev found : ℕ × ℕ
   found = (hold.place + (offset - hold.offset), min most (hold.length - (offset - hold.offset)))
 
@@ -178,26 +178,26 @@ module _ (hold : Holding) (offset most : ℕ) where
       let k : ℕ = offset + i - hold.offset in
       subst (λ p. in_run hold p ≡ true) (omega (arith, run.0)) (range-in hold.offset hold.length k (omega (arith, run.0, run.1, lt)))
 
-  run-on : in_run hold offset ≡ true → (i : ℕ) → i < found.1 → held_home hold (offset + i) ≡ Some (0, found.0 + i)
+  run-on : in_run hold offset ≡ true → (i : ℕ) → i < found.1 → held_writable_location hold (offset + i) ≡ Some (0, found.0 + i)
   run-on is i lt =
       let run = in-range hold.offset hold.length offset is in
       let same : hold.place + (offset + i - hold.offset) ≡ hold.place + (offset - hold.offset) + i = omega (arith, run.0) in
       rw (run-in is i lt) (ap (λ a. Some (0, a)) same)
 
 -- the run goes on there,
-abbrev GoesOn : Holding → (ℕ → Option (ℕ × ℕ)) → ℕ → ℕ × ℕ → Type 0
-GoesOn hold home offset r = (i : ℕ) → i < r.1 → homes_with (Some hold) home (offset + i) ≡ Some (0, r.0 + i)
+abbrev GoesOn : PreparedMappingRun → (ℕ → Option (ℕ × ℕ)) → ℕ → ℕ × ℕ → Type 0
+GoesOn hold home offset r = (i : ℕ) → i < r.1 → writable_locations_with (Some hold) home (offset + i) ≡ Some (0, r.0 + i)
 
-pub held-goes-on : (hold : Option Holding) (home : ℕ → Option (ℕ × ℕ)) (offset most : ℕ) (answer : Option (ℕ × ℕ)) → HoldsRun hold offset most answer
-    → ((i : ℕ) → i < most → home (offset + i) ≡ None) → IfSome answer (λ r. (i : ℕ) → i < r.1 → homes_with hold home (offset + i) ≡ Some (0, r.0 + i))
+pub held-goes-on : (hold : Option PreparedMappingRun) (home : ℕ → Option (ℕ × ℕ)) (offset most : ℕ) (answer : Option (ℕ × ℕ)) → HoldsRun hold offset most answer
+    → ((i : ℕ) → i < most → home (offset + i) ≡ None) → IfSome answer (λ r. (i : ℕ) → i < r.1 → writable_locations_with hold home (offset + i) ≡ Some (0, r.0 + i))
 held-goes-on None home offset most answer is none = subst (λ o. IfSome o (λ r. (i : ℕ) → i < r.1 → home (offset + i) ≡ Some (0, r.0 + i))) (sym is) tt
 held-goes-on (Some hold) home offset most answer is none = subst (λ o. IfSome o (GoesOn hold home offset)) (sym is) (elim (cases_Bool (in_run hold offset)) [
   | inr off ↦ rw off tt
-  | inl so ↦ rw so (λ i lt. ap (λ o. home_or o (held_home hold (offset + i))) (none i (omega (arith, lt))) ∙ run-on hold offset most so i lt)
+  | inl so ↦ rw so (λ i lt. ap (λ o. writable_location_or o (held_writable_location hold (offset + i))) (none i (omega (arith, lt))) ∙ run-on hold offset most so i lt)
 ])
 
 -- for so many bytes as are asked for and more than none,
-pub held-some : (hold : Option Holding) (offset most : ℕ) (answer : Option (ℕ × ℕ)) → HoldsRun hold offset most answer
+pub held-some : (hold : Option PreparedMappingRun) (offset most : ℕ) (answer : Option (ℕ × ℕ)) → HoldsRun hold offset most answer
     → IfSome answer (λ r. (r.1 ≤ most) × (0 < most → 0 < r.1))
 held-some None offset most answer is = subst (λ o. IfSome o (λ r. (r.1 ≤ most) × (0 < most → 0 < r.1))) (sym is) tt
 held-some (Some hold) offset most answer is = subst (λ o. IfSome o (λ r. (r.1 ≤ most) × (0 < most → 0 < r.1))) (sym is) (elim (cases_Bool (in_run hold offset)) [
@@ -206,40 +206,40 @@ held-some (Some hold) offset most answer is = subst (λ o. IfSome o (λ r. (r.1 
 ])
 
 -- and a place that isn't in the run has no home there.
-pub held-nowhere : (hold : Option Holding) (home : ℕ → Option (ℕ × ℕ)) (offset most : ℕ) (answer : Option (ℕ × ℕ)) → HoldsRun hold offset most answer
-    → home offset ≡ None → answer ≡ None → homes_with hold home offset ≡ None
+pub held-nowhere : (hold : Option PreparedMappingRun) (home : ℕ → Option (ℕ × ℕ)) (offset most : ℕ) (answer : Option (ℕ × ℕ)) → HoldsRun hold offset most answer
+    → home offset ≡ None → answer ≡ None → writable_locations_with hold home offset ≡ None
 held-nowhere None home offset most answer is none nowhere = none
 held-nowhere (Some hold) home offset most answer is none nowhere = elim (cases_Bool (in_run hold offset)) [
-  | inr off ↦ ap (λ o. home_or o (held_home hold offset)) none ∙ rw off refl
+  | inr off ↦ ap (λ o. writable_location_or o (held_writable_location hold offset)) none ∙ rw off refl
   | inl so ↦
       let there : answer ≡ Some (hold.place + (offset - hold.offset), min most (hold.length - (offset - hold.offset))) = rw so at is in
       absurd (cc (sym nowhere ∙ there))
 ]
 
 -- Where nothing is prepared none is found.
-pub free-nowhere : (hold : Option Holding) (offset most : ℕ) (answer : Option (ℕ × ℕ)) (P : ℕ × ℕ → Type 0) → claim_held hold ≡ None → HoldsRun hold offset most answer
+pub free-nowhere : (hold : Option PreparedMappingRun) (offset most : ℕ) (answer : Option (ℕ × ℕ)) (P : ℕ × ℕ → Type 0) → mapping_id_held hold ≡ None → HoldsRun hold offset most answer
     → IfSome answer P
 free-nowhere None offset most answer P free is = subst (λ o. IfSome o P) (sym is) tt
 free-nowhere (Some hold) offset most answer P free is = absurd (cc free)
 
 -- A place of the run of a mapping can't be written by its word,
-run-wordless : {S : Type 0} (g : Ghosts S) (d : Qcow2 S g) (hold : Holding) → HoldsIn g d.tables hold → (p : ℕ) → in_run hold p ≡ true
-    → homes_of g d p ≡ None
+run-wordless : {S : Type 0} (g : Ghosts S) (d : Qcow2 S g) (hold : PreparedMappingRun) → HoldsIn g d.tables hold → (p : ℕ) → in_run hold p ≡ true
+    → writable_locations_of g d p ≡ None
 run-wordless g d hold holds p is =
     let h : Fields = d.tables.file.header.fields in
     let guest = run-guest (rest_of g d.tables holds.space) hold holds.held p is in
     let k : ℕ = p / cluster_size h - hold.guest in
     let there : hold.guest + k ≡ p / cluster_size h = omega (arith, guest.0) in
-    let word = subst (λ x. IsUncopied (entry (file_of g d.tables) h x)) there (holds.held.uncopied k (omega (arith, guest.0, guest.1))) in
+    let raw_entry = subst (λ x. IsUncopied (entry (file_of g d.tables) h x)) there (holds.held.uncopied k (omega (arith, guest.0, guest.1))) in
     uncopied-homeless d.mode.writable (memory_of g d.tables) h p
-    (subst (λ m. IsUncopied (entry m h (p / cluster_size h))) (sym (memory-is g d.tables)) word)
+    (subst (λ m. IsUncopied (entry m h (p / cluster_size h))) (sym (memory-is g d.tables)) raw_entry)
 
 -- so that a range is mapped where all of it is held.
 module _ {S : Type 0} (g : Ghosts S) (d : Qcow2 S g) (guest place n : ℕ) where
-  abbrev IsHeldWhole : Option Holding → Type 0
+  abbrev IsHeldWhole : Option PreparedMappingRun → Type 0
   IsHeldWhole hold = HoldsRun hold guest n (Some (place, n))
 
-  whole-run : (hold : Holding) → IsHeldWhole (Some hold) → (i : ℕ) → i < n → in_run hold (guest + i) ≡ true
+  whole-run : (hold : PreparedMappingRun) → IsHeldWhole (Some hold) → (i : ℕ) → i < n → in_run hold (guest + i) ≡ true
   whole-run hold whole i lt = elim (cases_Bool (in_run hold guest)) [
     | inr off ↦ let none : Some (place, n) ≡ None = rw off at whole in absurd (cc none)
     | inl so ↦
@@ -248,17 +248,17 @@ module _ {S : Type 0} (g : Ghosts S) (d : Qcow2 S g) (guest place n : ℕ) where
         run-in hold guest n so i (omega (arith, lt, ap (λ (x : ℕ × ℕ). x.1) both))
   ]
 
-  wordless : (hold : Option Holding) → IsHeldWhole hold → IfSome hold (HoldsIn g d.tables) → (i : ℕ) → i < n
-      → homes_of g d (guest + i) ≡ None
+  wordless : (hold : Option PreparedMappingRun) → IsHeldWhole hold → IfSome hold (HoldsIn g d.tables) → (i : ℕ) → i < n
+      → writable_locations_of g d (guest + i) ≡ None
   wordless None whole holds i lt = let none : Some (place, n) ≡ None = whole in absurd (cc none)
   wordless (Some hold) whole holds i lt = run-wordless g d hold holds (guest + i) (whole-run hold whole i lt)
 
-  pub held-home : IsHeldWhole (holding_in g d.unspent) → Sees g d → IsHomeAt (layer_of g d) guest place n
-  held-home whole sees = elim sees.sure [
+  pub held-home : IsHeldWhole (holding_in g d.unspent) → IsCoherent g d → IsWritableAt (layer_of g d) guest place n
+  held-home whole coherent = elim coherent.sure [
     | inl untouched ↦
         let none : Some (place, n) ≡ None = subst (λ u. IsHeldWhole (holding_in g u)) untouched.0 whole in
         absurd (cc none)
     | inr was ↦
-        held-goes-on (holding_in g d.unspent) (homes_of g d) guest n (Some (place, n)) whole
+        held-goes-on (holding_in g d.unspent) (writable_locations_of g d) guest n (Some (place, n)) whole
         (wordless (holding_in g d.unspent) whole was.held)
   ]

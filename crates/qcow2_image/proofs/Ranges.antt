@@ -25,11 +25,11 @@ module _ (bits : ℕ) (low : 9 ≤ bits) (high : bits ≤ 21) where
   pub small-table : l2_entries bits * 2 ^ bits ≤ 2 ^ 42
   small-table =
       let few : 2 ^ bits ≤ 2 ^ 21 = pow-le-pow_right (omega arith) high in
-      let words : l2_entries bits ≤ 2 ^ 21 = omega (arith, few) in
-      mul-le-mul words few
+      let raw_entries : l2_entries bits ≤ 2 ^ 21 = omega (arith, few) in
+      mul-le-mul raw_entries few
 
 -- A range that isn't empty and ends with a table at the latest, with e words for clusters of c bytes.
-module _ (c e offset n : ℕ) (some : 0 < c) (words : 0 < e) (positive : 0 < n) (row : offset % (e * c) + n ≤ e * c) where
+module _ (c e offset n : ℕ) (some : 0 < c) (raw_entries : 0 < e) (positive : 0 < n) (row : offset % (e * c) + n ≤ e * c) where
   abbrev w : ℕ
   w = offset % c
 
@@ -40,9 +40,9 @@ module _ (c e offset n : ℕ) (some : 0 < c) (words : 0 < e) (positive : 0 < n) 
   one-table =
       let g : ℕ = offset / c % e in
       let d : ℕ = e - g in
-      let below : g < e = mod_below (offset / c) e words in
+      let below : g < e = mod_below (offset / c) e raw_entries in
       let split : e ≡ g + d = omega (arith, below) in
-      let place : offset % (e * c) ≡ g * c + w = mod-mul offset words some in
+      let place : offset % (e * c) ≡ g * c + w = mod-mul offset raw_entries some in
       let product : e * c ≡ g * c + d * c = ap (λ x. x * c) split ∙ omega arith in
       let few : w + n - 1 < d * c = omega (arith, row, place, product, positive) in
       let less : q < d = (div-lt_iff_lt-mul some).1 few in

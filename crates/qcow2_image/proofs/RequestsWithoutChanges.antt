@@ -3,25 +3,25 @@ use Rattle.std.proofs.Common.{◌≡◌, ℕ, ◌≤◌, arith, ap, sym, subst, 
 use Rattle.std.specs.Prelude.{[], IsTrue, IsOk, IsSome, IfSome, OnOk, OnErr, IfErr, Option}
 use Rattle.std.specs.Borrow.{RattleType}
 use Rattle.imago_storage.specs.State.{Shape, StorageState}
-use Rattle.imago_storage.specs.Calls.{Kept, Later, IsFaultless, CountsFaults}
+use Rattle.imago_storage.specs.Calls.{UnchangedButFaults, CountsNotFallen, IsFaultless, CountsFaults}
 use Rattle.imago_storage.specs.Through.{NotRead}
 use Rattle.imago_storage.specs.declared.fault.Fault.{Fault}
 use Rattle.imago_storage.specs.declared.fault.Fault.TheVariants.{RangeOverflow, Memory, Storage}
 use Rattle.imago_storage.specs.declared.storage.Storage.{Ghosts}
 use Rattle.imago_storage.specs.Steps.{Call}
 use Rattle.imago_access.proofs.Marking.{plain_mild}
-use Rattle.imago_access.specs.Files.{WasNotCutOff, IsMild, ImageCause, files}
+use Rattle.imago_access.specs.Files.{HadNoResourceError, IsNotResourceError, ImageCause, files}
 use Rattle.imago_access.specs.PartCalls.{PartCall, PartRefused}
-use Rattle.imago_access.specs.Going.{Marks, WentAnew}
+use Rattle.imago_access.specs.Going.{MarksFailed, ReloadingCall}
 use Rattle.imago_access.specs.Layer.{Layer, Meaning}
 use Rattle.imago_access.specs.Parts.{DeclinableCause}
 use Rattle.imago_access.specs.Stops.{IsMeant}
-use Rattle.imago_access.specs.declared.seen.Seen.{Ghosts as SeenGhosts}
+use Rattle.imago_access.specs.declared.driver_model.DriverModel.{Ghosts as SeenGhosts}
 use Rattle.qcow2_types.specs.Bytes.{bytes_of}
 use Rattle.qcow2_types.specs.Consistency.{IsConsistent}
 use Rattle.qcow2_types.specs.Header.{Fields, Header}
 use Rattle.qcow2_clusters.specs.declared.space.Space.{Space}
-use Rattle.qcow2_image.specs.contracts.qcow2.Qcow2Seen.TheImpl.{ghosts}
+use Rattle.qcow2_image.specs.contracts.qcow2.Qcow2DriverModel.TheImpl.{ghosts}
 use Rattle.qcow2_image.specs.declared.qcow2.Qcow2.{Qcow2}
 use Rattle.qcow2_image.specs.declared.qcow2.PreparedMappingState.{PreparedMappingState}
 use Rattle.qcow2_image.specs.declared.mode.OpenMode.{OpenMode}
@@ -29,25 +29,25 @@ use Rattle.qcow2_image.specs.declared.tables.Tables.{Tables}
 use Rattle.qcow2_image.specs.ImageLayer.{blank_of, cells, qcow2_fixed, qcow2_layer, meaning_of}
 use Rattle.imago_access.specs.Layer.{IsFree}
 use Rattle.qcow2_image.specs.HeldHomes.{none-held, none-unspent}
-use Rattle.qcow2_image.specs.Holding.{Holding}
+use Rattle.qcow2_image.specs.Holding.{PreparedMappingRun}
 use Rattle.qcow2_image.specs.Opening.{IsSpaceOpened}
-use Rattle.qcow2_image.specs.Rooms.{IsSafe, Sees}
+use Rattle.qcow2_image.specs.Rooms.{IsWellFormed, IsCoherent}
 use Rattle.qcow2_image.specs.Unspent.{holding_in}
-use Rattle.qcow2_image.specs.Seen.{IsSeen, file_of, memory_of, layer_of}
-use Rattle.qcow2_image.specs.Steps.{KeepsImage, failed_anew, failed_behind, failed_by, Reloads}
+use Rattle.qcow2_image.specs.Seen.{IsCacheCoherent, file_of, memory_of, layer_of}
+use Rattle.qcow2_image.specs.Steps.{KeepsImage, failed_on_reload, failed_after, failed_by, Reloads}
 use Rattle.qcow2_image.proofs.StateAfterOpening.{opened-space}
 use Rattle.qcow2_image.proofs.Steps.{layer-by, marks-kept, memory-is}
 use Rattle.qcow2_image.proofs.SearchStart.{counted-first, opened-first}
 
 -- What a call keeps that wasn't cut off is kept by one that succeeded.
-pub ok-whole : {T : Type 0} (r : Result T Fault) (P : Type 0) → (WasNotCutOff r → P) → OnOk r P
+pub ok-whole : {T : Type 0} (r : Result T Fault) (P : Type 0) → (HadNoResourceError r → P) → OnOk r P
 ok-whole (Ok v) P p = p tt
 ok-whole (Err e) P p = tt
 
 -- A request that only reads leaves all seen.
-module _ {S : Type 0} (g : Ghosts S) (old new : Tables S g) (kept : Kept (g.state old.file.image) (g.state new.file.image)) (later : Later (g.state old.file.image) (g.state new.file.image))
+module _ {S : Type 0} (g : Ghosts S) (old new : Tables S g) (kept : UnchangedButFaults (g.state old.file.image) (g.state new.file.image)) (later : CountsNotFallen (g.state old.file.image) (g.state new.file.image))
     (header : new.file.header ≡ old.file.header) (l1 : new.l1 ≡ old.l1) (caches : new.caches ≡ old.caches) where
-  pub seen-same : IsSeen g old → IsSeen g new
+  pub seen-same : IsCacheCoherent g old → IsCacheCoherent g new
   seen-same seen =
       let bytes : file_of g new ≡ file_of g old = ap bytes_of kept.bytes in
       record {
@@ -58,8 +58,8 @@ module _ {S : Type 0} (g : Ghosts S) (old new : Tables S g) (kept : Kept (g.stat
       }
 
 -- A read that wasn't cut off met no fault,
-pub read-faultless : (s s' : StorageState) (at n : ℕ) (r : Result Unit Fault) → Kept s s' → OnOk r (s'.faults ≡ s.faults) → IfErr r (NotRead s s' at n)
-    → WasNotCutOff r → IsFaultless s s'
+pub read-faultless : (s s' : StorageState) (at n : ℕ) (r : Result Unit Fault) → UnchangedButFaults s s' → OnOk r (s'.faults ≡ s.faults) → IfErr r (NotRead s s' at n)
+    → HadNoResourceError r → IsFaultless s s'
 read-faultless s s' at n (Ok done) kept ok err whole = (ok, kept.refusals)
 read-faultless s s' at n (Err RangeOverflow) kept ok err whole = (ap (λ (x : StorageState). x.faults) err.1, kept.refusals)
 read-faultless s s' at n (Err Memory) kept ok err whole = absurd whole
@@ -67,7 +67,7 @@ read-faultless s s' at n (Err Storage) kept ok err whole = absurd whole
 read-faultless s s' at n (Err fault) kept ok err whole = absurd err
 
 -- and so did a request that is counted.
-pub counted-faultless : (s s' : StorageState) (r : Result Unit Fault) → Kept s s' → CountsFaults s.faults s'.faults r → WasNotCutOff r → IsFaultless s s'
+pub counted-faultless : (s s' : StorageState) (r : Result Unit Fault) → UnchangedButFaults s s' → CountsFaults s.faults s'.faults r → HadNoResourceError r → IsFaultless s s'
 counted-faultless s s' (Ok done) kept counts whole = (counts, kept.refusals)
 counted-faultless s s' (Err Memory) kept counts whole = absurd whole
 counted-faultless s s' (Err Storage) kept counts whole = absurd whole
@@ -75,16 +75,16 @@ counted-faultless s s' (Err fault) kept counts whole = absurd counts
 
 -- A request that changes nothing, whose answer marked the image.
 pub asked-keeps : {S : Type 0} (g : Ghosts S) (old new : Qcow2 S g) (s' : StorageState) (result : Result Unit Fault)
-    → Kept (g.state old.tables.file.image) s' → Later (g.state old.tables.file.image) s' → (WasNotCutOff result → IsFaultless (g.state old.tables.file.image) s')
+    → UnchangedButFaults (g.state old.tables.file.image) s' → CountsNotFallen (g.state old.tables.file.image) s' → (HadNoResourceError result → IsFaultless (g.state old.tables.file.image) s')
     → g.state new.tables.file.image ≡ s' → new.tables.file.header ≡ old.tables.file.header → new.tables.l1 ≡ old.tables.l1 → new.tables.caches ≡ old.tables.caches
     → new.tables.space ≡ old.tables.space → new.mode ≡ old.mode → new.number ≡ old.number → new.unspent ≡ old.unspent
-    → new.failed ≡ failed_behind failed_by result old.failed → KeepsImage g old result new
+    → new.failed ≡ failed_after failed_by result old.failed → KeepsImage g old result new
 asked-keeps g old new s' result kept later faults state header l1 caches space mode number unspent failed =
-    let kept-new : Kept (g.state old.tables.file.image) (g.state new.tables.file.image) = subst (Kept (g.state old.tables.file.image)) (sym state) kept in
-    let later-new : Later (g.state old.tables.file.image) (g.state new.tables.file.image) = subst (Later (g.state old.tables.file.image)) (sym state) later in record {
+    let kept-new : UnchangedButFaults (g.state old.tables.file.image) (g.state new.tables.file.image) = subst (UnchangedButFaults (g.state old.tables.file.image)) (sym state) kept in
+    let later-new : CountsNotFallen (g.state old.tables.file.image) (g.state new.tables.file.image) = subst (CountsNotFallen (g.state old.tables.file.image)) (sym state) later in record {
       tables = record {
-        kept = kept-new;
-        later = later-new;
+        unchanged_but_faults = kept-new;
+        counts_not_fallen = later-new;
         faults = λ whole. subst (IsFaultless (g.state old.tables.file.image)) (sym state) (faults whole);
         header = header;
         space = space;
@@ -98,21 +98,21 @@ asked-keeps g old new s' result kept later faults state header l1 caches space m
 
 -- The same of one whose answer was settled: but for its mark the image is as it was, with the storage as the request left it.
 pub settled-keeps : {S : Type 0} (g : Ghosts S) (old new : Qcow2 S g) {tables : Tables S g} (answer result : Result Unit Fault)
-    → new ≡ record old { tables = tables; failed = failed_behind failed_by answer old.failed } → result ≡ answer
+    → new ≡ record old { tables = tables; failed = failed_after failed_by answer old.failed } → result ≡ answer
     → (tables.file.header ≡ old.tables.file.header) × (tables.l1 ≡ old.tables.l1)
     × (tables.caches ≡ old.tables.caches) × (tables.space ≡ old.tables.space)
-    → Kept (g.state old.tables.file.image) (g.state tables.file.image) → Later (g.state old.tables.file.image) (g.state tables.file.image)
-    → (WasNotCutOff answer → IsFaultless (g.state old.tables.file.image) (g.state tables.file.image)) → KeepsImage g old result new
+    → UnchangedButFaults (g.state old.tables.file.image) (g.state tables.file.image) → CountsNotFallen (g.state old.tables.file.image) (g.state tables.file.image)
+    → (HadNoResourceError answer → IsFaultless (g.state old.tables.file.image) (g.state tables.file.image)) → KeepsImage g old result new
 settled-keeps {S} g old new {tables} answer result is same rest kept later faults =
-    asked-keeps g old new (g.state tables.file.image) result kept later (λ whole. faults (subst WasNotCutOff same whole))
+    asked-keeps g old new (g.state tables.file.image) result kept later (λ whole. faults (subst HadNoResourceError same whole))
     (ap (λ (d : Qcow2 S g). g.state d.tables.file.image) is) (ap (λ (d : Qcow2 S g). d.tables.file.header) is ∙ rest.0)
     (ap (λ (d : Qcow2 S g). d.tables.l1) is ∙ rest.1) (ap (λ (d : Qcow2 S g). d.tables.caches) is ∙ rest.2)
     (ap (λ (d : Qcow2 S g). d.tables.space) is ∙ rest.3) (ap (λ (d : Qcow2 S g). d.mode) is)
     (ap (λ (d : Qcow2 S g). d.number) is) (ap (λ (d : Qcow2 S g). d.unspent) is)
-    (ap (λ (d : Qcow2 S g). d.failed) is ∙ ap (λ r. failed_behind failed_by r old.failed) (sym same))
+    (ap (λ (d : Qcow2 S g). d.failed) is ∙ ap (λ r. failed_after failed_by r old.failed) (sym same))
 
 -- Where nothing waits, the file by itself means the disk.
-pub meant : {S : Type 0} (g : Ghosts S) (t : Tables S g) (mode : OpenMode) (failed : Bool) (number : ℕ) (hold : Option Holding) → IsSeen g t → IsMeant (qcow2_layer (g.state t.file.image) (memory_of g t) t.file.header.fields mode number failed hold) (g.state t.file.image).bytes
+pub meant : {S : Type 0} (g : Ghosts S) (t : Tables S g) (mode : OpenMode) (failed : Bool) (number : ℕ) (hold : Option PreparedMappingRun) → IsCacheCoherent g t → IsMeant (qcow2_layer (g.state t.file.image) (memory_of g t) t.file.header.fields mode number failed hold) (g.state t.file.image).bytes
 meant g t mode failed number hold seen =
     let is = ap (meaning_of (blank_of mode.backing) (file_of g t)) seen.loads in record {
       size = subst (λ (x : Meaning). t.file.header.fields.size ≤ x.size) (sym is) (omega arith);
@@ -121,22 +121,22 @@ meant g t mode failed number hold seen =
     }
 
 -- What a call answered that read all anew, once that has marked the image.
-pub reloads-settled : {S : Type 0} (g : Ghosts S) (old new : Qcow2 S g) (mid : Tables S g) (answer result : Result Unit Fault) → Reloads g old.mode.writable old.tables answer mid → result ≡ answer → new ≡ record old { tables = mid; failed = failed_behind failed_anew answer old.failed }
-    → Reloads g old.mode.writable old.tables result new.tables × (new.mode ≡ old.mode) × (new.number ≡ old.number) × (new.unspent ≡ old.unspent) × (new.failed ≡ failed_behind failed_anew result old.failed)
+pub reloads-settled : {S : Type 0} (g : Ghosts S) (old new : Qcow2 S g) (mid : Tables S g) (answer result : Result Unit Fault) → Reloads g old.mode.writable old.tables answer mid → result ≡ answer → new ≡ record old { tables = mid; failed = failed_after failed_on_reload answer old.failed }
+    → Reloads g old.mode.writable old.tables result new.tables × (new.mode ≡ old.mode) × (new.number ≡ old.number) × (new.unspent ≡ old.unspent) × (new.failed ≡ failed_after failed_on_reload result old.failed)
 reloads-settled g old new mid answer result all same is = (
   subst (λ t. Reloads g old.mode.writable old.tables result t) (sym (ap (λ (x : Qcow2 _ g). x.tables) is)) (subst (λ r. Reloads g old.mode.writable old.tables r mid) (sym same) all),
   ap (λ (x : Qcow2 _ g). x.mode) is,
   ap (λ (x : Qcow2 _ g). x.number) is,
   ap (λ (x : Qcow2 _ g). x.unspent) is,
-  ap (λ (x : Qcow2 _ g). x.failed) is ∙ ap (λ r. failed_behind failed_anew r old.failed) (sym same),
+  ap (λ (x : Qcow2 _ g). x.failed) is ∙ ap (λ r. failed_after failed_on_reload r old.failed) (sym same),
 )
 
 -- All is read anew, while nothing is prepared.
 module _ (R : RattleType) (st : Ghosts R.Denot) (sd : mir.Syntax.Dict) (dd : mir.Syntax.Dict) (old new : Qcow2 R.Denot st) (result : Result Unit Fault) (all : Reloads st old.mode.writable old.tables result new.tables)
     (mode : new.mode ≡ old.mode) (number : new.number ≡ old.number) (unspent : new.unspent ≡ old.unspent) (free : IsFree (layer_of st old))
-    (failed : new.failed ≡ failed_behind failed_anew result old.failed) where
-  abbrev sees : SeenGhosts (Qcow2 R.Denot st) PreparedMappingState
-  sees = ghosts R st sd dd
+    (failed : new.failed ≡ failed_after failed_on_reload result old.failed) where
+  abbrev coherent : SeenGhosts (Qcow2 R.Denot st) PreparedMappingState
+  coherent = ghosts R st sd dd
 
   hold-same : holding_in st new.unspent ≡ holding_in st old.unspent
   hold-same = ap (holding_in st) unspent
@@ -148,8 +148,8 @@ module _ (R : RattleType) (st : Ghosts R.Denot) (sd : mir.Syntax.Dict) (dd : mir
   nothing-prepared = none-unspent st new.unspent none-prepared
 
   layer-same : new.failed ≡ old.failed → new.tables.file.header ≡ old.tables.file.header → layer_of st new ≡ layer_of st old
-  layer-same failed header = layer-by (st.state old.tables.file.image) (st.state new.tables.file.image) (memory_of st old.tables) (memory_of st new.tables) old.tables.file.header.fields new.tables.file.header.fields old.mode new.mode old.number new.number old.failed new.failed (holding_in st old.unspent) (holding_in st new.unspent) all.kept.shape all.kept.bytes
-      (memory-is st new.tables ∙ ap bytes_of all.kept.bytes ∙ sym (memory-is st old.tables)) (ap (λ (H : Header). H.fields) header) mode number failed hold-same
+  layer-same failed header = layer-by (st.state old.tables.file.image) (st.state new.tables.file.image) (memory_of st old.tables) (memory_of st new.tables) old.tables.file.header.fields new.tables.file.header.fields old.mode new.mode old.number new.number old.failed new.failed (holding_in st old.unspent) (holding_in st new.unspent) all.unchanged_but_faults.shape all.unchanged_but_faults.bytes
+      (memory-is st new.tables ∙ ap bytes_of all.unchanged_but_faults.bytes ∙ sym (memory-is st old.tables)) (ap (λ (H : Header). H.fields) header) mode number failed hold-same
 
   abbrev Opened : Type 0
   Opened = IsSpaceOpened (st.state new.tables.file.image) new.tables.file.header.fields old.mode.writable new.tables.space
@@ -159,14 +159,14 @@ module _ (R : RattleType) (st : Ghosts R.Denot) (sd : mir.Syntax.Dict) (dd : mir
   idle-anew None opened = tt
   idle-anew (Some space) opened = opened.idle
 
-  sees-anew : IsSeen st new.tables → Opened → Sees st new
+  sees-anew : IsCacheCoherent st new.tables → Opened → IsCoherent st new
   sees-anew seen opened = record { seen = seen; sure = inl (nothing-prepared, idle-anew new.tables.space opened) }
 
-  safe-anew : new.failed ≡ old.failed → new.tables.file.header ≡ old.tables.file.header → Opened → IsSeen st new.tables → IsSafe st old → IsSafe st new
-  safe-anew failed header opened seen safe =
-      let consistent : IsConsistent (file_of st new.tables) new.tables.file.header = rw (ap bytes_of all.kept.bytes, header) safe.consistent in record {
-        runs = failed ∙ safe.runs;
-        keeps = subst (λ (x : Shape). IsTrue x.keeps) (sym all.kept.shape) safe.keeps;
+  safe-anew : new.failed ≡ old.failed → new.tables.file.header ≡ old.tables.file.header → Opened → IsCacheCoherent st new.tables → IsWellFormed st old → IsWellFormed st new
+  safe-anew failed header opened seen well_formed =
+      let consistent : IsConsistent (file_of st new.tables) new.tables.file.header = rw (ap bytes_of all.unchanged_but_faults.bytes, header) well_formed.consistent in record {
+        runs = failed ∙ well_formed.runs;
+        keeps = subst (λ (x : Shape). IsTrue x.keeps) (sym all.unchanged_but_faults.shape) well_formed.keeps;
         consistent = consistent;
         seen = seen;
         sound = opened-space st new.tables consistent old.mode.writable new.tables.space opened;
@@ -176,39 +176,39 @@ module _ (R : RattleType) (st : Ghosts R.Denot) (sd : mir.Syntax.Dict) (dd : mir
         writable = λ some. absurd (cc (subst IsSome nothing-prepared some));
       }
 
-  pub anew-same : IsSeen st old.tables → OnOk result ((layer_of st new ≡ layer_of st old) × Sees st new)
+  pub anew-same : IsCacheCoherent st old.tables → OnOk result ((layer_of st new ≡ layer_of st old) × IsCoherent st new)
   anew-same seen = from result failed (all.same seen) all.anew all.space where
-    from : (r : Result Unit Fault) → new.failed ≡ failed_behind failed_anew r old.failed → OnOk r (new.tables.file.header ≡ old.tables.file.header) → OnOk r (IsSeen st new.tables)
-        → OnOk r Opened → OnOk r ((layer_of st new ≡ layer_of st old) × Sees st new)
+    from : (r : Result Unit Fault) → new.failed ≡ failed_after failed_on_reload r old.failed → OnOk r (new.tables.file.header ≡ old.tables.file.header) → OnOk r (IsCacheCoherent st new.tables)
+        → OnOk r Opened → OnOk r ((layer_of st new ≡ layer_of st old) × IsCoherent st new)
     from (Ok v) same header anew space = (layer-same same header, sees-anew anew space)
     from (Err fault) same header anew space = tt
 
-  pub anew-safely : IsOk result → IsSafe st old → IsSafe st new
-  anew-safely ok safe = from result failed (all.same safe.seen) all.anew all.space ok where
-    from : (r : Result Unit Fault) → new.failed ≡ failed_behind failed_anew r old.failed → OnOk r (new.tables.file.header ≡ old.tables.file.header) → OnOk r (IsSeen st new.tables)
-        → OnOk r Opened → IsOk r → IsSafe st new
-    from (Ok v) same header anew space ok = safe-anew same header space anew safe
+  pub anew-safely : IsOk result → IsWellFormed st old → IsWellFormed st new
+  anew-safely ok well_formed = from result failed (all.same well_formed.seen) all.anew all.space ok where
+    from : (r : Result Unit Fault) → new.failed ≡ failed_after failed_on_reload r old.failed → OnOk r (new.tables.file.header ≡ old.tables.file.header) → OnOk r (IsCacheCoherent st new.tables)
+        → OnOk r Opened → IsOk r → IsWellFormed st new
+    from (Ok v) same header anew space ok = safe-anew same header space anew well_formed
     from (Err fault) same header anew space ok = absurd (cc ok)
 
   fixed-anew : (layer_of st new).fixed ≡ (layer_of st old).fixed
   fixed-anew =
-      let h = ap (λ (H : Header). H.fields) all.places in λ i. qcow2_fixed (all.kept.shape i)
+      let h = ap (λ (H : Header). H.fields) all.places in λ i. qcow2_fixed (all.unchanged_but_faults.shape i)
       (record old.tables.file.header.fields {
         version = sym (ap (λ (x : Fields). x.version) h) i;
         cluster_bits = sym (ap (λ (x : Fields). x.cluster_bits) h) i;
       })
       (mode i) (number i)
 
-  pub anew-went : WentAnew sees (IsOk result) (IsOk result) old new
+  pub anew-went : ReloadingCall coherent (IsOk result) (IsOk result) old new
   anew-went = record {
     fixed = fixed-anew;
     failed = from result failed;
-    later = ((all.kept.shape, all.later), tt);
+    counts_not_fallen = ((all.unchanged_but_faults.shape, all.counts_not_fallen), tt);
     faults = λ ok. (on-success result ok all.faults, tt);
     safely = anew-safely;
-    lasting = λ l. l;
+    stays_stable = λ l. l;
   } where
-    from : (r : Result Unit Fault) → new.failed ≡ failed_behind failed_anew r old.failed → IsTrue old.failed → IsTrue new.failed
+    from : (r : Result Unit Fault) → new.failed ≡ failed_after failed_on_reload r old.failed → IsTrue old.failed → IsTrue new.failed
     from (Ok v) is was = subst IsTrue (sym is) was
     from (Err Memory) is was = subst IsTrue (sym is) was
     from (Err fault) is was = is
@@ -218,20 +218,20 @@ module _ (R : RattleType) (st : Ghosts R.Denot) (sd : mir.Syntax.Dict) (dd : mir
     on-success (Ok v) ok faultless = faultless
     on-success (Err fault) ok faultless = absurd (cc ok)
 
-  pub anew-marks : IfErr result (Marks sees old new)
+  pub anew-marks : IfErr result (MarksFailed coherent old new)
   anew-marks = from result failed all.left where
-    from : (r : Result Unit Fault) → new.failed ≡ failed_behind failed_anew r old.failed
+    from : (r : Result Unit Fault) → new.failed ≡ failed_after failed_on_reload r old.failed
         → OnErr r ((new.tables.file.header ≡ old.tables.file.header) × (new.tables.l1 ≡ old.tables.l1) × (new.tables.caches ≡ old.tables.caches) × (new.tables.space ≡ old.tables.space))
-        → IfErr r (Marks sees old new)
+        → IfErr r (MarksFailed coherent old new)
     from (Ok v) is left = tt
     from (Err Memory) is left = marks-kept R st sd dd {T = Unit} old new (Err Memory) (record {
       tables = record {
-        kept = all.kept;
-        later = all.later;
+        unchanged_but_faults = all.unchanged_but_faults;
+        counts_not_fallen = all.counts_not_fallen;
         faults = λ none. absurd none;
         header = left.0;
         space = left.3;
-        seen = seen-same st old.tables new.tables all.kept all.later left.0 left.1 left.2;
+        seen = seen-same st old.tables new.tables all.unchanged_but_faults all.counts_not_fallen left.0 left.1 left.2;
       };
       mode = mode;
       number = number;
@@ -243,13 +243,13 @@ module _ (R : RattleType) (st : Ghosts R.Denot) (sd : mir.Syntax.Dict) (dd : mir
 
 -- A part of a range that was declined, in the words of the driver.
 pub declined : (R : RattleType) (st : Ghosts R.Denot) (sd : mir.Syntax.Dict) (dd : mir.Syntax.Dict) (call : PartCall) (d : Qcow2 R.Denot st) (offset n : ℕ) (result : Result (ℕ × ℕ) Fault)
-    → IfErr result IsMild → ((olds news : List StorageState) → IfErr result (ImageCause olds news))
+    → IfErr result IsNotResourceError → ((olds news : List StorageState) → IfErr result (ImageCause olds news))
     → ((below : List Layer) (e : Qcow2 R.Denot st) (whole : Call) (olds news : List StorageState)
     → IfErr result (DeclinableCause below (layer_of st d) offset n ((ghosts R st sd dd).own_cause e below whole) olds news))
     → PartRefused call (ghosts R st sd dd) offset n result d d
-declined R st sd dd call d offset n (Ok part) mild failed cause = record { failed = tt; marks = tt; cause = λ safe below e whole begun part is_for. tt }
-declined R st sd dd call d offset n (Err fault) mild failed cause = record {
+declined R st sd dd call d offset n (Ok part) not_resource_error failed cause = record { failed = tt; marks_failed = tt; cause = λ well_formed below e whole begun part is_for. tt }
+declined R st sd dd call d offset n (Err fault) not_resource_error failed cause = record {
   failed = failed (files (ghosts R st sd dd) d) (files (ghosts R st sd dd) d);
-  marks = plain_mild (ghosts R st sd dd) d d fault mild;
-  cause = λ safe below e whole begun part is_for. cause below e whole (files (ghosts R st sd dd) d) (files (ghosts R st sd dd) d);
+  marks_failed = plain_mild (ghosts R st sd dd) d d fault not_resource_error;
+  cause = λ well_formed below e whole begun part is_for. cause below e whole (files (ghosts R st sd dd) d) (files (ghosts R st sd dd) d);
 }

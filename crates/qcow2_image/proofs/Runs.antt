@@ -3,30 +3,30 @@ use Rattle.std.proofs.Common.{◌≡◌, ℕ, ◌+◌, ◌-◌, ◌*◌, ◌^◌
 use Rattle.std.specs.Prelude.{Bool, ◌&&◌, ◌==◌}
 use Rattle.std.proofs.lemmas.Bool.{cases_lt, and_parts, and_from, eqb-true, eq-eqb}
 use Rattle.qcow2_types.specs.Words.{Mapping}
-use Rattle.qcow2_metadata.specs.MappingView.{mapping_seen, BacksAt, follows, same_mark}
+use Rattle.qcow2_metadata.specs.MappingView.{mapping_seen, BacksAt, follows, same_copied}
 use Rattle.qcow2_metadata.specs.declared.mapping.L2Mapping.{L2Mapping}
 use Rattle.qcow2_metadata.specs.declared.mapping.L2Mapping.TheVariants.{DataFile, Backing, Zero, Compressed}
 use Rattle.qcow2_image.specs.Looking.{Follows, IsRunOf}
 
-same-marks : (a b : Bool) → same_mark a b ≡ true → b ≡ a
+same-marks : (a b : Bool) → same_copied a b ≡ true → b ≡ a
 same-marks true true is = refl
 same-marks true false is = absurd (cc is)
 same-marks false true is = absurd (cc is)
 same-marks false false is = refl
 
-marks-same : (a b : Bool) → b ≡ a → same_mark a b ≡ true
+marks-same : (a b : Bool) → b ≡ a → same_copied a b ≡ true
 marks-same true true is = refl
 marks-same true false is = absurd (cc is)
 marks-same false true is = absurd (cc is)
 marks-same false false is = refl
 
-next-mark : (a b : ℕ) (x y : Bool) → ((b == a + 1) && same_mark x y) ≡ true → (b ≡ a + 1) × (y ≡ x)
+next-mark : (a b : ℕ) (x y : Bool) → ((b == a + 1) && same_copied x y) ≡ true → (b ≡ a + 1) × (y ≡ x)
 next-mark a b x y is =
-    let parts = and_parts (b == a + 1) (same_mark x y) is in
+    let parts = and_parts (b == a + 1) (same_copied x y) is in
     (eqb-true b (a + 1) parts.0, same-marks x y parts.1)
 
-mark-next : (a b : ℕ) (x y : Bool) → (b ≡ a + 1) × (y ≡ x) → ((b == a + 1) && same_mark x y) ≡ true
-mark-next a b x y is = and_from (b == a + 1) (same_mark x y) (eq-eqb b (a + 1) is.0) (marks-same x y is.1)
+mark-next : (a b : ℕ) (x y : Bool) → (b ≡ a + 1) × (y ≡ x) → ((b == a + 1) && same_copied x y) ≡ true
+mark-next a b x y is = and_from (b == a + 1) (same_copied x y) (eq-eqb b (a + 1) is.0) (marks-same x y is.1)
 
 -- What the program finds consecutive goes on,
 pub goes-on : (bits : ℕ) (a b : L2Mapping) → follows bits a b ≡ true → Follows (mapping_seen a) (mapping_seen b)
@@ -64,17 +64,17 @@ stops-there bits place a b at at' is on = absurd on
 -- The run of words that are the same is the same.
 pub run-same : (guest most : ℕ) (a b : ℕ → Mapping) (r : L2Mapping × ℕ) → ((k : ℕ) → k < most → a (guest + k) ≡ b (guest + k)) → IsRunOf guest most a r → IsRunOf guest most b r
 run-same guest most a b r same run =
-    let one : a guest ≡ b guest = subst (λ x. a x ≡ b x) (omega arith) (same 0 (omega (arith, run.some, run.few))) in
+    let one : a guest ≡ b guest = subst (λ x. a x ≡ b x) (omega arith) (same 0 (omega (arith, run.nonempty, run.length_bounded))) in
     record {
       first = run.first ∙ one;
-      some = run.some;
-      few = run.few;
+      nonempty = run.nonempty;
+      length_bounded = run.length_bounded;
       each = λ k lt.
-          let here = same k (omega (arith, lt, run.few)) in
-          let next : a (guest + k + 1) ≡ b (guest + k + 1) = subst (λ x. a x ≡ b x) (omega arith) (same (k + 1) (omega (arith, lt, run.few))) in
+          let here = same k (omega (arith, lt, run.length_bounded)) in
+          let next : a (guest + k + 1) ≡ b (guest + k + 1) = subst (λ x. a x ≡ b x) (omega arith) (same (k + 1) (omega (arith, lt, run.length_bounded))) in
           subst (λ m. Follows m (b (guest + k + 1))) here (subst (λ m. Follows (a (guest + k)) m) next (run.each k lt));
       ends = λ lt on.
-          let last : a (guest + r.1 - 1) ≡ b (guest + r.1 - 1) = subst (λ x. a x ≡ b x) (omega (arith, run.some)) (same (r.1 - 1) (omega (arith, lt, run.some))) in
+          let last : a (guest + r.1 - 1) ≡ b (guest + r.1 - 1) = subst (λ x. a x ≡ b x) (omega (arith, run.nonempty)) (same (r.1 - 1) (omega (arith, lt, run.nonempty))) in
           let behind = same r.1 lt in
           run.ends lt (subst (λ m. Follows m (a (guest + r.1))) (sym last) (subst (λ m. Follows (b (guest + r.1 - 1)) m) (sym behind) on));
     }

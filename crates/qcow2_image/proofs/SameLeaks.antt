@@ -12,9 +12,9 @@ use Rattle.qcow2_types.specs.References.{refs}
 use Rattle.qcow2_types.proofs.Counting.Consistent.{consistent-shaped, header-reading}
 use Rattle.qcow2_types.proofs.Counting.Counters.{some-counters}
 use Rattle.qcow2_types.proofs.Counting.Leaks.{count-beyond, no-leak}
-use Rattle.qcow2_image.specs.ImageLayer.{qcow2_leaks, surplus_in}
+use Rattle.qcow2_image.specs.ImageLayer.{qcow2_leaks, excess_refcount_in}
 use Rattle.qcow2_image.specs.Leaking.{KeepsLeaks, leaks_of, pending}
-use Rattle.qcow2_image.specs.Rooms.{IsSafe}
+use Rattle.qcow2_image.specs.Rooms.{IsWellFormed}
 use Rattle.qcow2_image.specs.Seen.{file_of}
 use Rattle.qcow2_image.specs.declared.qcow2.Qcow2.{Qcow2}
 use Rattle.qcow2_image.proofs.LeaksWithNothingPending.{leaks-alike}
@@ -68,12 +68,12 @@ module _ (f g : Bytes) (h h' : Fields) (same : (c : ℕ) → count g h' c - refs
   ]
 
 -- So do images of which nothing is pending, behind calls that keep their leaks.
-pub leaks-listed : {S : Type 0} (g : Ghosts S) (old new : Qcow2 S g) → IsSafe g old → IsSafe g new → KeepsLeaks g old new
+pub leaks-listed : {S : Type 0} (g : Ghosts S) (old new : Qcow2 S g) → IsWellFormed g old → IsWellFormed g new → KeepsLeaks g old new
     → ((c : ℕ) → pending g old c ≡ 0) → ((c : ℕ) → pending g new c ≡ 0) → leaks_of g new ≡ leaks_of g old
-leaks-listed g old new safe safe' keeps none none' =
+leaks-listed g old new well_formed safe' keeps none none' =
     same-leaks (file_of g old.tables) (file_of g new.tables) old.tables.file.header.fields new.tables.file.header.fields
     (λ c. let all = leaks-alike g old new keeps none none' c in omega (arith, all))
-    (some-counters old.tables.file.header.fields (consistent-shaped (file_of g old.tables) old.tables.file.header safe.consistent))
+    (some-counters old.tables.file.header.fields (consistent-shaped (file_of g old.tables) old.tables.file.header well_formed.consistent))
     (some-counters new.tables.file.header.fields (consistent-shaped (file_of g new.tables) new.tables.file.header safe'.consistent))
 
 -- So do consistent files.
@@ -81,7 +81,7 @@ pub files-alike : (one other : List ℕ) (H K : Header) → IsConsistent (bytes_
     → ((c : ℕ) → qcow2_leaks other c ≡ qcow2_leaks one c) → leaks (bytes_of other) K.fields ≡ leaks (bytes_of one) H.fields
 files-alike one other H K was is same =
     let by = λ (bytes : List ℕ) (L : Header) (loads : header_of true (bytes_of bytes) ≡ Ok L) (c : ℕ).
-    ap (λ r. surplus_in (bytes_of bytes) r c) (header-reading (bytes_of bytes) L loads) in
+    ap (λ r. excess_refcount_in (bytes_of bytes) r c) (header-reading (bytes_of bytes) L loads) in
     same-leaks (bytes_of one) (bytes_of other) H.fields K.fields
     (λ c. sym (by other K is.readable.loads c) ∙ (same c ∙ by one H was.readable.loads c))
     (some-counters H.fields (consistent-shaped (bytes_of one) H was)) (some-counters K.fields (consistent-shaped (bytes_of other) K is))

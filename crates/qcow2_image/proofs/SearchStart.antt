@@ -5,9 +5,9 @@ use Rattle.imago_storage.specs.declared.storage.Storage.{Ghosts}
 use Rattle.qcow2_types.specs.Bytes.{Bytes}
 use Rattle.qcow2_types.specs.Counts.{count}
 use Rattle.qcow2_types.specs.Header.{Fields}
-use Rattle.qcow2_alloc.specs.Allocators.{mark_of}
-use Rattle.qcow2_alloc.specs.Freeing.{IsMarked}
-use Rattle.qcow2_alloc.specs.Quiet.{in_memory}
+use Rattle.qcow2_alloc.specs.Allocators.{first_free_of}
+use Rattle.qcow2_alloc.specs.Freeing.{NoneFreeBefore}
+use Rattle.qcow2_alloc.specs.GuestView.{in_memory}
 use Rattle.qcow2_clusters.specs.declared.space.Space.{Space}
 use Rattle.qcow2_clusters.proofs.TableNames.{resting-memory}
 use Rattle.qcow2_image.specs.Opening.{IsSpaceOpened}
@@ -21,11 +21,11 @@ module _ {S : Type 0} (g : Ghosts S) where
     counts-same : (c : ℕ) → count (file_of g t) t.file.header.fields c ≡ count (in_memory (rest_of g t free)) t.file.header.fields c
     counts-same c = ap (λ (f : Bytes). count f t.file.header.fields c) (sym (resting-memory (rest_of g t free) refl))
 
-    pub counted-at-rest : AreCountedBefore g t → IsMarked (rest_of g t free) (mark_of free.allocator)
+    pub counted-at-rest : AreCountedBefore g t → NoneFreeBefore (rest_of g t free) (first_free_of free.allocator)
     counted-at-rest counted c below =
         subst (λ n. 0 < n) (counts-same c) (counted c (subst (λ o. c < searched_from o) (sym there) below))
 
-    pub counted-in-file : IsMarked (rest_of g t free) (mark_of free.allocator) → AreCountedBefore g t
+    pub counted-in-file : NoneFreeBefore (rest_of g t free) (first_free_of free.allocator) → AreCountedBefore g t
     counted-in-file marked c below =
         subst (λ n. 0 < n) (sym (counts-same c)) (marked c (subst (λ o. c < searched_from o) there below))
 

@@ -5,7 +5,7 @@ use Rattle.std.specs.List.{AllByRecursion}
 use Rattle.std.proofs.Math.Nat.{le_refl}
 use Rattle.imago_storage.specs.State.{StorageState}
 use Rattle.imago_storage.specs.declared.storage.Storage.{Ghosts}
-use Rattle.imago_access.specs.Files.{IsKept}
+use Rattle.imago_access.specs.Files.{UnchangedButMoreFaults}
 use Rattle.imago_access.specs.Stops.{IsMeant}
 use Rattle.qcow2_types.specs.Bytes.{Bytes, bytes_of, over}
 use Rattle.qcow2_types.specs.Header.{Fields, Header, header_of, has_external_data}
@@ -14,14 +14,14 @@ use Rattle.qcow2_types.specs.Pending.{FreeEntry}
 use Rattle.qcow2_alloc.specs.Caches.{cached_in, order_of}
 use Rattle.qcow2_alloc.specs.Memory.{Cached, memory}
 use Rattle.qcow2_alloc.specs.Opening.{IsL1Of}
-use Rattle.qcow2_alloc.specs.Quiet.{IsSound}
-use Rattle.qcow2_alloc.specs.Safety.{AreTablesClean, AreBlocksClean}
+use Rattle.qcow2_alloc.specs.GuestView.{IsSound}
+use Rattle.qcow2_alloc.specs.WellFormedness.{AreTablesClean, AreBlocksClean}
 use Rattle.qcow2_alloc.proofs.Growth.TableLoads.{opened-sound, verdict-consistent}
 use Rattle.qcow2_alloc.specs.declared.cache.CacheDependency.TheVariants.{Unset}
 use Rattle.qcow2_clusters.specs.declared.space.Space.{Space}
 use Rattle.qcow2_image.specs.Seen.{IsOfFile, file_of, memory_of}
 use Rattle.qcow2_image.specs.ImageLayer.{qcow2_layer, meaning_of, blank_of}
-use Rattle.qcow2_image.specs.Rooms.{IsSafe, rest_of}
+use Rattle.qcow2_image.specs.Rooms.{IsWellFormed, rest_of}
 use Rattle.qcow2_image.specs.Opening.{IsJustOpened, IsSpaceOpened, header_for, is_qcow2}
 use Rattle.qcow2_image.specs.Unspent.{holding_in}
 use Rattle.qcow2_image.specs.declared.qcow2.Qcow2.{Qcow2}
@@ -78,8 +78,8 @@ module _ {S : Type 0} (g : Ghosts S) (before : StorageState) (writable : Bool) (
   H = d.tables.file.header
 
   -- Nothing was asked of the file but reads.
-  pub opened-kept : IsKept before state
-  opened-kept = subst (λ (s : StorageState). IsKept before s) (sym now.same) (record { shape = refl; bytes = refl; refusals = refl; stop = refl; past = refl }, le_refl before.faults)
+  pub opened-kept : UnchangedButMoreFaults before state
+  opened-kept = subst (λ (s : StorageState). UnchangedButMoreFaults before s) (sym now.same) (record { shape = refl; bytes = refl; refusals = refl; crash_image = refl; past_crash_images = refl }, le_refl before.faults)
 
   -- It means the disk,
   pub opened-meant : IsMeant (qcow2_layer state (memory_of g d.tables) H.fields d.mode d.number d.failed (holding_in g d.unspent)) state.bytes
@@ -100,7 +100,7 @@ module _ {S : Type 0} (g : Ghosts S) (before : StorageState) (writable : Bool) (
     consistent = verdict-consistent (bytes_of state.bytes) (leaks (bytes_of state.bytes) sound.0.fields) false H (sound.0, sound.1, refl)
         now.seen.loads
 
-  pub opened-safe : d.failed ≡ false → d.unspent ≡ None → IsTrue state.shape.keeps → Consistent (bytes_of state.bytes) → IsSafe g d
+  pub opened-safe : d.failed ≡ false → d.unspent ≡ None → IsTrue state.shape.keeps → Consistent (bytes_of state.bytes) → IsWellFormed g d
   opened-safe runs free keeps sound = record {
     runs = runs;
     keeps = keeps;

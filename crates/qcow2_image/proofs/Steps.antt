@@ -8,8 +8,8 @@ use Rattle.imago_storage.specs.Steps.{Call}
 use Rattle.imago_storage.specs.declared.fault.Fault.{Fault}
 use Rattle.imago_storage.specs.declared.fault.Fault.TheVariants.{Memory, Storage}
 use Rattle.imago_storage.specs.declared.storage.Storage.{Ghosts}
-use Rattle.imago_access.specs.Files.{WasNotCutOff}
-use Rattle.imago_access.specs.Going.{IsKnown, IsSpared, Looked, Marks}
+use Rattle.imago_access.specs.Files.{HadNoResourceError}
+use Rattle.imago_access.specs.Going.{IsKnown, IsLeftUntouched, LookupCall, MarksFailed}
 use Rattle.imago_access.specs.Layer.{Layer}
 use Rattle.imago_access.specs.Room.{Takes}
 use Rattle.imago_access.specs.Stops.{GivesNone, Left}
@@ -19,35 +19,35 @@ use Rattle.qcow2_types.specs.Bytes.{Bytes, bytes_of}
 use Rattle.qcow2_types.specs.Header.{Fields, Header}
 use Rattle.qcow2_alloc.specs.Caches.{cached_in}
 use Rattle.qcow2_alloc.proofs.Memory.SafeLaws.{clean-memory}
-use Rattle.qcow2_image.specs.contracts.qcow2.Qcow2Seen.TheImpl.{ghosts}
-use Rattle.imago_access.specs.declared.seen.Seen.{Ghosts as SeenGhosts}
+use Rattle.qcow2_image.specs.contracts.qcow2.Qcow2DriverModel.TheImpl.{ghosts}
+use Rattle.imago_access.specs.declared.driver_model.DriverModel.{Ghosts as SeenGhosts}
 use Rattle.qcow2_image.specs.declared.qcow2.Qcow2.{Qcow2}
 use Rattle.qcow2_image.specs.declared.qcow2.PreparedMappingState.{PreparedMappingState}
 use Rattle.qcow2_image.specs.declared.mode.OpenMode.{OpenMode}
 use Rattle.qcow2_image.specs.declared.tables.Tables.{Tables}
-use Rattle.qcow2_image.specs.ImageLayer.{blank_of, cells, homes, qcow2_fixed, qcow2_layer}
-use Rattle.qcow2_alloc.specs.Quiet.{IsSound}
+use Rattle.qcow2_image.specs.ImageLayer.{blank_of, cells, writable_locations, qcow2_fixed, qcow2_layer}
+use Rattle.qcow2_alloc.specs.GuestView.{IsSound}
 use Rattle.qcow2_clusters.specs.declared.space.Space.{Space}
-use Rattle.qcow2_image.specs.Holding.{Holding, claim_held, held_with, homes_with}
-use Rattle.qcow2_image.specs.Rooms.{HasRoom, HoldsIn, IsVacant, IsZeroed, IsSafe, IsUntouched, Sees, is_sound, rest_of, searched_from}
-use Rattle.qcow2_image.specs.Seen.{file_of, homes_of, layer_of, memory_of}
+use Rattle.qcow2_image.specs.Holding.{PreparedMappingRun, mapping_id_held, held_with, writable_locations_with}
+use Rattle.qcow2_image.specs.Rooms.{HasRoom, HoldsIn, IsUnallocated, IsZeroed, IsWellFormed, IsUntouched, IsCoherent, is_sound, rest_of, searched_from}
+use Rattle.qcow2_image.specs.Seen.{file_of, writable_locations_of, layer_of, memory_of}
 use Rattle.qcow2_image.specs.Unspent.{holding_in}
-use Rattle.qcow2_image.specs.Steps.{KeepsTables, KeepsImage, failed_by, failed_behind}
+use Rattle.qcow2_image.specs.Steps.{KeepsTables, KeepsImage, failed_by, failed_after}
 use Rattle.qcow2_image.proofs.CallNeeds.{since-as}
 use Rattle.qcow2_image.proofs.SearchStart.{counted-same}
 use Rattle.qcow2_image.proofs.LeaksByFile.{leaks-kept, surplus-kept}
 
 -- The layer is what its parts make it.
-pub layer-by : (s s' : StorageState) (m m' : Bytes) (h h' : Fields) (b b' : OpenMode) (n n' : ℕ) (f f' : Bool) (k k' : Option Holding) → s'.shape ≡ s.shape → s'.bytes ≡ s.bytes → m' ≡ m → h' ≡ h → b' ≡ b → n' ≡ n → f' ≡ f → k' ≡ k
+pub layer-by : (s s' : StorageState) (m m' : Bytes) (h h' : Fields) (b b' : OpenMode) (n n' : ℕ) (f f' : Bool) (k k' : Option PreparedMappingRun) → s'.shape ≡ s.shape → s'.bytes ≡ s.bytes → m' ≡ m → h' ≡ h → b' ≡ b → n' ≡ n → f' ≡ f → k' ≡ k
     → qcow2_layer s' m' h' b' n' f' k' ≡ qcow2_layer s m h b n f k
-layer-by s s' m m' h h' b b' n n' f f' k k' shape bytes words fields mode number failed hold = λ i. record {
+layer-by s s' m m' h h' b b' n n' f f' k k' shape bytes raw_entries fields mode number failed hold = λ i. record {
   fixed = qcow2_fixed (shape i) (fields i) (mode i) (number i);
   size = (fields i).size;
   failed = failed i;
-  cell = cells (blank_of (mode i).backing) (words i) (bytes_of (bytes i)) (fields i);
-  home = homes_with (hold i) (homes (mode i).writable (words i) (fields i));
+  cell = cells (blank_of (mode i).backing) (raw_entries i) (bytes_of (bytes i)) (fields i);
+  writable_location = writable_locations_with (hold i) (writable_locations (mode i).writable (raw_entries i) (fields i));
   held = held_with (fields i) (bytes_of (bytes i)) (hold i);
-  unspent = claim_held (hold i);
+  unspent = mapping_id_held (hold i);
 }
 
 -- Nothing waits in memory, so that it is what the file is.
@@ -59,24 +59,24 @@ some-same a b is = cc is
 
 module _ {T : Type 0} where
   -- A call that wasn't cut off marks nothing, and none takes a mark away.
-  pub unmarked : (r : Result T Fault) (f : Bool) → WasNotCutOff r → failed_behind failed_by r f ≡ f
+  pub unmarked : (r : Result T Fault) (f : Bool) → HadNoResourceError r → failed_after failed_by r f ≡ f
   unmarked (Ok v) f whole = refl
   unmarked (Err Memory) f whole = absurd whole
   unmarked (Err Storage) f whole = absurd whole
   unmarked (Err fault) f whole = refl
 
-  pub still-marked : (r : Result T Fault) (f : Bool) → IsTrue f → IsTrue (failed_behind failed_by r f)
+  pub still-marked : (r : Result T Fault) (f : Bool) → IsTrue f → IsTrue (failed_after failed_by r f)
   still-marked (Ok v) f was = was
   still-marked (Err Storage) f was = refl
   still-marked (Err fault) f was = was
 
-  marked-or-not : (r : Result T Fault) (f : Bool) → IsTrue (failed_behind failed_by r f) ⊎ (failed_behind failed_by r f ≡ f)
+  marked-or-not : (r : Result T Fault) (f : Bool) → IsTrue (failed_after failed_by r f) ⊎ (failed_after failed_by r f ≡ f)
   marked-or-not (Ok v) f = inr refl
   marked-or-not (Err Storage) f = inl refl
   marked-or-not (Err fault) f = inr refl
 
 -- A call whose answer marked the image, if a storage failed.
-pub keeps-marked : {S T : Type 0} (g : Ghosts S) (old new : Qcow2 S g) (mid : Tables S g) (result : Result T Fault) → KeepsTables g old.tables result mid → new ≡ record old { tables = mid; failed = failed_behind failed_by result old.failed } → KeepsImage g old result new
+pub keeps-marked : {S T : Type 0} (g : Ghosts S) (old new : Qcow2 S g) (mid : Tables S g) (result : Result T Fault) → KeepsTables g old.tables result mid → new ≡ record old { tables = mid; failed = failed_after failed_by result old.failed } → KeepsImage g old result new
 keeps-marked g old new mid result kept is = record {
   tables = subst (KeepsTables g old.tables result) (sym (ap (λ (x : Qcow2 _ g). x.tables) is)) kept;
   mode = ap (λ (x : Qcow2 _ g). x.mode) is;
@@ -90,14 +90,14 @@ pub keeps-both : {S T : Type 0} (g : Ghosts S) (a b c : Qcow2 S g) (r : Result T
     → KeepsImage g a r c
 keeps-both g a b c r first second = record {
   tables = record {
-    kept = record {
-      shape = second.tables.kept.shape ∙ first.tables.kept.shape;
-      bytes = second.tables.kept.bytes ∙ first.tables.kept.bytes;
-      refusals = second.tables.kept.refusals ∙ first.tables.kept.refusals;
-      stop = second.tables.kept.stop ∙ first.tables.kept.stop;
-      past = second.tables.kept.past ∙ first.tables.kept.past;
+    unchanged_but_faults = record {
+      shape = second.tables.unchanged_but_faults.shape ∙ first.tables.unchanged_but_faults.shape;
+      bytes = second.tables.unchanged_but_faults.bytes ∙ first.tables.unchanged_but_faults.bytes;
+      refusals = second.tables.unchanged_but_faults.refusals ∙ first.tables.unchanged_but_faults.refusals;
+      crash_image = second.tables.unchanged_but_faults.crash_image ∙ first.tables.unchanged_but_faults.crash_image;
+      past_crash_images = second.tables.unchanged_but_faults.past_crash_images ∙ first.tables.unchanged_but_faults.past_crash_images;
     };
-    later = later_both (g.state a.tables.file.image) (g.state b.tables.file.image) (g.state c.tables.file.image) first.tables.later second.tables.later;
+    counts_not_fallen = later_both (g.state a.tables.file.image) (g.state b.tables.file.image) (g.state c.tables.file.image) first.tables.counts_not_fallen second.tables.counts_not_fallen;
     faults = λ whole.
         let one = first.tables.faults tt in
         let two = second.tables.faults whole in
@@ -109,16 +109,16 @@ keeps-both g a b c r first second = record {
   mode = second.mode ∙ first.mode;
   number = second.number ∙ first.number;
   unspent = second.unspent ∙ first.unspent;
-  failed = second.failed ∙ ap (failed_behind failed_by r) first.failed;
+  failed = second.failed ∙ ap (failed_after failed_by r) first.failed;
 }
 
 -- One that answers something else, and is cut off by no less.
-pub keeps-as : {S T U : Type 0} (g : Ghosts S) (a b : Qcow2 S g) (r : Result T Fault) (r' : Result U Fault) → (WasNotCutOff r' → WasNotCutOff r)
-    → ((f : Bool) → failed_behind failed_by r f ≡ failed_behind failed_by r' f) → KeepsImage g a r b → KeepsImage g a r' b
+pub keeps-as : {S T U : Type 0} (g : Ghosts S) (a b : Qcow2 S g) (r : Result T Fault) (r' : Result U Fault) → (HadNoResourceError r' → HadNoResourceError r)
+    → ((f : Bool) → failed_after failed_by r f ≡ failed_after failed_by r' f) → KeepsImage g a r b → KeepsImage g a r' b
 keeps-as g a b r r' whole marks k = record {
   tables = record {
-    kept = k.tables.kept;
-    later = k.tables.later;
+    unchanged_but_faults = k.tables.unchanged_but_faults;
+    counts_not_fallen = k.tables.counts_not_fallen;
     faults = λ w. k.tables.faults (whole w);
     header = k.tables.header;
     space = k.tables.space;
@@ -133,8 +133,8 @@ keeps-as g a b r r' whole marks k = record {
 -- One that does nothing.
 pub tables-same : {S T : Type 0} (g : Ghosts S) (d : Qcow2 S g) (r : Result T Fault) → KeepsTables g d.tables r d.tables
 tables-same g d r = record {
-  kept = record { shape = refl; bytes = refl; refusals = refl; stop = refl; past = refl };
-  later = record { faults = le_refl (g.state d.tables.file.image).faults; refusals = le_refl (g.state d.tables.file.image).refusals };
+  unchanged_but_faults = record { shape = refl; bytes = refl; refusals = refl; crash_image = refl; past_crash_images = refl };
+  counts_not_fallen = record { faults = le_refl (g.state d.tables.file.image).faults; refusals = le_refl (g.state d.tables.file.image).refusals };
   faults = λ whole. (refl, refl);
   header = refl;
   space = refl;
@@ -144,8 +144,8 @@ tables-same g d r = record {
 pub keeps-same : {S : Type 0} (g : Ghosts S) (a : Qcow2 S g) → KeepsImage {T = Unit} g a (Ok tt) a
 keeps-same g a = record {
   tables = record {
-    kept = record { shape = refl; bytes = refl; refusals = refl; stop = refl; past = refl };
-    later = record { faults = le_refl (g.state a.tables.file.image).faults; refusals = le_refl (g.state a.tables.file.image).refusals };
+    unchanged_but_faults = record { shape = refl; bytes = refl; refusals = refl; crash_image = refl; past_crash_images = refl };
+    counts_not_fallen = record { faults = le_refl (g.state a.tables.file.image).faults; refusals = le_refl (g.state a.tables.file.image).refusals };
     faults = λ whole. (refl, refl);
     header = refl;
     space = refl;
@@ -158,8 +158,8 @@ keeps-same g a = record {
 }
 
 module _ (R : RattleType) (st : Ghosts R.Denot) (sd : mir.Syntax.Dict) (dd : mir.Syntax.Dict) {T : Type 0} (old new : Qcow2 R.Denot st) (result : Result T Fault) (k : KeepsImage st old result new) where
-  abbrev sees : SeenGhosts (Qcow2 R.Denot st) PreparedMappingState
-  sees = ghosts R st sd dd
+  abbrev coherent : SeenGhosts (Qcow2 R.Denot st) PreparedMappingState
+  coherent = ghosts R st sd dd
 
   abbrev s : StorageState
   s = st.state old.tables.file.image
@@ -168,17 +168,17 @@ module _ (R : RattleType) (st : Ghosts R.Denot) (sd : mir.Syntax.Dict) (dd : mir
   s' = st.state new.tables.file.image
 
   memory-same : memory_of st new.tables ≡ memory_of st old.tables
-  memory-same = memory-is st new.tables ∙ ap bytes_of k.tables.kept.bytes ∙ sym (memory-is st old.tables)
+  memory-same = memory-is st new.tables ∙ ap bytes_of k.tables.unchanged_but_faults.bytes ∙ sym (memory-is st old.tables)
 
   fixed-same : (layer_of st new).fixed ≡ (layer_of st old).fixed
-  fixed-same = λ i. qcow2_fixed (k.tables.kept.shape i) (k.tables.header i).fields (k.mode i) (k.number i)
+  fixed-same = λ i. qcow2_fixed (k.tables.unchanged_but_faults.shape i) (k.tables.header i).fields (k.mode i) (k.number i)
 
   pub layer-same : new.failed ≡ old.failed → layer_of st new ≡ layer_of st old
-  layer-same failed = layer-by s s' (memory_of st old.tables) (memory_of st new.tables) old.tables.file.header.fields new.tables.file.header.fields old.mode new.mode old.number new.number old.failed new.failed (holding_in st old.unspent) (holding_in st new.unspent) k.tables.kept.shape k.tables.kept.bytes memory-same (ap (λ (H : Header). H.fields) k.tables.header) k.mode k.number failed (ap (holding_in st) k.unspent)
+  layer-same failed = layer-by s s' (memory_of st old.tables) (memory_of st new.tables) old.tables.file.header.fields new.tables.file.header.fields old.mode new.mode old.number new.number old.failed new.failed (holding_in st old.unspent) (holding_in st new.unspent) k.tables.unchanged_but_faults.shape k.tables.unchanged_but_faults.bytes memory-same (ap (λ (H : Header). H.fields) k.tables.header) k.mode k.number failed (ap (holding_in st) k.unspent)
 
   -- Its clusters are at rest what they were.
   rest-same : (space : Space) → rest_of st new.tables space ≡ rest_of st old.tables space
-  rest-same space = λ i. record (rest_of st old.tables space) { file = bytes_of (k.tables.kept.bytes i); header = k.tables.header i }
+  rest-same space = λ i. record (rest_of st old.tables space) { file = bytes_of (k.tables.unchanged_but_faults.bytes i); header = k.tables.header i }
 
   sound-same : IfSome old.tables.space (λ space. IsSound (rest_of st old.tables space)) → IfSome new.tables.space (λ space. IsSound (rest_of st new.tables space))
   sound-same = from old.tables.space new.tables.space k.tables.space where
@@ -188,115 +188,115 @@ module _ (R : RattleType) (st : Ghosts R.Denot) (sd : mir.Syntax.Dict) (dd : mir
     from None (Some b) is sound = absurd (cc is)
     from (Some a) None is sound = absurd (cc is)
 
-  holds-same : (hold : Holding) → HoldsIn st old.tables hold → HoldsIn st new.tables hold
+  holds-same : (hold : PreparedMappingRun) → HoldsIn st old.tables hold → HoldsIn st new.tables hold
   holds-same hold holds = record {
     space = holds.space;
-    there = k.tables.space ∙ holds.there;
+    space_known = k.tables.space ∙ holds.space_known;
     held = rw (rest-same holds.space) holds.held;
     room = holds.room;
   }
 
   held-same : IfSome (holding_in st old.unspent) (HoldsIn st old.tables) → IfSome (holding_in st new.unspent) (HoldsIn st new.tables)
   held-same = from (holding_in st old.unspent) (holding_in st new.unspent) (ap (holding_in st) k.unspent) where
-    from : (a b : Option Holding) → b ≡ a → IfSome a (HoldsIn st old.tables) → IfSome b (HoldsIn st new.tables)
+    from : (a b : Option PreparedMappingRun) → b ≡ a → IfSome a (HoldsIn st old.tables) → IfSome b (HoldsIn st new.tables)
     from None None is held = tt
     from (Some a) (Some b) is held = holds-same b (subst (HoldsIn st old.tables) (sym (some-same a b is)) held)
     from None (Some b) is held = absurd (cc is)
     from (Some a) None is held = absurd (cc is)
 
-  safe-parts : (was now : Bool) → now ≡ false → IsSafe st (record old { failed = was }) → IsSafe st (record new { failed = now })
-  safe-parts was now runs safe = record {
+  safe-parts : (was now : Bool) → now ≡ false → IsWellFormed st (record old { failed = was }) → IsWellFormed st (record new { failed = now })
+  safe-parts was now runs well_formed = record {
     runs = runs;
-    keeps = subst (λ (x : Shape). IsTrue x.keeps) (sym k.tables.kept.shape) safe.keeps;
-    consistent = rw (ap bytes_of k.tables.kept.bytes, k.tables.header) safe.consistent;
-    seen = k.tables.seen safe.seen;
-    sound = sound-same safe.sound;
-    searched = counted-same st old.tables new.tables (ap bytes_of k.tables.kept.bytes) k.tables.header (ap searched_from k.tables.space) safe.searched;
-    held = held-same safe.held;
-    writable = λ some. subst IsTrue (sym (ap (λ (m : OpenMode). m.writable) k.mode)) (safe.writable (subst IsSome k.unspent some));
+    keeps = subst (λ (x : Shape). IsTrue x.keeps) (sym k.tables.unchanged_but_faults.shape) well_formed.keeps;
+    consistent = rw (ap bytes_of k.tables.unchanged_but_faults.bytes, k.tables.header) well_formed.consistent;
+    seen = k.tables.seen well_formed.seen;
+    sound = sound-same well_formed.sound;
+    searched = counted-same st old.tables new.tables (ap bytes_of k.tables.unchanged_but_faults.bytes) k.tables.header (ap searched_from k.tables.space) well_formed.searched;
+    held = held-same well_formed.held;
+    writable = λ some. subst IsTrue (sym (ap (λ (m : OpenMode). m.writable) k.mode)) (well_formed.writable (subst IsSome k.unspent some));
   }
 
-  safe-same : new.failed ≡ old.failed → IsSafe st old → IsSafe st new
-  safe-same failed safe = safe-parts old.failed new.failed (failed ∙ safe.runs) safe
+  safe-same : new.failed ≡ old.failed → IsWellFormed st old → IsWellFormed st new
+  safe-same failed well_formed = safe-parts old.failed new.failed (failed ∙ well_formed.runs) well_formed
 
   untouched-same : IsUntouched st old → IsUntouched st new
   untouched-same was = (k.unspent ∙ was.0, subst (λ space. IfSome space (λ x. x.to_free.entries ≡ [])) (sym k.tables.space) was.1)
 
   -- What is in memory is what the file says, where it was.
-  pub sees-same : Sees st old → Sees st new
+  pub sees-same : IsCoherent st old → IsCoherent st new
   sees-same was = record {
     seen = k.tables.seen was.seen;
     sure = elim was.sure [
       | inl untouched ↦ inl (untouched-same untouched)
-      | inr safe ↦ inr (safe-parts false false refl safe)
+      | inr well_formed ↦ inr (safe-parts false false refl well_formed)
     ];
   }
 
-  known : new.failed ≡ old.failed → IsKnown sees old new
+  known : new.failed ≡ old.failed → IsKnown coherent old new
   known failed = record { seen = λ seen. (layer-same failed, sees-same seen); safely = safe-same failed }
 
   -- What is allocated is what was.
   as-was : (P : Bytes → Fields → Type 0) → P (memory_of st old.tables) old.tables.file.header.fields → P (memory_of st new.tables) new.tables.file.header.fields
   as-was P was = subst (λ m. P m new.tables.file.header.fields) (sym memory-same) (subst (λ (H : Header). P (memory_of st old.tables) H.fields) (sym k.tables.header) was)
 
-  pub takes-kept : Takes sees (λ _. ⊤) old new
+  pub takes-kept : Takes coherent (λ _. ⊤) old new
   takes-kept = record {
-    kept = λ p left. as-was (λ m h. HasRoom m h p);
-    free = λ p left. as-was (λ m h. IsVacant m h p);
+    stays_allocated = λ p left. as-was (λ m h. HasRoom m h p);
+    free = λ p left. as-was (λ m h. IsUnallocated m h p);
     zeroes = λ p left free. as-was (λ m h. IsZeroed m h p);
   }
 
   -- Each place can be written where it could.
-  homes-same : (p : ℕ) → homes_of st new p ≡ homes_of st old p
-  homes-same p = λ i. homes (k.mode i).writable (memory-same i) (k.tables.header i).fields p
+  homes-same : (p : ℕ) → writable_locations_of st new p ≡ writable_locations_of st old p
+  homes-same p = λ i. writable_locations (k.mode i).writable (memory-same i) (k.tables.header i).fields p
 
-  begun-kept : new.failed ≡ old.failed → (e : Qcow2 R.Denot st) (call : Call) → sees.began e call old → sees.began e call new
-  begun-kept failed e call begun = λ safe.
-      let now = begun safe in
+  begun-kept : new.failed ≡ old.failed → (e : Qcow2 R.Denot st) (call : Call) → coherent.began e call old → coherent.began e call new
+  begun-kept failed e call begun = λ well_formed.
+      let now = begun well_formed in
       let same = layer-same failed in (
         safe-same failed now.0,
         since-as st e old new (λ p at is. homes-same p ∙ is) (λ p. inl (ap (λ (l : Layer). l.cell p) same))
             (ap (λ (H : Header). H.fields.size) k.tables.header) (ap (λ (H : Header). H.fields.cluster_bits) k.tables.header) (leaks-kept st {T = T} old new result k) now.1,
       )
 
-  pub spared : new.failed ≡ old.failed → IsSpared sees old new
+  pub spared : new.failed ≡ old.failed → IsLeftUntouched coherent old new
   spared failed = record {
     known = known failed;
-    kept = ((k.tables.kept, k.tables.later.faults), tt);
-    stilled = λ still. new.tables.clean;
-    room = λ safe. takes-kept;
-    began = begun-kept failed;
+    unchanged_but_faults = ((k.tables.unchanged_but_faults, k.tables.counts_not_fallen.faults), tt);
+    stilled = λ has_no_dirty_data. new.tables.clean;
+    room = λ well_formed. takes-kept;
+    stays_begun = begun-kept failed;
   }
 
-  whole-same : WasNotCutOff result → new.failed ≡ old.failed
+  whole-same : HadNoResourceError result → new.failed ≡ old.failed
   whole-same whole = k.failed ∙ unmarked result old.failed whole
 
   marks-on : IsTrue old.failed → IsTrue new.failed
   marks-on was = subst IsTrue (sym k.failed) (still-marked result old.failed was)
 
-  pub began-kept : WasNotCutOff result → (e : Qcow2 R.Denot st) (call : Call) → sees.began e call old → sees.began e call new
+  pub began-kept : HadNoResourceError result → (e : Qcow2 R.Denot st) (call : Call) → coherent.began e call old → coherent.began e call new
   began-kept whole = begun-kept (whole-same whole)
 
-  pub looked-kept : Looked sees (WasNotCutOff result) old new
+  pub looked-kept : LookupCall coherent (HadNoResourceError result) old new
   looked-kept = record {
-    like = record { fixed = fixed-same; size = ap (λ (H : Header). H.fields.size) k.tables.header; unspent = ap (λ u. claim_held (holding_in st u)) k.unspent; failed = marks-on };
-    later = ((k.tables.kept.shape, k.tables.later), tt);
+    keeps_layer_state = record { fixed = fixed-same; size = ap (λ (H : Header). H.fields.size) k.tables.header; unspent = ap (λ u. mapping_id_held (holding_in st u)) k.unspent; failed = marks-on };
+    counts_not_fallen = ((k.tables.unchanged_but_faults.shape, k.tables.counts_not_fallen), tt);
     faults = λ whole. (k.tables.faults whole, tt);
     stays = λ whole seen. (layer-same (whole-same whole), sees-same seen);
-    safely = λ whole safe. safe-same (whole-same whole) safe;
+    safely = λ whole well_formed. safe-same (whole-same whole) well_formed;
     cut = elim (marked-or-not result old.failed) [
       | inl marked ↦ inl (subst IsTrue (sym k.failed) marked)
       | inr same ↦ inr (known (k.failed ∙ same))
     ];
-    lasting = λ l. l;
-    surplus = λ whole safe. surplus-kept st old new (leaks-kept st {T = T} old new result k);
-    kept = λ still. (((k.tables.kept, k.tables.later.faults), tt), new.tables.clean);
-    stops = λ safe below. passes_none (Left below (layer_of st old) s.bytes is_sound (layer_of st old).size (layer_of st old).size GivesNone) s s' k.tables.kept.shape (k.tables.kept.stop, k.tables.kept.past, k.tables.kept.bytes, k.tables.kept.refusals);
+    stays_stable = λ l. l;
+    excess_refcount = λ whole well_formed. surplus-kept st old new (leaks-kept st {T = T} old new result k);
+    unchanged_but_faults = λ has_no_dirty_data. (((k.tables.unchanged_but_faults, k.tables.counts_not_fallen.faults), tt), new.tables.clean);
+    crash_images = λ well_formed below. passes_none (Left below (layer_of st old) s.bytes is_sound (layer_of st old).size (layer_of st old).size GivesNone) s s' k.tables.unchanged_but_faults.shape (k.tables.unchanged_but_faults.crash_image, k.tables.unchanged_but_faults.past_crash_images, k.tables.unchanged_but_faults.bytes, k.tables.unchanged_but_faults.refusals);
   }
 
-  pub marks-kept : IfErr result (Marks sees old new)
+  pub marks-kept : IfErr result (MarksFailed coherent old new)
   marks-kept = from result k.failed where
-    from : (r : Result T Fault) → new.failed ≡ failed_behind failed_by r old.failed → IfErr r (Marks sees old new)
+    from : (r : Result T Fault) → new.failed ≡ failed_after failed_by r old.failed → IfErr r (MarksFailed coherent old new)
     from (Ok v) failed = tt
     from (Err Storage) failed = λ marks. failed
     from (Err Memory) failed = λ marks. inr (spared failed)

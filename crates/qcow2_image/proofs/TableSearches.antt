@@ -8,12 +8,12 @@ use Rattle.std.proofs.Math.Nat.{zero-mul}
 use Rattle.std.proofs.lemmas.Bool.{cases_Bool}
 use Rattle.imago_storage.specs.declared.fault.Fault.{Fault}
 use Rattle.qcow2_types.specs.Bytes.{Bytes}
-use Rattle.qcow2_types.specs.Header.{Fields, words_of_cluster, cluster_size}
-use Rattle.qcow2_metadata.specs.Tables.{TableValue, table_in, words_in}
+use Rattle.qcow2_types.specs.Header.{Fields, entries_of_cluster, cluster_size}
+use Rattle.qcow2_metadata.specs.Tables.{TableValue, table_in, raw_entries_in}
 use Rattle.qcow2_alloc.specs.Cache.{hit, victim}
 use Rattle.qcow2_alloc.specs.Finding.{Sought, with_room}
 use Rattle.qcow2_alloc.specs.Memory.{written_table}
-use Rattle.qcow2_alloc.specs.Safety.{IsCachedTable}
+use Rattle.qcow2_alloc.specs.WellFormedness.{IsCachedTable}
 use Rattle.qcow2_alloc.specs.declared.async_lru_cache.Slot.{Slot}
 use Rattle.qcow2_alloc.proofs.Caching.Places.{Place, place-of-key, place-hit, slot-of}
 use Rattle.qcow2_image.specs.Seen.{IsOfFile, IsTableAt}
@@ -68,23 +68,23 @@ of-written f h (x ∷ xs) (y ∷ ys) same all =
       record {
         named = subst (λ k. IsTableAt f h (k * cluster_size h)) (sym key) all.0.named;
         layout = ap (λ e. e.1.value.layout) head ∙ all.0.layout;
-        words = ap (λ e. e.1.value.words) head ∙ all.0.words ∙ ap (λ k. words_in f (k * cluster_size h) (words_of_cluster h)) (sym key);
+        raw_entries = ap (λ e. e.1.value.raw_entries) head ∙ all.0.raw_entries ∙ ap (λ k. raw_entries_in f (k * cluster_size h) (entries_of_cluster h)) (sym key);
       },
       of-written f h xs ys tail all.1,
     )
 
-pub of-search : (f : Bytes) (h : Fields) (cap key : ℕ) (es es' : List (ℕ × Slot TableValue)) (answer : Result Unit Fault) → IsTableAt f h (key * cluster_size h) → Sought written_table cap key (table_in f h key (words_of_cluster h)) es answer es' → AllByRecursion (IsOfFile f h) es → AllByRecursion (IsOfFile f h) es'
+pub of-search : (f : Bytes) (h : Fields) (cap key : ℕ) (es es' : List (ℕ × Slot TableValue)) (answer : Result Unit Fault) → IsTableAt f h (key * cluster_size h) → Sought written_table cap key (table_in f h key (entries_of_cluster h)) es answer es' → AllByRecursion (IsOfFile f h) es → AllByRecursion (IsOfFile f h) es'
 of-search f h cap key es es' answer named sought all = elim (found-or-not (lookup (nat_eq key) es)) [
-  | inl is ↦ subst (AllByRecursion (IsOfFile f h)) (sym (sought.there is)) all
+  | inl is ↦ subst (AllByRecursion (IsOfFile f h)) (sym (sought.unchanged_if_cached is)) all
   | inr none ↦ by-answer answer sought.loaded sought.refused none
 ] where
   found-or-not : (x : Option (Slot TableValue)) → (IsSome x) ⊎ (x ≡ None)
   found-or-not None = inr refl
   found-or-not (Some s) = inl refl
 
-  by-answer : (a : Result Unit Fault) → (lookup (nat_eq key) es ≡ None → OnOk a (es' ≡ (key, record { value = table_in f h key (words_of_cluster h); pins = 0 }) ∷ with_room cap es))
+  by-answer : (a : Result Unit Fault) → (lookup (nat_eq key) es ≡ None → OnOk a (es' ≡ (key, record { value = table_in f h key (entries_of_cluster h); pins = 0 }) ∷ with_room cap es))
       → OnErr a ((map written_table es' ≡ map written_table es) ⊎ (es' ≡ with_room cap es)) → lookup (nat_eq key) es ≡ None → AllByRecursion (IsOfFile f h) es'
-  by-answer (Ok done) loaded refused none = subst (AllByRecursion (IsOfFile f h)) (sym (loaded none)) (record { named = named; layout = refl; words = refl }, all-with-room (IsOfFile f h) cap es all)
+  by-answer (Ok done) loaded refused none = subst (AllByRecursion (IsOfFile f h)) (sym (loaded none)) (record { named = named; layout = refl; raw_entries = refl }, all-with-room (IsOfFile f h) cap es all)
   by-answer (Err fault) loaded refused none = elim refused [
     | inl written ↦ of-written f h es' es written all
     | inr room ↦ subst (AllByRecursion (IsOfFile f h)) (sym room) (all-with-room (IsOfFile f h) cap es all)
@@ -101,7 +101,7 @@ tables-of-file f h table there (e ∷ es) alone fit clean =
       record {
         named = here;
         layout = fit.0.layout;
-        words = fit.0.clean clean.0 (here.row, here.in_l1, here.at, some);
+        raw_entries = fit.0.clean clean.0 (here.row, here.in_l1, here.at, some);
       },
       tables-of-file f h table there es alone.1 fit.1 clean.1,
     )

@@ -15,15 +15,15 @@ use Rattle.qcow2_types.specs.Frames.{Outside}
 use Rattle.qcow2_types.specs.Header.{Fields, cluster_size}
 use Rattle.qcow2_types.specs.Words.{data_at}
 use Rattle.qcow2_types.proofs.Changes.DataSteps.{untouched-keeps}
-use Rattle.qcow2_alloc.specs.Quiet.{Metadata, IsSound}
-use Rattle.qcow2_steps.specs.Data.{IsHidden, KeepsWords, WritesBeside}
+use Rattle.qcow2_alloc.specs.GuestView.{Metadata, IsSound}
+use Rattle.qcow2_steps.specs.Data.{IsHidden, KeepsRawEntries, WritesBeside}
 use Rattle.qcow2_steps.proofs.DataRuns.{beside-reserved, beside-words}
 use Rattle.qcow2_image.specs.HeldHomes.{clusters-from, clusters-of, held-at, own-hidden, run-from, run-guest}
-use Rattle.qcow2_image.specs.Holding.{Holding, IsHeld, IsOwnAs, IsUncopied, Notes, claim_held, copied_to, held_home, held_of, held_place, home_or, homes_with, in_clusters, in_run, written_to}
+use Rattle.qcow2_image.specs.Holding.{PreparedMappingRun, IsHeld, IsOwnAs, IsUncopied, Notes, mapping_id_held, copied_to, held_writable_location, held_of, held_place, writable_location_or, writable_locations_with, in_clusters, in_run, written_to}
 use Rattle.qcow2_image.specs.Homes.{cluster-there, home-of, home-there, mapped, memory_is, within-there}
-use Rattle.qcow2_image.specs.ImageLayer.{home_by, homes}
-use Rattle.qcow2_image.specs.Rooms.{HoldsIn, IsSafe, rest_of}
-use Rattle.qcow2_image.specs.Seen.{file_of, homes_of, layer_of, memory_of}
+use Rattle.qcow2_image.specs.ImageLayer.{writable_location_by, writable_locations}
+use Rattle.qcow2_image.specs.Rooms.{HoldsIn, IsWellFormed, rest_of}
+use Rattle.qcow2_image.specs.Seen.{file_of, writable_locations_of, layer_of, memory_of}
 use Rattle.qcow2_image.specs.Unspent.{holding_in}
 use Rattle.qcow2_image.specs.declared.qcow2.Qcow2.{Qcow2}
 use Rattle.qcow2_image.specs.declared.unspent.Unspent.{Unspent}
@@ -31,25 +31,25 @@ use Rattle.qcow2_image.proofs.DiskEffects.{safe-sound}
 use Rattle.qcow2_image.proofs.WritesInPlace.{IsWrittenAt, byte-stays, rewritten-entries, rewritten-kept, written-beside}
 
 -- the place of the disk lies in the run, at this place of the file
-pub record IsOfRun (h : Fields) (hold : Holding) (p at : ℕ) : Type 0 where
+pub record IsOfRun (h : Fields) (hold : PreparedMappingRun) (p at : ℕ) : Type 0 where
   pub inside : in_run hold p ≡ true
   pub guest : (hold.guest ≤ p / cluster_size h) × (p / cluster_size h < hold.guest + hold.count)
   pub there : at ≡ held_place h hold p
 
-abbrev pub IsInRun : Fields → Option Holding → (p at : ℕ) → Type 0
+abbrev pub IsInRun : Fields → Option PreparedMappingRun → (p at : ℕ) → Type 0
 IsInRun h None p at = ⊥
 IsInRun h (Some hold) p at = IsOfRun h hold p at
 
 -- A place is written where its word says, or where that says none, in the run.
-abbrev pub IsWrittenIn : Bytes → Fields → Option Holding → (p at : ℕ) → Type 0
-IsWrittenIn f h hold p at = (home_by h p (mapped f h p) ≡ Some (0, at)) ⊎ ((home_by h p (mapped f h p) ≡ None) × IsInRun h hold p at)
+abbrev pub IsWrittenIn : Bytes → Fields → Option PreparedMappingRun → (p at : ℕ) → Type 0
+IsWrittenIn f h hold p at = (writable_location_by h p (mapped f h p) ≡ Some (0, at)) ⊎ ((writable_location_by h p (mapped f h p) ≡ None) × IsInRun h hold p at)
 
 -- No place shows what is held.
-abbrev pub IsUnshown : Bytes → Fields → Option Holding → Type 0
+abbrev pub IsUnshown : Bytes → Fields → Option PreparedMappingRun → Type 0
 IsUnshown f h hold = IfSome hold (λ x. (d : ℕ) → d < x.count → IsHidden f h (x.host + d))
 
 -- So it is written in a cluster that none shows.
-pub written-at : (f : Bytes) (h : Fields) (hold : Option Holding) (p at : ℕ) → IsUnshown f h hold → IsWrittenIn f h hold p at → IsWrittenAt f h p at
+pub written-at : (f : Bytes) (h : Fields) (hold : Option PreparedMappingRun) (p at : ℕ) → IsUnshown f h hold → IsWrittenIn f h hold p at → IsWrittenAt f h p at
 written-at f h hold p at unshown (inl home) = inl home
 written-at f h None p at unshown (inr run) = absurd run.1
 written-at f h (Some hold) p at unshown (inr run) =
@@ -58,7 +58,7 @@ written-at f h (Some hold) p at unshown (inr run) =
     inr (run.0, subst (IsHidden f h) (sym there) (unshown d (omega (arith, run.1.guest.0, run.1.guest.1))))
 
 -- a home in the run
-held-there : (hold : Holding) (p at : ℕ) → held_home hold p ≡ Some (0, at) → (in_run hold p ≡ true) × (at ≡ hold.place + (p - hold.offset))
+held-there : (hold : PreparedMappingRun) (p at : ℕ) → held_writable_location hold p ≡ Some (0, at) → (in_run hold p ≡ true) × (at ≡ hold.place + (p - hold.offset))
 held-there hold p at is = elim (cases_Bool (in_run hold p)) [
   | inl so ↦
       let there : Some (0, hold.place + (p - hold.offset)) ≡ Some (0, at) = rw so at is in
@@ -68,35 +68,35 @@ held-there hold p at is = elim (cases_Bool (in_run hold p)) [
 ]
 
 -- a place on the disk that can't be written by its word, of an image that can
-no-word : (m : Bytes) (h : Fields) (p : ℕ) → p < h.size → homes true m h p ≡ None → home_by h p (mapped m h p) ≡ None
+no-word : (m : Bytes) (h : Fields) (p : ℕ) → p < h.size → writable_locations true m h p ≡ None → writable_location_by h p (mapped m h p) ≡ None
 no-word m h p lt none = rw (lt-ltb p h.size lt) at none
 
 -- Each place that a layer says can be written is so.
-module _ {S : Type 0} (g : Ghosts S) (d : Qcow2 S g) (safe : IsSafe g d) where
+module _ {S : Type 0} (g : Ghosts S) (d : Qcow2 S g) (well_formed : IsWellFormed g d) where
   abbrev h : Fields
   h = d.tables.file.header.fields
 
-  some-unspent : (u : Option (Unspent S g)) (hold : Holding) → holding_in g u ≡ Some hold → IsSome u
+  some-unspent : (u : Option (Unspent S g)) (hold : PreparedMappingRun) → holding_in g u ≡ Some hold → IsSome u
   some-unspent None hold is = absurd (cc is)
   some-unspent (Some u) hold is = refl
 
-  by-word : (p at : ℕ) → homes_of g d p ≡ Some (0, at) → (p < h.size) × (home_by h p (mapped (file_of g d.tables) h p) ≡ Some (0, at))
+  by-word : (p at : ℕ) → writable_locations_of g d p ≡ Some (0, at) → (p < h.size) × (writable_location_by h p (mapped (file_of g d.tables) h p) ≡ Some (0, at))
   by-word p at is =
       let there = home-there d.mode.writable (memory_of g d.tables) h p (0, at) is in
-      (there.1, subst (λ m. home_by h p (mapped m h p) ≡ Some (0, at)) (memory_is g d.tables) there.2)
+      (there.1, subst (λ m. writable_location_by h p (mapped m h p) ≡ Some (0, at)) (memory_is g d.tables) there.2)
 
-  in-held : (hold : Holding) → holding_in g d.unspent ≡ Some hold → HoldsIn g d.tables hold → (p at : ℕ) → homes_of g d p ≡ None
-      → held_home hold p ≡ Some (0, at) → (p < h.size) × IsWrittenIn (file_of g d.tables) h (Some hold) p at
+  in-held : (hold : PreparedMappingRun) → holding_in g d.unspent ≡ Some hold → HoldsIn g d.tables hold → (p at : ℕ) → writable_locations_of g d p ≡ None
+      → held_writable_location hold p ≡ Some (0, at) → (p < h.size) × IsWrittenIn (file_of g d.tables) h (Some hold) p at
   in-held hold is holds p at none home =
       let here = held-there hold p at home in
       let run = run-from hold p here.0 in
       let lt : p < h.size = let on = holds.held.on_disk in omega (arith, run.1, on) in
-      let writable : d.mode.writable ≡ true = safe.writable (some-unspent d.unspent hold is) in
-      let word : home_by h p (mapped (memory_of g d.tables) h p) ≡ None =
-      no-word (memory_of g d.tables) h p lt (subst (λ w. homes w (memory_of g d.tables) h p ≡ None) writable none) in (
+      let writable : d.mode.writable ≡ true = well_formed.writable (some-unspent d.unspent hold is) in
+      let raw_entry : writable_location_by h p (mapped (memory_of g d.tables) h p) ≡ None =
+      no-word (memory_of g d.tables) h p lt (subst (λ w. writable_locations w (memory_of g d.tables) h p ≡ None) writable none) in (
         lt,
         inr (
-          subst (λ m. home_by h p (mapped m h p) ≡ None) (memory_is g d.tables) word,
+          subst (λ m. writable_location_by h p (mapped m h p) ≡ None) (memory_is g d.tables) raw_entry,
           record {
             inside = here.0;
             guest = run-guest (rest_of g d.tables holds.space) hold holds.held p here.0;
@@ -105,39 +105,39 @@ module _ {S : Type 0} (g : Ghosts S) (d : Qcow2 S g) (safe : IsSafe g d) where
         ),
       )
 
-  pub written-in : (p at : ℕ) → (layer_of g d).home p ≡ Some (0, at)
+  pub written-in : (p at : ℕ) → (layer_of g d).writable_location p ≡ Some (0, at)
       → (p < h.size) × IsWrittenIn (file_of g d.tables) h (holding_in g d.unspent) p at
-  written-in p at home = from (holding_in g d.unspent) refl safe.held home where
-    word : (hold : Option Holding) → homes_of g d p ≡ Some (0, at) → (p < h.size) × IsWrittenIn (file_of g d.tables) h hold p at
-    word hold is = let there = by-word p at is in (there.0, inl there.1)
+  written-in p at home = from (holding_in g d.unspent) refl well_formed.held home where
+    raw_entry : (hold : Option PreparedMappingRun) → writable_locations_of g d p ≡ Some (0, at) → (p < h.size) × IsWrittenIn (file_of g d.tables) h hold p at
+    raw_entry hold is = let there = by-word p at is in (there.0, inl there.1)
 
-    either : (hold : Holding) → holding_in g d.unspent ≡ Some hold → HoldsIn g d.tables hold → (a : Option (ℕ × ℕ)) → homes_of g d p ≡ a
-        → home_or a (held_home hold p) ≡ Some (0, at) → (p < h.size) × IsWrittenIn (file_of g d.tables) h (Some hold) p at
-    either hold is holds (Some a) one home = word (Some hold) (one ∙ home)
+    either : (hold : PreparedMappingRun) → holding_in g d.unspent ≡ Some hold → HoldsIn g d.tables hold → (a : Option (ℕ × ℕ)) → writable_locations_of g d p ≡ a
+        → writable_location_or a (held_writable_location hold p) ≡ Some (0, at) → (p < h.size) × IsWrittenIn (file_of g d.tables) h (Some hold) p at
+    either hold is holds (Some a) one home = raw_entry (Some hold) (one ∙ home)
     either hold is holds None one home = in-held hold is holds p at one home
 
-    from : (hold : Option Holding) → holding_in g d.unspent ≡ hold → IfSome hold (HoldsIn g d.tables) → homes_with hold (homes_of g d) p ≡ Some (0, at)
+    from : (hold : Option PreparedMappingRun) → holding_in g d.unspent ≡ hold → IfSome hold (HoldsIn g d.tables) → writable_locations_with hold (writable_locations_of g d) p ≡ Some (0, at)
         → (p < h.size) × IsWrittenIn (file_of g d.tables) h hold p at
-    from None is holds home = word None home
-    from (Some hold) is holds home = either hold is holds (homes_of g d p) refl home
+    from None is holds home = raw_entry None home
+    from (Some hold) is holds home = either hold is holds (writable_locations_of g d p) refl home
 
   pub unshown-in : IsUnshown (file_of g d.tables) h (holding_in g d.unspent)
-  unshown-in = from (holding_in g d.unspent) safe.held where
-    from : (hold : Option Holding) → IfSome hold (HoldsIn g d.tables) → IsUnshown (file_of g d.tables) h hold
+  unshown-in = from (holding_in g d.unspent) well_formed.held where
+    from : (hold : Option PreparedMappingRun) → IfSome hold (HoldsIn g d.tables) → IsUnshown (file_of g d.tables) h hold
     from None holds = tt
     from (Some hold) holds = λ i less. own-hidden hold.is_kept (rest_of g d.tables holds.space) (hold.guest + i) (hold.host + i)
-        (safe-sound g d holds.space holds.there safe) (holds.held.own i less)
+        (safe-sound g d holds.space holds.space_known well_formed) (holds.held.own i less)
 
 -- Where a mapping holds something, what was noted changes neither where places can be written,
-pub noted-homes : (at n : ℕ) (old new : Option Holding) → Notes at n old new → (home : ℕ → Option (ℕ × ℕ)) → homes_with new home ≡ homes_with old home
-noted-homes at n None new notes home = ap (λ o. homes_with o home) notes
+pub noted-homes : (at n : ℕ) (old new : Option PreparedMappingRun) → Notes at n old new → (home : ℕ → Option (ℕ × ℕ)) → writable_locations_with new home ≡ writable_locations_with old home
+noted-homes at n None new notes home = ap (λ o. writable_locations_with o home) notes
 noted-homes at n (Some hold) new notes home =
-    ap (λ o. homes_with o home) notes.1 ∙ (λ i p. home_or (home p) (held_home hold p))
+    ap (λ o. writable_locations_with o home) notes.1 ∙ (λ i p. writable_location_or (home p) (held_writable_location hold p))
 
 -- nor which it is.
-pub noted-claim : (at n : ℕ) (old new : Option Holding) → Notes at n old new → claim_held new ≡ claim_held old
-noted-claim at n None new notes = ap claim_held notes
-noted-claim at n (Some hold) new notes = ap claim_held notes.1
+pub noted-claim : (at n : ℕ) (old new : Option PreparedMappingRun) → Notes at n old new → mapping_id_held new ≡ mapping_id_held old
+noted-claim at n None new notes = ap mapping_id_held notes
+noted-claim at n (Some hold) new notes = ap mapping_id_held notes.1
 
 -- Numbers with the same quotient and rest are the same.
 same-parts : (a b d : ℕ) → a / d ≡ b / d → a % d ≡ b % d → a ≡ b
@@ -174,14 +174,14 @@ off-range at n p off = elim (cases_lt p at) [
 
 -- A sound image of which a mapping holds something, a range of its disk that can be written from a place of the file on, and a file that
 -- was written there.
-module _ (m : Metadata) (sound : IsSound m) (hold : Holding) (held : IsHeld m hold) (guest place n : ℕ)
+module _ (m : Metadata) (sound : IsSound m) (hold : PreparedMappingRun) (held : IsHeld m hold) (guest place n : ℕ)
     (each : (i : ℕ) → i < n → IsWrittenIn m.file m.header.fields (Some hold) (guest + i) (place + i))
     (x : Bytes) (out : Outside m.file x place n) where
   abbrev fields : Fields
   fields = m.header.fields
 
   was : IsConsistent m.file m.header
-  was = sound.safe.consistent
+  was = sound.well_formed.consistent
 
   unshown : (d : ℕ) → d < hold.count → IsHidden m.file fields (hold.host + d)
   unshown d less = own-hidden hold.is_kept m (hold.guest + d) (hold.host + d) sound (held.own d less)
@@ -197,14 +197,14 @@ module _ (m : Metadata) (sound : IsSound m) (hold : Holding) (held : IsHeld m ho
       clusters-of fields hold p (run-guest m hold held p is) (omega (arith, run.1, on))
 
   -- no word says where one of them is written.
-  no-home : (p at : ℕ) → in_clusters fields hold p ≡ true → home_by fields p (mapped m.file fields p) ≡ Some (0, at) → ⊥
+  no-home : (p at : ℕ) → in_clusters fields hold p ≡ true → writable_location_by fields p (mapped m.file fields p) ≡ Some (0, at) → ⊥
   no-home p at is home =
       let found = home-of fields p at (mapped m.file fields p) home in
       let guest = (clusters-from fields hold p is).0 in
       let d : ℕ = p / cluster_size fields - hold.guest in
       let same : p / cluster_size fields ≡ hold.guest + d = omega (arith, guest.0) in
-      let word : entry m.file fields (hold.guest + d) ≡ data_at found.0 true = subst (λ g. entry m.file fields g ≡ data_at found.0 true) same found.1 in
-      subst IsUncopied word (held.uncopied d (omega (arith, guest.0, guest.1)))
+      let raw_entry : entry m.file fields (hold.guest + d) ≡ data_at found.0 true = subst (λ g. entry m.file fields g ≡ data_at found.0 true) same found.1 in
+      subst IsUncopied raw_entry (held.uncopied d (omega (arith, guest.0, guest.1)))
 
   -- So its bytes stay but for those that are written in the run,
   byte-kept : (p : ℕ) → in_clusters fields hold p ≡ true → IsOut guest n p → x (held_place fields hold p) ≡ m.file (held_place fields hold p)
@@ -235,7 +235,7 @@ module _ (m : Metadata) (sound : IsSound m) (hold : Holding) (held : IsHeld m ho
 
   -- What was written to it is noted.
   module _ (written : ℕ → Bool) (notes : (p : ℕ) → written p ≡ ((nat_le guest p && ltb p (guest + n)) || hold.written p)) where
-    abbrev now : Holding
+    abbrev now : PreparedMappingRun
     now = record hold { written = written }
 
     written-out : (p : ℕ) → IsOut guest n p → written p ≡ hold.written p
@@ -258,8 +258,8 @@ module _ (m : Metadata) (sound : IsSound m) (hold : Holding) (held : IsHeld m ho
 
     -- and one of it takes its byte, or notes it.
     pub held-range : (i b : ℕ) (old new : Cell) → i < n → x (place + i) ≡ b
-        → (home_by fields (guest + i) (mapped m.file fields (guest + i)) ≡ Some (0, place + i) → new ≡ own (byte b))
-        → (home_by fields (guest + i) (mapped m.file fields (guest + i)) ≡ None → new ≡ old)
+        → (writable_location_by fields (guest + i) (mapped m.file fields (guest + i)) ≡ Some (0, place + i) → new ≡ own (byte b))
+        → (writable_location_by fields (guest + i) (mapped m.file fields (guest + i)) ≡ None → new ≡ old)
         → TakesByte b (held_of fields m.file hold (guest + i)) old (held_of fields x now (guest + i)) new
     held-range i b old new lt is by-word by-run = elim (each i lt) [
       | inl home ↦ elim (cases_Bool (in_clusters fields hold (guest + i))) [
@@ -280,35 +280,35 @@ module _ (m : Metadata) (sound : IsSound m) (hold : Holding) (held : IsHeld m ho
         let run = written-beside m.file m.header was guest place n each-at x out some in
         let writes : WritesBeside m (place / cluster_size fields) ((place + (n - 1)) / cluster_size fields - place / cluster_size fields) place n x =
         record { apart = run.0; low = run.1; high = run.2; outside = out } in
-        let words = beside-words m sound (place / cluster_size fields) ((place + (n - 1)) / cluster_size fields - place / cluster_size fields) place n x writes in
+        let raw_entries = beside-words m sound (place / cluster_size fields) ((place + (n - 1)) / cluster_size fields - place / cluster_size fields) place n x writes in
         record {
           any = held.any;
           row = held.row;
-          under = λ d less. record {
-            inside = (held.under d less).inside;
-            there = (untouched-keeps m.file x m.header was (rewritten-kept m.file m.header was guest place n each-at x out)).places.l1 _
-                ∙ (held.under d less).there;
-            some = (held.under d less).some;
+          layers_below = λ d less. record {
+            inside = (held.layers_below d less).inside;
+            table_linked = (untouched-keeps m.file x m.header was (rewritten-kept m.file m.header was guest place n each-at x out)).places.l1 _
+                ∙ (held.layers_below d less).table_linked;
+            table_nonzero = (held.layers_below d less).table_nonzero;
           };
-          own = λ d less. own-still words hold.is_kept (hold.guest + d) (hold.host + d) (held.own d less);
+          own = λ d less. own-still raw_entries hold.is_kept (hold.guest + d) (hold.host + d) (held.own d less);
           uncopied = λ d less. subst IsUncopied (sym (rewritten-entries m.file m.header was guest place n each-at x out (hold.guest + d)))
               (held.uncopied d less);
-          some = held.some;
+          host_nonzero = held.host_nonzero;
           reach = held.reach;
           placed = held.placed;
           long = held.long;
           first = held.first;
           last = held.last;
           on_disk = held.on_disk;
-          kept = λ p is none.
+          unwritten_is_copied = λ p is none.
               let both = or_parts (nat_le guest p && ltb p (guest + n)) (hold.written p) (sym (notes p) ∙ none) in
-              byte-kept p is (off-range guest n p both.0) ∙ held.kept p is both.1;
+              byte-kept p is (off-range guest n p both.0) ∙ held.unwritten_is_copied p is both.1;
           beside = λ p is off. notes p ∙ beside-off p is off;
         }
       where
-        own-still : KeepsWords m x → (is_kept : Bool) (g h : ℕ) → IsOwnAs is_kept m g h → IsOwnAs is_kept (record m { file = x }) g h
-        own-still words true g h mine = record { file = words.file_entries g ∙ mine.file; memory = words.memory_entries g ∙ mine.memory }
-        own-still words false g h mine = beside-reserved m x words h mine
+        own-still : KeepsRawEntries m x → (is_kept : Bool) (g h : ℕ) → IsOwnAs is_kept m g h → IsOwnAs is_kept (record m { file = x }) g h
+        own-still raw_entries true g h mine = record { file = raw_entries.file_entries g ∙ mine.file; memory = raw_entries.memory_entries g ∙ mine.memory }
+        own-still raw_entries false g h mine = beside-reserved m x raw_entries h mine
 
         beside-off : (p : ℕ) → in_clusters fields hold p ≡ true → in_run hold p ≡ false → ((nat_le guest p && ltb p (guest + n)) || hold.written p) ≡ false
         beside-off p is off = elim (cases_Bool (nat_le guest p && ltb p (guest + n))) [

@@ -7,36 +7,36 @@ use Rattle.std.proofs.Math.Nat.{div-mul-le_self, lt-div-mul-add, mul-le-mul_righ
 use Rattle.imago_storage.specs.Disk.{byte}
 use Rattle.imago_storage.specs.Steps.{IsOut}
 use Rattle.imago_access.specs.Layer.{Cell, own}
-use Rattle.qcow2_types.specs.Bytes.{Bytes, word, all_below}
-use Rattle.qcow2_types.specs.Words.{Mapping, unmapped, data_at, zeroes, packed, damaged, l1_word_sound}
-use Rattle.qcow2_types.specs.Header.{Fields, Header, cluster_size, words_of_cluster}
+use Rattle.qcow2_types.specs.Bytes.{Bytes, raw_entry, all_below}
+use Rattle.qcow2_types.specs.Words.{Mapping, unmapped, data_at, zeroes, packed, damaged, l1_entry_valid}
+use Rattle.qcow2_types.specs.Header.{Fields, Header, cluster_size, entries_of_cluster}
 use Rattle.qcow2_types.specs.Entries.{entry, l2_table, l1_table_sound}
 use Rattle.qcow2_types.specs.Counts.{block_at}
 use Rattle.qcow2_types.specs.References.{structure, meets}
 use Rattle.qcow2_types.specs.Consistency.{IsConsistent}
-use Rattle.qcow2_types.specs.Frames.{Outside, Kept, nothing}
+use Rattle.qcow2_types.specs.Frames.{Outside, SameStructureOutside, nothing}
 use Rattle.qcow2_types.proofs.Counting.Consistent.{some-words, consistent-shaped}
 use Rattle.qcow2_types.proofs.Changes.Frames.{word-same}
 use Rattle.qcow2_types.proofs.Showing.Shows.{guest-kept, entries-same}
 use Rattle.qcow2_types.proofs.Changes.DataSteps.{untouched-keeps, untouched-consistent, run-written}
-use Rattle.qcow2_metadata.specs.Tables.{words_in}
+use Rattle.qcow2_metadata.specs.Tables.{raw_entries_in}
 use Rattle.qcow2_steps.specs.Data.{IsHidden}
 use Rattle.qcow2_metadata.proofs.TableFacts.{words_same}
 use Rattle.qcow2_image.specs.Holding.{place_in}
-use Rattle.qcow2_image.specs.ImageLayer.{cell_by, home_by}
+use Rattle.qcow2_image.specs.ImageLayer.{cell_by, writable_location_by}
 use Rattle.qcow2_image.specs.Homes.{mapped, home-of, cluster-there, data-apart-from-structure, one-place}
 
 -- A place of the disk is written at a place of the file: where its word says, or where its word says none, in a cluster that none shows.
 abbrev pub IsWrittenAt : Bytes → Fields → (p at : ℕ) → Type 0
 IsWrittenAt f h p at =
-    (home_by h p (mapped f h p) ≡ Some (0, at)) ⊎ ((home_by h p (mapped f h p) ≡ None) × IsHidden f h (at / cluster_size h))
+    (writable_location_by h p (mapped f h p) ≡ Some (0, at)) ⊎ ((writable_location_by h p (mapped f h p) ≡ None) × IsHidden f h (at / cluster_size h))
 
 module _ (f : Bytes) (H : Header) (was : IsConsistent f H) where
   abbrev h : Fields
   h = H.fields
 
   abbrev per_table : ℕ
-  per_table = words_of_cluster h
+  per_table = entries_of_cluster h
 
   -- A write of n bytes at a place of the file, where each of n places of the disk is written.
   module _ (guest place n : ℕ) (each : (i : ℕ) → i < n → IsWrittenAt f h (guest + i) (place + i))
@@ -93,29 +93,29 @@ module _ (f : Bytes) (H : Header) (was : IsConsistent f H) where
         ap (λ l. (l + 1) * cluster_size h) end ∙ omega arith in
         (λ d from upto. apart-in some d from (omega (arith, upto, end)), low, omega (arith, above, product, some))
 
-    written-run : 0 < n → Kept f x h nothing
+    written-run : 0 < n → SameStructureOutside f x h nothing
     written-run some =
         let run = written-beside some in
-        (run-written f H was first more run.0 x place n out run.1 run.2).kept
+        (run-written f H was first more run.0 x place n out run.1 run.2).same_structure_outside
 
     -- Where it has none, each byte stays.
     all-stay : n ≡ 0 → (p : ℕ) → x p ≡ f p
     all-stay none p = out p (elim (cases_lt p place) [ inl lt ↦ inl lt | inr le ↦ inr (omega (arith, le, none)) ])
 
-    word-stays : n ≡ 0 → (table i : ℕ) → word x table i ≡ word f table i
+    word-stays : n ≡ 0 → (table i : ℕ) → raw_entry x table i ≡ raw_entry f table i
     word-stays none table i = word-same f x table (8 * i + 8) i (λ k _. all-stay none (table + k)) (omega arith)
 
-    written-none : n ≡ 0 → Kept f x h nothing
+    written-none : n ≡ 0 → SameStructureOutside f x h nothing
     written-none none = record {
       start = λ _ k lt. all-stay none (0 + k);
       l1 = λ i lt _. word-stays none h.l1_offset i;
       blocks = λ i lt _. word-stays none h.refcount_table_offset i;
       counters = λ i lt there _ k less. all-stay none (block_at f h i + k);
-      words = λ i j live _. word-stays none (l2_table f h i) j;
+      raw_entries = λ i j live _. word-stays none (l2_table f h i) j;
     }
 
     -- No part of the structure is touched,
-    pub rewritten-kept : Kept f x h nothing
+    pub rewritten-kept : SameStructureOutside f x h nothing
     rewritten-kept = elim (cases_eq n 0) [ inl none ↦ written-none none | inr some ↦ written-run (omega (arith, some)) ]
 
     -- the image stays consistent,
@@ -125,9 +125,9 @@ module _ (f : Bytes) (H : Header) (was : IsConsistent f H) where
     -- and each guest cluster has the mapping that it had.
     pub rewritten-entries : (g : ℕ) → entry x h g ≡ entry f h g
     rewritten-entries g =
-        let words : 0 < per_table = some-words h (consistent-shaped f H was) in
-        let kept = guest-kept f x h (untouched-keeps f x H was rewritten-kept) words g in
-        entries-same f x h was.readable.tables rewritten-consistent.readable.tables words g kept
+        let raw_entries : 0 < per_table = some-words h (consistent-shaped f H was) in
+        let kept = guest-kept f x h (untouched-keeps f x H was rewritten-kept) raw_entries g in
+        entries-same f x h was.readable.tables rewritten-consistent.readable.tables raw_entries g kept
 
     -- A byte that isn't written stays.
     pub byte-stays : (at : ℕ) → ((i : ℕ) → i < n → at ≡ place + i → ⊥) → x at ≡ f at
@@ -140,7 +140,7 @@ module _ (f : Bytes) (H : Header) (was : IsConsistent f H) where
     ]
 
     -- So does data of a place that isn't in the range, or that no word says to be written.
-    byte-beside : (p d : ℕ) (mark : Bool) → IsOut guest n p ⊎ (home_by h p (mapped f h p) ≡ None) → mapped f h p ≡ data_at d mark
+    byte-beside : (p d : ℕ) (mark : Bool) → IsOut guest n p ⊎ (writable_location_by h p (mapped f h p) ≡ None) → mapped f h p ≡ data_at d mark
         → x (place_in h d p) ≡ f (place_in h d p)
     byte-beside p d mark beside is = byte-stays (place_in h d p) (λ i lt at. elim (each i lt) [
       | inl home ↦
@@ -148,7 +148,7 @@ module _ (f : Bytes) (H : Header) (was : IsConsistent f H) where
           elim beside [
             | inl off ↦ elim off [ inl low ↦ omega (arith, low, one) | inr high ↦ omega (arith, high, one, lt) ]
             | inr none ↦
-                let there : home_by h p (mapped f h p) ≡ Some (0, place + i) = subst (λ q. home_by h q (mapped f h q) ≡ Some (0, place + i)) one home in
+                let there : writable_location_by h p (mapped f h p) ≡ Some (0, place + i) = subst (λ q. writable_location_by h q (mapped f h q) ≡ Some (0, place + i)) one home in
                 let bad : None ≡ Some (0, place + i) = sym none ∙ there in
                 cc
           ]
@@ -158,7 +158,7 @@ module _ (f : Bytes) (H : Header) (was : IsConsistent f H) where
     ])
 
     -- So such a place says what it did,
-    pub rewritten-others : (blank : Cell) (p : ℕ) → IsOut guest n p ⊎ (home_by h p (mapped f h p) ≡ None)
+    pub rewritten-others : (blank : Cell) (p : ℕ) → IsOut guest n p ⊎ (writable_location_by h p (mapped f h p) ≡ None)
         → cell_by blank x h p (mapped x h p) ≡ cell_by blank f h p (mapped f h p)
     rewritten-others blank p beside =
         ap (cell_by blank x h p) (rewritten-entries (p / cluster_size h))
@@ -173,7 +173,7 @@ module _ (f : Bytes) (H : Header) (was : IsConsistent f H) where
         by damaged same = refl
 
     -- and one that a word says to be written says its byte.
-    pub rewritten-range : (blank : Cell) (i : ℕ) → home_by h (guest + i) (mapped f h (guest + i)) ≡ Some (0, place + i)
+    pub rewritten-range : (blank : Cell) (i : ℕ) → writable_location_by h (guest + i) (mapped f h (guest + i)) ≡ Some (0, place + i)
         → cell_by blank x h (guest + i) (mapped x h (guest + i)) ≡ own (byte (x (place + i)))
     rewritten-range blank i home =
         let found = home-of h (guest + i) (place + i) (mapped f h (guest + i)) home in
@@ -190,18 +190,18 @@ below-same (suc n) p q same =
     rw (here, below) refl
 
 -- Where the structure is kept, so are the tables, word for word.
-module _ (f x : Bytes) (h : Fields) (kept : Kept f x h nothing) where
-  pub kept-l1-words : words_in x h.l1_offset h.l1_entries ≡ words_in f h.l1_offset h.l1_entries
+module _ (f x : Bytes) (h : Fields) (kept : SameStructureOutside f x h nothing) where
+  pub kept-l1-words : raw_entries_in x h.l1_offset h.l1_entries ≡ raw_entries_in f h.l1_offset h.l1_entries
   kept-l1-words = words_same x f h.l1_offset h.l1_offset h.l1_entries (λ i lt. kept.l1 i lt (λ e. cc))
 
   pub kept-l2-words : (i : ℕ) → i < h.l1_entries → l2_table f h i ≢ 0
-      → words_in x (l2_table f h i) (words_of_cluster h) ≡ words_in f (l2_table f h i) (words_of_cluster h)
-  kept-l2-words i lt there = words_same x f (l2_table f h i) (l2_table f h i) (words_of_cluster h)
-      (λ j less. kept.words i j record { in_l1 = lt; is_there = there; in_table = less } (λ e. cc))
+      → raw_entries_in x (l2_table f h i) (entries_of_cluster h) ≡ raw_entries_in f (l2_table f h i) (entries_of_cluster h)
+  kept-l2-words i lt there = words_same x f (l2_table f h i) (l2_table f h i) (entries_of_cluster h)
+      (λ j less. kept.raw_entries i j record { in_l1 = lt; is_there = there; in_table = less } (λ e. cc))
 
   pub kept-l1-sound : l1_table_sound x h ≡ l1_table_sound f h
   unfolding l1_table_sound
-  kept-l1-sound = below-same h.l1_entries (sound x) (sound f) (λ i lt. ap (l1_word_sound h.cluster_bits) (kept.l1 i lt (λ e. cc)))
+  kept-l1-sound = below-same h.l1_entries (sound x) (sound f) (λ i lt. ap (l1_entry_valid h.cluster_bits) (kept.l1 i lt (λ e. cc)))
     where
       sound : Bytes → ℕ → Bool
-      sound file i = l1_word_sound h.cluster_bits (word file h.l1_offset i)
+      sound file i = l1_entry_valid h.cluster_bits (raw_entry file h.l1_offset i)

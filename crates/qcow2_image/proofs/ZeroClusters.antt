@@ -7,7 +7,7 @@ use Rattle.qcow2_types.specs.Entries.{entry}
 use Rattle.qcow2_types.specs.Header.{Fields, cluster_size}
 use Rattle.qcow2_types.specs.References.{meets, structure}
 use Rattle.qcow2_types.specs.Words.{Mapping, damaged, data_at, packed, zeroes}
-use Rattle.qcow2_types.specs.Words as words
+use Rattle.qcow2_types.specs.Words as raw_entries
 use Rattle.qcow2_types.proofs.Counting.Consistent.{meets-own}
 use Rattle.qcow2_steps.specs.Data.{IsKeptFor}
 use Rattle.qcow2_clusters.specs.declared.space.Space.{Space}
@@ -26,7 +26,7 @@ kept-is (zeroes (Some cluster) false) x is = absurd (cc)
 kept-is (zeroes None copied) x is = absurd (cc)
 kept-is (data_at cluster copied) x is = absurd (cc)
 kept-is (packed offset length) x is = absurd (cc)
-kept-is words.unmapped x is = absurd (cc)
+kept-is raw_entries.unmapped x is = absurd (cc)
 kept-is damaged x is = absurd (cc)
 
 -- No table, block or header is in the first cluster of a file but the header.
@@ -49,4 +49,4 @@ module _ {S : Type 0} (g : Ghosts S) where
 
   -- Behind a call that kept the disk it is kept still.
   pub kept-behind : (guest : ℕ) (kept : Option ℕ) (old mid : Qcow2 S g) → KeepsDisk g ⊤ old mid → HasKept g guest kept old → HasKept g guest kept mid
-  kept-behind guest kept old mid k has = record { safe = k.safely has.safe tt; is = has.is ∙ ap kept_by (sym (k.words has.safe tt guest)) }
+  kept-behind guest kept old mid k has = record { well_formed = k.safely has.well_formed tt; is = has.is ∙ ap kept_by (sym (k.raw_entries has.well_formed tt guest)) }

@@ -1,19 +1,19 @@
 -- How a prepared mapping is committed or given up.
 use Rattle.std.specs.Prelude.{◌≡◌, ◌≢◌, ◌⊎◌, ◌∷◌, [], ◌++◌, ◌+◌, ◌<◌, ◌≤◌, ◌-◌, ◌%◌, ℕ, Bool, false, true, Option, Some, None, Result, Ok, Err, OnOk, IfErr, EachIndex, slice_index}
-use Rattle.imago_storage.specs.Calls.{IsFaultless, Later}
+use Rattle.imago_storage.specs.Calls.{IsFaultless, CountsNotFallen}
 use Rattle.imago_storage.specs.declared.fault.Fault.{Fault}
 use Rattle.imago_storage.specs.declared.storage.Storage.{Ghosts}
 use Rattle.imago_access.specs.declared.mapping.PreparedDataMapping.{PreparedDataMapping}
 use Rattle.qcow2_types.specs.Entries.{l2_entries}
-use Rattle.qcow2_metadata.specs.Places.{IsInReach}
+use Rattle.qcow2_metadata.specs.Places.{IsAddressable}
 use Rattle.qcow2_alloc.specs.declared.cache.MetadataCaches.{MetadataCaches}
 use Rattle.qcow2_alloc.specs.Causes.{HasCause}
-use Rattle.qcow2_alloc.specs.Going.{IsNoShorter, WasNotCutOff, writing_causes}
-use Rattle.qcow2_clusters.specs.Naming.{LeavesTable, NamesRun}
-use Rattle.qcow2_clusters.specs.Rest.{lent}
-use Rattle.qcow2_clusters.specs.Settling.{without_tables}
+use Rattle.qcow2_alloc.specs.Going.{IsNoShorter, HadNoResourceError, writing_causes}
+use Rattle.qcow2_clusters.specs.Linking.{LeavesTable, LinksRun}
+use Rattle.qcow2_clusters.specs.Flushed.{clusters_state}
+use Rattle.qcow2_clusters.specs.WritingBack.{without_tables}
 use Rattle.qcow2_clusters.specs.declared.space.Space.{Space}
-use Rattle.qcow2_image.specs.Holding.{claim_held}
+use Rattle.qcow2_image.specs.Holding.{mapping_id_held}
 use Rattle.qcow2_image.specs.Unspent.{holding_in}
 use Rattle.qcow2_image.specs.declared.mappings.Reserved.{Reserved}
 use Rattle.qcow2_image.specs.declared.qcow2.PreparedMappingState.{PreparedMappingState}
@@ -23,20 +23,20 @@ use Rattle.qcow2_image.specs.declared.unspent.Unspent.{Unspent}
 
 -- The prepared mapping is taken out, if it has this claim.
 abbrev pub TakesUnspent : {S : Type 0} (g : Ghosts S) → ℕ → Qcow2 S g → Option (Unspent S g) → Qcow2 S g → Type 0
-TakesUnspent g claim old None new = (new ≡ old) × (claim_held (holding_in g old.unspent) ≢ Some claim)
-TakesUnspent g claim old (Some u) new = (u.claim ≡ claim) × (old.unspent ≡ Some u) × (new ≡ record old { unspent = None })
+TakesUnspent g mapping_id old None new = (new ≡ old) × (mapping_id_held (holding_in g old.unspent) ≢ Some mapping_id)
+TakesUnspent g mapping_id old (Some u) new = (u.mapping_id ≡ mapping_id) × (old.unspent ≡ Some u) × (new ≡ record old { unspent = None })
 
 -- words can name the clusters, and those of the guest clusters stand in one table
 pub record IsNamable (cluster_bits guest cluster n : ℕ) : Type 0 where
-  pub some : 0 < cluster
+  pub cluster_nonzero : 0 < cluster
   pub any : 0 < n
-  pub reach : IsInReach cluster_bits (cluster + (n - 1))
+  pub reach : IsAddressable cluster_bits (cluster + (n - 1))
   pub row : guest % l2_entries cluster_bits + n ≤ l2_entries cluster_bits
 
 -- the room for entries that is held once a cluster is named: less by one, unless that was kept
-abbrev pub held_behind : Bool → ℕ → ℕ
-held_behind true held = held
-held_behind false held = held - 1
+abbrev pub held_after : Bool → ℕ → ℕ
+held_after true held = held
+held_after false held = held - 1
 
 -- What naming a cluster did to the free space, by what it is then: but for the room for an entry, which isn't held any more where a
 -- cluster that wasn't kept is named, that is it.
@@ -45,21 +45,21 @@ pub record NamesWith {S : Type 0} (g : Ghosts S) (r : Reserved) (guest : ℕ) (o
   pub caches : MetadataCaches S
   pub between : Space
   pub after : Space
-  pub names : NamesRun g.state r.table guest r.host r.count (lent old.file caches space) result
-      (lent new.file (without_tables new.caches) between)
-  pub kept : LeavesTable g.state r.table guest r.host r.count (lent old.file caches space) result (lent new.file new.caches between)
-  pub there : new.space ≡ Some after
+  pub names : LinksRun g.state r.table guest r.host r.count (clusters_state old.file caches space) result
+      (clusters_state new.file (without_tables new.caches) between)
+  pub leaves_table : LeavesTable g.state r.table guest r.host r.count (clusters_state old.file caches space) result (clusters_state new.file new.caches between)
+  pub space_known : new.space ≡ Some after
   pub allocator : after.allocator ≡ between.allocator
   pub entries : after.to_free.entries ≡ between.to_free.entries
-  pub let_go : OnOk result (after.to_free.held ≡ held_behind r.is_kept between.to_free.held)
+  pub let_go : OnOk result (after.to_free.held ≡ held_after r.is_kept between.to_free.held)
 
 -- Guest clusters come to name host clusters, as far as that may be done: where free space is known, and words can name them. Whatever is
 -- answered, the file gets no shorter.
-pub record NamesHost {S : Type 0} (g : Ghosts S) (r : Reserved) (guest : ℕ) (old : Tables S g) (result : Result Unit Fault)
+pub record LinksHost {S : Type 0} (g : Ghosts S) (r : Reserved) (guest : ℕ) (old : Tables S g) (result : Result Unit Fault)
     (new : Tables S g) : Type 0 where
   pub shape : (g.state new.file.image).shape ≡ (g.state old.file.image).shape
-  pub later : Later (g.state old.file.image) (g.state new.file.image)
-  pub faults : WasNotCutOff result → IsFaultless (g.state old.file.image) (g.state new.file.image)
+  pub counts_not_fallen : CountsNotFallen (g.state old.file.image) (g.state new.file.image)
+  pub faults : HadNoResourceError result → IsFaultless (g.state old.file.image) (g.state new.file.image)
   pub header : new.file.header ≡ old.file.header
   pub no_shorter : IsNoShorter (g.state old.file.image) (g.state new.file.image)
   pub l1 : new.l1 ≡ old.l1
@@ -77,27 +77,27 @@ answer_of (Ok done) = Ok done
 answer_of (Err fault) = Err (fault, None)
 
 -- and whether the image has failed then
-abbrev pub failed_behind_any : Result Unit Fault → Bool → Bool
-failed_behind_any (Ok done) failed = failed
-failed_behind_any (Err fault) failed = true
+abbrev pub failed_after_any : Result Unit Fault → Bool → Bool
+failed_after_any (Ok done) failed = failed
+failed_after_any (Err fault) failed = true
 
 -- The prepared mapping is spent, and its guest cluster names its host cluster, or the image has failed.
-pub record SpendsUnspent {S : Type 0} (g : Ghosts S) (claim : ℕ) (old : Qcow2 S g)
+pub record SpendsUnspent {S : Type 0} (g : Ghosts S) (mapping_id : ℕ) (old : Qcow2 S g)
     (result : Result Unit (Fault × Option (PreparedDataMapping PreparedMappingState))) (new : Qcow2 S g) : Type 0 where
   pub spent : Unspent S g
-  pub there : old.unspent ≡ Some spent
-  pub mine : spent.claim ≡ claim
+  pub was_unspent : old.unspent ≡ Some spent
+  pub mine : spent.mapping_id ≡ mapping_id
   pub bytes : let file = (g.state old.tables.file.image).bytes in EachIndex file (λ k. slice_index file k < 256)
   pub named : Result Unit Fault
-  pub names : NamesHost g (reserved_of g spent) spent.guest old.tables named new.tables
+  pub names : LinksHost g (reserved_of g spent) spent.guest old.tables named new.tables
   pub answer : result ≡ answer_of named
-  pub others : new ≡ record old { tables = new.tables; unspent = None; failed = failed_behind_any named old.failed }
+  pub others : new ≡ record old { tables = new.tables; unspent = None; failed = failed_after_any named old.failed }
 
 -- The prepared mapping is committed, if it has this claim, and else nothing is done.
 abbrev pub CommitsUnspent : {S : Type 0} (g : Ghosts S) → ℕ → Qcow2 S g
     → Result Unit (Fault × Option (PreparedDataMapping PreparedMappingState)) → Qcow2 S g → Type 0
-CommitsUnspent g claim old result new =
-    ((claim_held (holding_in g old.unspent) ≢ Some claim) × (result ≡ Ok tt) × (new ≡ old)) ⊎ SpendsUnspent g claim old result new
+CommitsUnspent g mapping_id old result new =
+    ((mapping_id_held (holding_in g old.unspent) ≢ Some mapping_id) × (result ≡ Ok tt) × (new ≡ old)) ⊎ SpendsUnspent g mapping_id old result new
 
 -- Host clusters that weren't kept wait to be freed then, where room is held for that, and else they leak.
 abbrev pub GivesBack : (is_kept : Bool) → (host n : ℕ) → Option Space → Option Space → Type 0
@@ -112,10 +112,10 @@ GivesBack false host n (Some space) new = ((space.to_free.held ≡ 0) × (new �
     })))
 
 -- The prepared mapping is given up.
-pub record DropsUnspent {S : Type 0} (g : Ghosts S) (claim : ℕ) (old new : Qcow2 S g) : Type 0 where
+pub record DropsUnspent {S : Type 0} (g : Ghosts S) (mapping_id : ℕ) (old new : Qcow2 S g) : Type 0 where
   pub spent : Unspent S g
-  pub there : old.unspent ≡ Some spent
-  pub mine : spent.claim ≡ claim
+  pub was_unspent : old.unspent ≡ Some spent
+  pub mine : spent.mapping_id ≡ mapping_id
   pub space : Option Space
   pub given : GivesBack spent.is_kept spent.host spent.count old.tables.space space
   pub file : new.tables.file ≡ old.tables.file
@@ -126,4 +126,4 @@ pub record DropsUnspent {S : Type 0} (g : Ghosts S) (claim : ℕ) (old new : Qco
 
 -- It is, if it has this claim, and else nothing is done.
 abbrev pub CancelsUnspent : {S : Type 0} (g : Ghosts S) → ℕ → Qcow2 S g → Qcow2 S g → Type 0
-CancelsUnspent g claim old new = ((claim_held (holding_in g old.unspent) ≢ Some claim) × (new ≡ old)) ⊎ DropsUnspent g claim old new
+CancelsUnspent g mapping_id old new = ((mapping_id_held (holding_in g old.unspent) ≢ Some mapping_id) × (new ≡ old)) ⊎ DropsUnspent g mapping_id old new

@@ -1,12 +1,12 @@
 -- How much of an image's space is free in a row, what calls leave of that, and why an allocation finds no place.
 use Rattle.std.specs.Prelude.{◌≡◌, ◌⊎◌, ◌+◌, ◌-◌, ◌/◌, ◌^◌, ◌<◌, ◌≤◌, ℕ, min, false, Option, Some, None}
 use Rattle.imago_storage.specs.declared.storage.Storage.{Ghosts}
-use Rattle.qcow2_types.specs.Bytes.{word}
+use Rattle.qcow2_types.specs.Bytes.{raw_entry}
 use Rattle.qcow2_types.specs.Counts.{count}
 use Rattle.qcow2_types.specs.Entries.{l2_table}
-use Rattle.qcow2_types.specs.Header.{words_of_cluster}
+use Rattle.qcow2_types.specs.Header.{entries_of_cluster}
 use Rattle.qcow2_types.specs.Words.{is_copied}
-use Rattle.qcow2_alloc.specs.Allocators.{mark_of}
+use Rattle.qcow2_alloc.specs.Allocators.{first_free_of}
 use Rattle.qcow2_alloc.specs.Crowding.{room_for, space}
 use Rattle.qcow2_alloc.specs.ReadyingRuns.{IsRunTold}
 use Rattle.qcow2_clusters.specs.Lengthening.{clusters_for, l1_clusters}
@@ -34,33 +34,33 @@ abbrev pub enough_for_one : {S : Type 0} {g : Ghosts S} → Tables S g → ℕ
 enough_for_one t = enough_for_run t 1
 
 -- and for an L1 table that comes to have a word at index i
-abbrev pub enough_for_word : {S : Type 0} {g : Ghosts S} → Tables S g → (i : ℕ) → ℕ
-enough_for_word t i = let h = t.file.header.fields in room_for h (l1_clusters h t.l1 i)
+abbrev pub enough_for_entry : {S : Type 0} {g : Ghosts S} → Tables S g → (i : ℕ) → ℕ
+enough_for_entry t i = let h = t.file.header.fields in room_for h (l1_clusters h t.l1 i)
 
 -- and for that and an L2 table
 abbrev pub enough_for_table : {S : Type 0} {g : Ghosts S} → Tables S g → (guest : ℕ) → ℕ
-enough_for_table t guest = enough_for_word t (guest / words_of_cluster t.file.header.fields) + enough_for_one t
+enough_for_table t guest = enough_for_entry t (guest / entries_of_cluster t.file.header.fields) + enough_for_one t
 
 -- There was no free run of so many clusters, and a number tells why the first one of as many as were asked for can't be taken.
 pub record LacksFreeRun {S : Type 0} (g : Ghosts S) (asked enough : ℕ) (old new : Tables S g) (number : ℕ) : Type 0 where
   pub crowded : HasFreeRun g old enough → ⊥
   pub free : Space
-  pub there : new.space ≡ Some free
-  pub told : IsRunTold (rest_of g new free) (mark_of free.allocator) asked number
+  pub space_known : new.space ≡ Some free
+  pub told : IsRunTold (rest_of g new free) (first_free_of free.allocator) asked number
 
 -- No L2 table of its own is over a guest cluster: the L1 table has no word for it, or one that names none, or lacks the copied mark.
 abbrev pub LacksTable : {S : Type 0} (g : Ghosts S) → (guest : ℕ) → Tables S g → Type 0
-LacksTable g guest t = let h = t.file.header.fields in let i = guest / words_of_cluster h in
-    (l2_table (file_of g t) h i ≡ 0) ⊎ (is_copied (word (file_of g t) h.l1_offset i) ≡ false)
+LacksTable g guest t = let h = t.file.header.fields in let i = guest / entries_of_cluster h in
+    (l2_table (file_of g t) h i ≡ 0) ⊎ (is_copied (raw_entry (file_of g t) h.l1_offset i) ≡ false)
 
 -- For an L1 table that comes to have a word at index i, which it lacks, so many clusters in a row are asked for,
-abbrev pub IsForWord : {S : Type 0} (g : Ghosts S) → (i : ℕ) → Tables S g → (asked : ℕ) → Type 0
-IsForWord g i t asked = let h = t.file.header.fields in (h.l1_entries ≤ i) × (asked ≡ clusters_for h (i + 1))
+abbrev pub IsForRawEntry : {S : Type 0} (g : Ghosts S) → (i : ℕ) → Tables S g → (asked : ℕ) → Type 0
+IsForRawEntry g i t asked = let h = t.file.header.fields in (h.l1_entries ≤ i) × (asked ≡ clusters_for h (i + 1))
 
 -- or for that or an L2 table of its own, which a guest cluster lacks,
 abbrev pub IsForTable : {S : Type 0} (g : Ghosts S) → (guest : ℕ) → Tables S g → (asked : ℕ) → Type 0
 IsForTable g guest t asked =
-    IsForWord g (guest / words_of_cluster t.file.header.fields) t asked ⊎ (LacksTable g guest t × (asked ≡ 1))
+    IsForRawEntry g (guest / entries_of_cluster t.file.header.fields) t asked ⊎ (LacksTable g guest t × (asked ≡ 1))
 
 -- or for either or a host cluster, of which it keeps this one or none.
 abbrev pub IsForCluster : {S : Type 0} (g : Ghosts S) → (guest : ℕ) → (kept : Option ℕ) → Tables S g → (asked : ℕ) → Type 0

@@ -9,13 +9,13 @@ use Rattle.imago_access.specs.Layer.{loose}
 use Rattle.qcow2_types.specs.Bytes.{Bytes}
 use Rattle.qcow2_types.specs.Header.{Fields, cluster_size}
 use Rattle.qcow2_types.specs.Words.{data_at}
-use Rattle.qcow2_alloc.specs.Quiet.{Metadata, IsSound}
+use Rattle.qcow2_alloc.specs.GuestView.{Metadata, IsSound}
 use Rattle.qcow2_steps.specs.Data.{IsHidden}
 use Rattle.qcow2_steps.proofs.InvisibleClusters.{kept-hidden, reserved-hidden}
-use Rattle.qcow2_image.specs.Holding.{Holding, IsHeld, IsOwnAs, claim_held, has_guest, held_home, held_place, held_with, home_or, homes_with, in_clusters, in_run}
-use Rattle.qcow2_image.specs.Homes.{cluster-there, home-of, home-there, homeless, housed, mapped, memory_is, words-home}
-use Rattle.qcow2_image.specs.Rooms.{HoldsIn, IsSafe, IsVacant, IsZeroed, HasRoom, rest_of}
-use Rattle.qcow2_image.specs.Seen.{file_of, homes_of, layer_of, memory_of}
+use Rattle.qcow2_image.specs.Holding.{PreparedMappingRun, IsHeld, IsOwnAs, mapping_id_held, has_guest, held_writable_location, held_place, held_with, writable_location_or, writable_locations_with, in_clusters, in_run}
+use Rattle.qcow2_image.specs.Homes.{cluster-there, home-of, home-there, without_writable_location, housed, mapped, memory_is, words-home}
+use Rattle.qcow2_image.specs.Rooms.{HoldsIn, IsWellFormed, IsUnallocated, IsZeroed, HasRoom, rest_of}
+use Rattle.qcow2_image.specs.Seen.{file_of, writable_locations_of, layer_of, memory_of}
 use Rattle.qcow2_image.specs.Unspent.{holding_in}
 use Rattle.qcow2_image.specs.declared.qcow2.Qcow2.{Qcow2}
 use Rattle.qcow2_image.specs.declared.unspent.Unspent.{Unspent}
@@ -27,7 +27,7 @@ own-hidden true m guest host sound own = (kept-hidden m guest host sound own).0
 own-hidden false m guest host sound own = (reserved-hidden m host sound own).0
 
 -- Where nothing is prepared nothing is held,
-pub none-held : (hold : Option Holding) → claim_held hold ≡ None → hold ≡ None
+pub none-held : (hold : Option PreparedMappingRun) → mapping_id_held hold ≡ None → hold ≡ None
 none-held None free = refl
 none-held (Some hold) free = absurd (Prim.cc free)
 
@@ -35,23 +35,23 @@ pub none-unspent : {S : Type 0} (g : Ghosts S) (u : Option (Unspent S g)) → ho
 none-unspent g None is = refl
 none-unspent g (Some u) is = absurd (Prim.cc is)
 
-pub free_loose : (h : Fields) (file : Bytes) (hold : Option Holding) (p : ℕ) → claim_held hold ≡ None → held_with h file hold p ≡ loose
+pub free_loose : (h : Fields) (file : Bytes) (hold : Option PreparedMappingRun) (p : ℕ) → mapping_id_held hold ≡ None → held_with h file hold p ≡ loose
 free_loose h file None p free = refl
 free_loose h file (Some hold) p free = absurd (Prim.cc free)
 
 -- and each place can be written where its word says.
-pub free-homes : (hold : Option Holding) (home : ℕ → Option (ℕ × ℕ)) (p : ℕ) → claim_held hold ≡ None → homes_with hold home p ≡ home p
+pub free-homes : (hold : Option PreparedMappingRun) (home : ℕ → Option (ℕ × ℕ)) (p : ℕ) → mapping_id_held hold ≡ None → writable_locations_with hold home p ≡ home p
 free-homes None home p free = refl
 free-homes (Some hold) home p free = absurd (Prim.cc free)
 
 -- A place that can be written by its word can be so, whatever is prepared.
-pub words-first : (hold : Option Holding) (home : ℕ → Option (ℕ × ℕ)) (p : ℕ) (at : ℕ × ℕ) → home p ≡ Some at
-    → homes_with hold home p ≡ Some at
+pub words-first : (hold : Option PreparedMappingRun) (home : ℕ → Option (ℕ × ℕ)) (p : ℕ) (at : ℕ × ℕ) → home p ≡ Some at
+    → writable_locations_with hold home p ≡ Some at
 words-first None home p at is = is
-words-first (Some hold) home p at is = ap (λ x. home_or x (held_home hold p)) is
+words-first (Some hold) home p at is = ap (λ x. writable_location_or x (held_writable_location hold p)) is
 
 -- the place lies in the run
-pub run-from : (hold : Holding) (p : ℕ) → in_run hold p ≡ true → (hold.offset ≤ p) × (p < hold.offset + hold.length)
+pub run-from : (hold : PreparedMappingRun) (p : ℕ) → in_run hold p ≡ true → (hold.offset ≤ p) × (p < hold.offset + hold.length)
 run-from hold p is = from (nat_le hold.offset p) (ltb p (hold.offset + hold.length)) refl refl is where
   from : (a b : Bool) → nat_le hold.offset p ≡ a → ltb p (hold.offset + hold.length) ≡ b → (a && b) ≡ true
       → (hold.offset ≤ p) × (p < hold.offset + hold.length)
@@ -60,7 +60,7 @@ run-from hold p is = from (nat_le hold.offset p) (ltb p (hold.offset + hold.leng
   from false b low high both = absurd (Prim.cc both)
 
 -- The first place is one of it.
-pub first-in : (hold : Holding) → 0 < hold.length → in_run hold hold.offset ≡ true
+pub first-in : (hold : PreparedMappingRun) → 0 < hold.length → in_run hold hold.offset ≡ true
 first-in hold some =
     rw (le-leb hold.offset hold.offset (Prim.omega arith), lt-ltb hold.offset (hold.offset + hold.length) (Prim.omega (arith, some))) refl
 
@@ -85,7 +85,7 @@ div-to c g p high = elim (cases_lt (p / c) g) [
 ]
 
 -- The places of the guest clusters.
-pub clusters-from : (h : Fields) (hold : Holding) (p : ℕ) → in_clusters h hold p ≡ true
+pub clusters-from : (h : Fields) (hold : PreparedMappingRun) (p : ℕ) → in_clusters h hold p ≡ true
     → ((hold.guest ≤ p / cluster_size h) × (p / cluster_size h < hold.guest + hold.count)) × (p < h.size)
 clusters-from h hold p is =
     let both = and_parts (has_guest hold (p / cluster_size h)) (ltb p h.size) is in
@@ -94,7 +94,7 @@ clusters-from h hold p is =
       ltb-true p h.size both.1,
     )
 
-pub clusters-of : (h : Fields) (hold : Holding) (p : ℕ) → (hold.guest ≤ p / cluster_size h) × (p / cluster_size h < hold.guest + hold.count)
+pub clusters-of : (h : Fields) (hold : PreparedMappingRun) (p : ℕ) → (hold.guest ≤ p / cluster_size h) × (p / cluster_size h < hold.guest + hold.count)
     → p < h.size → in_clusters h hold p ≡ true
 clusters-of h hold p guests low =
     and_from (has_guest hold (p / cluster_size h)) (ltb p h.size)
@@ -103,7 +103,7 @@ clusters-of h hold p guests low =
     (lt-ltb p h.size low)
 
 -- A place of the run lies in one of the guest clusters.
-pub run-guest : (m : Metadata) (hold : Holding) → IsHeld m hold → (p : ℕ) → in_run hold p ≡ true
+pub run-guest : (m : Metadata) (hold : PreparedMappingRun) → IsHeld m hold → (p : ℕ) → in_run hold p ≡ true
     → (hold.guest ≤ p / cluster_size m.header.fields) × (p / cluster_size m.header.fields < hold.guest + hold.count)
 run-guest m hold held p is =
     let c : ℕ = cluster_size m.header.fields in
@@ -114,7 +114,7 @@ run-guest m hold held p is =
     )
 
 -- Places of the file lie as far from one another as those of the disk do.
-pub held-linear : (h : Fields) (hold : Holding) (p : ℕ) → hold.guest ≤ p / cluster_size h
+pub held-linear : (h : Fields) (hold : PreparedMappingRun) (p : ℕ) → hold.guest ≤ p / cluster_size h
     → held_place h hold p + hold.guest * cluster_size h ≡ hold.host * cluster_size h + p
 held-linear h hold p from =
     let c : ℕ = cluster_size h in
@@ -126,7 +126,7 @@ held-linear h hold p from =
     Prim.omega (arith, parts, back, there, div-add-mod' p c)
 
 -- The place of the file for a place of the run.
-pub held-at : (m : Metadata) (hold : Holding) → IsHeld m hold → (p : ℕ) → in_run hold p ≡ true
+pub held-at : (m : Metadata) (hold : PreparedMappingRun) → IsHeld m hold → (p : ℕ) → in_run hold p ≡ true
     → hold.place + (p - hold.offset) ≡ held_place m.header.fields hold p
 held-at m hold held p is =
     let inside = run-from hold p is in
@@ -135,45 +135,45 @@ held-at m hold held p is =
     Prim.omega (arith, held.placed, one, first, inside.0)
 
 -- A place that is held in the run,
-home-held : (hold : Holding) (p : ℕ) (at : ℕ × ℕ) → held_home hold p ≡ Some at
+home-held : (hold : PreparedMappingRun) (p : ℕ) (at : ℕ × ℕ) → held_writable_location hold p ≡ Some at
     → (in_run hold p ≡ true) × (at ≡ (0, hold.place + (p - hold.offset)))
 home-held hold p at is = elim (cases_Bool (in_run hold p)) [
   | inl there ↦ (there, let here : Some (0, hold.place + (p - hold.offset)) ≡ Some at = rw there at is in Prim.cc (sym here))
   | inr away ↦ absurd (let none : None ≡ Some at = rw away at is in Prim.cc none)
 ]
 
-module _ {S : Type 0} (g : Ghosts S) (d : Qcow2 S g) (safe : IsSafe g d) where
+module _ {S : Type 0} (g : Ghosts S) (d : Qcow2 S g) (well_formed : IsWellFormed g d) where
   abbrev h : Fields
   h = d.tables.file.header.fields
 
-  module _ (hold : Holding) (holds : HoldsIn g d.tables hold) where
+  module _ (hold : PreparedMappingRun) (holds : HoldsIn g d.tables hold) where
     -- No place shows what is held for it,
     hidden : (i : ℕ) → i < hold.count → IsHidden (file_of g d.tables) h (hold.host + i)
     hidden i less = own-hidden hold.is_kept (rest_of g d.tables holds.space) (hold.guest + i) (hold.host + i)
-        (subst (λ o. IfSome o (λ space. IsSound (rest_of g d.tables space))) holds.there safe.sound) (holds.held.own i less)
+        (subst (λ o. IfSome o (λ space. IsSound (rest_of g d.tables space))) holds.space_known well_formed.sound) (holds.held.own i less)
 
     -- so that no place has its home there by its word.
-    elsewhere : (p q at : ℕ) → in_run hold q ≡ true → homes_of g d p ≡ Some (0, at) → at ≡ held_place h hold q → ⊥
+    elsewhere : (p q at : ℕ) → in_run hold q ≡ true → writable_locations_of g d p ≡ Some (0, at) → at ≡ held_place h hold q → ⊥
     elsewhere p q at run home there =
         let is = home-there d.mode.writable (memory_of g d.tables) h p (0, at) home in
         let found = home-of h p at (mapped (memory_of g d.tables) h p) is.2 in
         let i : ℕ = q / cluster_size h - hold.guest in
         let guest = run-guest (rest_of g d.tables holds.space) hold holds.held q run in
         let same : found.0 ≡ hold.host + i = sym (cluster-there h at found.0 p found.2) ∙ cluster-there h at (hold.host + i) q there in
-        let word : mapped (file_of g d.tables) h p ≡ data_at found.0 true =
+        let raw_entry : mapped (file_of g d.tables) h p ≡ data_at found.0 true =
         subst (λ (m : Bytes). mapped m h p ≡ data_at found.0 true) (memory_is g d.tables) found.1 in
-        (hidden i (Prim.omega (arith, guest.0, guest.1))).dataless (p / cluster_size h) true (word ∙ ap (λ c. data_at c true) same)
+        (hidden i (Prim.omega (arith, guest.0, guest.1))).dataless (p / cluster_size h) true (raw_entry ∙ ap (λ c. data_at c true) same)
 
   -- No two places are written at one place of the file: both by their words,
   module _ (p q : ℕ) (at : ℕ × ℕ) where
-    abbrev word : ℕ → Option (ℕ × ℕ)
-    word = homes_of g d
+    abbrev raw_entry : ℕ → Option (ℕ × ℕ)
+    raw_entry = writable_locations_of g d
 
-    by-words : word p ≡ Some at → word q ≡ Some at → p ≡ q
-    by-words = words-home g d.tables d.mode.writable p q at safe.consistent
+    by-words : raw_entry p ≡ Some at → raw_entry q ≡ Some at → p ≡ q
+    by-words = words-home g d.tables d.mode.writable p q at well_formed.consistent
 
     -- or both in the run,
-    in-held : (hold : Holding) → HoldsIn g d.tables hold → held_home hold p ≡ Some at → held_home hold q ≡ Some at → p ≡ q
+    in-held : (hold : PreparedMappingRun) → HoldsIn g d.tables hold → held_writable_location hold p ≡ Some at → held_writable_location hold q ≡ Some at → p ≡ q
     in-held hold holds one two =
         let here = home-held hold p at one in
         let there = home-held hold q at two in
@@ -184,36 +184,36 @@ module _ {S : Type 0} (g : Ghosts S) (d : Qcow2 S g) (safe : IsSafe g d) where
         Prim.omega (arith, places, low.0, low'.0)
 
   -- for a home by a word is none of the run.
-  apart : (hold : Holding) → HoldsIn g d.tables hold → (p q : ℕ) (at : ℕ × ℕ) → homes_of g d p ≡ Some at → held_home hold q ≡ Some at → ⊥
+  apart : (hold : PreparedMappingRun) → HoldsIn g d.tables hold → (p q : ℕ) (at : ℕ × ℕ) → writable_locations_of g d p ≡ Some at → held_writable_location hold q ≡ Some at → ⊥
   apart hold holds p q at one two =
       let there = home-held hold q at two in
       let place = held-at (rest_of g d.tables holds.space) hold holds.held q there.0 in
       elsewhere hold holds p q (hold.place + (q - hold.offset)) there.0 (one ∙ ap Some there.1) place
 
-  either : (hold : Holding) → HoldsIn g d.tables hold → (p q : ℕ) (at : ℕ × ℕ)
-      → homes_with (Some hold) (homes_of g d) p ≡ Some at → homes_with (Some hold) (homes_of g d) q ≡ Some at → p ≡ q
-  either hold holds p q at one two = from (homes_of g d p) (homes_of g d q) refl refl one two where
-    from : (a b : Option (ℕ × ℕ)) → homes_of g d p ≡ a → homes_of g d q ≡ b → home_or a (held_home hold p) ≡ Some at
-        → home_or b (held_home hold q) ≡ Some at → p ≡ q
+  either : (hold : PreparedMappingRun) → HoldsIn g d.tables hold → (p q : ℕ) (at : ℕ × ℕ)
+      → writable_locations_with (Some hold) (writable_locations_of g d) p ≡ Some at → writable_locations_with (Some hold) (writable_locations_of g d) q ≡ Some at → p ≡ q
+  either hold holds p q at one two = from (writable_locations_of g d p) (writable_locations_of g d q) refl refl one two where
+    from : (a b : Option (ℕ × ℕ)) → writable_locations_of g d p ≡ a → writable_locations_of g d q ≡ b → writable_location_or a (held_writable_location hold p) ≡ Some at
+        → writable_location_or b (held_writable_location hold q) ≡ Some at → p ≡ q
     from (Some a) (Some b) is is' one two = by-words p q at (is ∙ one) (is' ∙ two)
     from (Some a) None is is' one two = absurd (apart hold holds p q at (is ∙ one) two)
     from None (Some b) is is' one two = absurd (apart hold holds q p at (is' ∙ two) one)
     from None None is is' one two = in-held p q at hold holds one two
 
-  pub one_home : (p q : ℕ) (at : ℕ × ℕ) → (layer_of g d).home p ≡ Some at → (layer_of g d).home q ≡ Some at → p ≡ q
-  one_home p q at = from (holding_in g d.unspent) refl safe.held where
-    from : (hold : Option Holding) → holding_in g d.unspent ≡ hold → IfSome hold (HoldsIn g d.tables)
-        → homes_with hold (homes_of g d) p ≡ Some at → homes_with hold (homes_of g d) q ≡ Some at → p ≡ q
+  pub one_writable_location : (p q : ℕ) (at : ℕ × ℕ) → (layer_of g d).writable_location p ≡ Some at → (layer_of g d).writable_location q ≡ Some at → p ≡ q
+  one_writable_location p q at = from (holding_in g d.unspent) refl well_formed.held where
+    from : (hold : Option PreparedMappingRun) → holding_in g d.unspent ≡ hold → IfSome hold (HoldsIn g d.tables)
+        → writable_locations_with hold (writable_locations_of g d) p ≡ Some at → writable_locations_with hold (writable_locations_of g d) q ≡ Some at → p ≡ q
     from None is holds one two = by-words p q at one two
     from (Some hold) is holds one two = either hold holds p q at one two
 
 -- While nothing is prepared, a place that can be written has room, and one that is vacant or zeroed can't be.
-pub says_room : {S : Type 0} (g : Ghosts S) (d : Qcow2 S g) → claim_held (holding_in g d.unspent) ≡ None → (p : ℕ) →
+pub reports_allocations : {S : Type 0} (g : Ghosts S) (d : Qcow2 S g) → mapping_id_held (holding_in g d.unspent) ≡ None → (p : ℕ) →
     let h = d.tables.file.header.fields in
-    (IsVacant (memory_of g d.tables) h p ⊎ IsZeroed (memory_of g d.tables) h p → (layer_of g d).home p ≡ None)
-    × (IsSome ((layer_of g d).home p) → HasRoom (memory_of g d.tables) h p)
-says_room g d free p =
-    let same : (layer_of g d).home p ≡ homes_of g d p = free-homes (holding_in g d.unspent) (homes_of g d) p free in (
-      λ states. same ∙ homeless d.mode.writable (memory_of g d.tables) d.tables.file.header.fields p states,
+    (IsUnallocated (memory_of g d.tables) h p ⊎ IsZeroed (memory_of g d.tables) h p → (layer_of g d).writable_location p ≡ None)
+    × (IsSome ((layer_of g d).writable_location p) → HasRoom (memory_of g d.tables) h p)
+reports_allocations g d free p =
+    let same : (layer_of g d).writable_location p ≡ writable_locations_of g d p = free-homes (holding_in g d.unspent) (writable_locations_of g d) p free in (
+      λ states. same ∙ without_writable_location d.mode.writable (memory_of g d.tables) d.tables.file.header.fields p states,
       λ some. housed d.mode.writable (memory_of g d.tables) d.tables.file.header.fields p (subst IsSome same some),
     )

@@ -5,9 +5,9 @@ use Rattle.std.proofs.lemmas.Bool.{cases_Bool, cases_eq, ltb-true, le-ltb}
 use Rattle.std.proofs.lemmas.Nat.{div-mul-add, mod-mul-add, div-add-mod', mod_below, pow_pos}
 use Rattle.imago_storage.specs.declared.storage.Storage.{Ghosts}
 use Rattle.qcow2_types.specs.Bytes.{Bytes}
-use Rattle.qcow2_types.specs.Header.{Fields, Header, cluster_size, words_of_cluster}
+use Rattle.qcow2_types.specs.Header.{Fields, Header, cluster_size, entries_of_cluster}
 use Rattle.qcow2_types.specs.Words.{Mapping, data_at, zeroes, packed, damaged, unmapped}
-use Rattle.qcow2_types.specs.Words as words
+use Rattle.qcow2_types.specs.Words as raw_entries
 use Rattle.qcow2_types.specs.Entries.{entry, l2_table}
 use Rattle.qcow2_types.specs.References.{structure, contents, of_mapping, of_copied, meets, refs}
 use Rattle.qcow2_types.specs.Slots.{slot, Live}
@@ -20,10 +20,10 @@ use Rattle.qcow2_types.proofs.Changes.DataSteps.{marked-named-once, marked-apart
 use Rattle.qcow2_types.specs.Consistency.{IsConsistent}
 use Rattle.qcow2_alloc.specs.Caches.{cached_in}
 use Rattle.qcow2_alloc.proofs.Memory.SafeLaws.{clean-memory}
-use Rattle.qcow2_image.specs.ImageLayer.{home_by, homes}
-use Rattle.qcow2_clusters.specs.Naming.{TakesNone}
+use Rattle.qcow2_image.specs.ImageLayer.{writable_location_by, writable_locations}
+use Rattle.qcow2_clusters.specs.Linking.{TakesNone}
 use Rattle.qcow2_image.specs.Holding.{place_in}
-use Rattle.qcow2_image.specs.Rooms.{HasCluster, ReadsNone, IsVacant, IsZeroed, HasRoom}
+use Rattle.qcow2_image.specs.Rooms.{HasCluster, ReadsNone, IsUnallocated, IsZeroed, HasRoom}
 use Rattle.qcow2_image.specs.Seen.{file_of, memory_of}
 use Rattle.qcow2_image.specs.declared.tables.Tables.{Tables}
 
@@ -32,8 +32,8 @@ pub memory_is : {S : Type 0} (g : Ghosts S) (t : Tables S g) → memory_of g t �
 memory_is g t = clean-memory (file_of g t) t.file.header.fields (cached_in t.caches) t.clean.0 t.clean.1
 
 -- what is taken by none, and what reads none, has no home
-none-taken : (h : Fields) (p : ℕ) (m : Mapping) → TakesNone m ⊎ ReadsNone m → home_by h p m ≡ None
-none-taken h p words.unmapped which = refl
+none-taken : (h : Fields) (p : ℕ) (m : Mapping) → TakesNone m ⊎ ReadsNone m → writable_location_by h p m ≡ None
+none-taken h p raw_entries.unmapped which = refl
 none-taken h p (zeroes cluster copied) which = refl
 none-taken h p (packed offset length) which = refl
 none-taken h p damaged which = refl
@@ -42,35 +42,35 @@ none-taken h p (data_at cluster true) (inl none) = absurd none
 none-taken h p (data_at cluster true) (inr none) = absurd none
 
 -- a home is in a cluster
-some-own : (h : Fields) (p : ℕ) (m : Mapping) → IsSome (home_by h p m) → HasCluster m
+some-own : (h : Fields) (p : ℕ) (m : Mapping) → IsSome (writable_location_by h p m) → HasCluster m
 some-own h p (data_at cluster copied) some = tt
 some-own h p (zeroes (Some cluster) copied) some = tt
 some-own h p (zeroes None copied) some = absurd (Prim.cc some)
-some-own h p words.unmapped some = absurd (Prim.cc some)
+some-own h p raw_entries.unmapped some = absurd (Prim.cc some)
 some-own h p (packed offset length) some = absurd (Prim.cc some)
 some-own h p damaged some = absurd (Prim.cc some)
 
 -- A place that nothing is allocated for, or that reads as zeroes, can't be written where it is.
-pub homeless : (writable : Bool) (m : Bytes) (h : Fields) (p : ℕ) → IsVacant m h p ⊎ IsZeroed m h p → homes writable m h p ≡ None
-homeless false m h p which = refl
-homeless true m h p (inl (inl behind)) = rw (le-ltb p h.size behind) refl
-homeless true m h p (inr (inl behind)) = rw (le-ltb p h.size behind) refl
-homeless true m h p (inl (inr none)) = elim (cases_Bool (ltb p h.size)) [
+pub without_writable_location : (writable : Bool) (m : Bytes) (h : Fields) (p : ℕ) → IsUnallocated m h p ⊎ IsZeroed m h p → writable_locations writable m h p ≡ None
+without_writable_location false m h p which = refl
+without_writable_location true m h p (inl (inl behind)) = rw (le-ltb p h.size behind) refl
+without_writable_location true m h p (inr (inl behind)) = rw (le-ltb p h.size behind) refl
+without_writable_location true m h p (inl (inr none)) = elim (cases_Bool (ltb p h.size)) [
   | inl t ↦ rw t (none-taken h p (entry m h (p / cluster_size h)) (inl none))
   | inr t ↦ rw t refl
 ]
-homeless true m h p (inr (inr none)) = elim (cases_Bool (ltb p h.size)) [
+without_writable_location true m h p (inr (inr none)) = elim (cases_Bool (ltb p h.size)) [
   | inl t ↦ rw t (none-taken h p (entry m h (p / cluster_size h)) (inr none))
   | inr t ↦ rw t refl
 ]
 
 -- a place that can be written lies on the disk, and its home is that of its mapping
-pub home-there : (writable : Bool) (m : Bytes) (h : Fields) (p : ℕ) (home : ℕ × ℕ) → homes writable m h p ≡ Some home
-    → (writable ≡ true) × (p < h.size) × (home_by h p (entry m h (p / cluster_size h)) ≡ Some home)
+pub home-there : (writable : Bool) (m : Bytes) (h : Fields) (p : ℕ) (home : ℕ × ℕ) → writable_locations writable m h p ≡ Some home
+    → (writable ≡ true) × (p < h.size) × (writable_location_by h p (entry m h (p / cluster_size h)) ≡ Some home)
 home-there false m h p home is = absurd (Prim.cc is)
 home-there true m h p home is = elim (cases_Bool (ltb p h.size)) [
   | inl t ↦ (refl, ltb-true p h.size t, rw t at is)
-  | inr t ↦ absurd (let none : homes true m h p ≡ None = rw t refl in Prim.cc (sym none ∙ is))
+  | inr t ↦ absurd (let none : writable_locations true m h p ≡ None = rw t refl in Prim.cc (sym none ∙ is))
 ]
 
 some-is : {A : Type 0} (x : Option A) → IsSome x → (a : A) × (x ≡ Some a)
@@ -78,9 +78,9 @@ some-is None some = absurd (Prim.cc some)
 some-is (Some a) some = (a, refl)
 
 -- A place that can be written has room.
-pub housed : (writable : Bool) (m : Bytes) (h : Fields) (p : ℕ) → IsSome (homes writable m h p) → HasRoom m h p
+pub housed : (writable : Bool) (m : Bytes) (h : Fields) (p : ℕ) → IsSome (writable_locations writable m h p) → HasRoom m h p
 housed writable m h p some =
-    let one = some-is (homes writable m h p) some in
+    let one = some-is (writable_locations writable m h p) some in
     let there = home-there writable m h p one.0 one.1 in
     record { inside = there.1; own = some-own h p (entry m h (p / cluster_size h)) (rw there.2 refl) }
 
@@ -94,7 +94,7 @@ file_place None = 0
 file_place (Some home) = home.1
 
 -- A place that can be written is in a data cluster that is marked as copied.
-pub home-of : (h : Fields) (p at : ℕ) (m : Mapping) → home_by h p m ≡ Some (0, at)
+pub home-of : (h : Fields) (p at : ℕ) (m : Mapping) → writable_location_by h p m ≡ Some (0, at)
     → (c : ℕ) × (m ≡ data_at c true) × (at ≡ place_in h c p)
 home-of h p at (data_at c true) is = (c, refl, sym (ap file_place is))
 home-of h p at (data_at c false) is = absurd cc
@@ -104,7 +104,7 @@ home-of h p at unmapped is = absurd cc
 home-of h p at damaged is = absurd cc
 
 -- It is in this file.
-pub home-here : (h : Fields) (p : ℕ) (at : ℕ × ℕ) (m : Mapping) → home_by h p m ≡ Some at → at ≡ (0, at.1)
+pub home-here : (h : Fields) (p : ℕ) (at : ℕ × ℕ) (m : Mapping) → writable_location_by h p m ≡ Some at → at ≡ (0, at.1)
 home-here h p at (data_at c true) is = cc
 home-here h p at (data_at c false) is = absurd cc
 home-here h p at (zeroes cluster copied) is = absurd cc
@@ -134,14 +134,14 @@ module _ (f : Bytes) (H : Header) (was : IsConsistent f H) where
   h = H.fields
 
   abbrev per_table : ℕ
-  per_table = words_of_cluster h
+  per_table = entries_of_cluster h
 
   -- The word of a guest cluster whose data is in the file: it is one of a table that there is.
   module _ (g c : ℕ) (copied : Bool) (is : entry f h g ≡ data_at c copied) where
     table-there : l2_table f h (g / per_table) ≢ 0
     table-there none =
-        let unnamed : entry f h g ≡ unmapped = entry-slot f h g was.readable.tables ∙ guest-slot-none f h g none in
-        let bad : unmapped ≡ data_at c copied = sym unnamed ∙ is in
+        let not_referenced : entry f h g ≡ unmapped = entry-slot f h g was.readable.tables ∙ guest-slot-none f h g none in
+        let bad : unmapped ≡ data_at c copied = sym not_referenced ∙ is in
         cc
 
     slot-there : slot f h (g / per_table) (g % per_table) ≡ data_at c copied
@@ -188,7 +188,7 @@ module _ (f : Bytes) (H : Header) (was : IsConsistent f H) where
     ]
 
   -- A place of the disk that can be written at a place of the file is the only one whose data is there.
-  pub one-place : (p q at d : ℕ) (mark : Bool) → home_by h p (mapped f h p) ≡ Some (0, at)
+  pub one-place : (p q at d : ℕ) (mark : Bool) → writable_location_by h p (mapped f h p) ≡ Some (0, at)
       → mapped f h q ≡ data_at d mark → at ≡ place_in h d q → p ≡ q
   one-place p q at d mark home is there =
       let found = home-of h p at (mapped f h p) home in
@@ -198,19 +198,19 @@ module _ (f : Bytes) (H : Header) (was : IsConsistent f H) where
       same-parts p q (cluster_size h) guest within
 
   -- So no two places of the disk are written at one place of the file.
-  pub one-home : (p q : ℕ) (at : ℕ × ℕ) → home_by h p (mapped f h p) ≡ Some at → home_by h q (mapped f h q) ≡ Some at → p ≡ q
+  pub one-home : (p q : ℕ) (at : ℕ × ℕ) → writable_location_by h p (mapped f h p) ≡ Some at → writable_location_by h q (mapped f h q) ≡ Some at → p ≡ q
   one-home p q at here there =
       let own-file : at ≡ (0, at.1) = home-here h p at (mapped f h p) here in
       let found = home-of h q at.1 (mapped f h q) (there ∙ ap Some own-file) in
       one-place p q at.1 found.0 true (here ∙ ap Some own-file) found.1 found.2
 
 pub words-home : {S : Type 0} (g : Ghosts S) (t : Tables S g) (writable : Bool) (p q : ℕ) (at : ℕ × ℕ)
-    → IsConsistent (file_of g t) t.file.header → homes writable (memory_of g t) t.file.header.fields p ≡ Some at
-    → homes writable (memory_of g t) t.file.header.fields q ≡ Some at → p ≡ q
+    → IsConsistent (file_of g t) t.file.header → writable_locations writable (memory_of g t) t.file.header.fields p ≡ Some at
+    → writable_locations writable (memory_of g t) t.file.header.fields q ≡ Some at → p ≡ q
 words-home g t writable p q at consistent first second =
     let h = t.file.header.fields in
     let one = home-there writable (memory_of g t) h p at first in
     let two = home-there writable (memory_of g t) h q at second in
-    let in-file = λ (x : ℕ) (is : home_by h x (entry (memory_of g t) h (x / cluster_size h)) ≡ Some at).
-    subst (λ m. home_by h x (entry m h (x / cluster_size h)) ≡ Some at) (memory_is g t) is in
+    let in-file = λ (x : ℕ) (is : writable_location_by h x (entry (memory_of g t) h (x / cluster_size h)) ≡ Some at).
+    subst (λ m. writable_location_by h x (entry m h (x / cluster_size h)) ≡ Some at) (memory_is g t) is in
     one-home (file_of g t) t.file.header consistent p q at (in-file p one.2) (in-file q two.2)

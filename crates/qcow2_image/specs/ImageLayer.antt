@@ -13,9 +13,9 @@ use Rattle.qcow2_types.specs.Counts.{count}
 use Rattle.qcow2_types.specs.Header.{Fields, Header, header_of, cluster_size}
 use Rattle.qcow2_types.specs.References.{refs}
 use Rattle.qcow2_types.specs.Words.{Mapping, data_at, zeroes, packed, damaged}
-use Rattle.qcow2_types.specs.Words as words
+use Rattle.qcow2_types.specs.Words as raw_entries
 use Rattle.qcow2_types.specs.Entries.{entry}
-use Rattle.qcow2_image.specs.Holding.{Holding, claim_held, held_with, homes_with}
+use Rattle.qcow2_image.specs.Holding.{PreparedMappingRun, mapping_id_held, held_with, writable_locations_with}
 use Rattle.qcow2_image.specs.declared.mode.OpenMode.{OpenMode}
 
 -- what a place says that no word maps, with or without layers below
@@ -28,7 +28,7 @@ abbrev pub cell_by : Cell → Bytes → Fields → ℕ → Mapping → Cell
 cell_by blank file h p (data_at cluster copied) = own (byte (file (cluster * cluster_size h + p % cluster_size h)))
 cell_by blank file h p (zeroes cluster copied) = own (byte 0)
 cell_by blank file h p (packed offset length) = own barred
-cell_by blank file h p words.unmapped = blank
+cell_by blank file h p raw_entries.unmapped = blank
 cell_by blank file h p damaged = own damaged_place
 
 -- What each place of an image says, by the words in memory and the bytes of its file. Behind its size it says 0.
@@ -44,12 +44,12 @@ abbrev pub qcow2_meaning : Cell → List ℕ → Meaning
 qcow2_meaning blank bytes = meaning_of blank (bytes_of bytes) (header_of false (bytes_of bytes))
 
 -- how often each cluster of a file is counted beyond what names it, by its header
-abbrev pub surplus_in : Bytes → Result Header Fault → ℕ → ℕ
-surplus_in file (Ok H) c = count file H.fields c - refs file H.fields c
-surplus_in file (Err fault) c = 0
+abbrev pub excess_refcount_in : Bytes → Result Header Fault → ℕ → ℕ
+excess_refcount_in file (Ok H) c = count file H.fields c - refs file H.fields c
+excess_refcount_in file (Err fault) c = 0
 
 abbrev pub qcow2_leaks : List ℕ → ℕ → ℕ
-qcow2_leaks bytes = surplus_in (bytes_of bytes) (header_of false (bytes_of bytes))
+qcow2_leaks bytes = excess_refcount_in (bytes_of bytes) (header_of false (bytes_of bytes))
 
 -- the alignment of the ranges that it can zero by itself
 abbrev pub granularity_of : Fields → Option ℕ
@@ -72,30 +72,30 @@ qcow2_fixed shape h mode number = record {
   means = qcow2_meaning (blank_of mode.backing);
   leaks = qcow2_leaks;
   exact = true;
-  marks = true;
-  states_room = true;
+  marks_failed = true;
+  reports_allocation = true;
   unit = cluster_size h;
 }
 
 -- where a place can be written in the file, by the mapping of its guest cluster: in its own cluster alone
-abbrev pub home_by : Fields → ℕ → Mapping → Option (ℕ × ℕ)
-home_by h p (data_at cluster true) = Some (0, cluster * cluster_size h + p % cluster_size h)
-home_by h p mapping = None
+abbrev pub writable_location_by : Fields → ℕ → Mapping → Option (ℕ × ℕ)
+writable_location_by h p (data_at cluster true) = Some (0, cluster * cluster_size h + p % cluster_size h)
+writable_location_by h p mapping = None
 
 -- where each place of an image can be written, by the words in memory, if it was opened for writing
-abbrev pub homes : Bool → Bytes → Fields → ℕ → Option (ℕ × ℕ)
-homes writable memory h p = if writable && ltb p h.size then home_by h p (entry memory h (p / cluster_size h)) else None
+abbrev pub writable_locations : Bool → Bytes → Fields → ℕ → Option (ℕ × ℕ)
+writable_locations writable memory h p = if writable && ltb p h.size then writable_location_by h p (entry memory h (p / cluster_size h)) else None
 
 -- an image, with these words in memory, and what a mapping holds of it, if one is prepared
-abbrev pub qcow2_layer : StorageState → Bytes → Fields → OpenMode → ℕ → Bool → Option Holding → Layer
+abbrev pub qcow2_layer : StorageState → Bytes → Fields → OpenMode → ℕ → Bool → Option PreparedMappingRun → Layer
 qcow2_layer state memory h mode number failed hold = record {
   fixed = qcow2_fixed state.shape h mode number;
   size = h.size;
   failed = failed;
   cell = cells (blank_of mode.backing) memory (bytes_of state.bytes) h;
-  home = homes_with hold (homes mode.writable memory h);
+  writable_location = writable_locations_with hold (writable_locations mode.writable memory h);
   held = held_with h (bytes_of state.bytes) hold;
-  unspent = claim_held hold;
+  unspent = mapping_id_held hold;
 }
 
 -- what an image is printed as
@@ -112,7 +112,7 @@ unmapped_answer false offset = shallow.Zero false
 abbrev pub shallow_of : OpenMode → ℕ → ℕ → ℕ → Mapping → ShallowMapping
 shallow_of mode cluster_bits offset within (data_at cluster copied) =
     shallow.Raw 0 (cluster * 2 ^ cluster_bits + within) (mode.writable && copied)
-shallow_of mode cluster_bits offset within words.unmapped = unmapped_answer mode.backing offset
+shallow_of mode cluster_bits offset within raw_entries.unmapped = unmapped_answer mode.backing offset
 shallow_of mode cluster_bits offset within (zeroes cluster copied) = shallow.Zero true
 shallow_of mode cluster_bits offset within mapping = shallow.Special offset
 

@@ -1,12 +1,12 @@
 -- What calls leave of an image that change its file and not its disk.
 use Rattle.std.specs.Prelude.{◌≡◌, ℕ, List, IsTrue}
-use Rattle.imago_storage.specs.Calls.{Later, IsFaultless}
-use Rattle.imago_storage.specs.Passing.{Passes}
+use Rattle.imago_storage.specs.Calls.{CountsNotFallen, IsFaultless}
+use Rattle.imago_storage.specs.Passing.{UnrefusedCrashImages}
 use Rattle.imago_storage.specs.declared.storage.Storage.{Ghosts}
 use Rattle.imago_access.specs.Layer.{Layer}
 use Rattle.imago_access.specs.Stops.{GivesNone, Left}
 use Rattle.qcow2_types.specs.Entries.{entry}
-use Rattle.qcow2_image.specs.Rooms.{IsSafe, is_sound}
+use Rattle.qcow2_image.specs.Rooms.{IsWellFormed, is_sound}
 use Rattle.qcow2_image.specs.Seen.{file_of, layer_of}
 use Rattle.qcow2_image.specs.declared.qcow2.Qcow2.{Qcow2}
 
@@ -17,20 +17,20 @@ pub record KeepsDiskWhere {S : Type 0} (g : Ghosts S) (sure ok : Type 0) (old ne
   pub number : new.number ≡ old.number
   pub unspent : new.unspent ≡ old.unspent
   pub shape : (g.state new.tables.file.image).shape ≡ (g.state old.tables.file.image).shape
-  pub later : Later (g.state old.tables.file.image) (g.state new.tables.file.image)
+  pub counts_not_fallen : CountsNotFallen (g.state old.tables.file.image) (g.state new.tables.file.image)
   pub failed : IsTrue old.failed → IsTrue new.failed
   pub size : new.tables.file.header.fields.size ≡ old.tables.file.header.fields.size
   pub bits : new.tables.file.header.fields.cluster_bits ≡ old.tables.file.header.fields.cluster_bits
   pub version : new.tables.file.header.fields.version ≡ old.tables.file.header.fields.version
   pub faults : ok → IsFaultless (g.state old.tables.file.image) (g.state new.tables.file.image)
-  pub stops : sure → (below : List Layer)
-      → Passes (Left below (layer_of g old) (g.state old.tables.file.image).bytes is_sound (layer_of g old).size (layer_of g old).size
+  pub crash_images : sure → (below : List Layer)
+      → UnrefusedCrashImages (Left below (layer_of g old) (g.state old.tables.file.image).bytes is_sound (layer_of g old).size (layer_of g old).size
       GivesNone) (g.state old.tables.file.image) (g.state new.tables.file.image)
-  pub safely : sure → ok → IsSafe g new
+  pub safely : sure → ok → IsWellFormed g new
   pub layer : sure → ok → layer_of g new ≡ layer_of g old
-  pub words : sure → ok → (guest : ℕ)
+  pub raw_entries : sure → ok → (guest : ℕ)
       → entry (file_of g new.tables) new.tables.file.header.fields guest ≡ entry (file_of g old.tables) old.tables.file.header.fields guest
 
 -- The same of each image that was safe.
 abbrev pub KeepsDisk : {S : Type 0} (g : Ghosts S) (ok : Type 0) → Qcow2 S g → Qcow2 S g → Type 0
-KeepsDisk g ok old new = KeepsDiskWhere g (IsSafe g old) ok old new
+KeepsDisk g ok old new = KeepsDiskWhere g (IsWellFormed g old) ok old new

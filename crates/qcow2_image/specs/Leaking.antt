@@ -7,7 +7,7 @@ use Rattle.qcow2_types.specs.Counts.{count}
 use Rattle.qcow2_types.specs.References.{refs}
 use Rattle.qcow2_alloc.specs.FreeList.{covers, listed}
 use Rattle.qcow2_clusters.specs.declared.space.Space.{Space}
-use Rattle.qcow2_image.specs.Holding.{Holding}
+use Rattle.qcow2_image.specs.Holding.{PreparedMappingRun}
 use Rattle.qcow2_image.specs.Seen.{file_of}
 use Rattle.qcow2_image.specs.Unspent.{holding_in}
 use Rattle.qcow2_image.specs.declared.allocating.Placed.{Placed}
@@ -24,7 +24,7 @@ abbrev pub reserved_as : (is_kept : Bool) → (host n c : ℕ) → ℕ
 reserved_as true host n c = 0
 reserved_as false host n c = covers c (record { first = host; count = n; metadata = false })
 
-abbrev pub reserved_in : Option Holding → ℕ → ℕ
+abbrev pub reserved_in : Option PreparedMappingRun → ℕ → ℕ
 reserved_in None c = 0
 reserved_in (Some hold) c = reserved_as hold.is_kept hold.host hold.count c
 
@@ -40,8 +40,8 @@ abbrev pub names_in : {S : Type 0} (g : Ghosts S) → Qcow2 S g → ℕ → ℕ
 names_in g d c = refs (file_of g d.tables) d.tables.file.header.fields c
 
 -- how often it is counted there beyond what names it, and beyond what is pending of it
-abbrev pub surplus_of : {S : Type 0} (g : Ghosts S) → Qcow2 S g → ℕ → ℕ
-surplus_of g d c = counts_in g d c - (names_in g d c + pending g d c)
+abbrev pub excess_refcount_of : {S : Type 0} (g : Ghosts S) → Qcow2 S g → ℕ → ℕ
+excess_refcount_of g d c = counts_in g d c - (names_in g d c + pending g d c)
 
 -- what leaks in the file, as a checker tells it
 abbrev pub leaks_of : {S : Type 0} (g : Ghosts S) → Qcow2 S g → List (ℕ × ℕ)

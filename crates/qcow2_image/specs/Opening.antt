@@ -1,6 +1,6 @@
 -- What an image is right after it was opened, and why it isn't opened.
 use Rattle.std.specs.Prelude.{◌≡◌, ⊤, ℕ, Bool, true, false, not, ◌&&◌, ◌||◌, ◌==◌, List, [], ◌∷◌, Option, Some, None, IfSome, Ok, Err, Result, is_some}
-use Rattle.imago_storage.specs.State.{MayFail, Rose, StorageState}
+use Rattle.imago_storage.specs.State.{MayFail, HasRisen, StorageState}
 use Rattle.imago_storage.specs.declared.fault.Fault.{Fault}
 use Rattle.imago_storage.specs.declared.fault.Fault.TheVariants.{DamagedTable, Memory, Storage, Unsupported}
 use Rattle.imago_storage.specs.declared.storage.Storage.{Ghosts}
@@ -12,7 +12,7 @@ use Rattle.qcow2_alloc.specs.Allocators.{LoadsAllocator}
 use Rattle.qcow2_alloc.specs.Caches.{cached_in, order_of}
 use Rattle.qcow2_alloc.specs.declared.cache.CacheDependency.TheVariants.{Unset}
 use Rattle.qcow2_clusters.specs.declared.space.Space.{Space}
-use Rattle.qcow2_image.specs.Seen.{IsSeen}
+use Rattle.qcow2_image.specs.Seen.{IsCacheCoherent}
 use Rattle.qcow2_image.specs.declared.qcow2.Qcow2.{Qcow2}
 use Rattle.qcow2_image.specs.declared.tables.Tables.{Tables}
 
@@ -44,7 +44,7 @@ WhyNotOpened state writable f fault = header_for writable f ≡ Err fault
 abbrev pub WhyNoSpace : Bytes → Fields → (writable : Bool) → (before after : ℕ) → Fault → Type 0
 WhyNoSpace f h writable before after DamagedTable = (writable ≡ true) × (refcount_table_sound f h ≡ false) × (after ≡ before)
 WhyNoSpace f h writable before after Memory = after ≡ before
-WhyNoSpace f h writable before after Storage = Rose before after
+WhyNoSpace f h writable before after Storage = HasRisen before after
 WhyNoSpace f h writable before after fault = ⊥
 
 -- What is known of the free space of an image right after it was opened: its refcount table, where it is to be written, and else nothing.
@@ -59,7 +59,7 @@ pub record IsJustOpened {S : Type 0} (g : Ghosts S) (before : StorageState) (wri
     (t : Tables S g) : Type 0 where
   pub same : g.state t.file.image ≡ before
   pub allowed : header_for writable (bytes_of before.bytes) ≡ Ok t.file.header
-  pub seen : IsSeen g t
+  pub seen : IsCacheCoherent g t
   pub empty : cached_in t.caches ≡ record { tables = []; blocks = [] }
   pub unordered : order_of t.caches ≡ Unset
   pub space : IsSpaceOpened before t.file.header.fields writable t.space

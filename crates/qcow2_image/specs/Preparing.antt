@@ -5,30 +5,30 @@ use Rattle.imago_storage.specs.declared.fault.Fault.TheVariants.{Memory, Storage
 use Rattle.imago_storage.specs.declared.storage.Storage.{Ghosts}
 use Rattle.imago_access.specs.Chain.{at}
 use Rattle.imago_access.specs.Changes.{Asked, IsCopied}
-use Rattle.imago_access.specs.Files.{WasNotCutOff}
-use Rattle.imago_access.specs.Going.{LookedUnder}
-use Rattle.imago_access.specs.declared.seen.SeenBelow.{Ghosts as GhostsBelow}
+use Rattle.imago_access.specs.Files.{HadNoResourceError}
+use Rattle.imago_access.specs.Going.{LookupCallBelow}
+use Rattle.imago_access.specs.declared.driver_model.LayersBelowModel.{Ghosts as GhostsBelow}
 use Rattle.imago_access.specs.declared.mapping.PreparedDataMapping.{PreparedDataMapping}
 use Rattle.qcow2_types.specs.Entries.{entry}
-use Rattle.qcow2_types.specs.Header.{Fields, cluster_size, words_of_cluster}
+use Rattle.qcow2_types.specs.Header.{Fields, cluster_size, entries_of_cluster}
 use Rattle.qcow2_types.specs.Words.{damaged}
-use Rattle.qcow2_metadata.specs.Places.{IsInReach}
+use Rattle.qcow2_metadata.specs.Places.{IsAddressable}
 use Rattle.qcow2_alloc.specs.Causes.{HasCause}
 use Rattle.qcow2_alloc.specs.Crowding.{space}
-use Rattle.qcow2_clusters.specs.Naming.{IsUnder}
+use Rattle.qcow2_clusters.specs.Linking.{IsUnder}
 use Rattle.qcow2_clusters.specs.Storing.{ReachesEnd}
 use Rattle.qcow2_clusters.specs.declared.space.Space.{Space}
 use Rattle.qcow2_image.specs.Allocating.{HasKept, HasOwnTable, kept_for, reserving_causes}
 use Rattle.qcow2_image.specs.Filling.{IsInFirst, IsLeft, RefusesCopy}
 use Rattle.qcow2_image.specs.FreeSpace.{HasNoPlace, IsForCluster}
-use Rattle.qcow2_image.specs.Holding.{AreOwnAs, Holding, IsUncopied, place_in}
+use Rattle.qcow2_image.specs.Holding.{AreOwnAs, PreparedMappingRun, IsUncopied, place_in}
 use Rattle.qcow2_image.specs.Looking.{looking_causes}
 use Rattle.qcow2_image.specs.KeepsDisk.{KeepsDisk, KeepsDiskWhere}
 use Rattle.qcow2_image.specs.Leaking.{KeepsLeaks, KeepsLeaksBut, reserved_with}
-use Rattle.qcow2_image.specs.Rooms.{IsSafe, rest_of}
-use Rattle.qcow2_image.specs.Seen.{IsSeen, file_of, layer_of}
+use Rattle.qcow2_image.specs.Rooms.{IsWellFormed, rest_of}
+use Rattle.qcow2_image.specs.Seen.{IsCacheCoherent, file_of, layer_of}
 use Rattle.qcow2_image.specs.Steps.{KeepsImage}
-use Rattle.qcow2_image.specs.Unspent.{covers, holding, holding_in}
+use Rattle.qcow2_image.specs.Unspent.{covers, prepared_mapping_run, holding_in}
 use Rattle.qcow2_image.specs.declared.mappings.Reserved.{Reserved}
 use Rattle.qcow2_image.specs.declared.qcow2.PreparedMappingState.{PreparedMappingState}
 use Rattle.qcow2_image.specs.declared.qcow2.Qcow2.{Qcow2}
@@ -44,26 +44,26 @@ abbrev pub first_run : Fields → (offset length : ℕ) → ℕ
 first_run h offset n = min n (cluster_size h - offset % cluster_size h)
 
 -- A storage's fault has marked the image as failed, and want of memory has marked it or left all as it was.
-abbrev pub LeavesMarked : {S : Type 0} (g : Ghosts S) → Qcow2 S g → Qcow2 S g → Fault → Type 0
-LeavesMarked g old new Storage = IsTrue new.failed
-LeavesMarked g old new Memory = IsTrue new.failed ⊎ KeepsImage {T = Unit} g old (Err Memory) new
-LeavesMarked g old new fault = ⊤
+abbrev pub LeavesMarkedFailed : {S : Type 0} (g : Ghosts S) → Qcow2 S g → Qcow2 S g → Fault → Type 0
+LeavesMarkedFailed g old new Storage = IsTrue new.failed
+LeavesMarkedFailed g old new Memory = IsTrue new.failed ⊎ KeepsImage {T = Unit} g old (Err Memory) new
+LeavesMarkedFailed g old new fault = ⊤
 
 -- Guest clusters in a row can come to name host clusters in their L2 table: they keep those for their zeroes, or those are reserved, and
 -- there is room on the list of clusters to free.
 pub record IsReservedFor {S : Type 0} (g : Ghosts S) (guest : ℕ) (r : Reserved) (t : Tables S g) : Type 0 where
   pub space : Space
-  pub there : t.space ≡ Some space
-  pub under : (d : ℕ) → d < r.count → IsUnder (rest_of g t space) r.table (guest + d)
+  pub space_known : t.space ≡ Some space
+  pub layers_below : (d : ℕ) → d < r.count → IsUnder (rest_of g t space) r.table (guest + d)
   pub own : AreOwnAs r.is_kept r.count (rest_of g t space) guest r.host
-  pub some : r.host ≢ 0
+  pub host_nonzero : r.host ≢ 0
   pub room : r.is_kept ≡ false → 0 < space.to_free.held
 
 -- There is no place for what a guest cluster lacks that keeps this host cluster, or none: its word of the L1 table would be behind the 2^22
 -- that there can be, or no quarter of the space was free in a row.
 abbrev pub LacksPlaceBeside : {S : Type 0} (g : Ghosts S) → (guest : ℕ) → (kept : Option ℕ) → (old new : Tables S g) → ℕ → Type 0
 LacksPlaceBeside g guest kept old new number = let h = old.file.header.fields in
-    HasNoPlace g (IsForCluster g guest kept old) (guest / words_of_cluster h) (space h / 4) old new number
+    HasNoPlace g (IsForCluster g guest kept old) (guest / entries_of_cluster h) (space h / 4) old new number
 
 -- There is none for what a guest cluster lacks: a word of the L1 table, an L2 table of its own, or a host cluster that it keeps.
 abbrev pub LacksPlace : {S : Type 0} (g : Ghosts S) → (guest : ℕ) → (old new : Tables S g) → ℕ → Type 0
@@ -73,11 +73,11 @@ LacksPlace g guest old new number = LacksPlaceBeside g guest (kept_for g guest o
 -- else names: the one that the first keeps for its zeroes, or else such that are reserved for them. The disk stays as it was.
 pub record Reserves {S : Type 0} (g : Ghosts S) (guest : ℕ) (kept : Option ℕ) (n : ℕ) (content : List ℕ) (old : Qcow2 S g)
     (result : Result Reserved Fault) (new : Qcow2 S g) : Type 0 where
-  pub keeps : KeepsDiskWhere g (HasKept g guest kept old) (WasNotCutOff result) old new
-  pub leaks : HasKept g guest kept old → WasNotCutOff result → KeepsLeaksBut g (reserved_with result) old new
-  pub marked : IfErr result (LeavesMarked g old new)
+  pub keeps : KeepsDiskWhere g (HasKept g guest kept old) (HadNoResourceError result) old new
+  pub leaks : HasKept g guest kept old → HadNoResourceError result → KeepsLeaksBut g (reserved_with result) old new
+  pub marked : IfErr result (LeavesMarkedFailed g old new)
   pub many : IfOk result (λ r. (0 < r.count) × (r.count ≤ n))
-  pub near : IfOk result (λ r. IsInReach old.tables.file.header.fields.cluster_bits (r.host + (r.count - 1)))
+  pub host_addressable : IfOk result (λ r. IsAddressable old.tables.file.header.fields.cluster_bits (r.host + (r.count - 1)))
   pub which : IfOk result (λ r. (r.is_kept ≡ is_some kept) × IfSome kept (λ host. r.host ≡ host))
   pub reserved : HasKept g guest kept old → IfOk result (λ r. IsReservedFor g guest r new.tables)
   pub own : HasKept g guest kept old → IfOk result (λ r. HasOwnTable g guest new.tables)
@@ -87,9 +87,9 @@ pub record Reserves {S : Type 0} (g : Ghosts S) (guest : ℕ) (kept : Option ℕ
   pub cause : IfErr result (HasCause (reserving_causes g (LacksPlaceBeside g guest kept old.tables new.tables) old new))
 
 -- What a mapping holds for a run, of the clusters that are reserved for it.
-abbrev pub held_run : {S : Type 0} (g : Ghosts S) → Asked → Reserved → Qcow2 S g → ℕ → (ℕ → Bool) → Holding
-held_run g asked r d claim written = let h = d.tables.file.header.fields in record {
-  claim = claim;
+abbrev pub held_run : {S : Type 0} (g : Ghosts S) → Asked → Reserved → Qcow2 S g → ℕ → (ℕ → Bool) → PreparedMappingRun
+held_run g asked r d mapping_id written = let h = d.tables.file.header.fields in record {
+  mapping_id = mapping_id;
   offset = asked.offset;
   length = asked.length;
   place = place_in h r.host asked.offset;
@@ -107,15 +107,15 @@ held_run g asked r d claim written = let h = d.tables.file.header.fields in reco
 pub record KeepsMapping {S : Type 0} (g : Ghosts S) (asked : Asked) (r : Reserved) (old : Qcow2 S g)
     (mapping : PreparedDataMapping PreparedMappingState) (new : Qcow2 S g) : Type 0 where
   pub unspent : Unspent S g
-  pub now : new ≡ record old { claims = unspent.claim; unspent = Some unspent }
-  pub anew : unspent.claim ≢ old.claims
-  pub holds : holding g unspent ≡ held_run g asked r old unspent.claim (covers unspent.written)
+  pub now : new ≡ record old { claims = unspent.mapping_id; unspent = Some unspent }
+  pub anew : unspent.mapping_id ≢ old.claims
+  pub holds : prepared_mapping_run g unspent ≡ held_run g asked r old unspent.mapping_id (covers unspent.written)
   pub unwritten : (p : ℕ) → covers unspent.written p ≡ false
   pub answer : mapping ≡ record {
     storage = 0;
     offset = place_in old.tables.file.header.fields r.host asked.offset;
     length = asked.length;
-    state = Some (record { number = old.number; claim = unspent.claim });
+    state = Some (record { number = old.number; mapping_id = unspent.mapping_id });
   }
 
 -- the same range, but for what lies behind its first guest cluster, or behind its first `count` of them
@@ -133,7 +133,7 @@ pub record IsCovered (h : Fields) (asked : Asked) (guest : ℕ) : Type 0 where
 -- So many guest clusters of a range in a row, from its first on, stand under one L2 table, and all of those behind the first is covered.
 pub record CoversMost (h : Fields) (offset length n : ℕ) : Type 0 where
   pub any : 0 < n
-  pub row : offset / cluster_size h % words_of_cluster h + n ≤ words_of_cluster h
+  pub row : offset / cluster_size h % entries_of_cluster h + n ≤ entries_of_cluster h
   pub inside : (offset / cluster_size h + n) * cluster_size h < h.size + cluster_size h
   pub all : (i : ℕ) → 0 < i → i < n → (p : ℕ) → p / cluster_size h ≡ offset / cluster_size h + i → (offset ≤ p) × (p < offset + length)
 
@@ -141,9 +141,9 @@ pub record CoversMost (h : Fields) (offset length n : ℕ) : Type 0 where
 -- written. They have no clusters of their own, if the first hasn't.
 pub record IsRun {S : Type 0} (g : Ghosts S) (asked : Asked) (n : ℕ) (d : Qcow2 S g) : Type 0 where
   pub any : 0 < n
-  pub row : let h = d.tables.file.header.fields in asked.offset / cluster_size h % words_of_cluster h + n ≤ words_of_cluster h
+  pub row : let h = d.tables.file.header.fields in asked.offset / cluster_size h % entries_of_cluster h + n ≤ entries_of_cluster h
   pub covered : let h = d.tables.file.header.fields in (i : ℕ) → 0 < i → i < n → IsCovered h asked (asked.offset / cluster_size h + i)
-  pub uncopied : IsSeen g d.tables → let h = d.tables.file.header.fields in let first = asked.offset / cluster_size h in
+  pub uncopied : IsCacheCoherent g d.tables → let h = d.tables.file.header.fields in let first = asked.offset / cluster_size h in
       IsUncopied (entry (file_of g d.tables) h first) → (i : ℕ) → i < n → IsUncopied (entry (file_of g d.tables) h (first + i))
 
 -- The file is at least as long as the end of the clusters that are held for what is prepared, so that words may come to name them.
@@ -162,7 +162,7 @@ pub record FindsRun {S : Type 0} (g : Ghosts S) (asked : Asked) (old : Qcow2 S g
   pub one : IsRun g asked 1 old
   pub ok : IfOk result (λ n. IsRun g asked n old)
   pub cause : IfErr result (HasCause (looking_causes ⊤ (g.state old.tables.file.image).faults (g.state new.tables.file.image).faults))
-  pub known_cause : IsSeen g old.tables → let h = old.tables.file.header.fields in
+  pub known_cause : IsCacheCoherent g old.tables → let h = old.tables.file.header.fields in
       IfErr result (HasCause (looking_causes (entry (file_of g old.tables) h (asked.offset / cluster_size h) ≡ damaged)
       (g.state old.tables.file.image).faults (g.state new.tables.file.image).faults))
 
@@ -172,26 +172,26 @@ pub record HoldsFresh {S B : Type 0} (g : Ghosts S) (u : GhostsBelow B) (asked :
     (mapping : PreparedDataMapping PreparedMappingState) (new : Qcow2 S g) : Type 0 where
   pub clusters : Reserved
   pub any : 0 < clusters.count
-  pub few : clusters.count ≤ n
+  pub count_bounded : clusters.count ≤ n
   pub holds : KeepsMapping g (run_part old.0.tables.file.header.fields clusters.count asked) clusters middle mapping new
-  pub near : IsInReach old.0.tables.file.header.fields.cluster_bits (clusters.host + (clusters.count - 1))
+  pub host_addressable : IsAddressable old.0.tables.file.header.fields.cluster_bits (clusters.host + (clusters.count - 1))
   pub reaches : ReachesEnd g.state clusters.host clusters.count old.0.tables.file middle.tables.file
-  pub reserved : IsSafe g old.0
+  pub reserved : IsWellFormed g old.0
       → IsReservedFor g (asked.offset / cluster_size old.0.tables.file.header.fields) clusters middle.tables
-  pub filled : IsSafe g old.0 → u.sees_under old.1 → let h = old.0.tables.file.header.fields in
+  pub filled : IsWellFormed g old.0 → u.coherent_below old.1 → let h = old.0.tables.file.header.fields in
       (p : ℕ) → IsInFirst h asked p → IsLeft (first_part h asked) p
-      → IsCopied (at (u.under old.1)) (layer_of g old.0) p (file_of g middle.tables (place_in h clusters.host p))
+      → IsCopied (at (u.layers_below old.1)) (layer_of g old.0) p (file_of g middle.tables (place_in h clusters.host p))
 
 -- A mapping is prepared so, or refused, by the image or by the layers below: before it is held the image has become another, with the same
 -- disk.
 pub record PreparesFresh {S B : Type 0} (g : Ghosts S) (u : GhostsBelow B) (asked : Asked) (n : ℕ) (old : Qcow2 S g × B)
     (result : Result (PreparedDataMapping PreparedMappingState) Fault) (new : Qcow2 S g × B) : Type 0 where
   pub middle : Qcow2 S g
-  pub keeps : KeepsDisk g (WasNotCutOff result) old.0 middle
-  pub leaks : IsSafe g old.0 → old.0.unspent ≡ None → WasNotCutOff result → KeepsLeaks g old.0 new.0
-  pub below : LookedUnder u (WasNotCutOff result) old.1 new.1
+  pub keeps : KeepsDisk g (HadNoResourceError result) old.0 middle
+  pub leaks : IsWellFormed g old.0 → old.0.unspent ≡ None → HadNoResourceError result → KeepsLeaks g old.0 new.0
+  pub below : LookupCallBelow u (HadNoResourceError result) old.1 new.1
   pub ok : IfOk result (λ mapping. HoldsFresh g u asked n old middle mapping new.0)
-  pub err : IfErr result (λ fault. (new.0 ≡ middle) × LeavesMarked g old.0 middle fault
+  pub err : IfErr result (λ fault. (new.0 ≡ middle) × LeavesMarkedFailed g old.0 middle fault
       × (HasCause (reserving_causes g
       (LacksPlace g (asked.offset / cluster_size old.0.tables.file.header.fields) old.0.tables middle.tables) old.0 middle) fault
       ⊎ RefusesCopy g u (first_part old.0.tables.file.header.fields asked) old new.1 fault))

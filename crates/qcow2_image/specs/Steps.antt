@@ -1,11 +1,11 @@
 -- When an image has failed behind a call, and what reading its tables anew does.
 use Rattle.std.specs.Prelude.{◌≡◌, ◌≢◌, ◌⊎◌, ⊤, [], ◌∷◌, ℕ, Bool, true, false, not, ◌&&◌, Result, Ok, Err, OnOk, OnErr, IfErr}
-use Rattle.imago_storage.specs.State.{Rose}
-use Rattle.imago_storage.specs.Calls.{Kept, Later, IsFaultless, Cause}
+use Rattle.imago_storage.specs.State.{HasRisen}
+use Rattle.imago_storage.specs.Calls.{UnchangedButFaults, CountsNotFallen, IsFaultless, Cause}
 use Rattle.imago_storage.specs.declared.fault.Fault.{Fault}
 use Rattle.imago_storage.specs.declared.fault.Fault.TheVariants.{DamagedHeader, DamagedTable, Unsupported, Limit, Memory, Storage}
 use Rattle.imago_storage.specs.declared.storage.Storage.{Ghosts}
-use Rattle.imago_access.specs.Files.{WasNotCutOff}
+use Rattle.imago_access.specs.Files.{HadNoResourceError}
 use Rattle.qcow2_types.specs.Bytes.{Bytes}
 use Rattle.qcow2_types.specs.Counts.{refcount_table_sound}
 use Rattle.qcow2_types.specs.Header.{Header, first_fault, header_of, ◌and-then◌, ◌>>=◌}
@@ -14,7 +14,7 @@ use Rattle.qcow2_alloc.specs.Caches.{HasRoomOf, cached_in}
 use Rattle.qcow2_image.specs.declared.qcow2.Qcow2.{Qcow2}
 use Rattle.qcow2_image.specs.declared.tables.Tables.{Tables}
 use Rattle.qcow2_image.specs.Opening.{IsSpaceOpened, header_for}
-use Rattle.qcow2_image.specs.Seen.{IsSeen, file_of}
+use Rattle.qcow2_image.specs.Seen.{IsCacheCoherent, file_of}
 
 -- whether an image has failed behind a refusal: a storage's fault marks it
 abbrev pub failed_by : Fault → Bool → Bool
@@ -22,14 +22,14 @@ failed_by Storage failed = true
 failed_by fault failed = failed
 
 -- and behind a refusal to read all anew: all but want of memory do
-abbrev pub failed_anew : Fault → Bool → Bool
-failed_anew Memory failed = failed
-failed_anew fault failed = true
+abbrev pub failed_on_reload : Fault → Bool → Bool
+failed_on_reload Memory failed = failed
+failed_on_reload fault failed = true
 
 -- whether it has behind a call
-abbrev pub failed_behind : {T : Type 0} → (Fault → Bool → Bool) → Result T Fault → Bool → Bool
-failed_behind marked (Ok answer) failed = failed
-failed_behind marked (Err fault) failed = marked fault failed
+abbrev pub failed_after : {T : Type 0} → (Fault → Bool → Bool) → Result T Fault → Bool → Bool
+failed_after marked (Ok answer) failed = failed
+failed_after marked (Err fault) failed = marked fault failed
 
 -- the file has another header than this in more than the size and the places of tables
 abbrev pub DiffersElsewhere : Result Header Fault → Header → Type 0
@@ -44,20 +44,20 @@ IsFirstFault loaded H fault first =
 
 -- The header by which an image is read anew, that is written or not, or the first rule that its file breaks: those of an image that is
 -- opened for reading; and where it is written, each word of its refcount table has a meaning.
-unfoldable pub header_anew : Bool → Bytes → Result Header Fault
-header_anew writable f =
+unfoldable pub reloaded_header : Bool → Bytes → Result Header Fault
+reloaded_header writable f =
     header_for false f >>= λ H. first_fault ((writable && not (refcount_table_sound f H.fields), DamagedTable) ∷ []) and-then Ok H
 
 -- Why the tables of an image with this header, that is written or not, can't be read anew: by such a rule, by what can't change in an open
 -- image, which comes before the tables, for want of memory, or by a storage that failed.
 abbrev pub WhyNotReloaded : (writable : Bool) → Bytes → Header → ℕ → ℕ → Fault → Type 0
-WhyNotReloaded writable f H before after DamagedHeader = header_anew writable f ≡ Err DamagedHeader
+WhyNotReloaded writable f H before after DamagedHeader = reloaded_header writable f ≡ Err DamagedHeader
 WhyNotReloaded writable f H before after DamagedTable =
-    (header_anew writable f ≡ Err DamagedTable) × (DiffersElsewhere (header_of false f) H → ⊥)
-WhyNotReloaded writable f H before after Unsupported = (header_anew writable f ≡ Err Unsupported) ⊎ DiffersElsewhere (header_of false f) H
-WhyNotReloaded writable f H before after (Limit bound) = header_anew writable f ≡ Err (Limit bound)
+    (reloaded_header writable f ≡ Err DamagedTable) × (DiffersElsewhere (header_of false f) H → ⊥)
+WhyNotReloaded writable f H before after Unsupported = (reloaded_header writable f ≡ Err Unsupported) ⊎ DiffersElsewhere (header_of false f) H
+WhyNotReloaded writable f H before after (Limit bound) = reloaded_header writable f ≡ Err (Limit bound)
 WhyNotReloaded writable f H before after Memory = ⊤
-WhyNotReloaded writable f H before after Storage = Rose before after
+WhyNotReloaded writable f H before after Storage = HasRisen before after
 WhyNotReloaded writable f H before after fault = ⊥
 
 -- They are read anew: what is in memory is then what the file says, whatever it was, nothing else is cached, and what is known of the free
@@ -66,29 +66,29 @@ WhyNotReloaded writable f H before after fault = ⊥
 -- failed and a refcount table that is damaged by now refuse.
 pub record Reloads {S : Type 0} (g : Ghosts S) (writable : Bool) (old : Tables S g) (result : Result Unit Fault) (new : Tables S g)
     : Type 0 where
-  pub kept : Kept (g.state old.file.image) (g.state new.file.image)
-  pub later : Later (g.state old.file.image) (g.state new.file.image)
+  pub unchanged_but_faults : UnchangedButFaults (g.state old.file.image) (g.state new.file.image)
+  pub counts_not_fallen : CountsNotFallen (g.state old.file.image) (g.state new.file.image)
   pub faults : OnOk result (IsFaultless (g.state old.file.image) (g.state new.file.image))
   pub places : with_places_of new.file.header old.file.header ≡ new.file.header
-  pub anew : OnOk result (IsSeen g new)
+  pub anew : OnOk result (IsCacheCoherent g new)
   pub empty : OnOk result (cached_in new.caches ≡ record { tables = []; blocks = [] })
   pub room : HasRoomOf old.caches new.caches
   pub space : OnOk result (IsSpaceOpened (g.state new.file.image) new.file.header.fields writable new.space)
-  pub same : IsSeen g old → OnOk result (new.file.header ≡ old.file.header)
+  pub same : IsCacheCoherent g old → OnOk result (new.file.header ≡ old.file.header)
   pub left : OnErr result ((new.file.header ≡ old.file.header) × (new.l1 ≡ old.l1) × (new.caches ≡ old.caches) × (new.space ≡ old.space))
   pub cause : IfErr result (WhyNotReloaded writable (file_of g old) old.file.header (g.state old.file.image).faults
       (g.state new.file.image).faults)
-  pub known : IsSeen g old → (writable ≡ true → refcount_table_sound (file_of g old) old.file.header.fields ≡ true)
+  pub known : IsCacheCoherent g old → (writable ≡ true → refcount_table_sound (file_of g old) old.file.header.fields ≡ true)
       → IfErr result (Cause (g.state old.file.image).faults (g.state new.file.image).faults)
 
 -- A call that writes nothing, and drops nothing that was read.
 pub record KeepsTables {S T : Type 0} (g : Ghosts S) (old : Tables S g) (result : Result T Fault) (new : Tables S g) : Type 0 where
-  pub kept : Kept (g.state old.file.image) (g.state new.file.image)
-  pub later : Later (g.state old.file.image) (g.state new.file.image)
-  pub faults : WasNotCutOff result → IsFaultless (g.state old.file.image) (g.state new.file.image)
+  pub unchanged_but_faults : UnchangedButFaults (g.state old.file.image) (g.state new.file.image)
+  pub counts_not_fallen : CountsNotFallen (g.state old.file.image) (g.state new.file.image)
+  pub faults : HadNoResourceError result → IsFaultless (g.state old.file.image) (g.state new.file.image)
   pub header : new.file.header ≡ old.file.header
   pub space : new.space ≡ old.space
-  pub seen : IsSeen g old → IsSeen g new
+  pub seen : IsCacheCoherent g old → IsCacheCoherent g new
 
 -- The same of a call of the driver, which a storage's fault marks.
 pub record KeepsImage {S T : Type 0} (g : Ghosts S) (old : Qcow2 S g) (result : Result T Fault) (new : Qcow2 S g) : Type 0 where
@@ -96,4 +96,4 @@ pub record KeepsImage {S T : Type 0} (g : Ghosts S) (old : Qcow2 S g) (result : 
   pub mode : new.mode ≡ old.mode
   pub number : new.number ≡ old.number
   pub unspent : new.unspent ≡ old.unspent
-  pub failed : new.failed ≡ failed_behind failed_by result old.failed
+  pub failed : new.failed ≡ failed_after failed_by result old.failed

@@ -6,7 +6,7 @@ use Rattle.qcow2_types.specs.Bytes.{bytes_of}
 use Rattle.qcow2_image.specs.declared.unspent.Unspent.{Unspent}
 use Rattle.qcow2_image.specs.declared.unspent.Writes.{Writes, fold-Writes}
 use Rattle.qcow2_image.specs.declared.unspent.Writes.TheOpen.{Writes-F}
-use Rattle.qcow2_image.specs.Holding.{Holding}
+use Rattle.qcow2_image.specs.Holding.{PreparedMappingRun}
 
 -- the place lies in the range
 abbrev pub here : (at n p : ℕ) → Bool
@@ -23,9 +23,9 @@ covered_by layer p = here layer.at layer.length p || earlier layer.before p
 unfoldable pub covers : Writes → ℕ → Bool
 covers = fold-Writes (ℕ → Bool) covered_by
 
-abbrev pub holding : {S : Type 0} (g : Ghosts S) → Unspent S g → Holding
-holding g u = record {
-  claim = u.claim;
+abbrev pub prepared_mapping_run : {S : Type 0} (g : Ghosts S) → Unspent S g → PreparedMappingRun
+prepared_mapping_run g u = record {
+  mapping_id = u.mapping_id;
   offset = u.offset;
   length = u.length;
   place = u.place;
@@ -39,6 +39,6 @@ holding g u = record {
   written = covers u.written;
 }
 
-abbrev pub holding_in : {S : Type 0} (g : Ghosts S) → Option (Unspent S g) → Option Holding
+abbrev pub holding_in : {S : Type 0} (g : Ghosts S) → Option (Unspent S g) → Option PreparedMappingRun
 holding_in g None = None
-holding_in g (Some u) = Some (holding g u)
+holding_in g (Some u) = Some (prepared_mapping_run g u)

@@ -1,11 +1,11 @@
 -- What a change of an image that was opened for writing rests on, and why it is refused.
 use Rattle.std.proofs.Common.{inl, refl}
 use Rattle.std.specs.Prelude.{◌≡◌, ◌⊎◌, ⊤, ℕ, ◌+◌, ◌/◌, ◌<◌, ◌∷◌, List, Some, None, Result, MatchResult, false, true}
-use Rattle.imago_storage.specs.State.{Rose}
-use Rattle.imago_storage.specs.Calls.{Kept}
+use Rattle.imago_storage.specs.State.{HasRisen}
+use Rattle.imago_storage.specs.Calls.{UnchangedButFaults}
 use Rattle.imago_storage.specs.Causes.{offset_of, length_of}
 use Rattle.imago_storage.specs.Steps.{Call, IsIn}
-use Rattle.imago_storage.specs.Through.{Put}
+use Rattle.imago_storage.specs.Through.{WriteOutcome}
 use Rattle.imago_storage.specs.declared.fault.Fault.{Fault}
 use Rattle.imago_storage.specs.declared.fault.Fault.TheVariants.{Barred, DamagedTable, Limit, Memory, Unsupported}
 use Rattle.imago_storage.specs.declared.storage.Storage.{Ghosts}
@@ -16,16 +16,16 @@ use Rattle.imago_access.specs.Parts.{announces}
 use Rattle.imago_access.specs.Room.{IsOfUnit, IsWholeUnit}
 use Rattle.qcow2_types.specs.Header.{cluster_size}
 use Rattle.qcow2_alloc.specs.Causes.{Causes}
-use Rattle.qcow2_image.specs.Rooms.{IsSafe}
-use Rattle.qcow2_image.specs.Seen.{homes_of, layer_of}
+use Rattle.qcow2_image.specs.Rooms.{IsWellFormed}
+use Rattle.qcow2_image.specs.Seen.{writable_locations_of, layer_of}
 use Rattle.qcow2_image.specs.declared.qcow2.Qcow2.{Qcow2}
 use Rattle.qcow2_image.specs.Leaking.{KeepsLeaks}
 use Rattle.qcow2_image.specs.Looking.{looking_causes}
 use Rattle.qcow2_image.specs.Preparing.{LacksPlace}
 
 -- Each place that can be written by the words of an image can be so later.
-abbrev pub KeepsHomes : {S : Type 0} (g : Ghosts S) → Qcow2 S g → Qcow2 S g → Type 0
-KeepsHomes g d now = (p : ℕ) (at : ℕ × ℕ) → homes_of g d p ≡ Some at → homes_of g now p ≡ Some at
+abbrev pub KeepsWritableLocations : {S : Type 0} (g : Ghosts S) → Qcow2 S g → Qcow2 S g → Type 0
+KeepsWritableLocations g d now = (p : ℕ) (at : ℕ × ℕ) → writable_locations_of g d p ≡ Some at → writable_locations_of g now p ≡ Some at
 
 -- Each place shows what it did, or a byte of its own.
 abbrev pub ComesToBytes : (old new : ℕ → Cell) → Type 0
@@ -33,7 +33,7 @@ ComesToBytes old new = (p : ℕ) → (new p ≡ old p) ⊎ ((b : ℕ) × (new p 
 
 -- What an image has become since a call began.
 pub record Since {S : Type 0} (g : Ghosts S) (d now : Qcow2 S g) : Type 0 where
-  pub homes : KeepsHomes g d now
+  pub writable_locations : KeepsWritableLocations g d now
   pub cells : ComesToBytes (layer_of g d).cell (layer_of g now).cell
   pub size : now.tables.file.header.fields.size ≡ d.tables.file.header.fields.size
   pub bits : now.tables.file.header.fields.cluster_bits ≡ d.tables.file.header.fields.cluster_bits
@@ -42,11 +42,11 @@ pub record Since {S : Type 0} (g : Ghosts S) (d now : Qcow2 S g) : Type 0 where
 -- A call has begun on a safe image: that is safe still, each place can be written where it could, and shows what it did or a byte of its
 -- own, and nothing leaks anew.
 abbrev pub HasBegun : {S : Type 0} (g : Ghosts S) → Qcow2 S g → Qcow2 S g → Type 0
-HasBegun g d now = IsSafe g d → IsSafe g now × Since g d now
+HasBegun g d now = IsWellFormed g d → IsWellFormed g now × Since g d now
 
 -- A call begins so: a law of the driver.
 pub begun_itself : {S : Type 0} (g : Ghosts S) (d : Qcow2 S g) → HasBegun g d d
-begun_itself g d = λ safe. (safe, record { homes = λ p at is. is; cells = λ p. inl refl; size = refl; bits = refl; leaks = λ c. refl })
+begun_itself g d = λ well_formed. (well_formed, record { writable_locations = λ p at is. is; cells = λ p. inl refl; size = refl; bits = refl; leaks = λ c. refl })
 
 -- What a place shows is needed by a call: it lies in a cluster that the range meets, and that isn't overwritten whole.
 pub record IsNeeded (unit size : ℕ) (call : Call) (p : ℕ) : Type 0 where
@@ -54,7 +54,7 @@ pub record IsNeeded (unit size : ℕ) (call : Call) (p : ℕ) : Type 0 where
   pub here : IsOfUnit unit size cluster p
   pub met : ℕ
   pub in_range : IsIn (offset_of call) (length_of call) met
-  pub there : IsOfUnit unit size cluster met
+  pub in_unit : IsOfUnit unit size cluster met
   pub part : announces call ≡ Some true → IsWholeUnit unit size (offset_of call) (length_of call) cluster → ⊥
 
 -- a place that is needed shows this, over the layers below
@@ -66,10 +66,10 @@ NeedsValue g d below call value = let h = d.tables.file.header.fields in
 -- tells. The search for one left its disk as it was, and leaked nothing.
 pub record HadNoPlace {S : Type 0} (g : Ghosts S) (d : Qcow2 S g) (p number : ℕ) : Type 0 where
   pub now : Qcow2 S g
-  pub safe : IsSafe g now
+  pub well_formed : IsWellFormed g now
   pub since : Since g d now
   pub left : Qcow2 S g
-  pub left_safe : IsSafe g left
+  pub left_safe : IsWellFormed g left
   pub left_disk : layer_of g left ≡ layer_of g now
   pub left_leaks : KeepsLeaks g now left
   pub lacks : LacksPlace g (p / cluster_size now.tables.file.header.fields) now.tables left.tables number
@@ -78,15 +78,15 @@ pub record HadNoPlace {S : Type 0} (g : Ghosts S) (d : Qcow2 S g) (p number : �
 -- range has no cluster of its own, for which there was no place, nor where a place that is needed can't be read.
 abbrev pub WhyUnwritten : {S : Type 0} (g : Ghosts S) → Qcow2 S g → List Layer → Call → Fault → Type 0
 WhyUnwritten g d below call Unsupported = ⊤
-WhyUnwritten g d below call (Limit number) = (p : ℕ) × IsIn (offset_of call) (length_of call) p × (homes_of g d p ≡ None)
+WhyUnwritten g d below call (Limit number) = (p : ℕ) × IsIn (offset_of call) (length_of call) p × (writable_locations_of g d p ≡ None)
     × HadNoPlace g d p number
 WhyUnwritten g d below call DamagedTable = NeedsValue g d below call damaged_place
 WhyUnwritten g d below call Barred = NeedsValue g d below call barred
 WhyUnwritten g d below call fault = ⊥
 
 -- each place of the range can be written in the image file, from a place of it on
-abbrev pub IsHomeAt : Layer → (offset place n : ℕ) → Type 0
-IsHomeAt layer offset place n = (i : ℕ) → i < n → layer.home (offset + i) ≡ Some (0, place + i)
+abbrev pub IsWritableAt : Layer → (offset place n : ℕ) → Type 0
+IsWritableAt layer offset place n = (i : ℕ) → i < n → layer.writable_location (offset + i) ≡ Some (0, place + i)
 
 -- Whether a range is mapped isn't told where a lookup in it is refused.
 abbrev pub telling_causes : {S : Type 0} (g : Ghosts S) → Qcow2 S g → Qcow2 S g → Causes
@@ -96,16 +96,16 @@ telling_causes g old new = looking_causes
 
 -- A refused write has marked an image as failed, or it was for want of memory, and has left the file as it was. Want of memory marks it
 -- where the storage refused a change.
-abbrev pub MarksWrite : {S : Type 0} (g : Ghosts S) → Qcow2 S g → Qcow2 S g → Fault → Type 0
-MarksWrite g old new Memory =
-    ((new.failed ≡ true) × Rose (g.state old.tables.file.image).refusals (g.state new.tables.file.image).refusals)
-    ⊎ ((new.failed ≡ false) × Kept (g.state old.tables.file.image) (g.state new.tables.file.image))
-MarksWrite g old new fault = new.failed ≡ true
+abbrev pub MarksFailedOnWrite : {S : Type 0} (g : Ghosts S) → Qcow2 S g → Qcow2 S g → Fault → Type 0
+MarksFailedOnWrite g old new Memory =
+    ((new.failed ≡ true) × HasRisen (g.state old.tables.file.image).refusals (g.state new.tables.file.image).refusals)
+    ⊎ ((new.failed ≡ false) × UnchangedButFaults (g.state old.tables.file.image) (g.state new.tables.file.image))
+MarksFailedOnWrite g old new fault = new.failed ≡ true
 
 -- Bytes are written to the image file, from a place on.
 pub record WritesAt {S : Type 0} (g : Ghosts S) (place : ℕ) (bytes : List ℕ) (old : Qcow2 S g) (result : Result Unit Fault)
     (new : Qcow2 S g) : Type 0 where
-  pub put : Put (g.state old.tables.file.image) (g.state new.tables.file.image) place bytes result
+  pub put : WriteOutcome (g.state old.tables.file.image) (g.state new.tables.file.image) place bytes result
   pub header : new.tables.file.header ≡ old.tables.file.header
   pub l1 : new.tables.l1 ≡ old.tables.l1
   pub caches : new.tables.caches ≡ old.tables.caches
@@ -113,9 +113,9 @@ pub record WritesAt {S : Type 0} (g : Ghosts S) (place : ℕ) (bytes : List ℕ)
   pub mode : new.mode ≡ old.mode
   pub number : new.number ≡ old.number
   pub unspent : new.unspent ≡ old.unspent
-  pub failed : MatchResult result (λ _. new.failed ≡ false) (MarksWrite g old new)
+  pub failed : MatchResult result (λ _. new.failed ≡ false) (MarksFailedOnWrite g old new)
 
 -- Want of memory has marked an image as failed only where its storage refused a change.
-abbrev pub MemorySpares : {S : Type 0} (g : Ghosts S) → Qcow2 S g → Qcow2 S g → Fault → Type 0
-MemorySpares g old new fault = fault ≡ Memory
-    → (new.failed ≡ old.failed) ⊎ Rose (g.state old.tables.file.image).refusals (g.state new.tables.file.image).refusals
+abbrev pub OutOfMemoryLeavesUntouched : {S : Type 0} (g : Ghosts S) → Qcow2 S g → Qcow2 S g → Fault → Type 0
+OutOfMemoryLeavesUntouched g old new fault = fault ≡ Memory
+    → (new.failed ≡ old.failed) ⊎ HasRisen (g.state old.tables.file.image).refusals (g.state new.tables.file.image).refusals

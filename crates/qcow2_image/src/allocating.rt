@@ -2,14 +2,14 @@
 // `prepare_cow_cluster`. A word is an L1 or L2 entry there.
 ghost use Rattle.std.specs.Prelude.{◌≡◌, ◌<◌, ◌+◌, ◌*◌, ◌/◌, ◌^◌, ℕ, false, None, Some, length, IfSome, IsTrue};
 ghost use Rattle.qcow2_types.specs.Header.{cluster_size};
-ghost use Rattle.qcow2_image.specs.Allocating.{Begins, EnsuresTable, EnsuresWord, FillsContent, FlushesFreed, FreesPending, IsShownInReach, LoadsSpace, PlacesContent, StoresContent, StoresMost, TellsKept, TellsShown, failed_cut, full_by, kept_by, placed_by, shown_of, waits_in};
+ghost use Rattle.qcow2_image.specs.Allocating.{Begins, EnsuresTable, EnsuresEntry, FillsContent, FlushesFreed, FreesPending, IsShownAddressable, LoadsSpace, PlacesContent, StoresContent, StoresMost, TellsKept, TellsShown, failed_by_resource_error, full_by, kept_by, placed_by, shown_of, waits_in};
 ghost use Rattle.qcow2_image.specs.FreeSpace.{enough_for_one, enough_for_table};
-ghost use Rattle.qcow2_metadata.specs.Places.{IsInReach};
+ghost use Rattle.qcow2_metadata.specs.Places.{IsAddressable};
 ghost use Rattle.qcow2_types.specs.Entries.{l2_entries};
-ghost use Rattle.qcow2_metadata.specs.MappingView.{IsNamed, mapping_seen};
+ghost use Rattle.qcow2_metadata.specs.MappingView.{IsHostAddressable, mapping_seen};
 ghost use Rattle.qcow2_clusters.specs.MakingTables.{CopiesTable, MakesTable};
-ghost use Rattle.qcow2_clusters.specs.Rest.{AreEmpty, HasEntries, lent};
-ghost use Rattle.qcow2_clusters.specs.Sparing.{SparesTop};
+ghost use Rattle.qcow2_clusters.specs.Flushed.{AreEmpty, HasEntries, clusters_state};
+ghost use Rattle.qcow2_clusters.specs.LeftUntouched.{LeavesTopUntouched};
 ghost use Rattle.qcow2_clusters.specs.Storing.{Rests};
 
 use crate::lookup::{l2_cluster, look_up};
@@ -18,7 +18,7 @@ use crate::reloading::drop_cached;
 use imago_storage::{Fault, Storage};
 use qcow2_alloc::{ImageFile, MetadataCaches};
 use qcow2_clusters::{
-    Space, Stored, copy_table, fill, free_waiting, lengthen_l1, make_table, store_run,
+    Space, Stored, copy_table, fill, free_pending_clusters, lengthen_l1, make_table, store_run,
 };
 use qcow2_metadata::{L1Table, L2Mapping, Table};
 use qcow2_types::{ClusterCount, GuestCluster, HostCluster};
@@ -73,7 +73,7 @@ fn as_placed(stored: Result<HostCluster, Fault>, count: ClusterCount) -> Result<
 // What a guest cluster shows that is mapped so.
 fn shown_through(mapping: L2Mapping, backing: bool) -> Shown
     ensures shown { Some result ≡ shown_of backing (mapping_seen mapping) }
-    ensures reach { (cluster_bits : ℕ) → IsNamed cluster_bits mapping → IsShownInReach cluster_bits result }
+    ensures reach { (cluster_bits : ℕ) → IsHostAddressable cluster_bits mapping → IsShownAddressable cluster_bits result }
 {
     match mapping {
         L2Mapping::Backing { .. } if backing => Shown::Below,
@@ -85,8 +85,8 @@ fn shown_through(mapping: L2Mapping, backing: bool) -> Shown
 
 // The host cluster that a guest cluster keeps for its zeroes that is mapped so, if it does, as copied.
 fn kept_through(mapping: L2Mapping) -> Option<HostCluster>
-    ensures kept { result ≡ kept_by (mapping_seen mapping) }
-    ensures reach { (cluster_bits : ℕ) → IsNamed cluster_bits mapping → IfSome result (IsInReach cluster_bits) }
+    ensures kept_host { result ≡ kept_by (mapping_seen mapping) }
+    ensures reach { (cluster_bits : ℕ) → IsHostAddressable cluster_bits mapping → IfSome result (IsAddressable cluster_bits) }
 {
     match mapping {
         L2Mapping::Zero {
@@ -108,16 +108,16 @@ fn new_table<S: Storage>(
     is_copy: bool,
     begun: &mut bool,
 ) -> Result<HostCluster, Fault>
-    requires rest { AreEmpty caches.old }
+    requires caches_empty { AreEmpty caches.old }
     requires room { HasEntries caches.old }
-    requires bounds { index < length l1.old.words }
-    ensures copies { IsTrue is_copy → CopiesTable S.state l1.old index (lent file.old caches.old space.old) result l1.new
-        (lent file.new caches.new space.new) }
-    ensures makes { is_copy ≡ false → MakesTable S.state l1.old index (lent file.old caches.old space.old) result l1.new
-        (lent file.new caches.new space.new) }
-    ensures rests { Rests S.state (lent file.old caches.old space.old) result (lent file.new caches.new space.new) }
-    ensures spares { SparesTop S.state begun.old l1.old (lent file.old caches.old space.old) result begun.new l1.new
-        (lent file.new caches.new space.new) }
+    requires bounds { index < length l1.old.raw_entries }
+    ensures copies { IsTrue is_copy → CopiesTable S.state l1.old index (clusters_state file.old caches.old space.old) result l1.new
+        (clusters_state file.new caches.new space.new) }
+    ensures makes { is_copy ≡ false → MakesTable S.state l1.old index (clusters_state file.old caches.old space.old) result l1.new
+        (clusters_state file.new caches.new space.new) }
+    ensures rests { Rests S.state (clusters_state file.old caches.old space.old) result (clusters_state file.new caches.new space.new) }
+    ensures untouched_unless_begun { LeavesTopUntouched S.state begun.old l1.old (clusters_state file.old caches.old space.old) result begun.new l1.new
+        (clusters_state file.new caches.new space.new) }
 {
     if is_copy {
         copy_table(alloc, file, caches, space, l1, index, begun)
@@ -129,9 +129,9 @@ fn new_table<S: Storage>(
 impl<S: Storage> Qcow2<S> {
     // Answers what a change did, and marks the image as failed behind a storage's fault, and behind want of memory where the change had
     // begun: it may have left a part then.
-    fn settle_change<T>(&mut self, answer: Result<T, Fault>, begun: bool) -> Result<T, Fault>
+    fn mark_change_fault<T>(&mut self, answer: Result<T, Fault>, begun: bool) -> Result<T, Fault>
         ensures same { result ≡ answer }
-        ensures marks { self.new ≡ record self.old { failed = failed_cut answer begun self.old.failed } }
+        ensures marks_failed { self.new ≡ record self.old { failed = failed_by_resource_error answer begun self.old.failed } }
     {
         match answer {
             Err(Fault::Storage) => self.failed = true,
@@ -193,9 +193,9 @@ impl<S: Storage> Qcow2<S> {
     }
 
     // The L1 table has a word at this index then: where it is too short a longer one takes its place.
-    fn ensure_word(&mut self, alloc: Global, index: usize, begun: &mut bool) -> Result<(), Fault>
+    fn ensure_entry(&mut self, alloc: Global, index: usize, begun: &mut bool) -> Result<(), Fault>
         requires free { self.old.unspent ≡ None }
-        ensures word { EnsuresWord S.Storage index self.old result self.new }
+        ensures raw_entry { EnsuresEntry S.Storage index self.old result self.new }
         ensures begins { Begins S.Storage begun.old self.old result begun.new self.new }
     {
         if index < self.tables.l1.entries() {
@@ -214,7 +214,7 @@ impl<S: Storage> Qcow2<S> {
             index,
             begun,
         );
-        self.settle_change(longer, *begun)
+        self.mark_change_fault(longer, *begun)
     }
 
     // The cluster of the L2 table over a guest cluster for which the L1 table has a word. The table's words may be changed then: one is
@@ -226,7 +226,7 @@ impl<S: Storage> Qcow2<S> {
         begun: &mut bool,
     ) -> Result<HostCluster, Fault>
         requires free { self.old.unspent ≡ None }
-        requires inside { guest / l2_entries self.old.tables.file.header.fields.cluster_bits < length self.old.tables.l1.words }
+        requires inside { guest / l2_entries self.old.tables.file.header.fields.cluster_bits < length self.old.tables.l1.raw_entries }
         ensures table { EnsuresTable S.Storage (enough_for_one self.old.tables) guest self.old result self.new }
         ensures begins { Begins S.Storage begun.old self.old result begun.new self.new }
     {
@@ -253,7 +253,7 @@ impl<S: Storage> Qcow2<S> {
             is_copy,
             begun,
         );
-        self.settle_change(made, *begun)
+        self.mark_change_fault(made, *begun)
     }
 
     // The cluster of the L2 table over a guest cluster, whose words may be changed then. The L1 table is lengthened first where it has no
@@ -269,7 +269,7 @@ impl<S: Storage> Qcow2<S> {
         ensures begins { Begins S.Storage begun.old self.old result begun.new self.new }
     {
         let index = guest.l1_index(self.tables.file.header.cluster_bits());
-        self.ensure_word(alloc, index, begun)?;
+        self.ensure_entry(alloc, index, begun)?;
         self.own_table(alloc, guest, begun)
     }
 
@@ -300,7 +300,7 @@ impl<S: Storage> Qcow2<S> {
             count,
             begun,
         );
-        host_of(self.settle_change(stored, *begun))
+        host_of(self.mark_change_fault(stored, *begun))
     }
 
     // Writes the content of a guest cluster to the host cluster that it keeps for its zeroes.
@@ -312,7 +312,7 @@ impl<S: Storage> Qcow2<S> {
         begun: &mut bool,
     ) -> Result<(), Fault>
         requires whole { length content.now ≡ cluster_size self.old.tables.file.header.fields }
-        requires near { IsInReach self.old.tables.file.header.fields.cluster_bits host }
+        requires host_addressable { IsAddressable self.old.tables.file.header.fields.cluster_bits host }
         requires free { self.old.unspent ≡ None }
         ensures fills { (guest : ℕ) → FillsContent S.Storage guest host content.now self.old result self.new }
         ensures begins { Begins S.Storage begun.old self.old result begun.new self.new }
@@ -322,7 +322,7 @@ impl<S: Storage> Qcow2<S> {
         }
         let _dropped = drop_cached(&mut self.tables.caches);
         let filled = fill(alloc, &mut self.tables.file, host, content, begun);
-        self.settle_change(filled, *begun)
+        self.mark_change_fault(filled, *begun)
     }
 
     // Stores it in the first of so many, or in one alone where so many can't be had in a row.
@@ -361,7 +361,7 @@ impl<S: Storage> Qcow2<S> {
         begun: &mut bool,
     ) -> Result<Placed, Fault>
         requires whole { length content.now ≡ cluster_size self.old.tables.file.header.fields }
-        requires near { IfSome kept (λ host. IsInReach self.old.tables.file.header.fields.cluster_bits host) }
+        requires host_addressable { IfSome kept (λ host. IsAddressable self.old.tables.file.header.fields.cluster_bits host) }
         requires any { 0 < count }
         requires free { self.old.unspent ≡ None }
         ensures places { (guest : ℕ) → PlacesContent S.Storage guest kept count content.now self.old result self.new }
@@ -381,7 +381,7 @@ impl<S: Storage> Qcow2<S> {
     }
 
     // Whether something waits to be freed.
-    pub(crate) fn has_waiting(&self) -> bool
+    pub(crate) fn has_pending_frees(&self) -> bool
         ensures { result ≡ waits_in self.now.tables.space }
     {
         match &self.tables.space {
@@ -394,15 +394,15 @@ impl<S: Storage> Qcow2<S> {
     pub(crate) fn free_pending(&mut self) -> Result<(), Fault>
         ensures { FreesPending S.Storage self.old result self.new }
     {
-        if !self.has_waiting() {
+        if !self.has_pending_frees() {
             return Ok(());
         }
         let Some(space) = &mut self.tables.space else {
             return Ok(());
         };
         let _dropped = drop_cached(&mut self.tables.caches);
-        let freed = free_waiting(&mut self.tables.file, &mut self.tables.caches, space);
-        self.settle_change(freed, true)
+        let freed = free_pending_clusters(&mut self.tables.file, &mut self.tables.caches, space);
+        self.mark_change_fault(freed, true)
     }
 
     // What waits to be freed is freed, and then the file is flushed. Whatever cuts that off marks the image as failed.
@@ -411,6 +411,6 @@ impl<S: Storage> Qcow2<S> {
     {
         self.free_pending()?;
         let answer = self.tables.file.image.flush();
-        self.settle_change(answer, true)
+        self.mark_change_fault(answer, true)
     }
 }

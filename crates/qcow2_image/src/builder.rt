@@ -10,7 +10,9 @@ ghost use Rattle.qcow2_image.specs.Opening.{IsOpenedAs, WhyNotOpened};
 use crate::cache_entries::CacheEntries;
 use crate::opening::open_with;
 use crate::qcow2::Qcow2;
-use imago_access::{Format, FormatDriverBuilder, FormatDriverBuilderBase, ImplicitOpenGate, Seen};
+use imago_access::{
+    DriverModel, Format, FormatDriverBuilder, FormatDriverBuilderBase, ImplicitOpenGate,
+};
 use imago_storage::{Fault, Storage, StorageOpenOptions};
 use std::alloc::Global;
 
@@ -90,7 +92,7 @@ impl<S: Storage> FormatDriverBuilder<S> for Qcow2OpenBuilder<S> {
     ghost opens = { λ b d.
         let image = S.state b.base.image in
         IsOpenedAs S.Storage image b.base.writable b.backing b.number b.entries.l2_tables b.entries.refcount_blocks d
-        × IsOpened ⟦<Qcow2<S> as Seen>⟧ format.Qcow2 b.base.writable b.number image d };
+        × IsOpened ⟦<Qcow2<S> as DriverModel>⟧ format.Qcow2 b.base.writable b.number image d };
 
     ghost refuses = { λ b fault. WhyNotOpened S.state b.base.writable (bytes_of (S.state b.base.image).bytes) fault };
 

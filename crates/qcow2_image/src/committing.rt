@@ -2,7 +2,7 @@
 // `PreparedDataMapping`.
 ghost use Rattle.std.specs.Prelude.{◌≡◌, ◌≤◌, ◌-◌, ◌↔◌, IsTrue};
 ghost use Rattle.qcow2_types.specs.Entries.{l2_entries};
-ghost use Rattle.qcow2_image.specs.Committing.{CancelsUnspent, CommitsUnspent, GivesBack, IsNamable, NamesHost, TakesUnspent, held_behind};
+ghost use Rattle.qcow2_image.specs.Committing.{CancelsUnspent, CommitsUnspent, GivesBack, IsNamable, LinksHost, TakesUnspent, held_after};
 
 use crate::mappings::Reserved;
 use crate::qcow2::{PreparedMappingState, Qcow2};
@@ -12,24 +12,24 @@ use crate::unspent::Unspent;
 use imago_access::PreparedDataMapping;
 use imago_storage::{Fault, Storage};
 use qcow2_alloc::ClustersToFreeList;
-use qcow2_clusters::{Space, name_run};
+use qcow2_clusters::{Space, link_run};
 use qcow2_types::{
     ClusterCount, ClustersToFreeEntry, GuestCluster, HostCluster, MAX_OFFSET, PendingClusters,
 };
 
 // Whether words can name the clusters, and those of the guest clusters stand in one table.
-fn is_nameable(
+fn is_linkable(
     host: HostCluster,
     count: ClusterCount,
     guest: GuestCluster,
     cluster_bits: u32,
-    words: usize,
+    raw_entries: usize,
 ) -> bool
     requires bits { (9 ≤ cluster_bits) × (cluster_bits ≤ 21) }
-    requires words { words ≡ l2_entries cluster_bits }
+    requires raw_entries { raw_entries ≡ l2_entries cluster_bits }
     ensures { IsTrue result ↔ IsNamable cluster_bits guest host count }
 {
-    let row = words - guest.l2_index(cluster_bits);
+    let row = raw_entries - guest.l2_index(cluster_bits);
     let most = MAX_OFFSET >> cluster_bits;
     if host.0 == 0 || count.0 == 0 || count.0 > row as u64 || host.0 > most {
         return false;
@@ -40,33 +40,39 @@ fn is_nameable(
 // Lets the room for one entry go, where any is held. For a cluster that was kept none is.
 fn let_go(to_free: &mut ClustersToFreeList, is_kept: bool)
     ensures entries { to_free.new.entries ≡ to_free.old.entries }
-    ensures held { to_free.new.held ≡ held_behind is_kept to_free.old.held }
+    ensures held { to_free.new.held ≡ held_after is_kept to_free.old.held }
 {
     if !is_kept {
-        if let Some(hold) = to_free.held_room() {
+        if let Some(hold) = to_free.reserved_slot() {
             to_free.release(hold);
         }
     }
 }
 
 // Has guest clusters in a row name the host clusters that are reserved for them, or that they kept for their zeroes, in their L2 table.
-fn name_host<S: Storage>(
+fn link_host<S: Storage>(
     tables: &mut Tables<S>,
     clusters: Reserved,
     guest: GuestCluster,
 ) -> Result<(), Fault>
-    ensures { NamesHost S.Storage clusters guest tables.old result tables.new }
+    ensures { LinksHost S.Storage clusters guest tables.old result tables.new }
 {
     let cluster_bits = tables.file.header.cluster_bits();
-    let words = tables.file.header.l2_entries();
-    if !is_nameable(clusters.host, clusters.count, guest, cluster_bits, words) {
+    let raw_entries = tables.file.header.l2_entries();
+    if !is_linkable(
+        clusters.host,
+        clusters.count,
+        guest,
+        cluster_bits,
+        raw_entries,
+    ) {
         return Err(Fault::DamagedTable);
     }
     let Some(mut space) = tables.space.take() else {
         return Err(Fault::DamagedTable);
     };
     let _dropped = drop_cached(&mut tables.caches);
-    let named = name_run(
+    let named = link_run(
         &mut tables.file,
         &mut tables.caches,
         &mut space,
@@ -99,7 +105,7 @@ fn give_back(space: &mut Option<Space>, host: HostCluster, count: ClusterCount, 
     let Some(space) = space else {
         return;
     };
-    if let Some(hold) = space.to_free.held_room() {
+    if let Some(hold) = space.to_free.reserved_slot() {
         let entry = ClustersToFreeEntry::data(host, count);
         space.to_free.give_back(hold, PendingClusters::new(entry));
     }
@@ -108,14 +114,14 @@ fn give_back(space: &mut Option<Space>, host: HostCluster, count: ClusterCount, 
 impl<S: Storage> Qcow2<S> {
     // Takes the prepared mapping out, if it has this state.
     fn take_unspent(&mut self, state: PreparedMappingState) -> Option<Unspent<S>>
-        ensures { TakesUnspent S.Storage state.claim self.old result self.new }
+        ensures { TakesUnspent S.Storage state.mapping_id self.old result self.new }
     {
         let PreparedMappingState {
             number: _number,
-            claim,
+            mapping_id,
         } = state;
         let is_it = match &self.unspent {
-            Some(unspent) => unspent.claim == claim,
+            Some(unspent) => unspent.mapping_id == mapping_id,
             None => false,
         };
         if is_it { self.unspent.take() } else { None }
@@ -127,7 +133,7 @@ impl<S: Storage> Qcow2<S> {
         &mut self,
         state: PreparedMappingState,
     ) -> Result<(), (Fault, Option<PreparedDataMapping<PreparedMappingState>>)>
-        ensures { CommitsUnspent S.Storage state.claim self.old result self.new }
+        ensures { CommitsUnspent S.Storage state.mapping_id self.old result self.new }
     {
         let Some(unspent) = self.take_unspent(state) else {
             return Ok(());
@@ -140,7 +146,7 @@ impl<S: Storage> Qcow2<S> {
             count: unspent.count,
             is_kept: unspent.is_kept,
         };
-        match name_host(&mut self.tables, clusters, unspent.guest) {
+        match link_host(&mut self.tables, clusters, unspent.guest) {
             Ok(()) => Ok(()),
             Err(fault) => {
                 self.failed = true;
@@ -151,7 +157,7 @@ impl<S: Storage> Qcow2<S> {
 
     // Gives a prepared mapping up: its host clusters wait to be freed then, unless the guest clusters keep them for their zeroes.
     pub(crate) fn cancel_unspent(&mut self, state: PreparedMappingState)
-        ensures { CancelsUnspent S.Storage state.claim self.old self.new }
+        ensures { CancelsUnspent S.Storage state.mapping_id self.old self.new }
     {
         if let Some(unspent) = self.take_unspent(state) {
             give_back(

@@ -3,19 +3,19 @@
 ghost use Rattle.std.proofs.Common.{inr};
 ghost use Rattle.std.specs.Prelude.{◌≡◌, ◌<◌, ◌+◌, ◌-◌, ◌/◌, ◌%◌, ◌^◌, min, ◌⊎◌, ⊤, None, Some, List, false, refl, length, IsTrue, IsErr, IsErrOf, IsOk, IsSome, OnOk, IfOk, IfErr};
 ghost use Rattle.std.proofs.lemmas.Nat.{pow_pos};
-ghost use Rattle.imago_storage.specs.Calls.{Mixed};
+ghost use Rattle.imago_storage.specs.Calls.{OldOrNewBytes};
 ghost use Rattle.imago_storage.specs.declared.fault.Fault.TheVariants.{Limit};
 ghost use Rattle.imago_access.specs.Changes.{asking};
 ghost use Rattle.imago_access.specs.Failing.{Fails, RefusesFlush, RefusesLookup, RefusesRead, RefusesReload};
-ghost use Rattle.imago_access.specs.Files.{AreRead, IsKept, IsMild, IsStale, OverflowsIn, Pairs, WasNotCutOff, files};
-ghost use Rattle.imago_access.specs.Going.{AtOnce, IsUnchanged, KeepsWhatIsFlushed, Looked, LookedUnder, Marks, RangeAtOnce, Went, WentAnew};
-ghost use Rattle.imago_access.specs.Layer.{IsFree, IsLike, Layer};
-ghost use Rattle.imago_access.specs.Mappings.{IsMappedRun, IsOneOf, IsRun, LooksIn, NamesRoomIn, States};
+ghost use Rattle.imago_access.specs.Files.{AreRead, UnchangedButMoreFaults, IsNotResourceError, IsStale, OverflowsIn, Pairs, HadNoResourceError, files};
+ghost use Rattle.imago_access.specs.Going.{EarlyOutcome, IsUnchanged, KeepsWhatIsFlushed, LookupCall, LookupCallBelow, MarksFailed, RangeEarlyOutcome, MutatingCall, ReloadingCall};
+ghost use Rattle.imago_access.specs.Layer.{IsFree, KeepsLayerState, Layer};
+ghost use Rattle.imago_access.specs.Mappings.{IsMappedRun, IsOneOf, IsRun, LooksIn, ReportsAllocationIn, ReportsExplicitZero};
 ghost use Rattle.imago_access.specs.PartCalls.{DoesPart, IsPart, PartRefused, discards_to_any, discards_to_backing, discards_to_zero, ensures_zero};
 ghost use Rattle.imago_access.specs.PreparingCalls.{Cancels, Commits, CommitRefused, IsHeldBy, Prepares, WritesMapped, WritingRefused, nowhere};
-ghost use Rattle.imago_access.specs.Refusals.{barrier, own_refusal};
+ghost use Rattle.imago_access.specs.Refusals.{unusable_fault, own_refusal};
 ghost use Rattle.imago_access.specs.ResizeCalls.{GrowthRefused, Grows, IsUngrown, Resizes, ShrinkRefused, Shrinks};
-ghost use Rattle.imago_access.specs.Stops.{GivesNone, IsCounted, IsWritten, KeepsStops, MakesNone};
+ghost use Rattle.imago_access.specs.Stops.{GivesNone, IsCounted, IsWritten, KeepsCrashImages, MakesNone};
 ghost use Rattle.qcow2_types.specs.Bytes.{bytes_of};
 ghost use Rattle.qcow2_types.specs.Header.{cluster_size};
 ghost use Rattle.qcow2_alloc.specs.Going.{IsNoShorter};
@@ -23,17 +23,17 @@ ghost use Rattle.qcow2_image.specs.Allocating.{waits_in};
 ghost use Rattle.qcow2_image.specs.ImageLayer.{blanks};
 ghost use Rattle.qcow2_image.specs.Leaking.{KeepsLeaks};
 ghost use Rattle.qcow2_image.specs.Looking.{IsWholeRunIn, answer_at};
-ghost use Rattle.qcow2_image.specs.HeldHomes.{free_loose, one_home, says_room};
+ghost use Rattle.qcow2_image.specs.HeldHomes.{free_loose, one_writable_location, reports_allocations};
 ghost use Rattle.qcow2_image.specs.Unspent.{holding_in};
-ghost use Rattle.qcow2_image.specs.Writing.{MemorySpares, begun_itself};
+ghost use Rattle.qcow2_image.specs.Writing.{OutOfMemoryLeavesUntouched, begun_itself};
 ghost use Rattle.qcow2_image.specs.Preparing.{IsPartOfRun, LacksPlace, ReachesHeld};
-ghost use Rattle.qcow2_image.specs.Rooms.{IsUntouched, not_both, covered, of_storages, was_safe};
-ghost use Rattle.qcow2_image.specs.Steps.{Reloads, failed_anew, failed_behind, failed_by};
+ghost use Rattle.qcow2_image.specs.Rooms.{IsUntouched, not_both, covered, of_storages, was_well_formed};
+ghost use Rattle.qcow2_image.specs.Steps.{Reloads, failed_on_reload, failed_after, failed_by};
 
 use crate::qcow2::{PreparedMappingState, Qcow2};
 use crate::reloading::reload;
 use imago_access::{
-    Format, FormatDriverInstance, PreallocateMode, PreparedDataMapping, ReadBelow, Seen,
+    DriverModel, Format, FormatDriverInstance, PreallocateMode, PreparedDataMapping, ReadBelow,
     ShallowMapping,
 };
 use imago_storage::{Fault, Storage, StorageExt};
@@ -42,15 +42,15 @@ use std::alloc::Global;
 impl<S: Storage> FormatDriverInstance for Qcow2<S> {
     type Storage = S;
 
-    ghost safe_sees = { λ d safe. record { seen = safe.seen; sure = inr (was_safe S.Storage.own d safe) } };
+    ghost well_formed_is_coherent = { λ d well_formed. record { seen = well_formed.seen; sure = inr (was_well_formed S.Storage.own d well_formed) } };
 
-    ghost safe_runs = { λ d safe. safe.runs };
+    ghost well_formed_is_usable = { λ d well_formed. well_formed.runs };
 
-    ghost safe_keeps = { λ d safe. safe.keeps };
+    ghost well_formed_keeps_writes = { λ d well_formed. well_formed.keeps };
 
-    ghost safe_sound = { λ d safe. covered S.Storage.own d safe };
+    ghost well_formed_is_sound = { λ d well_formed. covered S.Storage.own d well_formed };
 
-    ghost one_home = { λ d p q at safe. one_home S.Storage.own d safe p q at };
+    ghost one_writable_location = { λ d p q at well_formed. one_writable_location S.Storage.own d well_formed p q at };
 
     ghost blanks = { λ d. blanks d.mode.backing };
 
@@ -60,7 +60,7 @@ impl<S: Storage> FormatDriverInstance for Qcow2<S> {
 
     ghost marked = { λ d is. refl };
 
-    ghost says_room = { λ d is. refl };
+    ghost reports_allocations = { λ d is. refl };
 
     ghost units = { λ d. pow_pos d.tables.file.header.fields.cluster_bits };
 
@@ -71,7 +71,7 @@ impl<S: Storage> FormatDriverInstance for Qcow2<S> {
 
     ghost bare = { λ d p free has. not_both _ _ p free has };
 
-    ghost rooms = { λ d p free states. let room = says_room S.Storage.own d free p in record { homeless = room.0; housed = room.1 } };
+    ghost rooms = { λ d p free states. let room = reports_allocations S.Storage.own d free p in record { without_writable_location = room.0; housed = room.1 } };
 
     fn image_file(&self) -> &S {
         &self.tables.file.image
@@ -126,28 +126,28 @@ impl<S: Storage> FormatDriverInstance for Qcow2<S> {
         offset: u64,
         max_length: u64,
     ) -> Result<(ShallowMapping, u64), Fault>
-        ensures run { let d = ⟦<Qcow2<S> as Seen>⟧ in IfOk result (λ r. IsRun (d.layer self.old) offset max_length r.0 r.1) }
-        ensures looks { let d = ⟦<Qcow2<S> as Seen>⟧ in d.sees self.old → IfOk result (LooksIn d offset max_length self.old self.new) }
-        ensures room { let d = ⟦<Qcow2<S> as Seen>⟧ in d.sees self.old → IfOk result (NamesRoomIn d offset self.old) }
-        ensures stated { let d = ⟦<Qcow2<S> as Seen>⟧ in d.sees self.old → IfOk result (States (d.stated self.old) offset) }
-        ensures there { let d = ⟦<Qcow2<S> as Seen>⟧ in IfOk result (λ r. IsOneOf (length (files d self.old)) r.0) }
-        ensures at_once { let d = ⟦<Qcow2<S> as Seen>⟧ in AtOnce d (barrier (d.layer self.old)) (max_length ≡ 0) result self.old self.new }
-        ensures looked { Looked ⟦<Qcow2<S> as Seen>⟧ (WasNotCutOff result) self.old self.new }
-        ensures began { let d = ⟦<Qcow2<S> as Seen>⟧ in
+        ensures run { let d = ⟦<Qcow2<S> as DriverModel>⟧ in IfOk result (λ r. IsRun (d.layer self.old) offset max_length r.0 r.1) }
+        ensures looks { let d = ⟦<Qcow2<S> as DriverModel>⟧ in d.coherent self.old → IfOk result (LooksIn d offset max_length self.old self.new) }
+        ensures room { let d = ⟦<Qcow2<S> as DriverModel>⟧ in d.coherent self.old → IfOk result (ReportsAllocationIn d offset self.old) }
+        ensures explicit_zero { let d = ⟦<Qcow2<S> as DriverModel>⟧ in d.coherent self.old → IfOk result (ReportsExplicitZero (d.explicit_zero self.old) offset) }
+        ensures storage_exists { let d = ⟦<Qcow2<S> as DriverModel>⟧ in IfOk result (λ r. IsOneOf (length (files d self.old)) r.0) }
+        ensures early_outcome { let d = ⟦<Qcow2<S> as DriverModel>⟧ in EarlyOutcome d (unusable_fault (d.layer self.old)) (max_length ≡ 0) result self.old self.new }
+        ensures lookup_call { LookupCall ⟦<Qcow2<S> as DriverModel>⟧ (HadNoResourceError result) self.old self.new }
+        ensures stays_begun { let d = ⟦<Qcow2<S> as DriverModel>⟧ in
             OnOk result ((e : _) (call : _) → d.began e call self.old → d.began e call self.new) }
-        ensures failed { IfErr result (Fails ⟦<Qcow2<S> as Seen>⟧ self.old self.new) }
-        ensures marks { IfErr result (Marks ⟦<Qcow2<S> as Seen>⟧ self.old self.new) }
-        ensures cause { let d = ⟦<Qcow2<S> as Seen>⟧ in
-            d.sees self.old → IfErr result (RefusesLookup d offset max_length self.old self.new) }
+        ensures failed { IfErr result (Fails ⟦<Qcow2<S> as DriverModel>⟧ self.old self.new) }
+        ensures marks_failed { IfErr result (MarksFailed ⟦<Qcow2<S> as DriverModel>⟧ self.old self.new) }
+        ensures cause { let d = ⟦<Qcow2<S> as DriverModel>⟧ in
+            d.coherent self.old → IfErr result (RefusesLookup d offset max_length self.old self.new) }
         // It is marked as failed behind a storage's fault alone.
-        ensures marked { self.new.failed ≡ failed_behind failed_by result self.old.failed }
+        ensures marked { self.new.failed ≡ failed_after failed_by result self.old.failed }
         // Its file is as it was, but for counts of faults.
-        ensures reads { let d = ⟦<Qcow2<S> as Seen>⟧ in Pairs IsKept (files d self.old) (files d self.new) }
+        ensures reads { let d = ⟦<Qcow2<S> as DriverModel>⟧ in Pairs UnchangedButMoreFaults (files d self.old) (files d self.new) }
         // It answers the entry of the guest cluster, for as long a run as goes on under one L2 table.
         ensures entry { let t = self.old.tables in 0 < max_length → offset < t.file.header.fields.size
-            → ⟦<Qcow2<S> as Seen>⟧.sees self.old → IfOk result (λ r. r.0 ≡ answer_at S.Storage t self.old.mode offset) }
+            → ⟦<Qcow2<S> as DriverModel>⟧.coherent self.old → IfOk result (λ r. r.0 ≡ answer_at S.Storage t self.old.mode offset) }
         ensures whole { let t = self.old.tables in
-            ⟦<Qcow2<S> as Seen>⟧.sees self.old → IfOk result (λ r. IsWholeRunIn S.Storage t offset max_length r.1) }
+            ⟦<Qcow2<S> as DriverModel>⟧.coherent self.old → IfOk result (λ r. IsWholeRunIn S.Storage t offset max_length r.1) }
         // It leaks nothing.
         ensures leaks { KeepsLeaks S.Storage self.old self.new }
     {
@@ -171,23 +171,23 @@ impl<S: Storage> FormatDriverInstance for Qcow2<S> {
         place: u64,
         buf: &mut [u8],
     ) -> Result<(), Fault>
-        ensures bytes { OnOk result (AreRead (files ⟦<Qcow2<S> as Seen>⟧ self.old) storage place (length buf.old) buf.new) }
-        ensures at_once { let d = ⟦<Qcow2<S> as Seen>⟧ in AtOnce d (barrier (d.layer self.old))
+        ensures bytes { OnOk result (AreRead (files ⟦<Qcow2<S> as DriverModel>⟧ self.old) storage place (length buf.old) buf.new) }
+        ensures early_outcome { let d = ⟦<Qcow2<S> as DriverModel>⟧ in EarlyOutcome d (unusable_fault (d.layer self.old))
             (length buf.old ≡ 0) result self.old self.new }
-        ensures looked { Looked ⟦<Qcow2<S> as Seen>⟧ (WasNotCutOff result) self.old self.new }
-        ensures began { let d = ⟦<Qcow2<S> as Seen>⟧ in
+        ensures lookup_call { LookupCall ⟦<Qcow2<S> as DriverModel>⟧ (HadNoResourceError result) self.old self.new }
+        ensures stays_begun { let d = ⟦<Qcow2<S> as DriverModel>⟧ in
             OnOk result ((e : _) (call : _) → d.began e call self.old → d.began e call self.new) }
-        ensures none { let d = ⟦<Qcow2<S> as Seen>⟧ in MakesNone (d.image self.old) (d.image self.new) }
-        ensures overflow { let d = ⟦<Qcow2<S> as Seen>⟧ in barrier (d.layer self.old) ≡ None
+        ensures none { let d = ⟦<Qcow2<S> as DriverModel>⟧ in MakesNone (d.image self.old) (d.image self.new) }
+        ensures overflow { let d = ⟦<Qcow2<S> as DriverModel>⟧ in unusable_fault (d.layer self.old) ≡ None
             → OverflowsIn (files d self.old) storage place (length buf.old) → IsErrOf result Fault.RangeOverflow }
-        ensures marks { IfErr result (Marks ⟦<Qcow2<S> as Seen>⟧ self.old self.new) }
-        ensures cause { IfErr result (RefusesRead ⟦<Qcow2<S> as Seen>⟧ place (length buf.old) self.old self.new) }
+        ensures marks_failed { IfErr result (MarksFailed ⟦<Qcow2<S> as DriverModel>⟧ self.old self.new) }
+        ensures cause { IfErr result (RefusesRead ⟦<Qcow2<S> as DriverModel>⟧ place (length buf.old) self.old self.new) }
         // It leaks nothing.
         ensures leaks { KeepsLeaks S.Storage self.old self.new }
         // Its file gets no shorter.
         ensures no_shorter { IsNoShorter (S.state self.old.tables.file.image) (S.state self.new.tables.file.image) }
         // It is marked as failed behind a storage's fault alone.
-        ensures marked { self.new.failed ≡ failed_behind failed_by result self.old.failed }
+        ensures marked { self.new.failed ≡ failed_after failed_by result self.old.failed }
     {
         if self.failed {
             return Err(Fault::Failed);
@@ -200,14 +200,14 @@ impl<S: Storage> FormatDriverInstance for Qcow2<S> {
             return Ok(());
         }
         let answer = self.tables.file.image.read(alloc, buf, place);
-        self.settle(answer)
+        self.mark_fault(answer)
     }
 
     fn read_special(&mut self, _buf: &mut [u8], _offset: u64) -> Result<(), Fault>
         ensures refused { IsErr result }
-        ensures err { IfErr result (λ e. (barrier (⟦<Qcow2<S> as Seen>⟧.layer self.old) ≡ Some e) ⊎ (e ≡ Fault.Barred)) }
-        ensures unusable { (f : _) → barrier (⟦<Qcow2<S> as Seen>⟧.layer self.old) ≡ Some f → IsErrOf result f }
-        ensures unchanged { IsUnchanged ⟦<Qcow2<S> as Seen>⟧ self.old self.new }
+        ensures err { IfErr result (λ e. (unusable_fault (⟦<Qcow2<S> as DriverModel>⟧.layer self.old) ≡ Some e) ⊎ (e ≡ Fault.Barred)) }
+        ensures unusable { (f : _) → unusable_fault (⟦<Qcow2<S> as DriverModel>⟧.layer self.old) ≡ Some f → IsErrOf result f }
+        ensures unchanged { IsUnchanged ⟦<Qcow2<S> as DriverModel>⟧ self.old self.new }
         ensures buffer { _buf.new ≡ _buf.old }
         // It is declined, and changes nothing.
         ensures same { self.new ≡ self.old }
@@ -226,39 +226,39 @@ impl<S: Storage> FormatDriverInstance for Qcow2<S> {
         length: u64,
         overwrite: bool,
     ) -> Result<PreparedDataMapping<PreparedMappingState>, Fault>
-        requires free { IsFree (⟦<Qcow2<S> as Seen>⟧.layer self.old) }
-        ensures run { let d = ⟦<Qcow2<S> as Seen>⟧ in
+        requires free { IsFree (⟦<Qcow2<S> as DriverModel>⟧.layer self.old) }
+        ensures run { let d = ⟦<Qcow2<S> as DriverModel>⟧ in
             IfOk result (λ m. IsMappedRun (d.layer self.old) offset length m.length × (m.offset + m.length < 2 ^ 64)) }
-        ensures mine { let d = ⟦<Qcow2<S> as Seen>⟧ in IfOk result (λ m. IsHeldBy d m.state (d.layer self.new)) }
-        ensures empty { let d = ⟦<Qcow2<S> as Seen>⟧ in
+        ensures mine { let d = ⟦<Qcow2<S> as DriverModel>⟧ in IfOk result (λ m. IsHeldBy d m.state (d.layer self.new)) }
+        ensures empty { let d = ⟦<Qcow2<S> as DriverModel>⟧ in
             length ≡ 0 → IfOk result (λ m. (m ≡ nowhere) × (d.layer self.new ≡ d.layer self.old)) }
-        ensures size { let d = ⟦<Qcow2<S> as Seen>⟧ in (d.layer self.new).size ≡ (d.layer self.old).size }
-        ensures free { IsErr result → IsFree (⟦<Qcow2<S> as Seen>⟧.layer self.new) }
+        ensures size { let d = ⟦<Qcow2<S> as DriverModel>⟧ in (d.layer self.new).size ≡ (d.layer self.old).size }
+        ensures free { IsErr result → IsFree (⟦<Qcow2<S> as DriverModel>⟧.layer self.new) }
         // A crash during the preparation of a safe image leaves a consistent file that shows the disk as before.
-        ensures does { let d = ⟦<Qcow2<S> as Seen>⟧ in
-            Prepares d B.SeenBelow (asking offset length overwrite) result (self.old, below.old) (self.new, below.new) }
-        ensures below { LookedUnder B.SeenBelow (WasNotCutOff result) below.old below.new }
-        ensures at_once { RangeAtOnce ⟦<Qcow2<S> as Seen>⟧ offset length result self.old self.new }
-        ensures unread { let d = ⟦<Qcow2<S> as Seen>⟧ in
+        ensures does { let d = ⟦<Qcow2<S> as DriverModel>⟧ in
+            Prepares d B.LayersBelowModel (asking offset length overwrite) result (self.old, below.old) (self.new, below.new) }
+        ensures below { LookupCallBelow B.LayersBelowModel (HadNoResourceError result) below.old below.new }
+        ensures early_outcome { RangeEarlyOutcome ⟦<Qcow2<S> as DriverModel>⟧ offset length result self.old self.new }
+        ensures unread { let d = ⟦<Qcow2<S> as DriverModel>⟧ in
             (length ≡ 0) ⊎ IsSome (own_refusal (d.layer self.old) offset length) → below.new ≡ below.old }
         // It answers all of the run that can be written, or prepares what lies in the first guest clusters, those behind the first of which
         // are written as a whole.
-        ensures whole { let t = self.old.tables in ⟦<Qcow2<S> as Seen>⟧.sees self.old
+        ensures whole { let t = self.old.tables in ⟦<Qcow2<S> as DriverModel>⟧.coherent self.old
             → IfOk result (λ m. 0 < length → m.state ≡ None → IsWholeRunIn S.Storage t offset length m.length) }
         ensures part { let asked = asking offset length overwrite in
             IfOk result (λ m. IsSome m.state → IsPartOfRun S.Storage asked m.length self.old) }
         // Then the file reaches at least the end of the clusters that are held for it.
         ensures reaches { IfOk result (λ m. IsSome m.state → ReachesHeld S.Storage self.new) }
         // It is refused with a limit only where the first place can't be written.
-        ensures limit { let d = ⟦<Qcow2<S> as Seen>⟧ in
-            d.sees self.old → IfErr result (λ e. (n : _) → e ≡ Limit n → (d.layer self.old).home offset ≡ None) }
+        ensures limit { let d = ⟦<Qcow2<S> as DriverModel>⟧ in
+            d.coherent self.old → IfErr result (λ e. (n : _) → e ≡ Limit n → (d.layer self.old).writable_location offset ≡ None) }
         // Then the L1 table would have more than 2^22 words, or no quarter of the space is free in a row for what the guest cluster
         // lacks: a word of the L1 table, an L2 table of its own, or a host cluster. The limit tells of either.
         ensures full { let t = self.old.tables in
-            ⟦<Qcow2<S> as Seen>⟧.safe self.old → B.SeenBelow.sees_under below.old → IfErr result (λ e. (n : _) → e ≡ Limit n
+            ⟦<Qcow2<S> as DriverModel>⟧.well_formed self.old → B.LayersBelowModel.coherent_below below.old → IfErr result (λ e. (n : _) → e ≡ Limit n
             → LacksPlace S.Storage (offset / cluster_size t.file.header.fields) t self.new.tables n) }
         // It leaks nothing: a cluster that it reserves is pending then.
-        ensures leaks { ⟦<Qcow2<S> as Seen>⟧.safe self.old → WasNotCutOff result → KeepsLeaks S.Storage self.old self.new }
+        ensures leaks { ⟦<Qcow2<S> as DriverModel>⟧.well_formed self.old → HadNoResourceError result → KeepsLeaks S.Storage self.old self.new }
     {
         if self.failed {
             return Err(Fault::Failed);
@@ -267,7 +267,7 @@ impl<S: Storage> FormatDriverInstance for Qcow2<S> {
             return Ok(PreparedDataMapping::existing(0, 0, 0));
         }
         self.check_change(offset, length)?;
-        match self.home_run(offset, length)? {
+        match self.writable_run(offset, length)? {
             Some((place, count)) => Ok(PreparedDataMapping::existing(0, place, count)),
             None => self.prepare_fresh(alloc, below, offset, length, overwrite),
         }
@@ -281,10 +281,10 @@ impl<S: Storage> FormatDriverInstance for Qcow2<S> {
         // After success in a safe image each byte of the run reads as what was written there, or as before. The rest of the disk reads as
         // before. A byte that was announced to be overwritten, and wasn't, may read as any byte. A crash leaves a consistent file, in which
         // each byte reads as before or as the commit makes it read.
-        ensures commits { Commits ⟦<Qcow2<S> as Seen>⟧ mapping.state result self.old self.new }
-        ensures refused { CommitRefused ⟦<Qcow2<S> as Seen>⟧ mapping result self.old self.new }
+        ensures commits { Commits ⟦<Qcow2<S> as DriverModel>⟧ mapping.state result self.old self.new }
+        ensures refused { CommitRefused ⟦<Qcow2<S> as DriverModel>⟧ mapping result self.old self.new }
         // It leaks nothing: what it comes to name isn't pending any more, and what was named before is.
-        ensures leaks { ⟦<Qcow2<S> as Seen>⟧.safe self.old → IfErr result (λ e. IsMild e.0) → KeepsLeaks S.Storage self.old self.new }
+        ensures leaks { ⟦<Qcow2<S> as DriverModel>⟧.well_formed self.old → IfErr result (λ e. IsNotResourceError e.0) → KeepsLeaks S.Storage self.old self.new }
         // Its file gets no shorter, so that no word comes to name what lies past its end.
         ensures no_shorter { IsNoShorter (S.state self.old.tables.file.image) (S.state self.new.tables.file.image) }
     {
@@ -317,9 +317,9 @@ impl<S: Storage> FormatDriverInstance for Qcow2<S> {
         &mut self,
         mapping: PreparedDataMapping<PreparedMappingState>,
     ) -> Result<(), (Fault, PreparedDataMapping<PreparedMappingState>)>
-        ensures cancels { Cancels ⟦<Qcow2<S> as Seen>⟧ mapping result self.old self.new }
+        ensures cancels { Cancels ⟦<Qcow2<S> as DriverModel>⟧ mapping result self.old self.new }
         // It leaks nothing: a cluster that was reserved waits to be freed then.
-        ensures leaks { ⟦<Qcow2<S> as Seen>⟧.safe self.old → KeepsLeaks S.Storage self.old self.new }
+        ensures leaks { ⟦<Qcow2<S> as DriverModel>⟧.well_formed self.old → KeepsLeaks S.Storage self.old self.new }
     {
         let storage = mapping.storage();
         let offset = mapping.offset();
@@ -346,16 +346,16 @@ impl<S: Storage> FormatDriverInstance for Qcow2<S> {
     ) -> Result<(), Fault>
         // After a write into data of a safe image the disk has these bytes. The image stays safe, so its file is consistent. A write into
         // the prepared run changes no byte of the disk before the commit. A crash leaves a consistent file that shows old or written bytes.
-        ensures writes { WritesMapped ⟦<Qcow2<S> as Seen>⟧ guest place bytes.now result self.old self.new }
-        ensures at_once { RangeAtOnce ⟦<Qcow2<S> as Seen>⟧ guest (length bytes.now) result self.old self.new }
-        ensures refused { WritingRefused ⟦<Qcow2<S> as Seen>⟧ guest place (length bytes.now) result self.old self.new }
+        ensures writes { WritesMapped ⟦<Qcow2<S> as DriverModel>⟧ guest place bytes.now result self.old self.new }
+        ensures early_outcome { RangeEarlyOutcome ⟦<Qcow2<S> as DriverModel>⟧ guest (length bytes.now) result self.old self.new }
+        ensures refused { WritingRefused ⟦<Qcow2<S> as DriverModel>⟧ guest place (length bytes.now) result self.old self.new }
         // Want of memory leaves it usable where the storage refused no change.
-        ensures spares { IfErr result (MemorySpares S.Storage self.old self.new) }
+        ensures untouched_unless_begun { IfErr result (OutOfMemoryLeavesUntouched S.Storage self.old self.new) }
         // Its file is as it was, but for these bytes at their place: each of them is there, or what was.
         ensures file { let s = S.state self.old.tables.file.image in
-            IsTrue s.shape.keeps → Mixed s.bytes place bytes.now (S.state self.new.tables.file.image).bytes }
+            IsTrue s.shape.keeps → OldOrNewBytes s.bytes place bytes.now (S.state self.new.tables.file.image).bytes }
         // It leaks nothing: no cluster comes to be counted, named or pending.
-        ensures leaks { ⟦<Qcow2<S> as Seen>⟧.safe self.old → WasNotCutOff result → KeepsLeaks S.Storage self.old self.new }
+        ensures leaks { ⟦<Qcow2<S> as DriverModel>⟧.well_formed self.old → HadNoResourceError result → KeepsLeaks S.Storage self.old self.new }
         // Its file gets no shorter.
         ensures no_shorter { IsNoShorter (S.state self.old.tables.file.image) (S.state self.new.tables.file.image) }
     {
@@ -381,11 +381,11 @@ impl<S: Storage> FormatDriverInstance for Qcow2<S> {
         offset: u64,
         length: u64,
     ) -> Result<(u64, u64), Fault>
-        requires free { IsFree (⟦<Qcow2<S> as Seen>⟧.layer self.old) }
+        requires free { IsFree (⟦<Qcow2<S> as DriverModel>⟧.layer self.old) }
         ensures part { IfOk result (IsPart offset length) }
-        ensures does { DoesPart ensures_zero ⟦<Qcow2<S> as Seen>⟧ offset length result self.old self.new }
-        ensures at_once { RangeAtOnce ⟦<Qcow2<S> as Seen>⟧ offset length result self.old self.new }
-        ensures refused { PartRefused ensures_zero ⟦<Qcow2<S> as Seen>⟧ offset length result self.old self.new }
+        ensures does { DoesPart ensures_zero ⟦<Qcow2<S> as DriverModel>⟧ offset length result self.old self.new }
+        ensures early_outcome { RangeEarlyOutcome ⟦<Qcow2<S> as DriverModel>⟧ offset length result self.old self.new }
+        ensures refused { PartRefused ensures_zero ⟦<Qcow2<S> as DriverModel>⟧ offset length result self.old self.new }
         // It is declined, and changes nothing.
         ensures same { self.new ≡ self.old }
     {
@@ -398,11 +398,11 @@ impl<S: Storage> FormatDriverInstance for Qcow2<S> {
         offset: u64,
         length: u64,
     ) -> Result<(u64, u64), Fault>
-        requires free { IsFree (⟦<Qcow2<S> as Seen>⟧.layer self.old) }
+        requires free { IsFree (⟦<Qcow2<S> as DriverModel>⟧.layer self.old) }
         ensures part { IfOk result (IsPart offset length) }
-        ensures does { DoesPart discards_to_zero ⟦<Qcow2<S> as Seen>⟧ offset length result self.old self.new }
-        ensures at_once { RangeAtOnce ⟦<Qcow2<S> as Seen>⟧ offset length result self.old self.new }
-        ensures refused { PartRefused discards_to_zero ⟦<Qcow2<S> as Seen>⟧ offset length result self.old self.new }
+        ensures does { DoesPart discards_to_zero ⟦<Qcow2<S> as DriverModel>⟧ offset length result self.old self.new }
+        ensures early_outcome { RangeEarlyOutcome ⟦<Qcow2<S> as DriverModel>⟧ offset length result self.old self.new }
+        ensures refused { PartRefused discards_to_zero ⟦<Qcow2<S> as DriverModel>⟧ offset length result self.old self.new }
         // It is declined, and changes nothing.
         ensures same { self.new ≡ self.old }
     {
@@ -415,11 +415,11 @@ impl<S: Storage> FormatDriverInstance for Qcow2<S> {
         offset: u64,
         length: u64,
     ) -> Result<(u64, u64), Fault>
-        requires free { IsFree (⟦<Qcow2<S> as Seen>⟧.layer self.old) }
+        requires free { IsFree (⟦<Qcow2<S> as DriverModel>⟧.layer self.old) }
         ensures part { IfOk result (IsPart offset length) }
-        ensures does { DoesPart discards_to_any ⟦<Qcow2<S> as Seen>⟧ offset length result self.old self.new }
-        ensures at_once { RangeAtOnce ⟦<Qcow2<S> as Seen>⟧ offset length result self.old self.new }
-        ensures refused { PartRefused discards_to_any ⟦<Qcow2<S> as Seen>⟧ offset length result self.old self.new }
+        ensures does { DoesPart discards_to_any ⟦<Qcow2<S> as DriverModel>⟧ offset length result self.old self.new }
+        ensures early_outcome { RangeEarlyOutcome ⟦<Qcow2<S> as DriverModel>⟧ offset length result self.old self.new }
+        ensures refused { PartRefused discards_to_any ⟦<Qcow2<S> as DriverModel>⟧ offset length result self.old self.new }
         // It is declined, and changes nothing.
         ensures same { self.new ≡ self.old }
     {
@@ -432,11 +432,11 @@ impl<S: Storage> FormatDriverInstance for Qcow2<S> {
         offset: u64,
         length: u64,
     ) -> Result<(u64, u64), Fault>
-        requires free { IsFree (⟦<Qcow2<S> as Seen>⟧.layer self.old) }
+        requires free { IsFree (⟦<Qcow2<S> as DriverModel>⟧.layer self.old) }
         ensures part { IfOk result (IsPart offset length) }
-        ensures does { DoesPart discards_to_backing ⟦<Qcow2<S> as Seen>⟧ offset length result self.old self.new }
-        ensures at_once { RangeAtOnce ⟦<Qcow2<S> as Seen>⟧ offset length result self.old self.new }
-        ensures refused { PartRefused discards_to_backing ⟦<Qcow2<S> as Seen>⟧ offset length result self.old self.new }
+        ensures does { DoesPart discards_to_backing ⟦<Qcow2<S> as DriverModel>⟧ offset length result self.old self.new }
+        ensures early_outcome { RangeEarlyOutcome ⟦<Qcow2<S> as DriverModel>⟧ offset length result self.old self.new }
+        ensures refused { PartRefused discards_to_backing ⟦<Qcow2<S> as DriverModel>⟧ offset length result self.old self.new }
         // It is declined, and changes nothing.
         ensures same { self.new ≡ self.old }
     {
@@ -445,74 +445,74 @@ impl<S: Storage> FormatDriverInstance for Qcow2<S> {
 
     fn flush(&mut self, _alloc: Global) -> Result<(), Fault>
         // After success the disk reads as before.
-        ensures sees { let d = ⟦<Qcow2<S> as Seen>⟧ in
-            d.sees self.old → OnOk result ((d.layer self.new ≡ d.layer self.old) × d.sees self.new) }
-        ensures still { OnOk result (⟦<Qcow2<S> as Seen>⟧.still self.new) }
-        ensures written { let d = ⟦<Qcow2<S> as Seen>⟧ in d.safe self.old → IsFree (d.layer self.old) → OnOk result (IsWritten d self.new) }
-        ensures counted { let d = ⟦<Qcow2<S> as Seen>⟧ in d.safe self.old → IsFree (d.layer self.old) → OnOk result (IsCounted d self.new) }
+        ensures coherent { let d = ⟦<Qcow2<S> as DriverModel>⟧ in
+            d.coherent self.old → OnOk result ((d.layer self.new ≡ d.layer self.old) × d.coherent self.new) }
+        ensures has_no_dirty_data { OnOk result (⟦<Qcow2<S> as DriverModel>⟧.has_no_dirty_data self.new) }
+        ensures written { let d = ⟦<Qcow2<S> as DriverModel>⟧ in d.well_formed self.old → IsFree (d.layer self.old) → OnOk result (IsWritten d self.new) }
+        ensures counted { let d = ⟦<Qcow2<S> as DriverModel>⟧ in d.well_formed self.old → IsFree (d.layer self.old) → OnOk result (IsCounted d self.new) }
         // A crash during the flush of a safe image leaves a consistent file, also while clusters wait to be freed.
-        ensures stops { let d = ⟦<Qcow2<S> as Seen>⟧ in
-            d.safe self.old → (below : List Layer) → KeepsStops d below GivesNone self.old self.new }
-        ensures at_once { let d = ⟦<Qcow2<S> as Seen>⟧ in AtOnce d (barrier (d.layer self.old)) ⊥ result self.old self.new }
-        ensures like { let d = ⟦<Qcow2<S> as Seen>⟧ in IsLike (d.layer self.old) (d.layer self.new) }
-        ensures went { Went ⟦<Qcow2<S> as Seen>⟧ (WasNotCutOff result) (WasNotCutOff result) self.old self.new }
-        ensures failed { IfErr result (Fails ⟦<Qcow2<S> as Seen>⟧ self.old self.new) }
-        ensures marks { IfErr result (Marks ⟦<Qcow2<S> as Seen>⟧ self.old self.new) }
-        ensures cause { let d = ⟦<Qcow2<S> as Seen>⟧ in d.safe self.old → IfErr result (RefusesFlush d self.old self.new) }
+        ensures crash_images { let d = ⟦<Qcow2<S> as DriverModel>⟧ in
+            d.well_formed self.old → (below : List Layer) → KeepsCrashImages d below GivesNone self.old self.new }
+        ensures early_outcome { let d = ⟦<Qcow2<S> as DriverModel>⟧ in EarlyOutcome d (unusable_fault (d.layer self.old)) ⊥ result self.old self.new }
+        ensures keeps_layer_state { let d = ⟦<Qcow2<S> as DriverModel>⟧ in KeepsLayerState (d.layer self.old) (d.layer self.new) }
+        ensures mutating_call { MutatingCall ⟦<Qcow2<S> as DriverModel>⟧ (HadNoResourceError result) (HadNoResourceError result) self.old self.new }
+        ensures failed { IfErr result (Fails ⟦<Qcow2<S> as DriverModel>⟧ self.old self.new) }
+        ensures marks_failed { IfErr result (MarksFailed ⟦<Qcow2<S> as DriverModel>⟧ self.old self.new) }
+        ensures cause { let d = ⟦<Qcow2<S> as DriverModel>⟧ in d.well_formed self.old → IfErr result (RefusesFlush d self.old self.new) }
         // Where nothing waits to be freed and nothing is prepared, it is marked as failed behind a storage's fault alone.
-        ensures marked { IsUntouched S.Storage self.old → self.new.failed ≡ failed_behind failed_by result self.old.failed }
+        ensures marked { IsUntouched S.Storage self.old → self.new.failed ≡ failed_after failed_by result self.old.failed }
         // Where it succeeds nothing waits to be freed any more.
         ensures freed { OnOk result (waits_in self.new.tables.space ≡ false) }
         // It leaks nothing: what waited isn't counted any more.
-        ensures leaks { ⟦<Qcow2<S> as Seen>⟧.safe self.old → WasNotCutOff result → KeepsLeaks S.Storage self.old self.new }
+        ensures leaks { ⟦<Qcow2<S> as DriverModel>⟧.well_formed self.old → HadNoResourceError result → KeepsLeaks S.Storage self.old self.new }
         // Its file gets no shorter.
         ensures no_shorter { IsNoShorter (S.state self.old.tables.file.image) (S.state self.new.tables.file.image) }
     {
         if self.failed {
             return Err(Fault::Failed);
         }
-        if self.has_waiting() {
+        if self.has_pending_frees() {
             return self.flush_freed();
         }
         let answer = self.tables.file.image.flush();
-        self.settle(answer)
+        self.mark_fault(answer)
     }
 
     fn sync(&mut self) -> Result<(), Fault>
-        ensures same { let d = ⟦<Qcow2<S> as Seen>⟧ in OnOk result (d.layer self.new ≡ d.layer self.old) }
-        ensures kept { let d = ⟦<Qcow2<S> as Seen>⟧ in Pairs IsKept (files d self.old) (files d self.new) }
-        ensures sees { ⟦<Qcow2<S> as Seen>⟧.sees self.old → ⟦<Qcow2<S> as Seen>⟧.sees self.new }
-        ensures still { ⟦<Qcow2<S> as Seen>⟧.still self.old → ⟦<Qcow2<S> as Seen>⟧.still self.new }
-        ensures at_once { let d = ⟦<Qcow2<S> as Seen>⟧ in AtOnce d (barrier (d.layer self.old)) ⊥ result self.old self.new }
-        ensures like { let d = ⟦<Qcow2<S> as Seen>⟧ in IsLike (d.layer self.old) (d.layer self.new) }
-        ensures went { Went ⟦<Qcow2<S> as Seen>⟧ (WasNotCutOff result) (WasNotCutOff result) self.old self.new }
-        ensures marks { IfErr result (Marks ⟦<Qcow2<S> as Seen>⟧ self.old self.new) }
-        ensures cause { IfErr result (RefusesFlush ⟦<Qcow2<S> as Seen>⟧ self.old self.new) }
+        ensures same { let d = ⟦<Qcow2<S> as DriverModel>⟧ in OnOk result (d.layer self.new ≡ d.layer self.old) }
+        ensures unchanged_but_faults { let d = ⟦<Qcow2<S> as DriverModel>⟧ in Pairs UnchangedButMoreFaults (files d self.old) (files d self.new) }
+        ensures coherent { ⟦<Qcow2<S> as DriverModel>⟧.coherent self.old → ⟦<Qcow2<S> as DriverModel>⟧.coherent self.new }
+        ensures has_no_dirty_data { ⟦<Qcow2<S> as DriverModel>⟧.has_no_dirty_data self.old → ⟦<Qcow2<S> as DriverModel>⟧.has_no_dirty_data self.new }
+        ensures early_outcome { let d = ⟦<Qcow2<S> as DriverModel>⟧ in EarlyOutcome d (unusable_fault (d.layer self.old)) ⊥ result self.old self.new }
+        ensures keeps_layer_state { let d = ⟦<Qcow2<S> as DriverModel>⟧ in KeepsLayerState (d.layer self.old) (d.layer self.new) }
+        ensures mutating_call { MutatingCall ⟦<Qcow2<S> as DriverModel>⟧ (HadNoResourceError result) (HadNoResourceError result) self.old self.new }
+        ensures marks_failed { IfErr result (MarksFailed ⟦<Qcow2<S> as DriverModel>⟧ self.old self.new) }
+        ensures cause { IfErr result (RefusesFlush ⟦<Qcow2<S> as DriverModel>⟧ self.old self.new) }
         // It leaks nothing.
         ensures leaks { KeepsLeaks S.Storage self.old self.new }
         // It is marked as failed behind a storage's fault alone.
-        ensures marked { self.new.failed ≡ failed_behind failed_by result self.old.failed }
+        ensures marked { self.new.failed ≡ failed_after failed_by result self.old.failed }
     {
         if self.failed {
             return Err(Fault::Failed);
         }
         let answer = self.tables.file.image.sync();
-        self.settle(answer)
+        self.mark_fault(answer)
     }
 
     fn invalidate_cache(&mut self, alloc: Global) -> Result<(), Fault>
-        requires free { IsFree (⟦<Qcow2<S> as Seen>⟧.layer self.old) }
-        ensures same { KeepsWhatIsFlushed ⟦<Qcow2<S> as Seen>⟧ result self.old self.new }
-        ensures kept { let d = ⟦<Qcow2<S> as Seen>⟧ in Pairs IsKept (files d self.old) (files d self.new) }
-        ensures still { OnOk result (⟦<Qcow2<S> as Seen>⟧.still self.new) }
-        ensures free { IsFree (⟦<Qcow2<S> as Seen>⟧.layer self.new) }
-        ensures at_once { let d = ⟦<Qcow2<S> as Seen>⟧ in AtOnce d (barrier (d.layer self.old)) ⊥ result self.old self.new }
-        ensures went { WentAnew ⟦<Qcow2<S> as Seen>⟧ (IsOk result) (IsOk result) self.old self.new }
-        ensures failed { IfErr result (λ e. IsStale e → IsTrue (⟦<Qcow2<S> as Seen>⟧.layer self.new).failed) }
-        ensures marks { IfErr result (Marks ⟦<Qcow2<S> as Seen>⟧ self.old self.new) }
-        ensures cause { IfErr result (RefusesReload ⟦<Qcow2<S> as Seen>⟧ self.old self.new) }
+        requires free { IsFree (⟦<Qcow2<S> as DriverModel>⟧.layer self.old) }
+        ensures same { KeepsWhatIsFlushed ⟦<Qcow2<S> as DriverModel>⟧ result self.old self.new }
+        ensures unchanged_but_faults { let d = ⟦<Qcow2<S> as DriverModel>⟧ in Pairs UnchangedButMoreFaults (files d self.old) (files d self.new) }
+        ensures has_no_dirty_data { OnOk result (⟦<Qcow2<S> as DriverModel>⟧.has_no_dirty_data self.new) }
+        ensures free { IsFree (⟦<Qcow2<S> as DriverModel>⟧.layer self.new) }
+        ensures early_outcome { let d = ⟦<Qcow2<S> as DriverModel>⟧ in EarlyOutcome d (unusable_fault (d.layer self.old)) ⊥ result self.old self.new }
+        ensures mutating_call { ReloadingCall ⟦<Qcow2<S> as DriverModel>⟧ (IsOk result) (IsOk result) self.old self.new }
+        ensures failed { IfErr result (λ e. IsStale e → IsTrue (⟦<Qcow2<S> as DriverModel>⟧.layer self.new).failed) }
+        ensures marks_failed { IfErr result (MarksFailed ⟦<Qcow2<S> as DriverModel>⟧ self.old self.new) }
+        ensures cause { IfErr result (RefusesReload ⟦<Qcow2<S> as DriverModel>⟧ self.old self.new) }
         // It is marked as failed behind each refusal but want of memory.
-        ensures marked { self.new.failed ≡ failed_behind failed_anew result self.old.failed }
+        ensures marked { self.new.failed ≡ failed_after failed_on_reload result self.old.failed }
         // What is in memory is then what the file says, whatever it was before, and nothing else is cached; a refusal leaves what it was.
         ensures reloads { self.old.failed ≡ false → Reloads S.Storage self.old.mode.writable self.old.tables result self.new.tables }
     {
@@ -520,7 +520,7 @@ impl<S: Storage> FormatDriverInstance for Qcow2<S> {
             return Err(Fault::Failed);
         }
         let answer = reload(&mut self.tables, alloc, self.mode.writable);
-        self.settle_anew(answer)
+        self.mark_reload_fault(answer)
     }
 
     fn resize_grow<B: ReadBelow>(
@@ -530,12 +530,12 @@ impl<S: Storage> FormatDriverInstance for Qcow2<S> {
         size: u64,
         _mode: PreallocateMode,
     ) -> Result<(), Fault>
-        requires free { IsFree (⟦<Qcow2<S> as Seen>⟧.layer self.old) }
-        ensures resizes { let d = ⟦<Qcow2<S> as Seen>⟧ in Resizes d size (d.layer self.old).size result self.old self.new }
-        ensures grows { Grows ⟦<Qcow2<S> as Seen>⟧ B.SeenBelow size _mode result (self.old, _below.old) (self.new, _below.new) }
-        ensures unread { IsUngrown (⟦<Qcow2<S> as Seen>⟧.layer self.old) size → _below.new ≡ _below.old }
-        ensures below { LookedUnder B.SeenBelow (WasNotCutOff result) _below.old _below.new }
-        ensures refused { GrowthRefused ⟦<Qcow2<S> as Seen>⟧ B.SeenBelow size _mode result (self.old, _below.old) (self.new, _below.new) }
+        requires free { IsFree (⟦<Qcow2<S> as DriverModel>⟧.layer self.old) }
+        ensures resizes { let d = ⟦<Qcow2<S> as DriverModel>⟧ in Resizes d size (d.layer self.old).size result self.old self.new }
+        ensures grows { Grows ⟦<Qcow2<S> as DriverModel>⟧ B.LayersBelowModel size _mode result (self.old, _below.old) (self.new, _below.new) }
+        ensures unread { IsUngrown (⟦<Qcow2<S> as DriverModel>⟧.layer self.old) size → _below.new ≡ _below.old }
+        ensures below { LookupCallBelow B.LayersBelowModel (HadNoResourceError result) _below.old _below.new }
+        ensures refused { GrowthRefused ⟦<Qcow2<S> as DriverModel>⟧ B.LayersBelowModel size _mode result (self.old, _below.old) (self.new, _below.new) }
         // It is declined, and changes nothing.
         ensures same { self.new ≡ self.old }
     {
@@ -549,10 +549,10 @@ impl<S: Storage> FormatDriverInstance for Qcow2<S> {
     }
 
     fn resize_shrink(&mut self, _alloc: Global, size: u64) -> Result<(), Fault>
-        requires free { IsFree (⟦<Qcow2<S> as Seen>⟧.layer self.old) }
-        ensures resizes { let d = ⟦<Qcow2<S> as Seen>⟧ in Resizes d (d.layer self.old).size size result self.old self.new }
-        ensures shrinks { Shrinks ⟦<Qcow2<S> as Seen>⟧ size result self.old self.new }
-        ensures refused { ShrinkRefused ⟦<Qcow2<S> as Seen>⟧ size result self.old self.new }
+        requires free { IsFree (⟦<Qcow2<S> as DriverModel>⟧.layer self.old) }
+        ensures resizes { let d = ⟦<Qcow2<S> as DriverModel>⟧ in Resizes d (d.layer self.old).size size result self.old self.new }
+        ensures shrinks { Shrinks ⟦<Qcow2<S> as DriverModel>⟧ size result self.old self.new }
+        ensures refused { ShrinkRefused ⟦<Qcow2<S> as DriverModel>⟧ size result self.old self.new }
         // It is declined, and changes nothing.
         ensures same { self.new ≡ self.old }
     {

@@ -3,14 +3,14 @@
 // `prepare_cow_cluster` in imago. The layers below are the backing of both.
 ghost use Rattle.std.specs.Prelude.{◌≡◌, ◌<◌, ◌≤◌, ◌+◌, ◌-◌, ◌%◌, ℕ, false, length, replicate, slice_index, IfOk, IfErr};
 ghost use Rattle.imago_access.specs.Changes.{asking};
-ghost use Rattle.imago_access.specs.declared.seen.SeenBelow.{Ghosts as BelowGhosts};
+ghost use Rattle.imago_access.specs.declared.driver_model.LayersBelowModel.{Ghosts as BelowGhosts};
 ghost use Rattle.qcow2_types.specs.Header.{cluster_size};
-ghost use Rattle.qcow2_image.specs.Allocating.{IsShownInReach};
+ghost use Rattle.qcow2_image.specs.Allocating.{IsShownAddressable};
 ghost use Rattle.qcow2_image.specs.Filling.{CopiesPart, CopiesShown, MakesContent, first_places};
 
 use crate::allocating::Shown;
 use crate::qcow2::Qcow2;
-use imago_access::{ReadBelow, SeenBelow};
+use imago_access::{LayersBelowModel, ReadBelow};
 use imago_storage::{Fault, Storage, StorageExt};
 use qcow2_types::GuestOffset;
 use std::alloc::Global;
@@ -65,11 +65,11 @@ impl<S: Storage> Qcow2<S> {
         buf: &mut [u8],
         first: u64,
     ) -> Result<(), Fault>
-        requires reach { IsShownInReach self.old.tables.file.header.fields.cluster_bits shown }
+        requires reach { IsShownAddressable self.old.tables.file.header.fields.cluster_bits shown }
         requires row { let c = cluster_size self.old.tables.file.header.fields in first % c + length buf.old ≤ c }
-        requires some { 0 < length buf.old }
+        requires nonempty { 0 < length buf.old }
         requires zero { (i : ℕ) → i < length buf.old → slice_index buf.old i ≡ 0 }
-        ensures { CopiesShown S.Storage B.SeenBelow shown (first, first + length buf.old) (self.old, below.old) result (self.new, below.new)
+        ensures { CopiesShown S.Storage B.LayersBelowModel shown (first, first + length buf.old) (self.old, below.old) result (self.new, below.new)
             (λ p. slice_index buf.new (p - first)) }
     {
         match shown {
@@ -77,13 +77,13 @@ impl<S: Storage> Qcow2<S> {
             Shown::Barred => Err(Fault::Barred),
             Shown::Below => {
                 let answer = below.read(alloc, buf, first);
-                self.settle(answer)
+                self.mark_fault(answer)
             }
             Shown::Data(cluster) => {
                 let cluster_bits = self.tables.file.header.cluster_bits();
                 let place = cluster.relative_offset(GuestOffset(first), cluster_bits).0;
                 let answer = self.tables.file.image.read(alloc, buf, place);
-                self.settle(answer)
+                self.mark_fault(answer)
             }
         }
     }
@@ -98,14 +98,14 @@ impl<S: Storage> Qcow2<S> {
         start: u64,
         part: (u64, u64),
     ) -> Result<(), Fault>
-        requires reach { IsShownInReach self.old.tables.file.header.fields.cluster_bits shown }
+        requires reach { IsShownAddressable self.old.tables.file.header.fields.cluster_bits shown }
         requires begins { start % cluster_size self.old.tables.file.header.fields ≡ 0 }
         requires whole { length content.old ≡ cluster_size self.old.tables.file.header.fields }
         requires low { start ≤ part.0 }
         requires order { part.0 ≤ part.1 }
         requires fits { part.1 - start ≤ length content.old }
         requires zero { content.old ≡ replicate (length content.old) 0 }
-        ensures { CopiesShown S.Storage B.SeenBelow shown part (self.old, below.old) result (self.new, below.new)
+        ensures { CopiesShown S.Storage B.LayersBelowModel shown part (self.old, below.old) result (self.new, below.new)
             (λ p. slice_index content.new (p - start)) }
     {
         let (first, end) = part;
@@ -128,9 +128,9 @@ impl<S: Storage> Qcow2<S> {
     ) -> Result<Vec<u8>, Fault>
         requires inside { offset + length ≤ self.old.tables.file.header.fields.size }
         requires row { let c = cluster_size self.old.tables.file.header.fields in length ≤ c - offset % c }
-        requires some { 0 < length }
+        requires nonempty { 0 < length }
         requires runs { self.old.failed ≡ false }
-        ensures { MakesContent S.Storage B.SeenBelow (asking offset length overwrite) (self.old, below.old) result (self.new, below.new) }
+        ensures { MakesContent S.Storage B.LayersBelowModel (asking offset length overwrite) (self.old, below.old) result (self.new, below.new) }
     {
         let cluster_bits = self.tables.file.header.cluster_bits();
         let guest = GuestOffset(offset).cluster(cluster_bits);

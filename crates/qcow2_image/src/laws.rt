@@ -12,7 +12,7 @@ ghost use Rattle.qcow2_image.specs.Allocating.{waits_in};
 ghost use Rattle.qcow2_image.specs.ImageLayer.{qcow2_leaks, qcow2_meaning};
 ghost use Rattle.qcow2_image.specs.Leaking.{KeepsLeaks, counts_in, leaks_of, names_in, pending};
 ghost use Rattle.qcow2_image.specs.Opening.{IsOpenedAs};
-ghost use Rattle.qcow2_image.specs.Rooms.{IsSafe};
+ghost use Rattle.qcow2_image.specs.Rooms.{IsWellFormed};
 ghost use Rattle.qcow2_image.specs.Seen.{layer_of};
 
 use imago_storage::Storage;
@@ -34,7 +34,7 @@ pub fn leaks_add_up<S: Storage>()
     ensures alike { (old new : _) → KeepsLeaks S.Storage old new → ((c : ℕ) → pending S.Storage old c ≡ 0)
         → ((c : ℕ) → pending S.Storage new c ≡ 0)
         → (c : ℕ) → counts_in S.Storage new c + names_in S.Storage old c ≡ counts_in S.Storage old c + names_in S.Storage new c }
-    ensures listed { (old new : _) → IsSafe S.Storage old → IsSafe S.Storage new → KeepsLeaks S.Storage old new
+    ensures listed { (old new : _) → IsWellFormed S.Storage old → IsWellFormed S.Storage new → KeepsLeaks S.Storage old new
         → ((c : ℕ) → pending S.Storage old c ≡ 0) → ((c : ℕ) → pending S.Storage new c ≡ 0)
         → leaks_of S.Storage new ≡ leaks_of S.Storage old }
     ensures opened { (before writable backing number tables blocks d : _)

@@ -3,7 +3,7 @@
 ghost use Rattle.std.specs.Prelude.{◌≡◌, ◌+◌, ◌*◌, ◌%◌, ◌^◌, ◌<◌, ◌≤◌};
 ghost use Rattle.qcow2_types.specs.Entries.{l2_entries};
 ghost use Rattle.qcow2_metadata.specs.Tables.{mapping_in};
-ghost use Rattle.qcow2_metadata.specs.MappingView.{IsNamed};
+ghost use Rattle.qcow2_metadata.specs.MappingView.{IsHostAddressable};
 ghost use Rattle.qcow2_alloc.specs.Allocators.{UsesTable};
 ghost use Rattle.qcow2_alloc.specs.Caches.{cached_file};
 ghost use Rattle.qcow2_image.specs.Looking.{place_of_table, IsRunOf, ReadsRun, LooksAt};
@@ -21,7 +21,7 @@ pub(crate) fn l2_cluster(
     cluster_bits: u32,
 ) -> Option<HostCluster>
     requires { (9 ≤ cluster_bits) × (cluster_bits ≤ 21) }
-    ensures { result ≡ place_of_table l1.now.words cluster_bits guest }
+    ensures { result ≡ place_of_table l1.now.raw_entries cluster_bits guest }
 {
     match l1.get(guest.l1_index(cluster_bits)).l2_offset() {
         Some(offset) => Some(offset.cluster(cluster_bits)),
@@ -30,11 +30,11 @@ pub(crate) fn l2_cluster(
 }
 
 // How a guest cluster is mapped in a table, and how many from it on, of at most so many, go on from one another.
-fn run_in(table: &L2Table, guest: GuestCluster, most: u64) -> (L2Mapping, u64)
-    requires some { 0 < most }
+fn mapped_run(table: &L2Table, guest: GuestCluster, most: u64) -> (L2Mapping, u64)
+    requires limit_nonzero { 0 < most }
     requires fits { (guest + most) * 2 ^ table.now.layout.cluster_bits < 2 ^ 64 + 2 ^ table.now.layout.cluster_bits }
     ensures run { IsRunOf guest most (λ g. mapping_in table.now (g % l2_entries table.now.layout.cluster_bits)) result }
-    ensures named { IsNamed table.now.layout.cluster_bits result.0 }
+    ensures named { IsHostAddressable table.now.layout.cluster_bits result.0 }
 {
     let cluster_bits = table.cluster_bits();
     let first = table.get_mapping(guest);
@@ -56,26 +56,26 @@ fn run_of(
     most: u64,
     cluster_bits: u32,
 ) -> Result<(L2Mapping, u64), Fault>
-    requires some { 0 < most }
+    requires limit_nonzero { 0 < most }
     requires fits { (guest + most) * 2 ^ cluster_bits < 2 ^ 64 + 2 ^ cluster_bits }
     ensures { ReadsRun cluster_bits guest most table.old result table.new }
 {
     if table.cluster_bits() == cluster_bits {
-        Ok(run_in(table, guest, most))
+        Ok(mapped_run(table, guest, most))
     } else {
         Err(Fault::DamagedTable)
     }
 }
 
 // The same in the L2 table in a cluster, for which the cache is searched once.
-fn in_table<S: Storage>(
+fn run_in_table<S: Storage>(
     file: &mut ImageFile<S>,
     caches: &mut MetadataCaches<S>,
     table: HostCluster,
     guest: GuestCluster,
     most: u64,
 ) -> Result<(L2Mapping, u64), Fault>
-    requires some { 0 < most }
+    requires limit_nonzero { 0 < most }
     requires fits { let bits = file.old.header.fields.cluster_bits in (guest + most) * 2 ^ bits < 2 ^ 64 + 2 ^ bits }
     ensures { let bits = file.old.header.fields.cluster_bits in
         UsesTable S.state table (ReadsRun bits guest most) (cached_file caches.old file.old) result (cached_file caches.new file.new) }
@@ -91,14 +91,14 @@ pub(crate) fn look_up<S: Storage>(
     guest: GuestCluster,
     most: u64,
 ) -> Result<(L2Mapping, u64), Fault>
-    requires some { 0 < most }
+    requires limit_nonzero { 0 < most }
     requires fits { let bits = tables.old.file.header.fields.cluster_bits in (guest + most) * 2 ^ bits < 2 ^ 64 + 2 ^ bits }
-    requires one_table { let words = l2_entries tables.old.file.header.fields.cluster_bits in guest % words + most ≤ words }
+    requires one_table { let raw_entries = l2_entries tables.old.file.header.fields.cluster_bits in guest % raw_entries + most ≤ raw_entries }
     ensures { LooksAt S.Storage guest most tables.old result tables.new }
 {
     let cluster_bits = tables.file.header.cluster_bits();
     match l2_cluster(&tables.l1, guest, cluster_bits) {
-        Some(table) => in_table(&mut tables.file, &mut tables.caches, table, guest, most),
+        Some(table) => run_in_table(&mut tables.file, &mut tables.caches, table, guest, most),
         None => {
             let backing_offset = guest.offset(cluster_bits).0;
             Ok((L2Mapping::Backing { backing_offset }, most))

@@ -2,14 +2,14 @@
 // `qcow2_alloc_host_offset`, and imago's `PreparedDataMapping`, of `prepare_data_mapping`.
 ghost use Rattle.std.specs.Prelude.{◌≡◌, ◌<◌, ◌≤◌, ◌+◌, ◌-◌, ◌*◌, ◌/◌, ◌%◌, ◌^◌, false, None, length, IfSome};
 ghost use Rattle.imago_access.specs.Changes.{asking};
-ghost use Rattle.qcow2_types.specs.Header.{cluster_size, words_of_cluster};
-ghost use Rattle.qcow2_metadata.specs.Places.{IsInReach};
+ghost use Rattle.qcow2_types.specs.Header.{cluster_size, entries_of_cluster};
+ghost use Rattle.qcow2_metadata.specs.Places.{IsAddressable};
 ghost use Rattle.qcow2_image.specs.Preparing.{CoversMost, FindsRun, KeepsMapping, PreparesFresh, PreparesRun, Reserves, run_in};
 
 use crate::lookup::look_up;
 use crate::qcow2::{PreparedMappingState, Qcow2};
 use crate::unspent::{Unspent, Writes};
-use imago_access::{PreparedDataMapping, ReadBelow, SeenBelow};
+use imago_access::{LayersBelowModel, PreparedDataMapping, ReadBelow};
 use imago_storage::{Fault, Storage};
 use qcow2_metadata::Header;
 use qcow2_types::{ClusterCount, GuestCluster, GuestOffset, HostCluster};
@@ -30,7 +30,7 @@ pub(crate) struct Reserved {
 // amid which the disk ends isn't among those: what is behind that end has to be zeroes.
 fn most_covered(header: &Header, offset: u64, length: u64) -> u64
     requires inside { offset + length ≤ header.now.fields.size }
-    requires some { 0 < length }
+    requires nonempty { 0 < length }
     requires fits { offset + length < 2 ^ 64 }
     ensures { CoversMost header.now.fields offset length result }
 {
@@ -44,7 +44,7 @@ fn most_covered(header: &Header, offset: u64, length: u64) -> u64
 impl<S: Storage> Qcow2<S> {
     // How much of a range lies in the first of its guest clusters, so many of them.
     fn run_in(&self, count: ClusterCount, offset: u64, length: u64) -> u64
-        requires few { count ≤ words_of_cluster self.now.tables.file.header.fields }
+        requires within_table { count ≤ entries_of_cluster self.now.tables.file.header.fields }
         requires any { 0 < count }
         ensures { result ≡ run_in self.now.tables.file.header.fields count offset length }
     {
@@ -62,7 +62,7 @@ impl<S: Storage> Qcow2<S> {
         overwrite: bool,
     ) -> Result<ClusterCount, Fault>
         requires inside { offset + length ≤ self.old.tables.file.header.fields.size }
-        requires some { 0 < length }
+        requires nonempty { 0 < length }
         requires runs { self.old.failed ≡ false }
         ensures { FindsRun S.Storage (asking offset length overwrite) self.old result self.new }
     {
@@ -93,9 +93,9 @@ impl<S: Storage> Qcow2<S> {
         count: ClusterCount,
     ) -> Result<Reserved, Fault>
         requires whole { length content.now ≡ cluster_size self.old.tables.file.header.fields }
-        requires near { IfSome kept (λ host. IsInReach self.old.tables.file.header.fields.cluster_bits host) }
+        requires host_addressable { IfSome kept (λ host. IsAddressable self.old.tables.file.header.fields.cluster_bits host) }
         requires any { 0 < count }
-        requires row { let words = words_of_cluster self.old.tables.file.header.fields in guest % words + count ≤ words }
+        requires row { let raw_entries = entries_of_cluster self.old.tables.file.header.fields in guest % raw_entries + count ≤ raw_entries }
         requires free { self.old.unspent ≡ None }
         ensures { Reserves S.Storage guest kept count content.now self.old result self.new }
     {
@@ -125,14 +125,14 @@ impl<S: Storage> Qcow2<S> {
         count: ClusterCount,
     ) -> Result<PreparedDataMapping<PreparedMappingState>, Fault>
         requires inside { offset + length ≤ self.old.tables.file.header.fields.size }
-        requires some { 0 < length }
+        requires nonempty { 0 < length }
         requires any { 0 < count }
         requires row { let h = self.old.tables.file.header.fields in
-            offset / cluster_size h % words_of_cluster h + count ≤ words_of_cluster h }
+            offset / cluster_size h % entries_of_cluster h + count ≤ entries_of_cluster h }
         requires runs { self.old.failed ≡ false }
         requires free { self.old.unspent ≡ None }
         ensures { let asked = asking offset length overwrite in
-            PreparesFresh S.Storage B.SeenBelow asked count (self.old, below.old) result (self.new, below.new) }
+            PreparesFresh S.Storage B.LayersBelowModel asked count (self.old, below.old) result (self.new, below.new) }
     {
         let cluster_bits = self.tables.file.header.cluster_bits();
         let guest = GuestOffset(offset).cluster(cluster_bits);
@@ -154,11 +154,11 @@ impl<S: Storage> Qcow2<S> {
         overwrite: bool,
     ) -> Result<PreparedDataMapping<PreparedMappingState>, Fault>
         requires inside { offset + length ≤ self.old.tables.file.header.fields.size }
-        requires some { 0 < length }
+        requires nonempty { 0 < length }
         requires runs { self.old.failed ≡ false }
         requires free { self.old.unspent ≡ None }
         ensures { let asked = asking offset length overwrite in
-            PreparesRun S.Storage B.SeenBelow asked (self.old, below.old) result (self.new, below.new) }
+            PreparesRun S.Storage B.LayersBelowModel asked (self.old, below.old) result (self.new, below.new) }
     {
         let count = self.covered_run(offset, length, overwrite)?;
         self.prepare_run(alloc, below, offset, length, overwrite, count)
@@ -172,7 +172,7 @@ impl<S: Storage> Qcow2<S> {
         length: u64,
         overwrite: bool,
     ) -> PreparedDataMapping<PreparedMappingState>
-        requires reach { IsInReach self.old.tables.file.header.fields.cluster_bits (clusters.host + (clusters.count - 1)) }
+        requires reach { IsAddressable self.old.tables.file.header.fields.cluster_bits (clusters.host + (clusters.count - 1)) }
         requires any { 0 < clusters.count }
         requires row { let c = cluster_size self.old.tables.file.header.fields in length ≤ clusters.count * c - offset % c }
         ensures { KeepsMapping S.Storage (asking offset length overwrite) clusters self.old result self.new }
@@ -182,7 +182,7 @@ impl<S: Storage> Qcow2<S> {
         let place = clusters.host.relative_offset(guest, cluster_bits).0;
         self.claims = self.claims.wrapping_add(1);
         self.unspent = Some(Unspent {
-            claim: self.claims,
+            mapping_id: self.claims,
             offset,
             length,
             place,
@@ -197,7 +197,7 @@ impl<S: Storage> Qcow2<S> {
         });
         let state = PreparedMappingState {
             number: self.number,
-            claim: self.claims,
+            mapping_id: self.claims,
         };
         PreparedDataMapping::to_commit(0, place, length, state)
     }

@@ -2,7 +2,7 @@
 // place is an offset.
 ghost use Rattle.std.specs.Prelude.{◌≡◌, ◌≤◌, ◌+◌, ◌^◌, ◌||◌, ℕ, Some, IfSome, false};
 ghost use Rattle.qcow2_image.specs.Holding.{HoldsRun};
-ghost use Rattle.qcow2_image.specs.Unspent.{covers, here, holding};
+ghost use Rattle.qcow2_image.specs.Unspent.{covers, here, prepared_mapping_run};
 
 use crate::unspent::{Unspent, Writes};
 use imago_storage::Storage;
@@ -36,8 +36,8 @@ impl Writes {
 impl<S: Storage> Unspent<S> {
     // Where a place of the run lies in the file, and how much of the run goes on from it, up to so many bytes.
     pub(crate) fn run_from(&self, offset: u64, most: u64) -> Option<(u64, u64)>
-        ensures run { HoldsRun (Some (holding S.Storage self.now)) offset most result }
-        ensures near { IfSome result (λ r. r.0 + r.1 ≤ 2 ^ 60) }
+        ensures run { HoldsRun (Some (prepared_mapping_run S.Storage self.now)) offset most result }
+        ensures end_bounded { IfSome result (λ r. r.0 + r.1 ≤ 2 ^ 60) }
     {
         if offset < self.offset || offset - self.offset >= self.length {
             return None;

@@ -1,7 +1,7 @@
 // How the metadata of an image is opened: its header, its L1 table, its refcount table where it is to be written, and caches of which
 // nothing is filled. qemu opens it in `qcow2_do_open`, and imago in `do_open`. Layers below are the backing of both.
 ghost use Rattle.std.specs.Prelude.{◌≡◌, ◌≢◌, true, false, None, Ok, OnOk, IfOk, IfErr, IsTrue, length};
-ghost use Rattle.imago_storage.specs.Calls.{CountsFaults, Kept};
+ghost use Rattle.imago_storage.specs.Calls.{CountsFaults, UnchangedButFaults};
 ghost use Rattle.imago_storage.specs.declared.fault.Fault.TheVariants.{DamagedTable};
 ghost use Rattle.imago_access.specs.Building.{IsOpened};
 ghost use Rattle.imago_access.specs.declared.format.Format.TheVariants as format;
@@ -16,7 +16,7 @@ use crate::cache_entries::CacheEntries;
 use crate::mode::OpenMode;
 use crate::qcow2::Qcow2;
 use crate::tables::Tables;
-use imago_access::Seen;
+use imago_access::DriverModel;
 use imago_storage::{Fault, Storage, StorageExt};
 use qcow2_alloc::{ImageFile, MetadataCaches};
 use qcow2_clusters::Space;
@@ -35,7 +35,7 @@ pub(crate) fn load_header<S: Storage>(
     ensures err { IfErr result (NotLoaded (header_for writable (file (S.state image.old))) (S.state image.old) (S.state image.new)) }
     ensures first { IfErr result (λ fault. fault ≢ DamagedTable) }
     ensures same { OnOk result (S.state image.new ≡ S.state image.old) }
-    ensures kept { Kept (S.state image.old) (S.state image.new) }
+    ensures unchanged_but_faults { UnchangedButFaults (S.state image.old) (S.state image.new) }
 {
     let header = Header::load(alloc, image, writable)?;
     if header.external_data_file() {
@@ -56,7 +56,7 @@ pub(crate) fn load_l1<S: Storage>(
     ensures err { (writable : _) → header_of writable (file (S.state image.old)) ≡ Ok header.now
         → IfErr result (NotLoaded (header_for writable (file (S.state image.old))) (S.state image.old) (S.state image.new)) }
     ensures same { OnOk result (S.state image.new ≡ S.state image.old) }
-    ensures kept { Kept (S.state image.old) (S.state image.new) }
+    ensures unchanged_but_faults { UnchangedButFaults (S.state image.old) (S.state image.new) }
 {
     let cluster = header.l1_table_offset().cluster(header.cluster_bits());
     L1Table::load(alloc, image, header, cluster, header.l1_table_entries())
@@ -73,7 +73,7 @@ fn load_metadata<S: Storage>(
     ensures l1 { IfOk result (λ r. IsL1Of (file (S.state image.old)) r.0.fields r.1) }
     ensures err { IfErr result (NotLoaded (header_for writable (file (S.state image.old))) (S.state image.old) (S.state image.new)) }
     ensures same { OnOk result (S.state image.new ≡ S.state image.old) }
-    ensures kept { Kept (S.state image.old) (S.state image.new) }
+    ensures unchanged_but_faults { UnchangedButFaults (S.state image.old) (S.state image.new) }
 {
     let header = load_header(alloc, image, writable)?;
     let l1 = load_l1(alloc, image, &header)?;
@@ -94,7 +94,7 @@ pub(crate) fn load_free_space<S: Storage>(
     ensures err { let f = bytes_of (S.state file.old.image).bytes in
         IfErr result (WhyNoSpace f file.old.header.fields writable (S.state file.old.image).faults (S.state file.new.image).faults) }
     ensures same { OnOk result (S.state file.new.image ≡ S.state file.old.image) }
-    ensures kept { Kept (S.state file.old.image) (S.state file.new.image) }
+    ensures unchanged_but_faults { UnchangedButFaults (S.state file.old.image) (S.state file.new.image) }
     ensures header { file.new.header ≡ file.old.header }
 {
     if !writable {
@@ -137,7 +137,7 @@ pub(crate) fn open_with<S: Storage>(
     entries: CacheEntries,
 ) -> Result<Qcow2<S>, Fault>
     ensures ok { IfOk result (IsOpenedAs S.Storage (S.state image) writable backing number entries.l2_tables entries.refcount_blocks) }
-    ensures seen { IfOk result (IsOpened ⟦<Qcow2<S> as Seen>⟧ format.Qcow2 writable number (S.state image)) }
+    ensures seen { IfOk result (IsOpened ⟦<Qcow2<S> as DriverModel>⟧ format.Qcow2 writable number (S.state image)) }
     ensures err { IfErr result (WhyNotOpened S.state writable (file (S.state image))) }
 {
     let tables = open_tables(alloc, image, writable, entries)?;
@@ -182,7 +182,7 @@ impl<S: Storage> Qcow2<S> {
     pub fn open_image(alloc: Global, image: S, writable: bool) -> Result<Self, Fault>
         ensures ok { IfOk result (IsOpenedAs S.Storage (S.state image) writable None 0 128 32) }
         // As a driver it shows what the file means, and where the file is a consistent image it is safe.
-        ensures seen { IfOk result (IsOpened ⟦<Qcow2<S> as Seen>⟧ format.Qcow2 writable 0 (S.state image)) }
+        ensures seen { IfOk result (IsOpened ⟦<Qcow2<S> as DriverModel>⟧ format.Qcow2 writable 0 (S.state image)) }
         // What opens begins as an image does.
         ensures begins { OnOk result (IsTrue (is_qcow2 (file (S.state image)))) }
         ensures err { IfErr result (WhyNotOpened S.state writable (file (S.state image))) }
@@ -195,7 +195,7 @@ impl<S: Storage> Qcow2<S> {
     /// It refuses with `Fault::Memory` and `Fault::Storage`.
     pub fn probe(alloc: Global, image: &mut S) -> Result<bool, Fault>
         ensures ok { IfOk result (λ is. is ≡ is_qcow2 (file (S.state image.old))) }
-        ensures kept { Kept (S.state image.old) (S.state image.new) }
+        ensures unchanged_but_faults { UnchangedButFaults (S.state image.old) (S.state image.new) }
         ensures faults { CountsFaults (S.state image.old).faults (S.state image.new).faults result }
     {
         let mut start = [0u8; 72];

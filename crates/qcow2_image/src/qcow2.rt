@@ -10,17 +10,17 @@ ghost use Rattle.qcow2_types.specs.Header.{has_external_data};
 ghost use Rattle.qcow2_image.specs.contracts.qcow2.Qcow2.{the_row};
 ghost use Rattle.qcow2_image.specs.Seen.{with_image, layer_of, memory_of};
 ghost use Rattle.qcow2_alloc.specs.Caches.{cached_in};
-ghost use Rattle.qcow2_alloc.specs.Safety.{AreTablesClean, AreBlocksClean};
+ghost use Rattle.qcow2_alloc.specs.WellFormedness.{AreTablesClean, AreBlocksClean};
 ghost use Rattle.imago_access.specs.Layer.{IsFree};
 ghost use Rattle.qcow2_image.specs.ImageLayer.{qcow2_text};
-ghost use Rattle.qcow2_image.specs.Leaking.{surplus_of};
-ghost use Rattle.qcow2_image.specs.Rooms.{IsVacant, HasRoom, IsZeroed, IsStated, IsSafe, Sees, is_sound};
+ghost use Rattle.qcow2_image.specs.Leaking.{excess_refcount_of};
+ghost use Rattle.qcow2_image.specs.Rooms.{IsUnallocated, HasRoom, IsZeroed, IsExplicitZero, IsWellFormed, IsCoherent, is_sound};
 ghost use Rattle.qcow2_image.specs.Writing.{HasBegun, WhyUnwritten};
 
 use crate::mode::OpenMode;
 use crate::tables::Tables;
 use crate::unspent::Unspent;
-use imago_access::Seen;
+use imago_access::DriverModel;
 use imago_storage::Storage;
 use qcow2_alloc::ImageFile;
 use std::fmt::{self, Debug, Display, Formatter, Write};
@@ -28,7 +28,7 @@ use std::fmt::{self, Debug, Display, Formatter, Write};
 /// What an image keeps of a mapping that it has prepared.
 pub struct PreparedMappingState {
     pub(crate) number: u64,
-    pub(crate) claim: u64,
+    pub(crate) mapping_id: u64,
 }
 
 impl PreparedMappingState {
@@ -50,7 +50,7 @@ impl PreparedMappingState {
     pub fn give_up(self) {
         let PreparedMappingState {
             number: _number,
-            claim: _claim,
+            mapping_id: _claim,
         } = self;
     }
 }
@@ -80,7 +80,7 @@ pub struct Qcow2<S: Storage> {
     pub(crate) unspent: Option<Unspent<S>>,
 }
 
-impl<S: Storage> Seen for Qcow2<S> {
+impl<S: Storage> DriverModel for Qcow2<S> {
     type State = PreparedMappingState;
 
     ghost layer = { λ d. layer_of S.Storage d };
@@ -89,25 +89,25 @@ impl<S: Storage> Seen for Qcow2<S> {
 
     ghost extras = { λ _. [] };
 
-    ghost sees = { λ d. Sees S.Storage d };
+    ghost coherent = { λ d. IsCoherent S.Storage d };
 
-    ghost safe = { λ d. IsSafe S.Storage d };
+    ghost well_formed = { λ d. IsWellFormed S.Storage d };
 
-    ghost still = { λ d. AreTablesClean (cached_in d.tables.caches) × AreBlocksClean (cached_in d.tables.caches) };
+    ghost has_no_dirty_data = { λ d. AreTablesClean (cached_in d.tables.caches) × AreBlocksClean (cached_in d.tables.caches) };
 
-    ghost lasts = { λ _. ⊤ };
+    ghost stable = { λ _. ⊤ };
 
-    ghost surplus = { λ d. surplus_of S.Storage d };
+    ghost excess_refcount = { λ d. excess_refcount_of S.Storage d };
 
-    ghost vacant = { λ d p. IsVacant (memory_of S.Storage d.tables) d.tables.file.header.fields p };
+    ghost unallocated = { λ d p. IsUnallocated (memory_of S.Storage d.tables) d.tables.file.header.fields p };
 
-    ghost has_room = { λ d p. HasRoom (memory_of S.Storage d.tables) d.tables.file.header.fields p };
+    ghost has_allocation = { λ d p. HasRoom (memory_of S.Storage d.tables) d.tables.file.header.fields p };
 
     ghost zeroed = { λ d p. IsZeroed (memory_of S.Storage d.tables) d.tables.file.header.fields p };
 
-    ghost stated = { λ d p. IsStated (memory_of S.Storage d.tables) d.tables.file.header.fields p };
+    ghost explicit_zero = { λ d p. IsExplicitZero (memory_of S.Storage d.tables) d.tables.file.header.fields p };
 
-    ghost claim = { λ s. s.claim };
+    ghost mapping_id = { λ s. s.mapping_id };
 
     ghost tag = { λ s. s.number };
 
@@ -115,7 +115,7 @@ impl<S: Storage> Seen for Qcow2<S> {
 
     ghost began = { λ d call now. HasBegun S.Storage d now };
 
-    ghost own_cause = { λ d below call fault. IsSafe S.Storage d → WhyUnwritten S.Storage d below call fault };
+    ghost own_cause = { λ d below call fault. IsWellFormed S.Storage d → WhyUnwritten S.Storage d below call fault };
 
     ghost growth_cause = { λ d below size mode fault. fault ≡ Unsupported };
 }
@@ -125,7 +125,7 @@ impl<S: Storage> Qcow2<S> {
     /// tables that couldn't be read anew, but for want of memory, or a change that want of memory cut off once it had begun, it has to be
     /// opened again.
     pub fn failed(&self) -> bool
-        ensures { result ≡ (⟦<Qcow2<S> as Seen>⟧.layer self.now).failed }
+        ensures { result ≡ (⟦<Qcow2<S> as DriverModel>⟧.layer self.now).failed }
     {
         self.failed
     }
@@ -170,7 +170,7 @@ impl<S: Storage> Qcow2<S> {
 
     /// The image file again. Nothing may be prepared. What waits to be freed stays counted: flush before.
     pub fn into_image(self) -> S
-        requires free { IsFree (⟦<Qcow2<S> as Seen>⟧.layer self) }
+        requires free { IsFree (⟦<Qcow2<S> as DriverModel>⟧.layer self) }
         ensures { result ≡ self.tables.file.image }
     {
         let Qcow2 {
@@ -215,7 +215,7 @@ impl<S: Storage> Qcow2<S> {
     /// Says whether layers are below it: places that no table maps are what these show, and else they are 0. Nothing may be prepared: a
     /// prepared cluster has what its places showed before.
     pub fn set_backing(&mut self, backing: bool)
-        requires free { IsFree (⟦<Qcow2<S> as Seen>⟧.layer self.old) }
+        requires free { IsFree (⟦<Qcow2<S> as DriverModel>⟧.layer self.old) }
         ensures { self.new ≡ record self.old { mode = record self.old.mode { backing = backing } } }
     {
         self.mode.backing = backing;

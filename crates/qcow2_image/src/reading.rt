@@ -1,20 +1,20 @@
 // What a qcow2 image reads of its tables: where places lie, and all of it anew. A place is an offset for qemu (`qcow2_get_host_offset`) and
 // imago (`get_mapping`).
 ghost use Rattle.std.specs.Prelude.{◌≡◌, ◌<◌, ◌≤◌, ◌+◌, ◌*◌, ◌^◌, ◌/◌, ◌%◌, ◌-◌, IfOk, IfErr, min, false};
-ghost use Rattle.imago_access.specs.Files.{WasNotCutOff};
+ghost use Rattle.imago_access.specs.Files.{HadNoResourceError};
 ghost use Rattle.imago_access.specs.Failing.{Fails, RefusesLookup};
-ghost use Rattle.imago_access.specs.Going.{Looked, Marks};
-ghost use Rattle.imago_access.specs.Mappings.{IsOneOf, IsRun, LooksIn, NamesRoomIn, States};
-ghost use Rattle.qcow2_metadata.specs.MappingView.{mapping_seen, IsNamed};
+ghost use Rattle.imago_access.specs.Going.{LookupCall, MarksFailed};
+ghost use Rattle.imago_access.specs.Mappings.{IsOneOf, IsRun, LooksIn, ReportsAllocationIn, ReportsExplicitZero};
+ghost use Rattle.qcow2_metadata.specs.MappingView.{mapping_seen, IsHostAddressable};
 ghost use Rattle.qcow2_image.specs.ImageLayer.{shallow_of};
 ghost use Rattle.qcow2_image.specs.Looking.{EndsNear, IsWholeRunIn, answer_at};
-ghost use Rattle.qcow2_image.specs.Steps.{KeepsImage, failed_by, failed_anew, failed_behind};
-ghost use Rattle.qcow2_image.specs.Seen.{IsSeen};
+ghost use Rattle.qcow2_image.specs.Steps.{KeepsImage, failed_by, failed_on_reload, failed_after};
+ghost use Rattle.qcow2_image.specs.Seen.{IsCacheCoherent};
 
 use crate::lookup::look_up;
 use crate::mode::OpenMode;
 use crate::qcow2::Qcow2;
-use imago_access::{Seen, ShallowMapping};
+use imago_access::{DriverModel, ShallowMapping};
 use imago_storage::{Fault, Storage};
 use qcow2_metadata::L2Mapping;
 use qcow2_types::GuestOffset;
@@ -28,7 +28,7 @@ fn shallow(
     within: u64,
 ) -> ShallowMapping
     requires bits { (9 ≤ cluster_bits) × (cluster_bits ≤ 21) }
-    requires named { IsNamed cluster_bits mapping }
+    requires named { IsHostAddressable cluster_bits mapping }
     requires within { within < 2 ^ cluster_bits }
     ensures { result ≡ shallow_of mode cluster_bits offset within (mapping_seen mapping) }
 {
@@ -59,7 +59,7 @@ fn shallow(
 // How many clusters a range meets that begins so far within its first cluster.
 fn clusters_met(within: u64, length: u64, cluster_bits: u32) -> u64
     requires bits { (9 ≤ cluster_bits) × (cluster_bits ≤ 21) }
-    requires some { 0 < length }
+    requires nonempty { 0 < length }
     requires fits { within + length < 2 ^ 64 }
     ensures { result ≡ (within + length - 1) / 2 ^ cluster_bits + 1 }
 {
@@ -87,9 +87,9 @@ impl<S: Storage> Qcow2<S> {
     }
 
     // Answers what a storage did, and marks it as failed behind its fault.
-    pub(crate) fn settle(&mut self, answer: Result<(), Fault>) -> Result<(), Fault>
+    pub(crate) fn mark_fault(&mut self, answer: Result<(), Fault>) -> Result<(), Fault>
         ensures same { result ≡ answer }
-        ensures marks { self.new ≡ record self.old { failed = failed_behind failed_by answer self.old.failed } }
+        ensures marks_failed { self.new ≡ record self.old { failed = failed_after failed_by answer self.old.failed } }
     {
         match answer {
             Ok(()) => Ok(()),
@@ -101,9 +101,9 @@ impl<S: Storage> Qcow2<S> {
     }
 
     // The same of what reading all anew did: all but want of memory marks it.
-    pub(crate) fn settle_anew(&mut self, answer: Result<(), Fault>) -> Result<(), Fault>
+    pub(crate) fn mark_reload_fault(&mut self, answer: Result<(), Fault>) -> Result<(), Fault>
         ensures same { result ≡ answer }
-        ensures marks { self.new ≡ record self.old { failed = failed_behind failed_anew answer self.old.failed } }
+        ensures marks_failed { self.new ≡ record self.old { failed = failed_after failed_on_reload answer self.old.failed } }
     {
         match answer {
             Ok(()) => Ok(()),
@@ -123,29 +123,29 @@ impl<S: Storage> Qcow2<S> {
         max_length: u64,
     ) -> Result<(ShallowMapping, u64), Fault>
         requires inside { offset < self.old.tables.file.header.fields.size }
-        requires some { 0 < max_length }
+        requires limit_nonzero { 0 < max_length }
         requires runs { self.old.failed ≡ false }
-        ensures run { let d = ⟦<Qcow2<S> as Seen>⟧ in IfOk result (λ r. IsRun (d.layer self.old) offset max_length r.0 r.1) }
-        ensures looks { let d = ⟦<Qcow2<S> as Seen>⟧ in
-            IsSeen S.Storage self.old.tables → IfOk result (LooksIn d offset max_length self.old self.new) }
-        ensures room { let d = ⟦<Qcow2<S> as Seen>⟧ in IsSeen S.Storage self.old.tables → IfOk result (NamesRoomIn d offset self.old) }
-        ensures stated { let d = ⟦<Qcow2<S> as Seen>⟧ in
-            IsSeen S.Storage self.old.tables → IfOk result (States (d.stated self.old) offset) }
-        ensures there { IfOk result (λ r. IsOneOf 1 r.0) }
-        ensures near { IfOk result (λ r. EndsNear r.0 r.1) }
+        ensures run { let d = ⟦<Qcow2<S> as DriverModel>⟧ in IfOk result (λ r. IsRun (d.layer self.old) offset max_length r.0 r.1) }
+        ensures looks { let d = ⟦<Qcow2<S> as DriverModel>⟧ in
+            IsCacheCoherent S.Storage self.old.tables → IfOk result (LooksIn d offset max_length self.old self.new) }
+        ensures room { let d = ⟦<Qcow2<S> as DriverModel>⟧ in IsCacheCoherent S.Storage self.old.tables → IfOk result (ReportsAllocationIn d offset self.old) }
+        ensures explicit_zero { let d = ⟦<Qcow2<S> as DriverModel>⟧ in
+            IsCacheCoherent S.Storage self.old.tables → IfOk result (ReportsExplicitZero (d.explicit_zero self.old) offset) }
+        ensures storage_exists { IfOk result (λ r. IsOneOf 1 r.0) }
+        ensures end_bounded { IfOk result (λ r. EndsNear r.0 r.1) }
         ensures entry { let t = self.old.tables in
-            IsSeen S.Storage self.old.tables → IfOk result (λ r. r.0 ≡ answer_at S.Storage t self.old.mode offset) }
+            IsCacheCoherent S.Storage self.old.tables → IfOk result (λ r. r.0 ≡ answer_at S.Storage t self.old.mode offset) }
         ensures whole { let t = self.old.tables in
-            IsSeen S.Storage self.old.tables → IfOk result (λ r. IsWholeRunIn S.Storage t offset max_length r.1) }
+            IsCacheCoherent S.Storage self.old.tables → IfOk result (λ r. IsWholeRunIn S.Storage t offset max_length r.1) }
         ensures keeps { KeepsImage S.Storage self.old result self.new }
-        ensures began { let d = ⟦<Qcow2<S> as Seen>⟧ in
-            WasNotCutOff result → (e : _) (call : _) → d.began e call self.old → d.began e call self.new }
-        ensures marked { self.new.failed ≡ failed_behind failed_by result self.old.failed }
-        ensures looked { Looked ⟦<Qcow2<S> as Seen>⟧ (WasNotCutOff result) self.old self.new }
-        ensures failed { IfErr result (Fails ⟦<Qcow2<S> as Seen>⟧ self.old self.new) }
-        ensures marks { IfErr result (Marks ⟦<Qcow2<S> as Seen>⟧ self.old self.new) }
-        ensures cause { let d = ⟦<Qcow2<S> as Seen>⟧ in
-            IsSeen S.Storage self.old.tables → IfErr result (RefusesLookup d offset max_length self.old self.new) }
+        ensures stays_begun { let d = ⟦<Qcow2<S> as DriverModel>⟧ in
+            HadNoResourceError result → (e : _) (call : _) → d.began e call self.old → d.began e call self.new }
+        ensures marked { self.new.failed ≡ failed_after failed_by result self.old.failed }
+        ensures lookup_call { LookupCall ⟦<Qcow2<S> as DriverModel>⟧ (HadNoResourceError result) self.old self.new }
+        ensures failed { IfErr result (Fails ⟦<Qcow2<S> as DriverModel>⟧ self.old self.new) }
+        ensures marks_failed { IfErr result (MarksFailed ⟦<Qcow2<S> as DriverModel>⟧ self.old self.new) }
+        ensures cause { let d = ⟦<Qcow2<S> as DriverModel>⟧ in
+            IsCacheCoherent S.Storage self.old.tables → IfErr result (RefusesLookup d offset max_length self.old self.new) }
     {
         let size = self.tables.file.header.size();
         let cluster_bits = self.tables.file.header.cluster_bits();

@@ -1,6 +1,6 @@
 // Reading the tables of an open image anew. That is qemu's `qcow2_co_invalidate_cache`, and imago's `invalidate_cache`.
 ghost use Rattle.std.specs.Prelude.{◌≡◌, ◌≢◌, [], true, false, Ok, IsOk, OnOk, IfOk, IfErr};
-ghost use Rattle.imago_storage.specs.Calls.{Cause, Kept, Later};
+ghost use Rattle.imago_storage.specs.Calls.{Cause, UnchangedButFaults, CountsNotFallen};
 ghost use Rattle.imago_storage.specs.declared.fault.Fault.TheVariants.{DamagedTable};
 ghost use Rattle.qcow2_types.specs.Bytes.{bytes_of};
 ghost use Rattle.qcow2_types.specs.Counts.{refcount_table_sound};
@@ -22,13 +22,13 @@ use std::alloc::Global;
 use std::mem;
 
 // The header again. The storage drops what it has cached first, so that it is what is below it now.
-fn load_header_anew<S: Storage>(alloc: Global, image: &mut S) -> Result<Header, Fault>
+fn reload_header<S: Storage>(alloc: Global, image: &mut S) -> Result<Header, Fault>
     ensures loads { IfOk result (λ header. header_of false (file (S.state image.old)) ≡ Ok header) }
     ensures inside { IfOk result (λ header. has_external_data header.fields ≡ false) }
     ensures err { IfErr result (NotLoaded (header_for false (file (S.state image.old))) (S.state image.old) (S.state image.new)) }
     ensures first { IfErr result (λ fault. fault ≢ DamagedTable) }
     ensures same { OnOk result (S.state image.new ≡ S.state image.old) }
-    ensures kept { Kept (S.state image.old) (S.state image.new) }
+    ensures unchanged_but_faults { UnchangedButFaults (S.state image.old) (S.state image.new) }
 {
     image.invalidate_cache()?;
     load_header(alloc, image, false)
@@ -46,7 +46,7 @@ fn first_fault(mut header: Header, opened: &Header, fault: Fault) -> Fault
 }
 
 // Both of them, in place of an open header.
-fn load_anew<S: Storage>(
+fn reload_tables<S: Storage>(
     alloc: Global,
     image: &mut S,
     opened: &Header,
@@ -59,10 +59,10 @@ fn load_anew<S: Storage>(
     ensures known { header_of false (file (S.state image.old)) ≡ Ok opened.now → header_for false (file (S.state image.old)) ≡ Ok opened.now
         → IfErr result (Cause (S.state image.old).faults (S.state image.new).faults) }
     ensures same { OnOk result (S.state image.new ≡ S.state image.old) }
-    ensures kept { Kept (S.state image.old) (S.state image.new) }
-    ensures later { Later (S.state image.old) (S.state image.new) }
+    ensures unchanged_but_faults { UnchangedButFaults (S.state image.old) (S.state image.new) }
+    ensures counts_not_fallen { CountsNotFallen (S.state image.old) (S.state image.new) }
 {
-    let header = load_header_anew(alloc, image)?;
+    let header = reload_header(alloc, image)?;
     match load_l1(alloc, image, &header) {
         Ok(l1) => Ok((header, l1)),
         Err(fault) => Err(first_fault(header, opened, fault)),
@@ -71,7 +71,7 @@ fn load_anew<S: Storage>(
 
 // Drops all that is cached. Nothing of it is to be written, and nothing of it is pinned, so that nothing stays.
 pub(crate) fn drop_cached<S: Storage>(caches: &mut MetadataCaches<S>) -> Result<(), Fault>
-    requires loose { IsUnpinned caches.old }
+    requires unpinned { IsUnpinned caches.old }
     ensures ok { IsOk result }
     ensures empty { cached_in caches.new ≡ record { tables = []; blocks = [] } }
     ensures room { HasRoomOf caches.old caches.new }
@@ -82,7 +82,7 @@ pub(crate) fn drop_cached<S: Storage>(caches: &mut MetadataCaches<S>) -> Result<
 
 // The free space of an image that is written, by the header that was read anew in place of the open one; of another nothing is known. The
 // header comes back.
-fn load_space_anew<S: Storage>(
+fn reload_free_space<S: Storage>(
     alloc: Global,
     file: &mut ImageFile<S>,
     header: Header,
@@ -96,7 +96,7 @@ fn load_space_anew<S: Storage>(
     ensures err { let f = bytes_of (S.state file.old.image).bytes in
         IfErr result.1 (WhyNoSpace f header.fields writable (S.state file.old.image).faults (S.state file.new.image).faults) }
     ensures same { OnOk result.1 (S.state file.new.image ≡ S.state file.old.image) }
-    ensures kept { Kept (S.state file.old.image) (S.state file.new.image) }
+    ensures unchanged_but_faults { UnchangedButFaults (S.state file.old.image) (S.state file.new.image) }
 {
     let mut other = header;
     mem::swap(&mut file.header, &mut other);
@@ -115,8 +115,8 @@ pub(crate) fn reload<S: Storage>(
 ) -> Result<(), Fault>
     ensures { Reloads S.Storage writable tables.old result tables.new }
 {
-    let (header, l1) = load_anew(alloc, &mut tables.file.image, &tables.file.header)?;
-    let (header, loaded) = load_space_anew(alloc, &mut tables.file, header, writable);
+    let (header, l1) = reload_tables(alloc, &mut tables.file.image, &tables.file.header)?;
+    let (header, loaded) = reload_free_space(alloc, &mut tables.file, header, writable);
     let space = match loaded {
         Ok(space) => space,
         Err(fault) => return Err(first_fault(header, &tables.file.header, fault)),

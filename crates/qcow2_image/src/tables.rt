@@ -17,5 +17,5 @@ pub struct Tables<S: Storage> {
     pub(crate) caches: MetadataCaches<S>,
     pub(crate) space: Option<Space>,
     ghost clean: { IsClean (cached_in caches) } by { Prim.hlevel props },
-    ghost loose: { IsUnpinned caches } by { Prim.hlevel props },
+    ghost unpinned: { IsUnpinned caches } by { Prim.hlevel props },
 }

@@ -18,7 +18,7 @@ pub struct Writes {
 /// file as it was when the guest clusters' content was there.
 #[derive(Drop)]
 pub struct Unspent<S: Storage> {
-    pub(crate) claim: u64,
+    pub(crate) mapping_id: u64,
     pub(crate) offset: u64,
     pub(crate) length: u64,
     pub(crate) place: u64,
@@ -30,5 +30,5 @@ pub struct Unspent<S: Storage> {
     pub(crate) overwrite: bool,
     pub(crate) copied: Snapshot<S>,
     pub(crate) written: Writes,
-    ghost near: { place + length ≤ 2 ^ 60 },
+    ghost end_bounded: { place + length ≤ 2 ^ 60 },
 }

@@ -8,14 +8,14 @@ ghost use Rattle.imago_access.specs.Layer.{IsFree};
 ghost use Rattle.qcow2_alloc.specs.Causes.{HasCause};
 ghost use Rattle.qcow2_image.specs.Holding.{HoldsRun, Notes};
 ghost use Rattle.qcow2_image.specs.Looking.{IsWholeRunIn, writable_place_of};
-ghost use Rattle.qcow2_image.specs.Rooms.{Sees};
+ghost use Rattle.qcow2_image.specs.Rooms.{IsCoherent};
 ghost use Rattle.qcow2_image.specs.Unspent.{holding_in};
 ghost use Rattle.qcow2_image.specs.Steps.{KeepsImage};
-ghost use Rattle.qcow2_image.specs.Writing.{IsHomeAt, WritesAt, telling_causes};
-ghost use Rattle.qcow2_image.specs.Seen.{IsSeen};
+ghost use Rattle.qcow2_image.specs.Writing.{IsWritableAt, WritesAt, telling_causes};
+ghost use Rattle.qcow2_image.specs.Seen.{IsCacheCoherent};
 
 use crate::qcow2::Qcow2;
-use imago_access::{Seen, ShallowMapping};
+use imago_access::{DriverModel, ShallowMapping};
 use imago_storage::{Fault, Storage, StorageExt, WriteFault};
 use std::alloc::Global;
 
@@ -35,23 +35,27 @@ fn writable_place(mapping: ShallowMapping) -> Option<u64>
 
 impl<S: Storage> Qcow2<S> {
     // Where the run from an offset on can be written, if it can, and how long it is.
-    pub(crate) fn home_run(&mut self, offset: u64, length: u64) -> Result<Option<(u64, u64)>, Fault>
+    pub(crate) fn writable_run(
+        &mut self,
+        offset: u64,
+        length: u64,
+    ) -> Result<Option<(u64, u64)>, Fault>
         requires inside { offset + length ≤ self.old.tables.file.header.fields.size }
-        requires some { 0 < length }
+        requires nonempty { 0 < length }
         requires runs { self.old.failed ≡ false }
-        ensures run { let d = ⟦<Qcow2<S> as Seen>⟧ in
+        ensures run { let d = ⟦<Qcow2<S> as DriverModel>⟧ in
             IfOk result (λ o. IfSome o (λ r. IsMappedRun (d.layer self.old) offset length r.1)) }
-        ensures near { IfOk result (λ o. IfSome o (λ r. r.0 + r.1 ≤ 2 ^ 60)) }
-        ensures home { let d = ⟦<Qcow2<S> as Seen>⟧ in
-            IsSeen S.Storage self.old.tables → IfOk result (λ o. IfSome o (λ r. IsHomeAt (d.layer self.old) offset r.0 r.1)) }
-        ensures none { let d = ⟦<Qcow2<S> as Seen>⟧ in
-            IsSeen S.Storage self.old.tables → IfOk result (λ o. o ≡ None → (d.layer self.old).home offset ≡ None) }
-        ensures whole { let t = self.old.tables in IsFree (⟦<Qcow2<S> as Seen>⟧.layer self.old) →
-            IsSeen S.Storage self.old.tables → IfOk result (λ o. IfSome o (λ r. IsWholeRunIn S.Storage t offset length r.1)) }
+        ensures end_bounded { IfOk result (λ o. IfSome o (λ r. r.0 + r.1 ≤ 2 ^ 60)) }
+        ensures writable_location { let d = ⟦<Qcow2<S> as DriverModel>⟧ in
+            IsCacheCoherent S.Storage self.old.tables → IfOk result (λ o. IfSome o (λ r. IsWritableAt (d.layer self.old) offset r.0 r.1)) }
+        ensures none { let d = ⟦<Qcow2<S> as DriverModel>⟧ in
+            IsCacheCoherent S.Storage self.old.tables → IfOk result (λ o. o ≡ None → (d.layer self.old).writable_location offset ≡ None) }
+        ensures whole { let t = self.old.tables in IsFree (⟦<Qcow2<S> as DriverModel>⟧.layer self.old) →
+            IsCacheCoherent S.Storage self.old.tables → IfOk result (λ o. IfSome o (λ r. IsWholeRunIn S.Storage t offset length r.1)) }
         ensures keeps { KeepsImage S.Storage self.old result self.new }
-        ensures failed { IfErr result (Fails ⟦<Qcow2<S> as Seen>⟧ self.old self.new) }
-        ensures cause { let d = ⟦<Qcow2<S> as Seen>⟧ in
-            IsSeen S.Storage self.old.tables → IfErr result (RefusesLookup d offset length self.old self.new) }
+        ensures failed { IfErr result (Fails ⟦<Qcow2<S> as DriverModel>⟧ self.old self.new) }
+        ensures cause { let d = ⟦<Qcow2<S> as DriverModel>⟧ in
+            IsCacheCoherent S.Storage self.old.tables → IfErr result (RefusesLookup d offset length self.old self.new) }
     {
         let (mapping, count) = self.run_from(offset, length)?;
         match writable_place(mapping) {
@@ -63,7 +67,7 @@ impl<S: Storage> Qcow2<S> {
     // Where a place lies that a prepared mapping holds in its run, and how much of the run goes on from it, up to so many bytes.
     fn held_run(&self, offset: u64, most: u64) -> Option<(u64, u64)>
         ensures run { HoldsRun (holding_in S.Storage self.now.unspent) offset most result }
-        ensures near { IfSome result (λ r. r.0 + r.1 ≤ 2 ^ 60) }
+        ensures end_bounded { IfSome result (λ r. r.0 + r.1 ≤ 2 ^ 60) }
     {
         match &self.unspent {
             Some(unspent) => unspent.run_from(offset, most),
@@ -74,7 +78,7 @@ impl<S: Storage> Qcow2<S> {
     // Whether a range lies as a whole in the run that a prepared mapping holds, from a place of the image file on.
     fn holds_at(&self, guest: u64, place: u64, length: u64) -> bool
         ensures held { IsTrue result ↔ HoldsRun (holding_in S.Storage self.now.unspent) guest length (Some (place, length)) }
-        ensures near { IsTrue result → place + length ≤ 2 ^ 60 }
+        ensures end_bounded { IsTrue result → place + length ≤ 2 ^ 60 }
     {
         match self.held_run(guest, length) {
             Some((at, count)) => at == place && count == length,
@@ -93,21 +97,21 @@ impl<S: Storage> Qcow2<S> {
         requires inside { guest + length ≤ self.old.tables.file.header.fields.size }
         requires fits { guest + length < 2 ^ 64 }
         requires runs { self.old.failed ≡ false }
-        ensures yes { let d = ⟦<Qcow2<S> as Seen>⟧ in
-            Sees S.Storage self.old → IfOk result (λ is. IsTrue is → IsHomeAt (d.layer self.old) guest place length) }
-        ensures no { let d = ⟦<Qcow2<S> as Seen>⟧ in
-            IsSeen S.Storage self.old.tables → IfOk result (λ is. IsFalse is → IsMappedAt (d.layer self.old) guest place length → ⊥) }
-        ensures near { IfOk result (λ is. IsTrue is → 0 < length → place + length ≤ 2 ^ 60) }
+        ensures yes { let d = ⟦<Qcow2<S> as DriverModel>⟧ in
+            IsCoherent S.Storage self.old → IfOk result (λ is. IsTrue is → IsWritableAt (d.layer self.old) guest place length) }
+        ensures no { let d = ⟦<Qcow2<S> as DriverModel>⟧ in
+            IsCacheCoherent S.Storage self.old.tables → IfOk result (λ is. IsFalse is → IsMappedAt (d.layer self.old) guest place length → ⊥) }
+        ensures end_bounded { IfOk result (λ is. IsTrue is → 0 < length → place + length ≤ 2 ^ 60) }
         ensures keeps { KeepsImage S.Storage self.old result self.new }
-        ensures failed { IfErr result (Fails ⟦<Qcow2<S> as Seen>⟧ self.old self.new) }
-        ensures cause { IsSeen S.Storage self.old.tables → IfErr result (HasCause (telling_causes S.Storage self.old self.new)) }
+        ensures failed { IfErr result (Fails ⟦<Qcow2<S> as DriverModel>⟧ self.old self.new) }
+        ensures cause { IsCacheCoherent S.Storage self.old.tables → IfErr result (HasCause (telling_causes S.Storage self.old self.new)) }
     {
         if self.holds_at(guest, place, length) {
             return Ok(true);
         }
         let mut done = 0;
         while done < length {
-            match self.home_run(guest + done, length - done)? {
+            match self.writable_run(guest + done, length - done)? {
                 Some((at, count)) => {
                     if at != place + done {
                         return Ok(false);
@@ -123,7 +127,7 @@ impl<S: Storage> Qcow2<S> {
     // Writes bytes to the image file, from a place on. Refused before that has begun, only a storage's fault marks the image as failed;
     // a change that the storage refused always does, as a part may be written.
     pub(crate) fn write_at(&mut self, alloc: Global, place: u64, bytes: &[u8]) -> Result<(), Fault>
-        requires near { place + length bytes.now ≤ 2 ^ 60 }
+        requires end_bounded { place + length bytes.now ≤ 2 ^ 60 }
         requires runs { self.old.failed ≡ false }
         ensures { WritesAt S.Storage place bytes.now self.old result self.new }
     {

@@ -6,13 +6,13 @@ use Rattle.std.proofs.lemmas.Bool.{cases_lt, cases_eq}
 use Rattle.std.proofs.lemmas.Bool.Decides.{nat_tests}
 use Rattle.std.proofs.Math.Nat.{div-mul-le_self, mul-div_cancel}
 use Rattle.std.proofs.lemmas.Nat.{pow_pos, div-add-mod', mod_below, mul-le, div-mul-add, div_below}
-use Rattle.qcow2_types.specs.Words.{Layout, Mapping, unmapped, data_at, zeroes, packed, damaged, mapping_of, is_place, is_copied, has_bit, bits_at, table_offset, names_cluster, standard_word_sound, max_offset, packed_place, packed_end}
+use Rattle.qcow2_types.specs.Words.{Layout, Mapping, unmapped, data_at, zeroes, packed, damaged, mapping_of, is_cluster_offset, is_copied, has_bit, bits_at, table_offset, names_cluster, standard_entry_valid, max_offset, compressed_offset, compressed_end}
 use Rattle.qcow2_types.specs.Header.{Fields, cluster_size}
 use Rattle.qcow2_types.specs.References.{of_mapping, meets}
 use Rattle.qcow2_types.proofs.Numbers.WordLemmas.{zero-word}
-use Rattle.qcow2_metadata.specs.Places.{IsInReach}
-use Rattle.qcow2_metadata.specs.Tables.{zero_word}
-use Rattle.qcow2_metadata.specs.Allocations.{allocation_of, clusters_of_range, freed, holds, replaced, newly, unkept, kept_for_zero, kept_where, zeroed_word, Conserves, IsKeptInReach}
+use Rattle.qcow2_metadata.specs.Places.{IsAddressable}
+use Rattle.qcow2_metadata.specs.Tables.{zero_raw_entry}
+use Rattle.qcow2_metadata.specs.Allocations.{allocation_of, clusters_of_range, freed, holds, replaced, newly, unkept, kept_for_zero, kept_where, zeroed_raw_entry, Conserves, IsKeptAddressable}
 use Rattle.qcow2_metadata.proofs.TableSteps.{cluster_sectors, cluster_place}
 use Rattle.qcow2_metadata.proofs.L2Words.{mapped_word, kept_word, kept_unmarked_word}
 
@@ -103,9 +103,9 @@ is_packed false a true false false o l k x d y some = tt
 word_packed : (layout : Layout) (w : ℕ) → IsPacked (mapping_of layout w)
 unfolding mapping_of
 word_packed layout w =
-    let place : ℕ = packed_place layout.cluster_bits w in
-    let above : packed_place layout.cluster_bits w < packed_end layout.cluster_bits w = omega arith in
-    is_packed (has_bit w 62) _ (standard_word_sound layout w) (has_bit w 0) (names_cluster layout w) _ _ _ 0 _ _ (omega (arith, above))
+    let place : ℕ = compressed_offset layout.cluster_bits w in
+    let above : compressed_offset layout.cluster_bits w < compressed_end layout.cluster_bits w = omega arith in
+    is_packed (has_bit w 62) _ (standard_entry_valid layout w) (has_bit w 0) (names_cluster layout w) _ _ _ 0 _ _ (omega (arith, above))
 
 -- what a mapping names is its allocation
 named_holds : (h : Fields) (c : ℕ) (m : Mapping) → IsPacked m → of_mapping h (meets h c) m ≡ holds c (freed (allocation_of h.cluster_bits m))
@@ -179,7 +179,7 @@ named_test p false (inl some) = let t : (p == 0) ≡ false = grind (arith, nat_t
 named_test p false (inr e) = absurd (cc)
 
 -- The word that names a cluster means its data.
-pub mapped_means : (layout : Layout) (cluster : ℕ) → 9 ≤ layout.cluster_bits → IsInReach layout.cluster_bits cluster → (0 < cluster) ⊎ (layout.external_data ≡ true) → mapping_of layout (2 ^ 63 + cluster * 2 ^ layout.cluster_bits) ≡ data_at cluster true
+pub mapped_means : (layout : Layout) (cluster : ℕ) → 9 ≤ layout.cluster_bits → IsAddressable layout.cluster_bits cluster → (0 < cluster) ⊎ (layout.external_data ≡ true) → mapping_of layout (2 ^ 63 + cluster * 2 ^ layout.cluster_bits) ≡ data_at cluster true
 mapped_means layout cluster low near some =
     let pos : 0 < 2 ^ layout.cluster_bits = pow_pos layout.cluster_bits in
     let named : (0 < cluster * 2 ^ layout.cluster_bits) ⊎ (layout.external_data ≡ true) = elim some [
@@ -191,7 +191,7 @@ mapped_means layout cluster low near some =
     ∙ ap (λ k. data_at k true) (mul-div_cancel cluster pos))
 
 -- A word that names a cluster takes the place of another.
-pub map_conserves : (layout : Layout) (w cluster : ℕ) → 9 ≤ layout.cluster_bits → IsInReach layout.cluster_bits cluster → (0 < cluster) ⊎ (layout.external_data ≡ true)
+pub map_conserves : (layout : Layout) (w cluster : ℕ) → 9 ≤ layout.cluster_bits → IsAddressable layout.cluster_bits cluster → (0 < cluster) ⊎ (layout.external_data ≡ true)
     → Conserves layout.cluster_bits (mapping_of layout w) (mapping_of layout (2 ^ 63 + cluster * 2 ^ layout.cluster_bits)) (freed (replaced cluster (allocation_of layout.cluster_bits (mapping_of layout w)))) (newly cluster (allocation_of layout.cluster_bits (mapping_of layout w)))
 map_conserves layout w cluster low near some h bits c =
     let means : mapping_of layout (2 ^ 63 + cluster * 2 ^ layout.cluster_bits) ≡ data_at cluster true = mapped_means layout cluster low near some in
@@ -227,20 +227,20 @@ first_of_two true b e = refl
 first_of_two false b e = absurd (cc)
 
 -- its cluster begins at its offset
-whole_offset : (bits p : ℕ) → is_place bits p ≡ true → p / 2 ^ bits * 2 ^ bits ≡ p
+whole_offset : (bits p : ℕ) → is_cluster_offset bits p ≡ true → p / 2 ^ bits * 2 ^ bits ≡ p
 whole_offset bits p place =
     let test : (p % 2 ^ bits == 0) ≡ true = first_of_two (p % 2 ^ bits == 0) (nat_le p max_offset) place in
     let none : p % 2 ^ bits ≡ 0 = grind (arith, nat_tests) in
     omega (arith, div-add-mod' p (2 ^ bits), none)
 
 -- A word that keeps the cluster of another means zeroes with that cluster.
-pub kept_means : (layout : Layout) (w : ℕ) (kept : ℕ × Bool) → 9 ≤ layout.cluster_bits → layout.version ≡ 3 → IsInReach layout.cluster_bits kept.0 → kept_for_zero (mapping_of layout w) ≡ Some kept → mapping_of layout (zero_word (kept.0 * 2 ^ layout.cluster_bits) kept.1) ≡ zeroes (Some kept.0) kept.1
+pub kept_means : (layout : Layout) (w : ℕ) (kept : ℕ × Bool) → 9 ≤ layout.cluster_bits → layout.version ≡ 3 → IsAddressable layout.cluster_bits kept.0 → kept_for_zero (mapping_of layout w) ≡ Some kept → mapping_of layout (zero_raw_entry (kept.0 * 2 ^ layout.cluster_bits) kept.1) ≡ zeroes (Some kept.0) kept.1
 unfolding mapping_of
 kept_means layout w kept low v near e =
     let size : ℕ = 2 ^ layout.cluster_bits in
     let pos : 0 < 2 ^ layout.cluster_bits = pow_pos layout.cluster_bits in
-    let facts = kept_pick (has_bit w 62) (has_bit w 63 || nat_le (2 ^ 56) (packed_place layout.cluster_bits w)) (standard_word_sound layout w) (has_bit w 0) (names_cluster layout w) (packed_place layout.cluster_bits w) (packed_end layout.cluster_bits w - packed_place layout.cluster_bits w) (table_offset w / 2 ^ layout.cluster_bits) (is_copied w) kept e in
-    let place : is_place layout.cluster_bits (table_offset w) ≡ true = last_of_four (bits_at w 1 8 == 0) (bits_at w 56 6 == 0) (not (has_bit w 0) || (layout.version == 3)) (is_place layout.cluster_bits (table_offset w)) facts.0 in
+    let facts = kept_pick (has_bit w 62) (has_bit w 63 || nat_le (2 ^ 56) (compressed_offset layout.cluster_bits w)) (standard_entry_valid layout w) (has_bit w 0) (names_cluster layout w) (compressed_offset layout.cluster_bits w) (compressed_end layout.cluster_bits w - compressed_offset layout.cluster_bits w) (table_offset w / 2 ^ layout.cluster_bits) (is_copied w) kept e in
+    let place : is_cluster_offset layout.cluster_bits (table_offset w) ≡ true = last_of_four (bits_at w 1 8 == 0) (bits_at w 56 6 == 0) (not (has_bit w 0) || (layout.version == 3)) (is_cluster_offset layout.cluster_bits (table_offset w)) facts.0 in
     let cluster : table_offset w / 2 ^ layout.cluster_bits ≡ kept.0 = ap (λ (x : ℕ × Bool). x.0) facts.1.1 in
     let mark : is_copied w ≡ kept.1 = ap (λ (x : ℕ × Bool). x.1) facts.1.1 in
     let offset : table_offset w ≡ kept.0 * 2 ^ layout.cluster_bits = sym (whole_offset layout.cluster_bits (table_offset w) place) ∙ ap (λ k. k * 2 ^ layout.cluster_bits) cluster in
@@ -254,7 +254,7 @@ kept_means layout w kept low v near e =
 pub zero_means : (layout : Layout) → layout.version ≡ 3 → mapping_of layout 1 ≡ zeroes None false
 zero_means layout v = kept_unmarked_word 0 refl (omega arith) layout (place_zero layout.cluster_bits) v ∙ ap (λ (b : Bool). zeroes (if b then Some (0 / 2 ^ layout.cluster_bits) else None) false) (neither layout.external_data)
   where
-    place_zero : (bits : ℕ) → is_place bits 0 ≡ true
+    place_zero : (bits : ℕ) → is_cluster_offset bits 0 ≡ true
     place_zero bits = let none : 0 % 2 ^ bits ≡ 0 = let some : 0 < 2 ^ bits = pow_pos bits in omega arith in rw none refl
 
     neither : (b : Bool) → (not (0 == 0) || (b && false)) ≡ false
@@ -273,8 +273,8 @@ kept_if : (keep : Bool) (m : Mapping) (kept : ℕ × Bool) → kept_where keep m
 kept_if true m kept e = e
 kept_if false m kept e = absurd (cc)
 
-zero_by : (layout : Layout) (w : ℕ) (keep : Bool) (kept : Option (ℕ × Bool)) → kept_where keep (mapping_of layout w) ≡ kept → 9 ≤ layout.cluster_bits → layout.version ≡ 3 → IsKeptInReach layout.cluster_bits kept
-    → Conserves layout.cluster_bits (mapping_of layout w) (mapping_of layout (zeroed_word layout.cluster_bits kept)) (freed (unkept (is_some kept) (allocation_of layout.cluster_bits (mapping_of layout w)))) (λ c. 0)
+zero_by : (layout : Layout) (w : ℕ) (keep : Bool) (kept : Option (ℕ × Bool)) → kept_where keep (mapping_of layout w) ≡ kept → 9 ≤ layout.cluster_bits → layout.version ≡ 3 → IsKeptAddressable layout.cluster_bits kept
+    → Conserves layout.cluster_bits (mapping_of layout w) (mapping_of layout (zeroed_raw_entry layout.cluster_bits kept)) (freed (unkept (is_some kept) (allocation_of layout.cluster_bits (mapping_of layout w)))) (λ c. 0)
 zero_by layout w keep None e low v near h bits c =
     let old : of_mapping h (meets h c) (mapping_of layout w) ≡ holds c (freed (allocation_of layout.cluster_bits (mapping_of layout w))) = named_holds h c (mapping_of layout w) (word_packed layout w) ∙ ap (λ b. holds c (freed (allocation_of b (mapping_of layout w)))) bits in
     let new : of_mapping h (meets h c) (mapping_of layout 1) ≡ 0 = ap (of_mapping h (meets h c)) (zero_means layout v) in
@@ -282,10 +282,10 @@ zero_by layout w keep None e low v near h bits c =
 zero_by layout w keep (Some kept) e low v near h bits c =
     let found : kept_for_zero (mapping_of layout w) ≡ Some kept = kept_if keep (mapping_of layout w) kept e in
     let old : of_mapping h (meets h c) (mapping_of layout w) ≡ meets h c (kept.0 * cluster_size h) (cluster_size h) = kept_weight h (meets h c) (mapping_of layout w) kept found in
-    let new : of_mapping h (meets h c) (mapping_of layout (zero_word (kept.0 * 2 ^ layout.cluster_bits) kept.1)) ≡ meets h c (kept.0 * cluster_size h) (cluster_size h) = ap (of_mapping h (meets h c)) (kept_means layout w kept low v near found) in
+    let new : of_mapping h (meets h c) (mapping_of layout (zero_raw_entry (kept.0 * 2 ^ layout.cluster_bits) kept.1)) ≡ meets h c (kept.0 * cluster_size h) (cluster_size h) = ap (of_mapping h (meets h c)) (kept_means layout w kept low v near found) in
     omega (arith, old, new)
 
 -- A zeroed word takes the place of another.
-pub zero_conserves : (layout : Layout) (w : ℕ) (keep : Bool) → 9 ≤ layout.cluster_bits → layout.version ≡ 3 → IsKeptInReach layout.cluster_bits (kept_where keep (mapping_of layout w))
-    → Conserves layout.cluster_bits (mapping_of layout w) (mapping_of layout (zeroed_word layout.cluster_bits (kept_where keep (mapping_of layout w)))) (freed (unkept (is_some (kept_where keep (mapping_of layout w))) (allocation_of layout.cluster_bits (mapping_of layout w)))) (λ c. 0)
+pub zero_conserves : (layout : Layout) (w : ℕ) (keep : Bool) → 9 ≤ layout.cluster_bits → layout.version ≡ 3 → IsKeptAddressable layout.cluster_bits (kept_where keep (mapping_of layout w))
+    → Conserves layout.cluster_bits (mapping_of layout w) (mapping_of layout (zeroed_raw_entry layout.cluster_bits (kept_where keep (mapping_of layout w)))) (freed (unkept (is_some (kept_where keep (mapping_of layout w))) (allocation_of layout.cluster_bits (mapping_of layout w)))) (λ c. 0)
 zero_conserves layout w keep low v near = zero_by layout w keep (kept_where keep (mapping_of layout w)) refl low v near

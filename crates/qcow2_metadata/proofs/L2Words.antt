@@ -3,15 +3,15 @@ use Rattle.std.proofs.Common.{◌≡◌, refl, ℕ, ◌+◌, ◌-◌, ◌*◌, �
 use Rattle.std.specs.Prelude.{Bool, true, false, not, ◌&&◌, ◌||◌, ◌==◌, nat_le, if◌then◌else◌, IsTrue, Option, Some, None, replicate}
 use Rattle.std.proofs.lemmas.Nat.{div-mul-add, mod-pow-add, mod_below, pow_pos}
 use Rattle.std.proofs.Math.Pow.{mod-mod-pow}
-use Rattle.qcow2_types.specs.Words.{Layout, unmapped, data_at, zeroes, packed, damaged, mapping_of, is_damaged, is_copied, is_place, has_bit, max_offset, table_offset, standard_word_sound, names_cluster, packed_place, unmarked_mapping}
-use Rattle.qcow2_metadata.specs.Places.{IsInReach}
-use Rattle.qcow2_metadata.specs.Tables.{l2_words, word_sound, AreSound, zero_word, shared_word, without_mark}
+use Rattle.qcow2_types.specs.Words.{Layout, unmapped, data_at, zeroes, packed, damaged, mapping_of, is_damaged, is_copied, is_cluster_offset, has_bit, max_offset, table_offset, standard_entry_valid, names_cluster, compressed_offset, mapping_without_copied}
+use Rattle.qcow2_metadata.specs.Places.{IsAddressable}
+use Rattle.qcow2_metadata.specs.Tables.{l2_table_kind, raw_entry_valid, AreSound, zero_raw_entry, shared_raw_entry, raw_without_copied}
 use Rattle.qcow2_types.specs.TableBytes.{AreFit}
-use Rattle.qcow2_metadata.specs.Allocations.{IsKeptInReach, zeroed_word}
+use Rattle.qcow2_metadata.specs.Allocations.{IsKeptAddressable, zeroed_raw_entry}
 use Rattle.qcow2_metadata.proofs.TableSteps.{each_mapped, each_zero, zero_sound, cluster_sectors, cluster_place}
 
 -- a place of sectors, in a word with the mark
-module _ (p : ℕ) (sectors : p % 512 ≡ 0) (near : p ≤ max_offset) (layout : Layout) (place : is_place layout.cluster_bits p ≡ true) where
+module _ (p : ℕ) (sectors : p % 512 ≡ 0) (near : p ≤ max_offset) (layout : Layout) (place : is_cluster_offset layout.cluster_bits p ≡ true) where
   -- data
   pub mapped_word : mapping_of layout (2 ^ 63 + p) ≡ (if not (p == 0) || (layout.external_data && true) then data_at (p / 2 ^ layout.cluster_bits) true else unmapped)
   unfolding mapping_of
@@ -48,7 +48,7 @@ module _ (p : ℕ) (sectors : p % 512 ≡ 0) (near : p ≤ max_offset) (layout :
       rw (a, b, d, e, offset, place, one, v) refl
 
   -- and so with either
-  pub kept_word : (copied : Bool) → layout.version ≡ 3 → mapping_of layout (zero_word p copied) ≡ zeroes (if not (p == 0) || (layout.external_data && copied) then Some (p / 2 ^ layout.cluster_bits) else None) copied
+  pub kept_word : (copied : Bool) → layout.version ≡ 3 → mapping_of layout (zero_raw_entry p copied) ≡ zeroes (if not (p == 0) || (layout.external_data && copied) then Some (p / 2 ^ layout.cluster_bits) else None) copied
   kept_word true v = kept_marked_word v
   kept_word false v = kept_unmarked_word v
 
@@ -57,39 +57,39 @@ not_damaged_pick true c = refl
 not_damaged_pick false c = refl
 
 -- the word that names a host cluster is sound
-pub mapped_sound : (layout : Layout) (c : ℕ) → 9 ≤ layout.cluster_bits → IsInReach layout.cluster_bits c → IsTrue (word_sound l2_words layout (2 ^ 63 + c * 2 ^ layout.cluster_bits))
+pub mapped_sound : (layout : Layout) (c : ℕ) → 9 ≤ layout.cluster_bits → IsAddressable layout.cluster_bits c → IsTrue (raw_entry_valid l2_table_kind layout (2 ^ 63 + c * 2 ^ layout.cluster_bits))
 mapped_sound layout c low near =
     let p : ℕ = c * 2 ^ layout.cluster_bits in
     rw (mapped_word (c * 2 ^ layout.cluster_bits) (cluster_sectors layout.cluster_bits c low near) near layout (cluster_place layout.cluster_bits c low near))
     (rw (not_damaged_pick (not (c * 2 ^ layout.cluster_bits == 0) || (layout.external_data && true)) (c * 2 ^ layout.cluster_bits / 2 ^ layout.cluster_bits)) refl)
 
 -- so is the word of a zeroed guest cluster
-pub zeroed_sound : (layout : Layout) (kept : Option (ℕ × Bool)) → 9 ≤ layout.cluster_bits → layout.version ≡ 3 → IsKeptInReach layout.cluster_bits kept → IsTrue (word_sound l2_words layout (zeroed_word layout.cluster_bits kept))
+pub zeroed_sound : (layout : Layout) (kept : Option (ℕ × Bool)) → 9 ≤ layout.cluster_bits → layout.version ≡ 3 → IsKeptAddressable layout.cluster_bits kept → IsTrue (raw_entry_valid l2_table_kind layout (zeroed_raw_entry layout.cluster_bits kept))
 zeroed_sound layout None low v near = rw (kept_unmarked_word 0 refl (omega arith) layout (cluster_place_zero layout.cluster_bits) v) refl
   where
-    cluster_place_zero : (bits : ℕ) → is_place bits 0 ≡ true
+    cluster_place_zero : (bits : ℕ) → is_cluster_offset bits 0 ≡ true
     cluster_place_zero bits = let none : 0 % 2 ^ bits ≡ 0 = let pos : 0 < 2 ^ bits = pow_pos bits in omega arith in rw none refl
 zeroed_sound layout (Some kept) low v near =
     rw (kept_word (kept.0 * 2 ^ layout.cluster_bits) (cluster_sectors layout.cluster_bits kept.0 low near) near layout (cluster_place layout.cluster_bits kept.0 low near) kept.1 v) refl
 
 -- both have 64 bits
-pub mapped_fits : (bits c : ℕ) → IsInReach bits c → 2 ^ 63 + c * 2 ^ bits < 2 ^ 64
+pub mapped_fits : (bits c : ℕ) → IsAddressable bits c → 2 ^ 63 + c * 2 ^ bits < 2 ^ 64
 mapped_fits bits c near = let place : c * 2 ^ bits ≤ 0x00ff_ffff_ffff_fe00 = near in omega arith
 
-pub zeroed_fits : (bits : ℕ) (kept : Option (ℕ × Bool)) → IsKeptInReach bits kept → zeroed_word bits kept < 2 ^ 64
+pub zeroed_fits : (bits : ℕ) (kept : Option (ℕ × Bool)) → IsKeptAddressable bits kept → zeroed_raw_entry bits kept < 2 ^ 64
 zeroed_fits bits None near = lit< tt
 zeroed_fits bits (Some kept) near = fits kept.1
   where
     place : kept.0 * 2 ^ bits ≤ 0x00ff_ffff_ffff_fe00
     place = near
 
-    fits : (copied : Bool) → zero_word (kept.0 * 2 ^ bits) copied < 2 ^ 64
+    fits : (copied : Bool) → zero_raw_entry (kept.0 * 2 ^ bits) copied < 2 ^ 64
     fits true = omega (arith, place)
     fits false = omega (arith, place)
 
 -- the words of a new table
-pub cleared_sound : (layout : Layout) (n : ℕ) → AreSound l2_words layout (replicate n 0)
-cleared_sound layout n = each_zero (λ w. IsTrue (word_sound l2_words layout w)) n (zero_sound l2_words layout)
+pub cleared_sound : (layout : Layout) (n : ℕ) → AreSound l2_table_kind layout (replicate n 0)
+cleared_sound layout n = each_zero (λ w. IsTrue (raw_entry_valid l2_table_kind layout w)) n (zero_sound l2_table_kind layout)
 
 pick : (c a n s z p q : Bool) (o l o' l' k k' : ℕ) (x x' : Bool) (y y' : Option ℕ)
     → is_damaged (if c then (if a || n then damaged else packed o l) else (if not s then damaged else if z then zeroes y x else if p then data_at k x else unmapped)) ≡ false
@@ -116,7 +116,7 @@ unmarked layout w low h =
     let none : w % 2 ^ 63 / 2 ^ 63 % 2 ≡ 0 = omega arith in
     let place : w % 2 ^ 63 % 2 ^ (70 - layout.cluster_bits) ≡ w % 2 ^ (70 - layout.cluster_bits) = ap (λ n. w % 2 ^ n % 2 ^ (70 - layout.cluster_bits)) (sym split) ∙ mod-mod-pow w (63 - (70 - layout.cluster_bits)) (70 - layout.cluster_bits) in
     rw (a, b, d, e, offset, none, place)
-    (pick (has_bit w 62) (has_bit w 63) (nat_le (2 ^ 56) (packed_place layout.cluster_bits w)) (standard_word_sound layout w) (has_bit w 0) (names_cluster layout w) _ _ _ _ _ _ _ _ _ _ _ h)
+    (pick (has_bit w 62) (has_bit w 63) (nat_le (2 ^ 56) (compressed_offset layout.cluster_bits w)) (standard_entry_valid layout w) (has_bit w 0) (names_cluster layout w) _ _ _ _ _ _ _ _ _ _ _ h)
 
 is_not : (b : Bool) → IsTrue (not b) → b ≡ false
 is_not true h = cc
@@ -138,7 +138,7 @@ part_same w x k le =
 pick_unmarked : (c a n s z p : Bool) (o l k : ℕ) (x : Bool) (y : Option ℕ)
     → is_damaged (if c then (if a || n then damaged else packed o l) else (if not s then damaged else if z then zeroes y x else if p then data_at k x else unmapped)) ≡ false
     → (if c then (if false || n then damaged else packed o l) else (if not s then damaged else if z then zeroes y false else if p then data_at k false else unmapped))
-    ≡ unmarked_mapping (if c then (if a || n then damaged else packed o l) else (if not s then damaged else if z then zeroes y x else if p then data_at k x else unmapped))
+    ≡ mapping_without_copied (if c then (if a || n then damaged else packed o l) else (if not s then damaged else if z then zeroes y x else if p then data_at k x else unmapped))
 pick_unmarked true true n s z p o l k x y h = cc
 pick_unmarked true false true s z p o l k x y h = refl
 pick_unmarked true false false s z p o l k x y h = refl
@@ -148,7 +148,7 @@ pick_unmarked false a n true false true o l k x y h = refl
 pick_unmarked false a n true false false o l k x y h = refl
 
 unmarked_means : (layout : Layout) (v : ℕ) → 9 ≤ layout.cluster_bits → layout.cluster_bits ≤ 21 → layout.external_data ≡ false → is_damaged (mapping_of layout v) ≡ false
-    → mapping_of layout (v % 2 ^ 63) ≡ unmarked_mapping (mapping_of layout v)
+    → mapping_of layout (v % 2 ^ 63) ≡ mapping_without_copied (mapping_of layout v)
 unfolding mapping_of
 unmarked_means layout v low high inside sound =
     let split : 63 - (70 - layout.cluster_bits) + (70 - layout.cluster_bits) ≡ 63 = omega arith in
@@ -161,28 +161,28 @@ unmarked_means layout v low high inside sound =
     let place : v % 2 ^ 63 % 2 ^ (70 - layout.cluster_bits) ≡ v % 2 ^ (70 - layout.cluster_bits) = ap (λ n. v % 2 ^ n % 2 ^ (70 - layout.cluster_bits)) (sym split) ∙ mod-mod-pow v (63 - (70 - layout.cluster_bits)) (70 - layout.cluster_bits) in
     let sectors : v % 2 ^ 63 / 2 ^ (70 - layout.cluster_bits) % 2 ^ (layout.cluster_bits - 8) ≡ v / 2 ^ (70 - layout.cluster_bits) % 2 ^ (layout.cluster_bits - 8) = part_same v (70 - layout.cluster_bits) (layout.cluster_bits - 8) (omega arith) in
     rw (a, b, d, e, offset, none, place, sectors, inside)
-    (pick_unmarked (has_bit v 62) (has_bit v 63) (nat_le (2 ^ 56) (packed_place layout.cluster_bits v)) (standard_word_sound layout v) (has_bit v 0) (not (table_offset v == 0) || (false && is_copied v)) _ _ _ _ _ (rw inside at sound))
+    (pick_unmarked (has_bit v 62) (has_bit v 63) (nat_le (2 ^ 56) (compressed_offset layout.cluster_bits v)) (standard_entry_valid layout v) (has_bit v 0) (not (table_offset v == 0) || (false && is_copied v)) _ _ _ _ _ (rw inside at sound))
 
 -- A word of a copy means what it did, without the mark.
 pub shared_means : (layout : Layout) (w : ℕ) → 9 ≤ layout.cluster_bits → layout.cluster_bits ≤ 21 → layout.external_data ≡ false → is_damaged (mapping_of layout w) ≡ false
-    → mapping_of layout (shared_word layout w) ≡ unmarked_mapping (mapping_of layout w)
+    → mapping_of layout (shared_raw_entry layout w) ≡ mapping_without_copied (mapping_of layout w)
 shared_means layout w low high inside sound =
-    ap (λ (b : Bool). mapping_of layout (if b then w else without_mark w)) inside ∙ unmarked_means layout w low high inside sound
+    ap (λ (b : Bool). mapping_of layout (if b then w else raw_without_copied w)) inside ∙ unmarked_means layout w low high inside sound
 
 -- a word of a copy is as sound
-shared_one : (layout : Layout) (w : ℕ) → 9 ≤ layout.cluster_bits → IsTrue (word_sound l2_words layout w) → IsTrue (word_sound l2_words layout (shared_word layout w))
+shared_one : (layout : Layout) (w : ℕ) → 9 ≤ layout.cluster_bits → IsTrue (raw_entry_valid l2_table_kind layout w) → IsTrue (raw_entry_valid l2_table_kind layout (shared_raw_entry layout w))
 shared_one layout w low old = go layout.external_data
   where
-    go : (external : Bool) → IsTrue (word_sound l2_words layout (if external then w else without_mark w))
+    go : (external : Bool) → IsTrue (raw_entry_valid l2_table_kind layout (if external then w else raw_without_copied w))
     go true = old
-    go false = not_is (is_damaged (mapping_of layout (without_mark w))) (unmarked layout w low (is_not (is_damaged (mapping_of layout w)) old))
+    go false = not_is (is_damaged (mapping_of layout (raw_without_copied w))) (unmarked layout w low (is_not (is_damaged (mapping_of layout w)) old))
 
-pub shared_sound : (layout : Layout) (words : List ℕ) → 9 ≤ layout.cluster_bits → AreSound l2_words layout words → AreSound l2_words layout (map (shared_word layout) words)
-shared_sound layout words low = each_mapped (λ w. IsTrue (word_sound l2_words layout w)) (shared_word layout) words (λ w. shared_one layout w low)
+pub shared_sound : (layout : Layout) (raw_entries : List ℕ) → 9 ≤ layout.cluster_bits → AreSound l2_table_kind layout raw_entries → AreSound l2_table_kind layout (map (shared_raw_entry layout) raw_entries)
+shared_sound layout raw_entries low = each_mapped (λ w. IsTrue (raw_entry_valid l2_table_kind layout w)) (shared_raw_entry layout) raw_entries (λ w. shared_one layout w low)
 
-pub shared_fit : (layout : Layout) (words : List ℕ) → AreFit words → AreFit (map (shared_word layout) words)
-shared_fit layout words = each_mapped (λ w. w < 2 ^ 64) (shared_word layout) words (λ w. smaller layout.external_data w)
+pub shared_fit : (layout : Layout) (raw_entries : List ℕ) → AreFit raw_entries → AreFit (map (shared_raw_entry layout) raw_entries)
+shared_fit layout raw_entries = each_mapped (λ w. w < 2 ^ 64) (shared_raw_entry layout) raw_entries (λ w. smaller layout.external_data w)
   where
-    smaller : (external : Bool) (w : ℕ) → w < 2 ^ 64 → (if external then w else without_mark w) < 2 ^ 64
+    smaller : (external : Bool) (w : ℕ) → w < 2 ^ 64 → (if external then w else raw_without_copied w) < 2 ^ 64
     smaller true w fits = fits
     smaller false w fits = omega (arith, fits)

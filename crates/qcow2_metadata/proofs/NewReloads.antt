@@ -8,7 +8,7 @@ use Rattle.std.proofs.lemmas.Bool.Decides.{nat_tests}
 use Rattle.std.proofs.Math.Nat.{pow-le-pow_right, zero-mod}
 use Rattle.qcow2_types.specs.Words.{has_bit}
 use Rattle.qcow2_types.specs.Header.{first_fault, rules_of_shape, rules_of_size, rules_of_writing}
-use Rattle.qcow2_types.specs.HeaderBytes.{new_header, first_features, written_fields, name_bytes, name_place, extensions_bytes, header_bytes, fits_first_cluster}
+use Rattle.qcow2_types.specs.HeaderBytes.{new_header, first_features, written_fields, name_bytes, backing_name_offset, extensions_bytes, header_bytes, fits_first_cluster}
 use Rattle.qcow2_types.specs.HeaderSwitch.{FirstFieldsFit}
 use Rattle.qcow2_metadata.specs.Reloading.{is_plain_name, is_text, IsReloadable}
 use Rattle.qcow2_metadata.proofs.Written.{length-header_bytes}
@@ -42,11 +42,11 @@ module _ (bits order : ℕ) (name format data_file : Option (List ℕ)) (low : 9
   behind : 104 + length (extensions_bytes (new_header bits order name format data_file)) ≤ 2_097_152
   behind = omega (arith, within, small, length-header_bytes (new_header bits order name format data_file))
 
-  place-low : (t : Option (List ℕ)) → name_place (new_header bits order name format data_file) t ≤ 2_097_152
+  place-low : (t : Option (List ℕ)) → backing_name_offset (new_header bits order name format data_file) t ≤ 2_097_152
   place-low None = omega arith
   place-low (Some x) = behind
 
-  place-behind : (t : Option (List ℕ)) → (not (name_place (new_header bits order name format data_file) t == 0) && not (length (name_bytes t) == 0) && nat_lt (name_place (new_header bits order name format data_file) t) 64) ≡ false
+  place-behind : (t : Option (List ℕ)) → (not (backing_name_offset (new_header bits order name format data_file) t == 0) && not (length (name_bytes t) == 0) && nat_lt (backing_name_offset (new_header bits order name format data_file) t) 64) ≡ false
   place-behind None = refl
   place-behind (Some x) = last (not (104 + length (extensions_bytes (new_header bits order name format data_file)) == 0)) (not (length x == 0)) (nat_lt (104 + length (extensions_bytes (new_header bits order name format data_file))) 64) (grind (arith, nat_tests))
     where

@@ -2,14 +2,14 @@
 use Rattle.std.proofs.Common.{◌≡◌, ℕ, ◌+◌, ◌-◌, ◌*◌, ◌/◌, ◌%◌, ◌^◌, ◌<◌, ◌≤◌, ◌∙◌, ap, subst, arith}
 use Rattle.std.specs.Prelude.{IsTrue, Option, Some, None}
 use Rattle.std.proofs.lemmas.Nat.{div-add-mod', div_below, le-div, mul-le, pow_pos, pow-add}
-use Rattle.qcow2_types.specs.Words.{is_place}
-use Rattle.qcow2_types.specs.Header.{Fields, Limited, first_fault, rules_of_size, words_of_cluster}
+use Rattle.qcow2_types.specs.Words.{is_cluster_offset}
+use Rattle.qcow2_types.specs.Header.{Fields, Limited, first_fault, rules_of_size, entries_of_cluster}
 use Rattle.qcow2_types.proofs.Fields.HeaderLimits.{fields-limited, limited-fields}
 use Rattle.qcow2_metadata.specs.Places.{IsPlaced, place_of}
 use Rattle.qcow2_metadata.proofs.TableSteps.{cluster_place}
 
 -- where a cluster begins that words can name
-pub placed_at : (bits : ℕ) (cluster : Option ℕ) → 9 ≤ bits → IsPlaced bits cluster → IsTrue (is_place bits (place_of bits cluster))
+pub placed_at : (bits : ℕ) (cluster : Option ℕ) → 9 ≤ bits → IsPlaced bits cluster → IsTrue (is_cluster_offset bits (place_of bits cluster))
 placed_at bits None low placed = absurd placed
 placed_at bits (Some c) low placed = cluster_place bits c low placed
 
@@ -21,7 +21,7 @@ clusters_of bits n = (8 * n + (2 ^ bits - 1)) / 2 ^ bits
 row : (bits : ℕ) → 9 ≤ bits → 2 ^ bits ≡ 8 * 2 ^ (bits - 3)
 row bits low = let split : bits ≡ bits - 3 + 3 = omega arith in ap (λ n. 2 ^ n) split ∙ (pow-add 2 (bits - 3) 3 ∙ omega arith)
 
-words_row : (h : Fields) → 9 ≤ h.cluster_bits → words_of_cluster h ≡ 2 ^ (h.cluster_bits - 3)
+words_row : (h : Fields) → 9 ≤ h.cluster_bits → entries_of_cluster h ≡ 2 ^ (h.cluster_bits - 3)
 words_row h low = let r : 2 ^ h.cluster_bits ≡ 8 * 2 ^ (h.cluster_bits - 3) = row h.cluster_bits low in omega arith
 
 -- clusters of words up to a most that fills its clusters
@@ -59,13 +59,13 @@ module _ (h : Fields) (cluster : Option ℕ) (kept : first_fault (rules_of_size 
       most : 2 ^ 20 ≡ 2 ^ (20 - (h.cluster_bits - 3)) * 2 ^ (h.cluster_bits - 3)
       most = let split : 20 ≡ 20 - (h.cluster_bits - 3) + (h.cluster_bits - 3) = omega arith in ap (λ k. 2 ^ k) split ∙ pow-add 2 (20 - (h.cluster_bits - 3)) (h.cluster_bits - 3)
 
-      entries : clusters_of h.cluster_bits n * words_of_cluster h ≤ 2 ^ 20
+      entries : clusters_of h.cluster_bits n * entries_of_cluster h ≤ 2 ^ 20
       entries =
           let fit = clusters_fit (2 ^ (h.cluster_bits - 3)) n (2 ^ (20 - (h.cluster_bits - 3))) (pow_pos (h.cluster_bits - 3)) (subst (λ m. n ≤ m) most few) in
           rw (words_row h low, row h.cluster_bits low, most) fit
 
 -- Words that fill their clusters are all the words of the clusters.
-pub whole_entries : (h : Fields) (n : ℕ) → 9 ≤ h.cluster_bits → 8 * n % 2 ^ h.cluster_bits ≡ 0 → clusters_of h.cluster_bits n * words_of_cluster h ≡ n
+pub whole_entries : (h : Fields) (n : ℕ) → 9 ≤ h.cluster_bits → 8 * n % 2 ^ h.cluster_bits ≡ 0 → clusters_of h.cluster_bits n * entries_of_cluster h ≡ n
 whole_entries h n low whole =
     rw (words_row h low, row h.cluster_bits low) (go (2 ^ (h.cluster_bits - 3)) (pow_pos (h.cluster_bits - 3)) (rw (← row h.cluster_bits low) whole))
   where

@@ -13,7 +13,7 @@ use Rattle.imago_storage.specs.declared.fault.Fault.TheVariants.{DamagedHeader}
 use Rattle.qcow2_types.specs.Bytes.{Bytes, be, run, splice}
 use Rattle.qcow2_types.specs.OnDisk.{Holds}
 use Rattle.qcow2_types.specs.Header.{Feature, Fields, Header, Extension, Shaped, fields_of, header_of, texts_of, cluster_size, is_version_3, has_backing_name, backing_name_read, extensions_read, extensions_end, extensions_at, text_read, last_of, features_read}
-use Rattle.qcow2_types.specs.HeaderBytes.{first_bytes, newer_bytes, fields_bytes, fields_length, extension_bytes, extension_of, extensions_of, extensions_bytes, names_data, name_bytes, name_place, written_fields, written, header_bytes}
+use Rattle.qcow2_types.specs.HeaderBytes.{first_bytes, newer_bytes, fields_bytes, fields_length, extension_bytes, extension_of, extensions_of, extensions_bytes, names_data, name_bytes, backing_name_offset, written_fields, written, header_bytes}
 use Rattle.qcow2_types.specs.HeaderSwitch.{FirstFieldsFit}
 use Rattle.qcow2_types.proofs.Numbers.HeldBytes.{holds-front, holds-back, holds-as, held_4, held_8, run-held, ArePlain, extensions-held, length-extension_bytes}
 use Rattle.qcow2_types.proofs.Switching.HeaderSwitch.{header-made, kind-kept, splice-holds, first-magic, first-version, first-backing_offset, first-backing_length, first-cluster_bits, first-size, first-crypt_method, first-l1_entries, first-l1_offset, first-refcount_table_offset, first-refcount_table_clusters, first-snapshots}
@@ -224,7 +224,7 @@ over f h = splice f 0 (header_bytes h)
 
 -- the fields as they are written
 written-fields : (h : Header) → ((written_fields h).version ≡ h.fields.version) × ((written_fields h).header_length ≡ fields_length h.fields) × ((written_fields h).cluster_bits ≡ h.fields.cluster_bits)
-    × ((written_fields h).backing_offset ≡ name_place h h.backing_name) × ((written_fields h).backing_length ≡ length (name_bytes h.backing_name))
+    × ((written_fields h).backing_offset ≡ backing_name_offset h h.backing_name) × ((written_fields h).backing_length ≡ length (name_bytes h.backing_name))
 unfolding written_fields
 written-fields h = (refl, refl, refl, refl, refl)
 
@@ -323,10 +323,10 @@ module _ (f : Bytes) (h : Header) where
     name-read = go h.backing_name refl
       where
         go : (name : Option (List ℕ)) → h.backing_name ≡ name → backing_name_read (over f h) (written_fields h) ≡ Ok name
-        go None is = name-none (over f h) (written_fields h) ((written-fields h).3 ∙ ap (name_place h) is)
+        go None is = name-none (over f h) (written_fields h) ((written-fields h).3 ∙ ap (backing_name_offset h) is)
         go (Some []) is = absurd (ok.named is)
         go (Some (b ∷ bs)) is =
-            let place : (written_fields h).backing_offset ≡ fields_length h.fields + length (extensions_bytes h) = (written-fields h).3 ∙ ap (name_place h) is in
+            let place : (written_fields h).backing_offset ≡ fields_length h.fields + length (extensions_bytes h) = (written-fields h).3 ∙ ap (backing_name_offset h) is in
             let long : (written_fields h).backing_length ≡ length (b ∷ bs) = (written-fields h).4 ∙ ap (λ n. length (name_bytes n)) is in
             let size : length (name_bytes h.backing_name) ≡ length (b ∷ bs) = ap (λ n. length (name_bytes n)) is in
             let least : 72 ≤ fields_length h.fields = (fields-long h.fields).0 in
@@ -343,9 +343,9 @@ module _ (f : Bytes) (h : Header) where
         go true true is = there h.backing_name refl
           where
             there : (name : Option (List ℕ)) → h.backing_name ≡ name → fields_length h.fields + length (extensions_bytes h) ≤ (written_fields h).backing_offset
-            there (Some x) e = let place : (written_fields h).backing_offset ≡ fields_length h.fields + length (extensions_bytes h) = (written-fields h).3 ∙ ap (name_place h) e in omega (arith, place)
+            there (Some x) e = let place : (written_fields h).backing_offset ≡ fields_length h.fields + length (extensions_bytes h) = (written-fields h).3 ∙ ap (backing_name_offset h) e in omega (arith, place)
             there None e =
-                let place : (written_fields h).backing_offset ≡ 0 = (written-fields h).3 ∙ ap (name_place h) e in
+                let place : (written_fields h).backing_offset ≡ 0 = (written-fields h).3 ∙ ap (backing_name_offset h) e in
                 let none : has_backing_name (written_fields h) ≡ false = rw place refl in
                 let bad : true ≡ false = sym is ∙ none in
                 absurd cc

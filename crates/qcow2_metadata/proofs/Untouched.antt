@@ -2,35 +2,35 @@
 use Rattle.std.proofs.Common.{refl, ℕ, List, [], arith, inl, inr}
 use Rattle.std.specs.Prelude.{Err}
 use Rattle.imago_storage.specs.State.{StorageState}
-use Rattle.imago_storage.specs.Calls.{Mixed}
-use Rattle.imago_storage.specs.Through.{Stops, Put, PutAtOnce}
+use Rattle.imago_storage.specs.Calls.{OldOrNewBytes}
+use Rattle.imago_storage.specs.Through.{EachCrashImage, WriteOutcome, AtomicWriteOutcome}
 use Rattle.imago_storage.specs.declared.fault.Fault.TheVariants.{Memory}
 
-nothing_mixed : (old : List ℕ) (at : ℕ) (bytes : List ℕ) → Mixed old at bytes old
+nothing_mixed : (old : List ℕ) (at : ℕ) (bytes : List ℕ) → OldOrNewBytes old at bytes old
 nothing_mixed old at bytes = record { before = λ k lt. refl; inside = λ k ge lt. inl refl; after = λ k ge. refl }
 
-no_stops : (s : StorageState) (at : ℕ) (bytes : List ℕ) → Stops (Mixed s.bytes at bytes) s s
+no_stops : (s : StorageState) (at : ℕ) (bytes : List ℕ) → EachCrashImage (OldOrNewBytes s.bytes at bytes) s s
 no_stops s at bytes step tells keeps = record { files = []; told = refl; each = λ k d lt. absurd (omega (arith, lt)) }
 
 -- the answer where memory is wanting
-pub put_nothing : {T : Type 0} (s : StorageState) (at : ℕ) (bytes : List ℕ) → Put {T = T} s s at bytes (Err Memory)
+pub put_nothing : {T : Type 0} (s : StorageState) (at : ℕ) (bytes : List ℕ) → WriteOutcome {T = T} s s at bytes (Err Memory)
 put_nothing s at bytes = record {
   answer = record {
     shape = refl;
     cause = refl;
-    kept = inr (record { shape = refl; bytes = refl; refusals = refl; stop = refl; past = refl });
+    refused_or_unchanged = inr (record { shape = refl; bytes = refl; refusals = refl; crash_image = refl; past_crash_images = refl });
     content = λ keeps. nothing_mixed s.bytes at bytes;
     no_shorter = omega arith;
     no_longer = omega arith;
-    later = omega arith;
-    in_step = inr (λ step. step);
-    stops = no_stops s at bytes;
+    counts_not_fallen = omega arith;
+    crash_image_is_bytes = inr (λ step. step);
+    crash_images = no_stops s at bytes;
     as_long = λ step tells keeps. record { files = []; told = refl; each = λ k d lt. absurd (omega (arith, lt)) };
   };
-  stops = no_stops s at bytes;
+  crash_images = no_stops s at bytes;
   shape = refl;
-  later = record { faults = omega arith; refusals = omega arith };
+  counts_not_fallen = record { faults = omega arith; refusals = omega arith };
 }
 
-pub put_nothing_at_once : {T : Type 0} (s : StorageState) (at : ℕ) (bytes : List ℕ) → PutAtOnce {T = T} s s at bytes (Err Memory)
-put_nothing_at_once s at bytes = record { put = put_nothing s at bytes; once = (refl, refl) }
+pub put_nothing_at_once : {T : Type 0} (s : StorageState) (at : ℕ) (bytes : List ℕ) → AtomicWriteOutcome {T = T} s s at bytes (Err Memory)
+put_nothing_at_once s at bytes = record { put = put_nothing s at bytes; single_request = (refl, refl) }

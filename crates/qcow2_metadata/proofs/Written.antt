@@ -6,7 +6,7 @@ use Rattle.std.proofs.lemmas.Bool.Decides.{nat_tests}
 use Rattle.std.specs.Int.{w64, to_be_bytes}
 use Rattle.qcow2_types.specs.Header.{Fields, Header, is_version_3}
 use Rattle.qcow2_types.specs.OnDisk.{v2_bytes, v3_bytes}
-use Rattle.qcow2_types.specs.HeaderBytes.{first_bytes, newer_bytes, fields_bytes, fields_length, written_fields, written, extensions_of, extensions_bytes, name_bytes, name_place, header_bytes}
+use Rattle.qcow2_types.specs.HeaderBytes.{first_bytes, newer_bytes, fields_bytes, fields_length, written_fields, written, extensions_of, extensions_bytes, name_bytes, backing_name_offset, header_bytes}
 use borrow.Rule.Slice.PartMut.{put_mid}
 use Rattle.std.proofs.Math.Seq.{take-append_seam, drop-append_seam}
 use Rattle.std.proofs.lemmas.List.{take-append-drop, length-replicate}
@@ -74,21 +74,21 @@ put-older v2 v3 old first magic older is-first =
     rw (is-first, older-fields v2 v3 magic older, test) refl
 
 -- The fields with the name's place and length, as they are written.
-pub with-place : (H : Header) (name : Option (List ℕ)) (place size fields : ℕ) → H.backing_name ≡ name → place ≡ name_place H name → size ≡ length (name_bytes name) → fields ≡ fields_length H.fields
+pub with-place : (H : Header) (name : Option (List ℕ)) (place size fields : ℕ) → H.backing_name ≡ name → place ≡ backing_name_offset H name → size ≡ length (name_bytes name) → fields ≡ fields_length H.fields
     → ◌≡◌ {A = Fields} (record H.fields { backing_offset = place; backing_length = size; header_length = fields }) (written_fields H)
 unfolding written_fields
 with-place H name place size fields is at long all =
-    let at' : place ≡ name_place H H.backing_name = at ∙ ap (name_place H) (sym is) in
+    let at' : place ≡ backing_name_offset H H.backing_name = at ∙ ap (backing_name_offset H) (sym is) in
     let long' : size ≡ length (name_bytes H.backing_name) = long ∙ ap (λ n. length (name_bytes n)) (sym is) in
     rw (at', long', all) refl
 
 -- where the name is, where there is one, and where there is none
-pub place-some : {T : Type 0} (H : Header) (f : T → List ℕ) (name : Option T) → is_some name ≡ true → fields_length H.fields + length (extensions_bytes H) ≡ name_place H (option_map f name)
+pub place-some : {T : Type 0} (H : Header) (f : T → List ℕ) (name : Option T) → is_some name ≡ true → fields_length H.fields + length (extensions_bytes H) ≡ backing_name_offset H (option_map f name)
 place-some H f (Some x) there = refl
 place-some H f None there = absurd cc
 
 -- where there is none
-pub place-none : {T : Type 0} (H : Header) (f : T → List ℕ) (name : Option T) → is_some name ≡ false → 0 ≡ name_place H (option_map f name)
+pub place-none : {T : Type 0} (H : Header) (f : T → List ℕ) (name : Option T) → is_some name ≡ false → 0 ≡ backing_name_offset H (option_map f name)
 place-none H f (Some x) none = absurd cc
 place-none H f None none = refl
 
@@ -151,10 +151,10 @@ extensions-again H = refl
 fields-again : (H : Header) → written_fields (written H) ≡ written_fields H
 unfolding written_fields
 fields-again H =
-    let place : name_place (written H) H.backing_name ≡ name_place H H.backing_name = split H.backing_name in
+    let place : backing_name_offset (written H) H.backing_name ≡ backing_name_offset H H.backing_name = split H.backing_name in
     rw place refl
   where
-    split : (name : Option (List ℕ)) → name_place (written H) name ≡ name_place H name
+    split : (name : Option (List ℕ)) → backing_name_offset (written H) name ≡ backing_name_offset H name
     split (Some x) = ap (λ (bytes : List ℕ). fields_length H.fields + length bytes) (extensions-again H)
     split None = refl
 

@@ -6,10 +6,10 @@ use Rattle.std.proofs.lemmas.Nat.{be_bytes_8}
 use Rattle.std.proofs.lemmas.Grind.{flat_map-append, same_number_lists}
 use Rattle.std.proofs.lemmas.List.{append-nil}
 use Rattle.std.proofs.lemmas.Bool.{cases_lt}
-use Rattle.qcow2_types.specs.Bytes.{Bytes, bytes_of, be, word, run, splice}
+use Rattle.qcow2_types.specs.Bytes.{Bytes, bytes_of, be, raw_entry, run, splice}
 use Rattle.qcow2_types.proofs.Changes.Over.{table-over}
 use Rattle.qcow2_types.proofs.Numbers.Splices.{be-same, be-of-bytes}
-use Rattle.qcow2_metadata.specs.Tables.{words_in}
+use Rattle.qcow2_metadata.specs.Tables.{raw_entries_in}
 use Rattle.qcow2_types.specs.TableBytes.{AreFit, table_bytes}
 use Rattle.qcow2_metadata.proofs.TableFacts.{words_long, words_at, words_more}
 use Rattle.qcow2_metadata.proofs.TableSteps.{past_end}
@@ -35,8 +35,8 @@ run_more f i (suc m) n =
     ap (λ k. run f i k) next ∙ ap (λ (l : List ℕ). f i ∷ l) (run_more f (i + 1) m n ∙ ap (λ j. run f (i + 1) m ++ run f j n) same)
 
 -- one word
-word_run : (f : Bytes) (p i : ℕ) → ((k : ℕ) → f k < 256) → to_be_bytes w64 (word f p i) ≡ run f (p + 8 * i) 8
-unfolding word
+word_run : (f : Bytes) (p i : ℕ) → ((k : ℕ) → f k < 256) → to_be_bytes w64 (raw_entry f p i) ≡ run f (p + 8 * i) 8
+unfolding raw_entry
 word_run f p i fits =
     let part = run f (p + 8 * i) 8 in
     let same : be f (p + 8 * i) 8 ≡ be (bytes_of (run f (p + 8 * i) 8)) 0 8 = be-same f (bytes_of (run f (p + 8 * i) 8)) (p + 8 * i) 0 8 (λ k inside. let none : 0 + k ≡ k = omega arith in sym (ap (λ j. slice_index (run f (p + 8 * i) 8) j) none ∙ run_at f (p + 8 * i) 8 k inside)) in
@@ -48,22 +48,22 @@ word_run f p i fits =
     (same ∙ be-of-bytes (run f (p + 8 * i) 8))
 
 -- and all of a table
-pub written_back : (f : Bytes) (p n : ℕ) → ((k : ℕ) → f k < 256) → table_bytes (words_in f p n) ≡ run f p (8 * n)
+pub written_back : (f : Bytes) (p n : ℕ) → ((k : ℕ) → f k < 256) → table_bytes (raw_entries_in f p n) ≡ run f p (8 * n)
 unfolding run
 written_back f p zero fits = refl
 written_back f p (suc n) fits =
     let next : suc n ≡ n + 1 = omega arith in
     let size : 8 * n + 8 ≡ 8 * suc n = omega arith in
-    let before : table_bytes (words_in f p n) ≡ run f p (8 * n) = written_back f p n fits in
-    let one : table_bytes (word f p n ∷ []) ≡ run f (p + 8 * n) 8 = append-nil (to_be_bytes w64 (word f p n)) ∙ word_run f p n fits in
-    ap (λ k. table_bytes (words_in f p k)) next
+    let before : table_bytes (raw_entries_in f p n) ≡ run f p (8 * n) = written_back f p n fits in
+    let one : table_bytes (raw_entry f p n ∷ []) ≡ run f (p + 8 * n) 8 = append-nil (to_be_bytes w64 (raw_entry f p n)) ∙ word_run f p n fits in
+    ap (λ k. table_bytes (raw_entries_in f p k)) next
     ∙ (ap table_bytes (words_more f p n)
-    ∙ (flat_map-append (to_be_bytes w64) (words_in f p n) (word f p n ∷ [])
+    ∙ (flat_map-append (to_be_bytes w64) (raw_entries_in f p n) (raw_entry f p n ∷ [])
     ∙ ((cc (before, one)) ∙ (sym (run_more f p (8 * n) 8) ∙ ap (λ k. run f p k) size))))
 
 -- Words are read again where their bytes were written.
-pub read_back : (f : Bytes) (p : ℕ) (words : List ℕ) → AreFit words → words_in (splice f p (table_bytes words)) p (length words) ≡ words
-read_back f p words fit =
-    let g : Bytes = splice f p (table_bytes words) in
-    same_number_lists (words_in (splice f p (table_bytes words)) p (length words)) words (words_long g p (length words))
-    (λ k inside. let lt : k < length words = omega (arith, words_long g p (length words), inside) in words_at g p (length words) k lt ∙ table-over f p words k fit lt)
+pub read_back : (f : Bytes) (p : ℕ) (raw_entries : List ℕ) → AreFit raw_entries → raw_entries_in (splice f p (table_bytes raw_entries)) p (length raw_entries) ≡ raw_entries
+read_back f p raw_entries fit =
+    let g : Bytes = splice f p (table_bytes raw_entries) in
+    same_number_lists (raw_entries_in (splice f p (table_bytes raw_entries)) p (length raw_entries)) raw_entries (words_long g p (length raw_entries))
+    (λ k inside. let lt : k < length raw_entries = omega (arith, words_long g p (length raw_entries), inside) in words_at g p (length raw_entries) k lt ∙ table-over f p raw_entries k fit lt)

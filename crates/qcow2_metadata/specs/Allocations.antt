@@ -4,8 +4,8 @@ use Rattle.qcow2_types.specs.Words.{Mapping, data_at, zeroes, packed}
 use Rattle.qcow2_types.specs.Header.{Fields}
 use Rattle.qcow2_types.specs.References.{of_mapping, meets}
 use Rattle.qcow2_types.specs.Pending.{FreeEntry}
-use Rattle.qcow2_metadata.specs.Places.{IsInReach}
-use Rattle.qcow2_metadata.specs.Tables.{zero_word}
+use Rattle.qcow2_metadata.specs.Places.{IsAddressable}
+use Rattle.qcow2_metadata.specs.Tables.{zero_raw_entry}
 
 -- the clusters that hold the bytes of a range that isn't empty: the first, and how many
 abbrev pub clusters_of_range : ℕ → ℕ → ℕ → ℕ × ℕ
@@ -45,14 +45,14 @@ kept_for_zero (zeroes (Some cluster) copied) = Some (cluster, copied)
 kept_for_zero mapping = None
 
 -- where there is one, words can name it
-abbrev pub IsKeptInReach : ℕ → Option (ℕ × Bool) → Type 0
-IsKeptInReach cluster_bits None = ⊤
-IsKeptInReach cluster_bits (Some kept) = IsInReach cluster_bits kept.0
+abbrev pub IsKeptAddressable : ℕ → Option (ℕ × Bool) → Type 0
+IsKeptAddressable cluster_bits None = ⊤
+IsKeptAddressable cluster_bits (Some kept) = IsAddressable cluster_bits kept.0
 
 -- the word of a guest cluster that is zeroed, where it keeps this cluster
-abbrev pub zeroed_word : ℕ → Option (ℕ × Bool) → ℕ
-zeroed_word cluster_bits None = 1
-zeroed_word cluster_bits (Some kept) = zero_word (kept.0 * 2 ^ cluster_bits) kept.1
+abbrev pub zeroed_raw_entry : ℕ → Option (ℕ × Bool) → ℕ
+zeroed_raw_entry cluster_bits None = 1
+zeroed_raw_entry cluster_bits (Some kept) = zero_raw_entry (kept.0 * 2 ^ cluster_bits) kept.1
 
 -- what is handed back of an allocation that is kept, or isn't
 abbrev pub unkept : Bool → Option (ℕ × ℕ) → Option (ℕ × ℕ)

@@ -2,7 +2,7 @@
 use Rattle.std.specs.Prelude.{ℕ, ◌*◌, Bool, true, false, List, map, slice_set, Option, Some, Result}
 use Rattle.std.specs.List.{range_with_len}
 use Rattle.imago_storage.specs.State.{StorageState}
-use Rattle.imago_storage.specs.Through.{PutAtOnce}
+use Rattle.imago_storage.specs.Through.{AtomicWriteOutcome}
 use Rattle.imago_storage.specs.declared.fault.Fault.{Fault}
 use Rattle.qcow2_types.specs.Bytes.{Bytes}
 use Rattle.qcow2_types.specs.Header.{Fields, cluster_size}
@@ -52,4 +52,4 @@ block_in f h cluster = record {
 pub record BlockPut {T : Type 0} (block : Block) (place : ℕ) (old new : StorageState) (result : Result T Fault) : Type 0 where
   pub bytes : List ℕ
   pub packs : Packs block.order block.counters bytes
-  pub put : PutAtOnce old new place bytes result
+  pub put : AtomicWriteOutcome old new place bytes result

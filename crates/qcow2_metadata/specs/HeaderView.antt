@@ -23,6 +23,6 @@ seen_header h = record {
 }
 
 -- what holds of every header, however it was made
-pub record IsKept (h : Inside) : Type 0 where
+pub record HeaderInvariant (h : Inside) : Type 0 where
   pub parts : IsHeader h.v2 h.v3
   pub ordered : IsTrue (in_order (map seen_name h.feature_names.items))

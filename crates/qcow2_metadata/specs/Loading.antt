@@ -1,6 +1,6 @@
 -- Loading a header, and why it is refused.
 use Rattle.std.specs.Prelude.{◌≡◌, Option, Some, None, Result, Err}
-use Rattle.imago_storage.specs.State.{StorageState, Rose}
+use Rattle.imago_storage.specs.State.{StorageState, HasRisen}
 use Rattle.imago_storage.specs.declared.fault.Fault.{Fault}
 use Rattle.imago_storage.specs.declared.fault.Fault.TheVariants.{Memory, Storage}
 use Rattle.qcow2_types.specs.Bytes.{Bytes, bytes_of}
@@ -31,5 +31,5 @@ RefusedBy defined fault = defined ≡ Err fault
 -- why a header isn't loaded: want of memory, a fault of the storage, or the first rule that its file breaks
 abbrev pub NotLoaded : Result HeaderRecord Fault → StorageState → StorageState → Fault → Type 0
 NotLoaded defined old new Memory = new.faults ≡ old.faults
-NotLoaded defined old new Storage = Rose old.faults new.faults
+NotLoaded defined old new Storage = HasRisen old.faults new.faults
 NotLoaded defined old new fault = (defined ≡ Err fault) × (new.faults ≡ old.faults)

@@ -23,22 +23,22 @@ BacksAt place (Backing offset) = offset ≡ place
 BacksAt place mapping = ⊤
 
 -- the host range of a mapping is one that words can name
-abbrev pub IsNamed : ℕ → L2Mapping → Type 0
-IsNamed cluster_bits (DataFile cluster copied) = cluster * 2 ^ cluster_bits ≤ max_offset
-IsNamed cluster_bits (Backing offset) = ⊤
-IsNamed cluster_bits (Zero None copied) = ⊤
-IsNamed cluster_bits (Zero (Some cluster) copied) = cluster * 2 ^ cluster_bits ≤ max_offset
-IsNamed cluster_bits (Compressed offset length) = (0 < length) × (offset + length < 2 ^ 57)
+abbrev pub IsHostAddressable : ℕ → L2Mapping → Type 0
+IsHostAddressable cluster_bits (DataFile cluster copied) = cluster * 2 ^ cluster_bits ≤ max_offset
+IsHostAddressable cluster_bits (Backing offset) = ⊤
+IsHostAddressable cluster_bits (Zero None copied) = ⊤
+IsHostAddressable cluster_bits (Zero (Some cluster) copied) = cluster * 2 ^ cluster_bits ≤ max_offset
+IsHostAddressable cluster_bits (Compressed offset length) = (0 < length) × (offset + length < 2 ^ 57)
 
 -- whether two marks are the same
-abbrev pub same_mark : Bool → Bool → Bool
-same_mark a b = if a then b else not b
+abbrev pub same_copied : Bool → Bool → Bool
+same_copied a b = if a then b else not b
 
 -- Whether a mapping goes on where the one before ends: of the same kind, at the next cluster of the host or the next place of the
 -- layer below, with the same mark of its cluster, if it has one. What is compressed never does.
 abbrev pub follows : ℕ → L2Mapping → L2Mapping → Bool
-follows cluster_bits (DataFile a x) (DataFile b y) = (b == a + 1) && same_mark x y
+follows cluster_bits (DataFile a x) (DataFile b y) = (b == a + 1) && same_copied x y
 follows cluster_bits (Backing a) (Backing b) = b == a + 2 ^ cluster_bits
 follows cluster_bits (Zero None x) (Zero None y) = true
-follows cluster_bits (Zero (Some a) x) (Zero (Some b) y) = (b == a + 1) && same_mark x y
+follows cluster_bits (Zero (Some a) x) (Zero (Some b) y) = (b == a + 1) && same_copied x y
 follows cluster_bits _ _ = false

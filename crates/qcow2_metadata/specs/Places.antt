@@ -3,13 +3,13 @@ use Rattle.std.specs.Prelude.{ℕ, ◌*◌, ◌^◌, ◌≤◌, Option, Some, No
 use Rattle.qcow2_types.specs.Words.{max_offset}
 
 -- a cluster that words can name
-abbrev pub IsInReach : ℕ → ℕ → Type 0
-IsInReach cluster_bits cluster = cluster * 2 ^ cluster_bits ≤ max_offset
+abbrev pub IsAddressable : ℕ → ℕ → Type 0
+IsAddressable cluster_bits cluster = cluster * 2 ^ cluster_bits ≤ max_offset
 
 -- there is one, and words can name it
 abbrev pub IsPlaced : ℕ → Option ℕ → Type 0
 IsPlaced cluster_bits None = ⊥
-IsPlaced cluster_bits (Some cluster) = IsInReach cluster_bits cluster
+IsPlaced cluster_bits (Some cluster) = IsAddressable cluster_bits cluster
 
 -- its first byte; 0 where there is none
 abbrev pub place_of : ℕ → Option ℕ → ℕ

@@ -1,7 +1,7 @@
 // Whole clusters of a file.
 ghost use Rattle.std.specs.Prelude.{◌≡◌, ℕ, ◌+◌, ◌%◌, ◌^◌, ◌<◌, ◌≤◌, length, slice_index, replicate, IfOk};
-ghost use Rattle.imago_storage.specs.Calls.{CountsFaults, Kept, Reads};
-ghost use Rattle.imago_storage.specs.Through.{PutAtOnce};
+ghost use Rattle.imago_storage.specs.Calls.{CountsFaults, UnchangedButFaults, Reads};
+ghost use Rattle.imago_storage.specs.Through.{AtomicWriteOutcome};
 ghost use Rattle.qcow2_metadata.specs.Places.{IsPlaced, place_of};
 
 use crate::reading::read_at;
@@ -38,7 +38,7 @@ pub fn read_cluster<S: Storage>(
     requires fits { offset + size ≤ 2 ^ 63 }
     ensures read { IfOk result (λ bytes. Reads (S.state image.old).bytes offset bytes.items) }
     ensures whole { IfOk result (λ bytes. length bytes.items ≡ size) }
-    ensures kept { Kept (S.state image.old) (S.state image.new) }
+    ensures unchanged_but_faults { UnchangedButFaults (S.state image.old) (S.state image.new) }
     ensures faults { CountsFaults (S.state image.old).faults (S.state image.new).faults result }
 {
     let mut bytes = zeroes(alloc, size)?;
@@ -57,7 +57,7 @@ pub fn write_cluster<S: Storage>(
     requires size { length bytes.now ≡ 2 ^ cluster_bits }
     requires whole { offset % 2 ^ cluster_bits ≡ 0 }
     requires fits { offset + 2 ^ cluster_bits ≤ 2 ^ 63 }
-    ensures put { PutAtOnce (S.state image.old) (S.state image.new) offset bytes.now result }
+    ensures put { AtomicWriteOutcome (S.state image.old) (S.state image.new) offset bytes.now result }
     ensures fit { (k : ℕ) → slice_index bytes.now k < 256 }
 {
     image.write(alloc, bytes, offset)

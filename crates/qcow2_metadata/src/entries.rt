@@ -4,14 +4,15 @@
 ghost use Rattle.std.specs.Prelude.{◌≡◌, refl, ℕ, ◌+◌, ◌-◌, ◌<◌, List, map, ◌*◌, ◌%◌, ◌^◌, ◌≤◌, ◌↔◌, IsTrue, IsOk, IfOk, IsOkUnless};
 ghost use Rattle.qcow2_types.specs.Header.{layout_of};
 ghost use Rattle.qcow2_types.specs.Words.{bits_at, has_bit as has_bit_of, is_copied as is_copied_of, table_offset, block_offset};
-ghost use Rattle.qcow2_metadata.specs.Tables.{Kind, l1_words, l2_words, block_words, max_entries, word_sound, l1_reserved, l2_reserved, block_reserved, place_or_none, named_place, packed_range as packed_range_of, zero_word};
+ghost use Rattle.qcow2_metadata.specs.Tables.{Kind, l1_table_kind, l2_table_kind, refcount_table_kind, max_entries, raw_entry_valid, l1_reserved, l2_reserved, block_reserved, offset_or_none, data_offset, compressed_byte_range as packed_range_of, zero_raw_entry};
 ghost use Rattle.std.proofs.Common.{sym};
 ghost use Rattle.std.proofs.lemmas.List.{map-id};
 
 use crate::Header;
 use crate::layout::TableLayout;
 use crate::words::{
-    bits, block_offset_in, has_bit, is_block_word, is_l1_word, l2_mapping, offset_in, packed_range,
+    bits, block_offset_in, compressed_byte_range, has_bit, is_l1_entry, is_reftable_entry,
+    l2_mapping, offset_in,
 };
 use imago_storage::Fault;
 use qcow2_types::HostOffset;
@@ -20,10 +21,10 @@ use std::marker::Model;
 /// A word of a table. Contracts see the number.
 pub trait TableEntry: Copy {
     /// The number.
-    ghost word: { Self → ℕ };
+    ghost raw_entry: { Self → ℕ };
 
     /// The numbers of a list of them.
-    ghost words: { List Self → List ℕ };
+    ghost raw_entries: { List Self → List ℕ };
 
     /// The kind of tables that it stands in.
     ghost kind: { Kind };
@@ -40,19 +41,19 @@ pub trait TableEntry: Copy {
     ///
     /// Refused with `Fault::DamagedTable` exactly where the format gives the word no meaning.
     fn try_from_plain(value: u64, header: &Header) -> Result<Self, Fault>
-        ensures possible { IsOk result ↔ IsTrue (word_sound kind (layout_of header.now.fields) value) }
-        ensures value { IfOk result (λ entry. word entry ≡ value) }
+        ensures possible { IsOk result ↔ IsTrue (raw_entry_valid kind (layout_of header.now.fields) value) }
+        ensures value { IfOk result (λ entry. raw_entry entry ≡ value) }
         ensures refused { IsOkUnless result Fault.DamagedTable };
 
     /// The word's value.
     fn to_plain(&self) -> u64
-        ensures { result ≡ word self.now };
+        ensures { result ≡ raw_entry self.now };
 
     /// The word 0, which names nothing.
     fn empty() -> Self
-        ensures { word result ≡ 0 };
+        ensures { raw_entry result ≡ 0 };
 
-    ghost each: { (entries : List Self) → words entries ≡ map word entries };
+    ghost each: { (entries : List Self) → raw_entries entries ≡ map raw_entry entries };
 
     ghost few: { MAX_ENTRIES ≡ max_entries kind };
 
@@ -96,11 +97,11 @@ impl Model for RefTableEntry {
 }
 
 impl TableEntry for L1Entry {
-    ghost word = { λ e. e };
+    ghost raw_entry = { λ e. e };
 
-    ghost words = { λ es. es };
+    ghost raw_entries = { λ es. es };
 
-    ghost kind = { l1_words };
+    ghost kind = { l1_table_kind };
 
     ghost MAX_ENTRIES = { 4194304 };
 
@@ -109,7 +110,7 @@ impl TableEntry for L1Entry {
     const MAX_ENTRIES: usize = 4_194_304;
 
     fn try_from_plain(value: u64, header: &Header) -> Result<L1Entry, Fault> {
-        if is_l1_word(value, header.cluster_bits()) {
+        if is_l1_entry(value, header.cluster_bits()) {
             Ok(L1Entry(value))
         } else {
             Err(Fault::DamagedTable)
@@ -132,11 +133,11 @@ impl TableEntry for L1Entry {
 }
 
 impl TableEntry for L2Entry {
-    ghost word = { λ e. e };
+    ghost raw_entry = { λ e. e };
 
-    ghost words = { λ es. es };
+    ghost raw_entries = { λ es. es };
 
-    ghost kind = { l2_words };
+    ghost kind = { l2_table_kind };
 
     ghost MAX_ENTRIES = { 262144 };
 
@@ -171,11 +172,11 @@ impl TableEntry for L2Entry {
 }
 
 impl TableEntry for RefTableEntry {
-    ghost word = { λ e. e };
+    ghost raw_entry = { λ e. e };
 
-    ghost words = { λ es. es };
+    ghost raw_entries = { λ es. es };
 
-    ghost kind = { block_words };
+    ghost kind = { refcount_table_kind };
 
     ghost MAX_ENTRIES = { 1048576 };
 
@@ -184,7 +185,7 @@ impl TableEntry for RefTableEntry {
     const MAX_ENTRIES: usize = 1_048_576;
 
     fn try_from_plain(value: u64, header: &Header) -> Result<RefTableEntry, Fault> {
-        if is_block_word(value, header.cluster_bits()) {
+        if is_reftable_entry(value, header.cluster_bits()) {
             Ok(RefTableEntry(value))
         } else {
             Err(Fault::DamagedTable)
@@ -208,7 +209,7 @@ impl TableEntry for RefTableEntry {
 
 // A place, where 0 is none.
 fn place_if_some(offset: u64) -> Option<HostOffset>
-    ensures { result ≡ place_or_none offset }
+    ensures { result ≡ offset_or_none offset }
 {
     if offset == 0 {
         None
@@ -228,7 +229,7 @@ impl L1Entry {
 
     /// Where the L2 table stands, or none where the word names none: bits 9 to 55.
     pub fn l2_offset(&self) -> Option<HostOffset>
-        ensures { result ≡ place_or_none (table_offset self.now) }
+        ensures { result ≡ offset_or_none (table_offset self.now) }
     {
         place_if_some(offset_in(self.0))
     }
@@ -267,7 +268,7 @@ impl L2Entry {
     /// The word of a guest cluster that reads as zeroes, for which the host cluster at this place is kept.
     pub fn zero_at(offset: HostOffset, copied: bool) -> L2Entry
         requires { offset < 2 ^ 63 - 1 }
-        ensures { result ≡ zero_word offset copied }
+        ensures { result ≡ zero_raw_entry offset copied }
     {
         if copied {
             L2Entry((1 << 63) + offset.0 + 1)
@@ -279,7 +280,7 @@ impl L2Entry {
     /// Where the host cluster of a standard word begins, or none where it names none: bits 9 to 55. In an external data file
     /// a word with the copied bit names the place 0, too.
     pub fn cluster_offset(&self, external_data_file: bool) -> Option<HostOffset>
-        ensures { result ≡ named_place external_data_file self.now }
+        ensures { result ≡ data_offset external_data_file self.now }
     {
         let offset = offset_in(self.0);
         if offset != 0 || external_data_file && self.is_copied() {
@@ -342,7 +343,7 @@ impl L2Entry {
         ensures { result ≡ packed_range_of cluster_bits self.now }
     {
         if self.is_compressed() {
-            let (place, length) = packed_range(self.0, cluster_bits);
+            let (place, length) = compressed_byte_range(self.0, cluster_bits);
             Some((HostOffset(place), length))
         } else {
             None
@@ -360,7 +361,7 @@ impl RefTableEntry {
 
     /// Where the refcount block stands, or none where the word names none: bits 9 to 63.
     pub fn refblock_offset(&self) -> Option<HostOffset>
-        ensures { result ≡ place_or_none (block_offset self.now) }
+        ensures { result ≡ offset_or_none (block_offset self.now) }
     {
         place_if_some(block_offset_in(self.0))
     }

@@ -61,7 +61,7 @@ impl<'a> Extension<'a> {
 #[tactic(auto, using(crate::proofs::RunLemmas::run_slice), unfolding(qcow2_types::specs::Header::extension_at))]
 fn extension_in(bytes: &[u8], area_end: usize, at: usize) -> Result<Option<Extension<'_>>, Fault>
     requires inside { area_end ≤ length bytes.now }
-    requires near { at < 2 ^ 40 }
+    requires offset_bounded { at < 2 ^ 40 }
     ensures ok { IfOk result (λ found. extension_at (bytes_of bytes.now) area_end at ≡ Ok (option_map seen_extension found)) }
     ensures err { IfErr result (λ e. extension_at (bytes_of bytes.now) area_end at ≡ Err e) }
     ensures within { IfOk result (λ found. IfSome found (λ x. at + 8 + length x.bytes.now ≤ area_end)) }
@@ -88,7 +88,7 @@ pub(crate) fn known_extensions(
     area_end: usize,
 ) -> Result<KnownExtensions<'_>, Fault>
     requires inside { area_end ≤ length bytes.now }
-    requires near { start < 2 ^ 32 }
+    requires offset_bounded { start < 2 ^ 32 }
     requires small { length bytes.now < 2 ^ 32 }
     ensures ok { IfOk result (λ known. known_of (extensions_at (length bytes.now / 8) (bytes_of bytes.now) area_end start)
         ≡ Ok (seen_known known)) }

@@ -1,7 +1,7 @@
 // The header of an image.
 ghost use Rattle.std.specs.Prelude.{◌≡◌, ◌+◌, ◌-◌, ◌^◌, ◌≤◌, ◌↔◌, ◌⊎◌, [], IsOk, IsOkUnless};
 ghost use Rattle.std.specs.Option.{option_copied};
-ghost use Rattle.qcow2_types.specs.Header.{Shaped, cluster_size as cluster_size_of, words_of_cluster, refcount_table_entries, has_external_data};
+ghost use Rattle.qcow2_types.specs.Header.{Shaped, cluster_size as cluster_size_of, entries_of_cluster, refcount_table_entries, has_external_data};
 ghost use Rattle.qcow2_types.specs.Counts.{counters_of_block};
 ghost use Rattle.qcow2_types.specs.Features.{kind_of};
 ghost use Rattle.qcow2_metadata.specs.Features.{name_of};
@@ -45,11 +45,11 @@ impl Model for Header {
 
     ghost Value = { HeaderRecord };
 
-    ghost use Rattle.qcow2_metadata.specs.HeaderView.{seen_header, IsKept};
+    ghost use Rattle.qcow2_metadata.specs.HeaderView.{seen_header, HeaderInvariant};
 
     ghost view = { seen_header };
 
-    ghost invariant = { IsKept };
+    ghost invariant = { HeaderInvariant };
 }
 
 impl Header {
@@ -104,7 +104,7 @@ impl Header {
 
     /// The number of words of an L2 table, which fills a cluster.
     pub fn l2_entries(&self) -> usize
-        ensures { result ≡ words_of_cluster self.now.fields }
+        ensures { result ≡ entries_of_cluster self.now.fields }
     {
         self.cluster_size() / 8
     }

@@ -1,24 +1,24 @@
 // The L1 table. A word of it is an L1 entry in qemu and imago.
 ghost use Rattle.std.specs.Prelude.{◌≡◌, ℕ, ◌+◌, ◌*◌, ◌^◌, ◌<◌, ◌≤◌, ◌-◌, ◌↔◌, IsTrue, IsOk, IfOk, IsErrOf, IsOkUnless, length, min, refl, Some, None, true, false};
 ghost use Rattle.qcow2_types.specs.Header.{layout_of};
-ghost use Rattle.qcow2_metadata.specs.Tables.{IsNamable, grown_l1, with_word, table_place};
+ghost use Rattle.qcow2_metadata.specs.Tables.{CanBeReferenced, grown_l1, with_raw_entry, table_start};
 
 use crate::Header;
 use crate::entries::L1Entry;
+use crate::entry_table::EntryTable;
 use crate::l2_table::L2Table;
 use crate::table::{Table, first_byte, longer_content, spend};
-use crate::word_table::WordTable;
 use imago_storage::Fault;
 use qcow2_types::{HostOffset, PendingClusters};
 use std::alloc::Global;
 
 /// The L1 table: each of its words says where an L2 table stands. It is kept in memory.
-pub type L1Table = WordTable<L1Entry>;
+pub type L1Table = EntryTable<L1Entry>;
 
 impl L1Table {
     /// Whether there is a word at an index.
     pub fn in_bounds(&self, index: usize) -> bool
-        ensures { IsTrue result ↔ (index < length self.now.words) }
+        ensures { IsTrue result ↔ (index < length self.now.raw_entries) }
     {
         index < self.entries()
     }
@@ -37,7 +37,7 @@ impl L1Table {
         requires bits { self.now.layout.cluster_bits ≡ header.now.fields.cluster_bits }
         ensures ok { IfOk result (λ table. table ≡ grown_l1 (layout_of header.now.fields) self.now at) }
         ensures limit { 2 ^ 22 < at + 1 → IsErrOf result (Fault.Limit (min (at + 1) (2 ^ 64 - 1))) }
-        ensures few { at + 1 ≤ 2 ^ 22 → IsOkUnless result Fault.Memory }
+        ensures ok_if_small { at + 1 ≤ 2 ^ 22 → IsOkUnless result Fault.Memory }
     {
         if at >= L1Table::MAX_ENTRIES {
             return Err(Fault::Limit((at as u64).saturating_add(1)));
@@ -55,10 +55,10 @@ impl L1Table {
         table: &L2Table,
         pending: Option<PendingClusters>,
     )
-        requires bounds { index < length self.old.words }
+        requires bounds { index < length self.old.raw_entries }
         requires bits { table.now.layout.cluster_bits ≡ self.old.layout.cluster_bits }
-        requires namable { IsNamable self.old.layout.cluster_bits table.now.cluster }
-        ensures { self.new ≡ with_word self.old index (2 ^ 63 + table_place table.now) }
+        requires can_be_referenced { CanBeReferenced self.old.layout.cluster_bits table.now.cluster }
+        ensures { self.new ≡ with_raw_entry self.old index (2 ^ 63 + table_start table.now) }
     {
         let place = first_byte(table);
         self.set_entry(index, L1Entry::naming(HostOffset(place)));

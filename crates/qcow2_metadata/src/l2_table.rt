@@ -1,22 +1,22 @@
 // L2 tables. A word of one is an L2 entry in qemu and imago.
 ghost use Rattle.std.specs.Prelude.{◌≡◌, ℕ, ◌+◌, ◌*◌, ◌%◌, ◌^◌, ◌<◌, ◌≤◌, ◌↔◌, ◌⊎◌, IsTrue, IsOk, OnOk, OnErr, IfOk, IsOkUnless, MatchOption, length, map, replicate, refl, Some, None, true, false};
 ghost use Rattle.std.specs.Option.{is_some};
-ghost use Rattle.qcow2_types.specs.Header.{layout_of, words_of_cluster};
+ghost use Rattle.qcow2_types.specs.Header.{layout_of, entries_of_cluster};
 ghost use Rattle.qcow2_types.specs.Entries.{l2_entries};
 ghost use Rattle.qcow2_types.specs.Words.{mapping_of};
-ghost use Rattle.imago_storage.specs.Through.{PutAtOnce};
-ghost use Rattle.qcow2_metadata.specs.Places.{IsInReach};
-ghost use Rattle.qcow2_metadata.specs.Tables.{mapping_in, with_word, shared_word};
+ghost use Rattle.imago_storage.specs.Through.{AtomicWriteOutcome};
+ghost use Rattle.qcow2_metadata.specs.Places.{IsAddressable};
+ghost use Rattle.qcow2_metadata.specs.Tables.{mapping_in, with_raw_entry, shared_raw_entry};
 ghost use Rattle.qcow2_types.specs.TableBytes.{table_bytes};
 
 use crate::Header;
 use crate::entries::{L2Entry, TableEntry};
+use crate::entry_table::EntryTable;
 use crate::layout::TableLayout;
 use crate::mapping::{
     L2Mapping, allocation, kept_cluster, to_free, to_free_unless, to_free_unless_kept, zero_entry,
 };
 use crate::table::{Table, spend};
-use crate::word_table::WordTable;
 use crate::words::l2_mapping;
 use imago_storage::{Fault, Storage};
 use qcow2_types::{
@@ -26,11 +26,11 @@ use qcow2_types::{
 use std::alloc::{AllocFailed, Global};
 
 /// An L2 table: each of its words says where the bytes of a guest cluster are. It fills one cluster, and is kept in memory.
-pub type L2Table = WordTable<L2Entry>;
+pub type L2Table = EntryTable<L2Entry>;
 
 impl L2Table {
-    ghost use Rattle.qcow2_metadata.specs.MappingView.{mapping_seen, BacksAt, IsNamed};
-    ghost use Rattle.qcow2_metadata.specs.Allocations.{allocation_of, freed, replaced, kept_where, zeroed_word, unkept, newly, packed_part, Conserves, IsKeptInReach};
+    ghost use Rattle.qcow2_metadata.specs.MappingView.{mapping_seen, BacksAt, IsHostAddressable};
+    ghost use Rattle.qcow2_metadata.specs.Allocations.{allocation_of, freed, replaced, kept_where, zeroed_raw_entry, unkept, newly, packed_part, Conserves, IsKeptAddressable};
 
     /// A table for an image with this header whose words are all 0: each guest cluster is unmapped. It has no cluster, and is
     /// modified.
@@ -39,24 +39,24 @@ impl L2Table {
     pub fn new_cleared(alloc: Global, header: &Header) -> Result<L2Table, Fault>
         ensures ok { IfOk result (λ table. table ≡ record {
           layout = layout_of header.now.fields;
-          words = replicate (words_of_cluster header.now.fields) 0;
+          raw_entries = replicate (entries_of_cluster header.now.fields) 0;
           cluster = None;
           modified = true;
         }) }
         ensures err { IsOkUnless result Fault.Memory }
     {
         let mut content = Vec::with_capacity(alloc, header.l2_entries())?;
-        for _word in 0..header.l2_entries() {
+        for _raw_entry in 0..header.l2_entries() {
             content.push(L2Entry::empty())?;
         }
-        Ok(L2Table::of_words(content, TableLayout::of_header(header)))
+        Ok(L2Table::of_raw_entries(content, TableLayout::of_header(header)))
     }
 
     // What the word at an index means. The layer below is read at `backing_offset`.
     fn mapping_at(&self, index: usize, backing_offset: u64) -> L2Mapping
-        requires { index < length self.now.words }
+        requires { index < length self.now.raw_entries }
         ensures means { mapping_seen result ≡ mapping_in self.now index }
-        ensures named { IsNamed self.now.layout.cluster_bits result }
+        ensures named { IsHostAddressable self.now.layout.cluster_bits result }
         ensures backs { BacksAt backing_offset result }
     {
         match l2_mapping(self.get(index).to_plain(), self.layout(), backing_offset) {
@@ -69,7 +69,7 @@ impl L2Table {
     pub fn get_mapping(&self, lookup_cluster: GuestCluster) -> L2Mapping
         requires { lookup_cluster * 2 ^ self.now.layout.cluster_bits < 2 ^ 64 }
         ensures means { mapping_seen result ≡ mapping_in self.now (lookup_cluster % l2_entries self.now.layout.cluster_bits) }
-        ensures named { IsNamed self.now.layout.cluster_bits result }
+        ensures named { IsHostAddressable self.now.layout.cluster_bits result }
         ensures backs { BacksAt (lookup_cluster * 2 ^ self.now.layout.cluster_bits) result }
     {
         let cluster_bits = self.cluster_bits();
@@ -95,9 +95,9 @@ impl L2Table {
         cluster: HostCluster,
     ) -> Result<(), Fault>
         requires placed { self.old.cluster ≡ Some cluster }
-        requires reach { IsInReach self.old.layout.cluster_bits cluster }
-        ensures request { IsTrue self.old.modified → PutAtOnce (S.state image.old) (S.state image.new)
-            (cluster * 2 ^ self.old.layout.cluster_bits) (table_bytes self.old.words) result }
+        requires reach { IsAddressable self.old.layout.cluster_bits cluster }
+        ensures request { IsTrue self.old.modified → AtomicWriteOutcome (S.state image.old) (S.state image.new)
+            (cluster * 2 ^ self.old.layout.cluster_bits) (table_bytes self.old.raw_entries) result }
         ensures nothing { self.old.modified ≡ false → IsOk result × (S.state image.new ≡ S.state image.old) }
         ensures ok { OnOk result (self.new ≡ record self.old { modified = false }) }
         ensures err { OnErr result (self.new ≡ record self.old { modified = true }) }
@@ -119,7 +119,7 @@ impl L2Table {
     /// Refused with `Fault::Memory` alone.
     pub fn clone(&self, alloc: Global) -> Result<L2Table, Fault>
         ensures ok { IfOk result (λ table. table ≡ record self.now
-            { words = map (shared_word self.now.layout) self.now.words; cluster = None; modified = true }) }
+            { raw_entries = map (shared_raw_entry self.now.layout) self.now.raw_entries; cluster = None; modified = true }) }
         ensures err { IsOkUnless result Fault.Memory }
     {
         let mut content = Vec::with_capacity(alloc, self.entries())?;
@@ -130,7 +130,7 @@ impl L2Table {
                 entry.without_copied()
             })?;
         }
-        Ok(L2Table::of_words(content, self.layout()))
+        Ok(L2Table::of_raw_entries(content, self.layout()))
     }
 
     /// Where the compressed bytes of a guest cluster are, or none where it isn't compressed. Nothing is decompressed.
@@ -158,7 +158,7 @@ impl L2Table {
 
     // The host clusters of the word at an index.
     fn allocation_at(&self, index: usize) -> Option<(HostCluster, ClusterCount)>
-        requires { index < length self.now.words }
+        requires { index < length self.now.raw_entries }
         ensures { result ≡ allocation_of self.now.layout.cluster_bits (mapping_in self.now index) }
     {
         allocation(self.mapping_at(index, 0), self.cluster_bits())
@@ -166,9 +166,9 @@ impl L2Table {
 
     // The host cluster of the word at an index that is kept when its guest cluster is zeroed, with its copied mark.
     fn kept_at(&self, index: usize, keep: bool) -> Option<(HostCluster, bool)>
-        requires { index < length self.now.words }
-        ensures kept { result ≡ kept_where keep (mapping_in self.now index) }
-        ensures reach { IsKeptInReach self.now.layout.cluster_bits result }
+        requires { index < length self.now.raw_entries }
+        ensures kept_host { result ≡ kept_where keep (mapping_in self.now index) }
+        ensures reach { IsKeptAddressable self.now.layout.cluster_bits result }
     {
         kept_cluster(self.mapping_at(index, 0), keep, self.cluster_bits())
     }
@@ -181,10 +181,10 @@ impl L2Table {
         cluster: HostCluster,
         pending: Option<PendingClusters>,
     ) -> Option<ClustersToFreeEntry>
-        requires bounds { index < length self.old.words }
-        requires reach { IsInReach self.old.layout.cluster_bits cluster }
-        requires some { (0 < cluster) ⊎ (self.old.layout.external_data ≡ true) }
-        ensures table { self.new ≡ with_word self.old index (2 ^ 63 + cluster * 2 ^ self.old.layout.cluster_bits) }
+        requires bounds { index < length self.old.raw_entries }
+        requires reach { IsAddressable self.old.layout.cluster_bits cluster }
+        requires cluster_nonzero { (0 < cluster) ⊎ (self.old.layout.external_data ≡ true) }
+        ensures table { self.new ≡ with_raw_entry self.old index (2 ^ 63 + cluster * 2 ^ self.old.layout.cluster_bits) }
         ensures back { result ≡ freed (replaced cluster (allocation_of self.old.layout.cluster_bits (mapping_in self.old index))) }
         ensures conserved { Conserves self.old.layout.cluster_bits (mapping_in self.old index)
             (mapping_of self.old.layout (2 ^ 63 + cluster * 2 ^ self.old.layout.cluster_bits)) result
@@ -199,8 +199,8 @@ impl L2Table {
 
     // Makes the word at an index 0. It answers the clusters that the word named before, to be freed.
     fn discard_at(&mut self, index: usize) -> Option<ClustersToFreeEntry>
-        requires { index < length self.old.words }
-        ensures table { self.new ≡ with_word self.old index 0 }
+        requires { index < length self.old.raw_entries }
+        ensures table { self.new ≡ with_raw_entry self.old index 0 }
         ensures back { result ≡ freed (allocation_of self.old.layout.cluster_bits (mapping_in self.old index)) }
         ensures conserved { Conserves self.old.layout.cluster_bits (mapping_in self.old index)
             (mapping_of self.old.layout 0) result (λ c. 0) }
@@ -218,17 +218,17 @@ impl L2Table {
         index: usize,
         keep_allocation: bool,
     ) -> Result<Option<ClustersToFreeEntry>, Fault>
-        requires { index < length self.old.words }
+        requires { index < length self.old.raw_entries }
         ensures possible { IsOk result ↔ (self.old.layout.version ≡ 3) }
         ensures refused { IsOkUnless result Fault.VersionLimit }
         ensures stays { OnErr result (self.new ≡ self.old) }
-        ensures table { OnOk result (self.new ≡ with_word self.old index
-            (zeroed_word self.old.layout.cluster_bits (kept_where keep_allocation (mapping_in self.old index)))) }
+        ensures table { OnOk result (self.new ≡ with_raw_entry self.old index
+            (zeroed_raw_entry self.old.layout.cluster_bits (kept_where keep_allocation (mapping_in self.old index)))) }
         ensures back { IfOk result (λ entry. entry ≡ freed
             (unkept (is_some (kept_where keep_allocation (mapping_in self.old index)))
             (allocation_of self.old.layout.cluster_bits (mapping_in self.old index)))) }
         ensures conserved { IfOk result (λ entry. Conserves self.old.layout.cluster_bits (mapping_in self.old index)
-            (mapping_of self.old.layout (zeroed_word self.old.layout.cluster_bits (kept_where keep_allocation (mapping_in self.old index))))
+            (mapping_of self.old.layout (zeroed_raw_entry self.old.layout.cluster_bits (kept_where keep_allocation (mapping_in self.old index))))
             entry (λ c. 0)) }
     {
         if self.layout().version() != 3 {
@@ -276,15 +276,15 @@ pub struct L2TableWriteGuard<'a> {
 }
 
 impl L2TableWriteGuard<'_> {
-    ghost use Rattle.qcow2_metadata.specs.MappingView.{mapping_seen, BacksAt, IsNamed};
-    ghost use Rattle.qcow2_metadata.specs.Allocations.{allocation_of, freed, replaced, kept_where, zeroed_word, unkept, newly, packed_part, Conserves, IsKeptInReach};
+    ghost use Rattle.qcow2_metadata.specs.MappingView.{mapping_seen, BacksAt, IsHostAddressable};
+    ghost use Rattle.qcow2_metadata.specs.Allocations.{allocation_of, freed, replaced, kept_where, zeroed_raw_entry, unkept, newly, packed_part, Conserves, IsKeptAddressable};
 
     /// Where the bytes of a guest cluster are. Where they are in the layer below, they are there at the cluster's own place.
     pub fn get_mapping(&self, lookup_cluster: GuestCluster) -> L2Mapping
         requires { lookup_cluster * 2 ^ self.now.table.now.layout.cluster_bits < 2 ^ 64 }
         ensures means { mapping_seen result ≡ mapping_in self.now.table.now
             (lookup_cluster % l2_entries self.now.table.now.layout.cluster_bits) }
-        ensures named { IsNamed self.now.table.now.layout.cluster_bits result }
+        ensures named { IsHostAddressable self.now.table.now.layout.cluster_bits result }
         ensures backs { BacksAt (lookup_cluster * 2 ^ self.now.table.now.layout.cluster_bits) result }
     {
         self.table.get_mapping(lookup_cluster)
@@ -313,10 +313,10 @@ impl L2TableWriteGuard<'_> {
         cluster: HostCluster,
         pending: Option<PendingClusters>,
     ) -> Option<ClustersToFreeEntry>
-        requires bounds { index < length self.old.table.now.words }
-        requires reach { IsInReach self.old.table.now.layout.cluster_bits cluster }
-        requires some { (0 < cluster) ⊎ (self.old.table.now.layout.external_data ≡ true) }
-        ensures table { self.new.table.now ≡ with_word self.old.table.now index
+        requires bounds { index < length self.old.table.now.raw_entries }
+        requires reach { IsAddressable self.old.table.now.layout.cluster_bits cluster }
+        requires cluster_nonzero { (0 < cluster) ⊎ (self.old.table.now.layout.external_data ≡ true) }
+        ensures table { self.new.table.now ≡ with_raw_entry self.old.table.now index
             (2 ^ 63 + cluster * 2 ^ self.old.table.now.layout.cluster_bits) }
         ensures back { result ≡ freed (replaced cluster
             (allocation_of self.old.table.now.layout.cluster_bits (mapping_in self.old.table.now index))) }
@@ -340,19 +340,19 @@ impl L2TableWriteGuard<'_> {
         index: usize,
         keep_allocation: bool,
     ) -> Result<Option<ClustersToFreeEntry>, Fault>
-        requires { index < length self.old.table.now.words }
+        requires { index < length self.old.table.now.raw_entries }
         ensures possible { IsOk result ↔ (self.old.table.now.layout.version ≡ 3) }
         ensures refused { IsOkUnless result Fault.VersionLimit }
         ensures stays { OnErr result (self.new.table.now ≡ self.old.table.now) }
         ensures same { self.new.table.ghost_name ≡ self.old.table.ghost_name }
         ensures table { OnOk result (self.new.table.now
-            ≡ with_word self.old.table.now index (zeroed_word self.old.table.now.layout.cluster_bits
+            ≡ with_raw_entry self.old.table.now index (zeroed_raw_entry self.old.table.now.layout.cluster_bits
             (kept_where keep_allocation (mapping_in self.old.table.now index)))) }
         ensures back { IfOk result (λ entry. entry ≡ freed
             (unkept (is_some (kept_where keep_allocation (mapping_in self.old.table.now index)))
             (allocation_of self.old.table.now.layout.cluster_bits (mapping_in self.old.table.now index)))) }
         ensures conserved { IfOk result (λ entry. Conserves self.old.table.now.layout.cluster_bits (mapping_in self.old.table.now index)
-            (mapping_of self.old.table.now.layout (zeroed_word self.old.table.now.layout.cluster_bits
+            (mapping_of self.old.table.now.layout (zeroed_raw_entry self.old.table.now.layout.cluster_bits
             (kept_where keep_allocation (mapping_in self.old.table.now index)))) entry (λ c. 0)) }
     {
         self.table.zero_at(index, keep_allocation)
@@ -362,8 +362,8 @@ impl L2TableWriteGuard<'_> {
     ///
     /// It answers the clusters that the word named before, to be freed.
     pub fn discard_cluster(&mut self, index: usize) -> Option<ClustersToFreeEntry>
-        requires { index < length self.old.table.now.words }
-        ensures table { self.new.table.now ≡ with_word self.old.table.now index 0 }
+        requires { index < length self.old.table.now.raw_entries }
+        ensures table { self.new.table.now ≡ with_raw_entry self.old.table.now index 0 }
         ensures same { self.new.table.ghost_name ≡ self.old.table.ghost_name }
         ensures back { result ≡ freed (allocation_of self.old.table.now.layout.cluster_bits (mapping_in self.old.table.now index)) }
         ensures conserved { Conserves self.old.table.now.layout.cluster_bits (mapping_in self.old.table.now index)

@@ -1,7 +1,7 @@
 // What the words of L2 tables mean, and the host clusters that they take: in qemu each has a `QCow2ClusterType`.
 ghost use Rattle.std.specs.Prelude.{◌≡◌, ◌==◌, ℕ, Bool, Some, None, ◌+◌, ◌<◌, ◌^◌, ◌≤◌};
-ghost use Rattle.qcow2_metadata.specs.MappingView.{mapping_seen, IsNamed, follows};
-ghost use Rattle.qcow2_metadata.specs.Allocations.{allocation_of, clusters_of_range as clusters_of_range_of, freed, replaced, unkept, kept_where, zeroed_word, IsKeptInReach};
+ghost use Rattle.qcow2_metadata.specs.MappingView.{mapping_seen, IsHostAddressable, follows};
+ghost use Rattle.qcow2_metadata.specs.Allocations.{allocation_of, clusters_of_range as clusters_of_range_of, freed, replaced, unkept, kept_where, zeroed_raw_entry, IsKeptAddressable};
 
 use crate::entries::L2Entry;
 use qcow2_types::{ClusterCount, ClustersToFreeEntry, HostCluster, HostOffset};
@@ -125,7 +125,7 @@ fn is_after(before: u64, number: u64, step: u64) -> bool
 /// The host clusters that a mapping takes: the first, and how many.
 pub fn allocation(mapping: L2Mapping, cluster_bits: u32) -> Option<(HostCluster, ClusterCount)>
     requires bits { (9 ≤ cluster_bits) × (cluster_bits ≤ 21) }
-    requires named { IsNamed cluster_bits mapping }
+    requires named { IsHostAddressable cluster_bits mapping }
     ensures { result ≡ allocation_of cluster_bits (mapping_seen mapping) }
 {
     match mapping {
@@ -149,8 +149,8 @@ fn clusters_of_range(
     cluster_bits: u32,
 ) -> (HostCluster, ClusterCount)
     requires bits { (9 ≤ cluster_bits) × (cluster_bits ≤ 21) }
-    requires some { 0 < length }
-    requires near { offset + length < 2 ^ 57 }
+    requires nonempty { 0 < length }
+    requires end_bounded { offset + length < 2 ^ 57 }
     ensures { result ≡ clusters_of_range_of cluster_bits offset length }
 {
     let first = offset.cluster(cluster_bits);
@@ -212,9 +212,9 @@ pub fn kept_cluster(
     keep: bool,
     cluster_bits: u32,
 ) -> Option<(HostCluster, bool)>
-    requires { IsNamed cluster_bits mapping }
-    ensures kept { result ≡ kept_where keep (mapping_seen mapping) }
-    ensures reach { IsKeptInReach cluster_bits result }
+    requires { IsHostAddressable cluster_bits mapping }
+    ensures kept_host { result ≡ kept_where keep (mapping_seen mapping) }
+    ensures reach { IsKeptAddressable cluster_bits result }
 {
     let _ = cluster_bits;
     if !keep {
@@ -239,8 +239,8 @@ pub fn kept_cluster(
 /// The word of a guest cluster that is zeroed, where it keeps this cluster.
 pub fn zero_entry(kept: Option<(HostCluster, bool)>, cluster_bits: u32) -> L2Entry
     requires bits { (9 ≤ cluster_bits) × (cluster_bits ≤ 21) }
-    requires reach { IsKeptInReach cluster_bits kept }
-    ensures { result ≡ zeroed_word cluster_bits kept }
+    requires reach { IsKeptAddressable cluster_bits kept }
+    ensures { result ≡ zeroed_raw_entry cluster_bits kept }
 {
     match kept {
         Some((cluster, copied)) => L2Entry::zero_at(cluster.offset(cluster_bits), copied),

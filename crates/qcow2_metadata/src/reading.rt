@@ -1,6 +1,6 @@
 // Reads of an image's file at places that lie well below 2^64.
 ghost use Rattle.std.specs.Prelude.{◌≡◌, ◌+◌, ◌≤◌, ◌^◌, length, OnOk};
-ghost use Rattle.imago_storage.specs.Calls.{CountsFaults, Kept, Reads};
+ghost use Rattle.imago_storage.specs.Calls.{CountsFaults, UnchangedButFaults, Reads};
 
 use imago_storage::{Fault, Storage, StorageExt};
 use std::alloc::Global;
@@ -14,7 +14,7 @@ pub(crate) fn read_at<S: Storage>(
 ) -> Result<(), Fault>
     requires { offset + length buf.old ≤ 2 ^ 63 }
     ensures read { OnOk result (Reads (S.state image.old).bytes offset buf.new) }
-    ensures kept { Kept (S.state image.old) (S.state image.new) }
+    ensures unchanged_but_faults { UnchangedButFaults (S.state image.old) (S.state image.new) }
     ensures faults { CountsFaults (S.state image.old).faults (S.state image.new).faults result }
 {
     image.read(alloc, buf, offset)

@@ -1,29 +1,29 @@
 // The refcount table. A word of it is a refcount table entry in qemu and imago.
 ghost use Rattle.std.specs.Prelude.{◌≡◌, ℕ, ◌+◌, ◌-◌, ◌*◌, ◌^◌, ◌<◌, ◌≤◌, ◌↔◌, IsTrue, MatchOption, IsOk, IfOk, IsErrOf, IsOkUnless, length, refl, Some, None, true, false};
-ghost use Rattle.qcow2_types.specs.Header.{Shaped, layout_of, words_of_cluster};
+ghost use Rattle.qcow2_types.specs.Header.{Shaped, layout_of, entries_of_cluster};
 ghost use Rattle.qcow2_types.specs.Counts.{counters_of_block};
-ghost use Rattle.qcow2_metadata.specs.Tables.{IsEnough, IsGrownLength, IsNamable, padded, with_word};
+ghost use Rattle.qcow2_metadata.specs.Tables.{IsEnough, IsGrownLength, CanBeReferenced, padded, with_raw_entry};
 ghost use Rattle.qcow2_metadata.specs.Places.{place_of};
 
 use crate::Header;
 use crate::clusters::first_byte_of;
 use crate::entries::RefTableEntry;
+use crate::entry_table::EntryTable;
 use crate::layout::TableLayout;
 use crate::refblock::RefBlock;
 use crate::table::{Table, longer_content, spend};
-use crate::word_table::WordTable;
 use imago_storage::Fault;
 use qcow2_types::{HostOffset, PendingClusters};
 use std::alloc::Global;
 
 /// The refcount table: each of its words says where a refcount block stands. It is kept in memory.
-pub type RefTable = WordTable<RefTableEntry>;
+pub type RefTable = EntryTable<RefTableEntry>;
 
 /// The least length of at most `RefTable::MAX_ENTRIES` words that fills its clusters, of `cluster_words` words each, is above
 /// `at`, and whose new blocks, of `counters` counters each, have room to count the table's clusters and the blocks themselves;
 /// or none where there is none.
 fn grown_length(cluster_words: usize, counters: usize, at: usize) -> Option<usize>
-    requires words { (64 ≤ cluster_words) × (cluster_words ≤ 2 ^ 18) }
+    requires raw_entries { (64 ≤ cluster_words) × (cluster_words ≤ 2 ^ 18) }
     requires counters { (64 ≤ counters) × (counters ≤ 2 ^ 24) }
     ensures { MatchOption result ((n : ℕ) → IsEnough cluster_words counters at n → 2 ^ 20 < n) (λ length.
         IsGrownLength cluster_words counters at length × (length ≤ 2 ^ 20)) }
@@ -39,7 +39,7 @@ fn grown_length(cluster_words: usize, counters: usize, at: usize) -> Option<usiz
 
 /// The words of a cluster, and the counters of a refcount block.
 fn sizes(header: &Header) -> (usize, usize)
-    ensures words { result.0 ≡ words_of_cluster header.now.fields }
+    ensures raw_entries { result.0 ≡ entries_of_cluster header.now.fields }
     ensures counters { result.1 ≡ counters_of_block header.now.fields }
     ensures word_bounds { (64 ≤ result.0) × (result.0 ≤ 2 ^ 18) }
     ensures counter_bounds { (64 ≤ result.1) × (result.1 ≤ 2 ^ 24) }
@@ -52,7 +52,7 @@ fn sizes(header: &Header) -> (usize, usize)
 impl RefTable {
     /// Whether there is a word at an index.
     pub fn in_bounds(&self, index: usize) -> bool
-        ensures { IsTrue result ↔ (index < length self.now.words) }
+        ensures { IsTrue result ↔ (index < length self.now.raw_entries) }
     {
         index < self.entries()
     }
@@ -69,18 +69,18 @@ impl RefTable {
         at: usize,
     ) -> Result<RefTable, Fault>
         requires bits { self.now.layout.cluster_bits ≡ header.now.fields.cluster_bits }
-        requires past { length self.now.words ≤ at }
+        requires past { length self.now.raw_entries ≤ at }
         ensures ok { IfOk result (λ table. table ≡ record {
           layout = layout_of header.now.fields;
-          words = padded self.now.words (length table.words);
+          raw_entries = padded self.now.raw_entries (length table.raw_entries);
           cluster = None;
           modified = true;
         }) }
-        ensures length { IfOk result (λ table. IsGrownLength (words_of_cluster header.now.fields) (counters_of_block header.now.fields) at
-            (length table.words)) }
-        ensures limit { ((n : ℕ) → IsEnough (words_of_cluster header.now.fields) (counters_of_block header.now.fields) at n → 2 ^ 20 < n)
-            → IsErrOf result (Fault.Limit (2 ^ 20 + words_of_cluster header.now.fields)) }
-        ensures few { (n : ℕ) → IsEnough (words_of_cluster header.now.fields) (counters_of_block header.now.fields) at n → n ≤ 2 ^ 20
+        ensures length { IfOk result (λ table. IsGrownLength (entries_of_cluster header.now.fields) (counters_of_block header.now.fields) at
+            (length table.raw_entries)) }
+        ensures limit { ((n : ℕ) → IsEnough (entries_of_cluster header.now.fields) (counters_of_block header.now.fields) at n → 2 ^ 20 < n)
+            → IsErrOf result (Fault.Limit (2 ^ 20 + entries_of_cluster header.now.fields)) }
+        ensures ok_if_small { (n : ℕ) → IsEnough (entries_of_cluster header.now.fields) (counters_of_block header.now.fields) at n → n ≤ 2 ^ 20
             → IsOkUnless result Fault.Memory }
     {
         let (cluster_words, counters) = sizes(header);
@@ -101,10 +101,10 @@ impl RefTable {
         block: &RefBlock,
         pending: Option<PendingClusters>,
     )
-        requires bounds { index < length self.old.words }
+        requires bounds { index < length self.old.raw_entries }
         requires bits { block.now.cluster_bits ≡ self.old.layout.cluster_bits }
-        requires namable { IsNamable self.old.layout.cluster_bits block.now.cluster }
-        ensures { self.new ≡ with_word self.old index (place_of block.now.cluster_bits block.now.cluster) }
+        requires can_be_referenced { CanBeReferenced self.old.layout.cluster_bits block.now.cluster }
+        ensures { self.new ≡ with_raw_entry self.old index (place_of block.now.cluster_bits block.now.cluster) }
     {
         let place = first_byte_of(block.get_cluster(), self.cluster_bits());
         self.set_entry(index, RefTableEntry::naming(HostOffset(place)));

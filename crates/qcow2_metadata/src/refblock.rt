@@ -1,12 +1,12 @@
 // Refcount blocks. A counter of one is a refcount in qemu and imago.
 ghost use Rattle.std.specs.Prelude.{◌≡◌, ℕ, ◌+◌, ◌-◌, ◌*◌, ◌^◌, ◌<◌, ◌≤◌, ◌↔◌, ◌==◌, true, false, length, replicate, slice_index, slice_set, IsTrue, IsOk, OnOk, OnErr, IfOk, IfErr, IsOkUnless, Some, None};
-ghost use Rattle.imago_storage.specs.Calls.{CountsFaults, Kept, Reads};
+ghost use Rattle.imago_storage.specs.Calls.{CountsFaults, UnchangedButFaults, Reads};
 ghost use Rattle.imago_storage.specs.State.{IsAlignment, unit_of};
 ghost use Rattle.qcow2_types.specs.Bytes.{bytes_of};
 ghost use Rattle.qcow2_types.specs.Words.{max_offset};
 ghost use Rattle.qcow2_types.specs.Header.{Shaped, cluster_size};
 ghost use Rattle.qcow2_types.specs.Counts.{counters_of_block};
-ghost use Rattle.qcow2_metadata.specs.Places.{IsInReach, IsPlaced, place_of};
+ghost use Rattle.qcow2_metadata.specs.Places.{IsAddressable, IsPlaced, place_of};
 
 use crate::Header;
 use crate::clusters::{first_byte_of, read_cluster, write_cluster, zeroes};
@@ -95,9 +95,9 @@ impl RefBlock {
         header: &Header,
         cluster: HostCluster,
     ) -> Result<RefBlock, Fault>
-        requires { IsInReach header.now.fields.cluster_bits cluster }
+        requires { IsAddressable header.now.fields.cluster_bits cluster }
         ensures ok { IfOk result (λ block. block ≡ block_in (bytes_of (S.state image.old).bytes) header.now.fields cluster) }
-        ensures kept { Kept (S.state image.old) (S.state image.new) }
+        ensures unchanged_but_faults { UnchangedButFaults (S.state image.old) (S.state image.new) }
         ensures faults { CountsFaults (S.state image.old).faults (S.state image.new).faults result }
     {
         let HostOffset(offset) = cluster.offset(header.cluster_bits());
@@ -132,7 +132,7 @@ impl RefBlock {
         cluster: HostCluster,
     ) -> Result<(), Fault>
         requires placed { self.old.cluster ≡ Some cluster }
-        requires reach { IsInReach self.old.cluster_bits cluster }
+        requires reach { IsAddressable self.old.cluster_bits cluster }
         ensures request { IsTrue self.old.modified → BlockPut self.old (cluster * 2 ^ self.old.cluster_bits) (S.state image.old)
             (S.state image.new) result }
         ensures nothing { self.old.modified ≡ false → IsOk result × (S.state image.new ≡ S.state image.old) }
@@ -158,7 +158,7 @@ impl RefBlock {
     pub fn get_offset(&self) -> Option<HostOffset>
         requires { place_of self.now.cluster_bits self.now.cluster < 2 ^ 64 }
         ensures none { self.now.cluster ≡ None → result ≡ None }
-        ensures some { (cluster : ℕ) → self.now.cluster ≡ Some cluster → result ≡ Some (cluster * 2 ^ self.now.cluster_bits) }
+        ensures offset_of_cluster { (cluster : ℕ) → self.now.cluster ≡ Some cluster → result ≡ Some (cluster * 2 ^ self.now.cluster_bits) }
     {
         match self.cluster {
             Some(cluster) => Some(cluster.offset(self.cluster_bits)),

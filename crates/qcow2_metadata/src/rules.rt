@@ -6,7 +6,7 @@ ghost use Rattle.qcow2_types.specs.Header.{fields_of, first_fault, rules_of_kind
 ghost use Rattle.qcow2_metadata.specs.FieldsView.{seen_fields, older_base};
 ghost use Rattle.qcow2_metadata.specs.Parts.{IsV2At, IsV3At};
 
-use crate::words::is_place;
+use crate::words::is_cluster_offset;
 use imago_storage::Fault;
 use qcow2_types::{MAGIC, OnDiskStruct, V2Header, V3HeaderBase};
 
@@ -105,8 +105,8 @@ pub(crate) fn check_sizes(v2: &V2Header, v3: &V3HeaderBase) -> Result<(), Fault>
     if entries > 1 << 20 {
         return Err(Fault::Limit(entries));
     }
-    if !is_place(v2.l1_table_offset, v2.cluster_bits)
-        || !is_place(v2.refcount_table_offset, v2.cluster_bits)
+    if !is_cluster_offset(v2.l1_table_offset, v2.cluster_bits)
+        || !is_cluster_offset(v2.refcount_table_offset, v2.cluster_bits)
     {
         return Err(Fault::DamagedHeader);
     }

@@ -1,20 +1,20 @@
 // L2 tables that are read where their bytes lie, as qemu keeps its own, in slices; imago decodes all.
 ghost use Rattle.std.specs.Prelude.{◌≡◌, ℕ, ◌+◌, ◌*◌, ◌/◌, ◌%◌, ◌^◌, ◌<◌, ◌≤◌, length, slice_index, OnOk, IfOk, IfErr};
-ghost use Rattle.imago_storage.specs.Calls.{Kept};
+ghost use Rattle.imago_storage.specs.Calls.{UnchangedButFaults};
 ghost use Rattle.qcow2_types.specs.Bytes.{bytes_of};
-ghost use Rattle.qcow2_types.specs.Header.{cluster_size, layout_of, words_of_cluster};
+ghost use Rattle.qcow2_types.specs.Header.{cluster_size, layout_of, entries_of_cluster};
 ghost use Rattle.qcow2_types.specs.Entries.{l2_entries};
 ghost use Rattle.qcow2_types.specs.Words.{mapping_of};
-ghost use Rattle.qcow2_metadata.specs.MappingView.{mapping_seen, BacksAt, IsNamed};
-ghost use Rattle.qcow2_metadata.specs.Places.{IsInReach};
-ghost use Rattle.qcow2_metadata.specs.Tables.{l2_words, AreSound, WhyNotDecoded, WhyNotLoaded, words_in};
+ghost use Rattle.qcow2_metadata.specs.MappingView.{mapping_seen, BacksAt, IsHostAddressable};
+ghost use Rattle.qcow2_metadata.specs.Places.{IsAddressable};
+ghost use Rattle.qcow2_metadata.specs.Tables.{l2_table_kind, AreSound, WhyNotDecoded, WhyNotLoaded, raw_entries_in};
 
 use crate::Header;
 use crate::entries::{L2Entry, TableEntry};
 use crate::layout::TableLayout;
 use crate::mapping::L2Mapping;
 use crate::table::load_bytes;
-use crate::words::{l2_mapping, word_at};
+use crate::words::{l2_mapping, raw_entry_at};
 use imago_storage::{Fault, Storage};
 use qcow2_types::{GuestCluster, GuestOffset, HostCluster};
 use std::alloc::Global;
@@ -38,13 +38,13 @@ impl Model for StoredL2Table {
 }
 
 /// Refuses bytes that hold a word with no meaning in an image with this header.
-fn check_words(bytes: &[u8], header: &Header) -> Result<(), Fault>
-    ensures sound { OnOk result (AreSound l2_words (layout_of header.now.fields) (words_in (bytes_of bytes.now) 0 (length bytes.now / 8))) }
-    ensures refused { IfErr result (WhyNotDecoded l2_words (layout_of header.now.fields)
-        (words_in (bytes_of bytes.now) 0 (length bytes.now / 8))) }
+fn check_raw_entries(bytes: &[u8], header: &Header) -> Result<(), Fault>
+    ensures sound { OnOk result (AreSound l2_table_kind (layout_of header.now.fields) (raw_entries_in (bytes_of bytes.now) 0 (length bytes.now / 8))) }
+    ensures refused { IfErr result (WhyNotDecoded l2_table_kind (layout_of header.now.fields)
+        (raw_entries_in (bytes_of bytes.now) 0 (length bytes.now / 8))) }
 {
     for index in 0..bytes.len() / 8 {
-        L2Entry::try_from_plain(word_at(bytes, 8 * index), header)?;
+        L2Entry::try_from_plain(raw_entry_at(bytes, 8 * index), header)?;
     }
     Ok(())
 }
@@ -60,29 +60,29 @@ impl StoredL2Table {
         header: &Header,
         cluster: HostCluster,
     ) -> Result<StoredL2Table, Fault>
-        requires { IsInReach header.now.fields.cluster_bits cluster }
+        requires { IsAddressable header.now.fields.cluster_bits cluster }
         ensures layout { IfOk result (λ table. table.layout ≡ layout_of header.now.fields) }
-        ensures words { IfOk result (λ table. table.words ≡ words_in (bytes_of (S.state image.old).bytes)
-            (cluster * cluster_size header.now.fields) (words_of_cluster header.now.fields)) }
-        ensures sound { OnOk result (AreSound l2_words (layout_of header.now.fields) (words_in (bytes_of (S.state image.old).bytes)
-            (cluster * cluster_size header.now.fields) (words_of_cluster header.now.fields))) }
-        ensures err { IfErr result (WhyNotLoaded l2_words (layout_of header.now.fields) (words_in (bytes_of (S.state image.old).bytes)
-            (cluster * cluster_size header.now.fields) (words_of_cluster header.now.fields)) (S.state image.old).faults
+        ensures raw_entries { IfOk result (λ table. table.raw_entries ≡ raw_entries_in (bytes_of (S.state image.old).bytes)
+            (cluster * cluster_size header.now.fields) (entries_of_cluster header.now.fields)) }
+        ensures sound { OnOk result (AreSound l2_table_kind (layout_of header.now.fields) (raw_entries_in (bytes_of (S.state image.old).bytes)
+            (cluster * cluster_size header.now.fields) (entries_of_cluster header.now.fields))) }
+        ensures err { IfErr result (WhyNotLoaded l2_table_kind (layout_of header.now.fields) (raw_entries_in (bytes_of (S.state image.old).bytes)
+            (cluster * cluster_size header.now.fields) (entries_of_cluster header.now.fields)) (S.state image.old).faults
             (S.state image.new).faults) }
-        ensures kept { Kept (S.state image.old) (S.state image.new) }
+        ensures unchanged_but_faults { UnchangedButFaults (S.state image.old) (S.state image.new) }
         ensures faults { OnOk result ((S.state image.new).faults ≡ (S.state image.old).faults) }
     {
         let layout = TableLayout::of_header(header);
         let bytes = load_bytes(alloc, image, header, cluster, header.l2_entries())?;
-        check_words(&bytes, header)?;
+        check_raw_entries(&bytes, header)?;
         Ok(StoredL2Table { bytes, layout })
     }
 
     /// The number of its words, which fill a cluster: of 2^9 to 2^21 bytes.
     #[tactic(auto, using(crate::proofs::TableFacts::words_long))]
     pub fn entries(&self) -> usize
-        ensures value { result ≡ length self.now.words }
-        ensures whole { length self.now.words * 8 ≡ 2 ^ self.now.layout.cluster_bits }
+        ensures value { result ≡ length self.now.raw_entries }
+        ensures whole { length self.now.raw_entries * 8 ≡ 2 ^ self.now.layout.cluster_bits }
         ensures bounds { (9 ≤ self.now.layout.cluster_bits) × (self.now.layout.cluster_bits ≤ 21) }
     {
         self.bytes.len() / 8
@@ -90,25 +90,25 @@ impl StoredL2Table {
 
     // The word at an index.
     #[tactic(auto, using(crate::proofs::TableFacts::words_long, crate::proofs::TableFacts::word_in_bytes))]
-    fn word(&self, index: usize) -> u64
-        requires { index < length self.now.words }
-        ensures { result ≡ slice_index self.now.words index }
+    fn raw_entry(&self, index: usize) -> u64
+        requires { index < length self.now.raw_entries }
+        ensures { result ≡ slice_index self.now.raw_entries index }
     {
-        word_at(&self.bytes, 8 * index)
+        raw_entry_at(&self.bytes, 8 * index)
     }
 
     /// Where the bytes of a guest cluster are. Where they are in the layer below, they are there at the cluster's own place.
     pub fn get_mapping(&self, lookup_cluster: GuestCluster) -> L2Mapping
         requires { lookup_cluster * 2 ^ self.now.layout.cluster_bits < 2 ^ 64 }
         ensures means { mapping_seen result
-            ≡ mapping_of self.now.layout (slice_index self.now.words (lookup_cluster % l2_entries self.now.layout.cluster_bits)) }
-        ensures named { IsNamed self.now.layout.cluster_bits result }
+            ≡ mapping_of self.now.layout (slice_index self.now.raw_entries (lookup_cluster % l2_entries self.now.layout.cluster_bits)) }
+        ensures named { IsHostAddressable self.now.layout.cluster_bits result }
         ensures backs { BacksAt (lookup_cluster * 2 ^ self.now.layout.cluster_bits) result }
     {
         let cluster_bits = self.layout.cluster_bits();
         let GuestOffset(place) = lookup_cluster.offset(cluster_bits);
-        let word = self.word(lookup_cluster.l2_index(cluster_bits));
-        match l2_mapping(word, self.layout, place) {
+        let raw_entry = self.raw_entry(lookup_cluster.l2_index(cluster_bits));
+        match l2_mapping(raw_entry, self.layout, place) {
             Ok(mapping) => mapping,
             Err(_) => unreachable!(),
         }

@@ -3,20 +3,20 @@
 // From the sections "Host cluster management" and "Cluster mapping" of the format: the words of a table are big-endian, and
 // stand in a row from the table's place on.
 ghost use Rattle.std.specs.Prelude.{◌≡◌, ℕ, ◌+◌, ◌-◌, ◌*◌, ◌/◌, ◌%◌, ◌^◌, ◌<◌, ◌≤◌, ◌↔◌, List, length, map, replicate, slice_index, OnOk, OnErr, IfOk, IfErr, IsErrOf, IsOkUnless, IsTrue, MatchOption, Some, None, true, false};
-ghost use Rattle.imago_storage.specs.Calls.{CountsFaults, Kept, Reads};
+ghost use Rattle.imago_storage.specs.Calls.{CountsFaults, UnchangedButFaults, Reads};
 ghost use Rattle.imago_storage.specs.State.{unit_of};
-ghost use Rattle.imago_storage.specs.Through.{IsAtOnce, Put, PutAtOnce};
+ghost use Rattle.imago_storage.specs.Through.{FitsOneRequest, WriteOutcome, AtomicWriteOutcome};
 ghost use Rattle.qcow2_types.specs.Bytes.{bytes_of};
 ghost use Rattle.qcow2_types.specs.Header.{Shaped, cluster_size, layout_of};
 ghost use Rattle.std.specs.Int.{to_be_bytes, w64};
-ghost use Rattle.qcow2_metadata.specs.Places.{IsInReach, IsPlaced, place_of};
-ghost use Rattle.qcow2_metadata.specs.Tables.{TableValue, IsTable, IsLength, IsAsked, AreSound, HasUnsound, WhyNotLoaded, WhyNotDecoded, IsPlacedTable, table_place, max_entries, words_in, table_in, padded};
+ghost use Rattle.qcow2_metadata.specs.Places.{IsAddressable, IsPlaced, place_of};
+ghost use Rattle.qcow2_metadata.specs.Tables.{TableValue, IsTable, IsLength, IsAsked, AreSound, HasUnsound, WhyNotLoaded, WhyNotDecoded, IsPlacedTable, table_start, max_entries, raw_entries_in, table_in, padded};
 ghost use Rattle.qcow2_types.specs.TableBytes.{AreFit, table_bytes};
 
 use crate::Header;
 use crate::clusters::{first_byte_of, read_cluster, zeroes};
 use crate::entries::TableEntry;
-use crate::words::word_at;
+use crate::words::raw_entry_at;
 use imago_storage::{Fault, Storage, StorageExt};
 use qcow2_types::{ClusterCount, HostCluster, HostOffset, PendingClusters};
 use std::alloc::{AllocError, Global};
@@ -43,29 +43,29 @@ pub trait Table: Sized {
     /// The table of these words, for an image with this header: each has 64 bits and a meaning there, and there are at most
     /// `MAX_ENTRIES`, of an L2 table as many as fill a cluster. It has no cluster, and is modified.
     fn from_data(content: Vec<Self::InternalEntry>, header: &Header) -> Self
-        requires long { IsLength Self.InternalEntry.kind (layout_of header.now.fields) (length (Self.InternalEntry.words content.items)) }
-        requires sound { AreSound Self.InternalEntry.kind (layout_of header.now.fields) (Self.InternalEntry.words content.items) }
-        requires fit { AreFit (Self.InternalEntry.words content.items) }
+        requires long { IsLength Self.InternalEntry.kind (layout_of header.now.fields) (length (Self.InternalEntry.raw_entries content.items)) }
+        requires sound { AreSound Self.InternalEntry.kind (layout_of header.now.fields) (Self.InternalEntry.raw_entries content.items) }
+        requires fit { AreFit (Self.InternalEntry.raw_entries content.items) }
         ensures { value result ≡ record {
           layout = layout_of header.now.fields;
-          words = Self.InternalEntry.words content.items;
+          raw_entries = Self.InternalEntry.raw_entries content.items;
           cluster = None;
           modified = true;
         } };
 
     /// The number of its words.
     fn entries(&self) -> usize
-        ensures value { result ≡ length (value self.now).words }
+        ensures value { result ≡ length (value self.now).raw_entries }
         ensures table { IsTable Self.InternalEntry.kind (value self.now) };
 
     /// The word at an index, or none past the end.
     fn get_ref(&self, index: usize) -> Option<&Self::InternalEntry>
-        ensures { MatchOption result (length (value self.now).words ≤ index) (λ entry.
-            (index < length (value self.now).words) × (Self.InternalEntry.word entry.now ≡ slice_index (value self.now).words index)) };
+        ensures { MatchOption result (length (value self.now).raw_entries ≤ index) (λ entry.
+            (index < length (value self.now).raw_entries) × (Self.InternalEntry.raw_entry entry.now ≡ slice_index (value self.now).raw_entries index)) };
 
     /// The word at an index, or the empty one past the end.
     fn get(&self, index: usize) -> Self::Entry
-        ensures { Self.Entry.word result ≡ slice_index (value self.now).words index };
+        ensures { Self.Entry.raw_entry result ≡ slice_index (value self.now).raw_entries index };
 
     /// The cluster where it begins, if it has one.
     fn get_cluster(&self) -> Option<HostCluster>
@@ -99,9 +99,9 @@ pub trait Table: Sized {
 
     /// Where it begins, in bytes, if it has a cluster.
     final fn get_offset(&self) -> Option<HostOffset>
-        requires { table_place (value self.now) < 2 ^ 64 }
+        requires { table_start (value self.now) < 2 ^ 64 }
         ensures none { (value self.now).cluster ≡ None → result ≡ None }
-        ensures some { (cluster : ℕ) → (value self.now).cluster ≡ Some cluster
+        ensures offset_of_cluster { (cluster : ℕ) → (value self.now).cluster ≡ Some cluster
             → result ≡ Some (cluster * 2 ^ (value self.now).layout.cluster_bits) }
     {
         match self.get_cluster() {
@@ -112,14 +112,14 @@ pub trait Table: Sized {
 
     /// The bytes that its words take: 8 each.
     final fn byte_size(&self) -> usize
-        ensures { result ≡ 8 * length (value self.now).words }
+        ensures { result ≡ 8 * length (value self.now).raw_entries }
     {
         8 * self.entries()
     }
 
     /// The clusters that its words take, of which the last may be filled in part.
     final fn cluster_count(&self) -> ClusterCount
-        ensures { result ≡ (8 * length (value self.now).words + (2 ^ (value self.now).layout.cluster_bits - 1)) / 2 ^ (value
+        ensures { result ≡ (8 * length (value self.now).raw_entries + (2 ^ (value self.now).layout.cluster_bits - 1)) / 2 ^ (value
             self.now).layout.cluster_bits }
     {
         ClusterCount::from_byte_size(self.byte_size() as u64, self.cluster_bits())
@@ -138,16 +138,16 @@ pub trait Table: Sized {
         cluster: HostCluster,
         entries: usize,
     ) -> Result<Self, Fault>
-        requires reach { IsInReach header.now.fields.cluster_bits cluster }
+        requires reach { IsAddressable header.now.fields.cluster_bits cluster }
         requires asked { IsAsked Self.InternalEntry.kind header.now.fields entries }
         ensures ok { IfOk result (λ table. value table ≡ table_in (bytes_of (S.state image.old).bytes) header.now.fields cluster entries) }
         ensures sound { OnOk result (AreSound Self.InternalEntry.kind (layout_of header.now.fields)
-            (words_in (bytes_of (S.state image.old).bytes) (cluster * cluster_size header.now.fields) entries)) }
+            (raw_entries_in (bytes_of (S.state image.old).bytes) (cluster * cluster_size header.now.fields) entries)) }
         ensures err { IfErr result (WhyNotLoaded Self.InternalEntry.kind (layout_of header.now.fields)
-            (words_in (bytes_of (S.state image.old).bytes) (cluster * cluster_size header.now.fields) entries) (S.state image.old).faults
+            (raw_entries_in (bytes_of (S.state image.old).bytes) (cluster * cluster_size header.now.fields) entries) (S.state image.old).faults
             (S.state image.new).faults) }
         ensures limit { MAX_ENTRIES < entries → IsErrOf result (Fault.Limit entries) × (S.state image.new ≡ S.state image.old) }
-        ensures kept { Kept (S.state image.old) (S.state image.new) }
+        ensures unchanged_but_faults { UnchangedButFaults (S.state image.old) (S.state image.new) }
         ensures faults { OnOk result ((S.state image.new).faults ≡ (S.state image.old).faults) }
     {
         if entries > Self::MAX_ENTRIES {
@@ -168,13 +168,13 @@ pub trait Table: Sized {
     /// file old or new.
     final fn write<S: Storage>(&mut self, alloc: Global, image: &mut S) -> Result<(), Fault>
         requires { IsPlacedTable (value self.old) }
-        ensures request { Put (S.state image.old) (S.state image.new) (table_place (value self.old))
-            (table_bytes (value self.old).words) result }
+        ensures request { WriteOutcome (S.state image.old) (S.state image.new) (table_start (value self.old))
+            (table_bytes (value self.old).raw_entries) result }
         // Where the storage's unit allows it, it is one request; and so is a table that fills one cluster, at every alignment.
-        ensures at_once { IsAtOnce (unit_of (S.state image.old).shape) (table_place (value self.old)) (8 * length (value self.old).words)
-            → PutAtOnce (S.state image.old) (S.state image.new) (table_place (value self.old)) (table_bytes (value self.old).words) result }
-        ensures once { 8 * length (value self.old).words ≡ 2 ^ (value self.old).layout.cluster_bits
-            → PutAtOnce (S.state image.old) (S.state image.new) (table_place (value self.old)) (table_bytes (value self.old).words) result }
+        ensures in_one_request { FitsOneRequest (unit_of (S.state image.old).shape) (table_start (value self.old)) (8 * length (value self.old).raw_entries)
+            → AtomicWriteOutcome (S.state image.old) (S.state image.new) (table_start (value self.old)) (table_bytes (value self.old).raw_entries) result }
+        ensures single_request { 8 * length (value self.old).raw_entries ≡ 2 ^ (value self.old).layout.cluster_bits
+            → AtomicWriteOutcome (S.state image.old) (S.state image.new) (table_start (value self.old)) (table_bytes (value self.old).raw_entries) result }
         ensures ok { OnOk result (value self.new ≡ record (value self.old) { modified = false }) }
         ensures err { OnErr result (value self.new ≡ record (value self.old) { modified = true }) }
     {
@@ -197,14 +197,14 @@ pub trait Table: Sized {
         image: &mut S,
         index: usize,
     ) -> Result<(), Fault>
-        requires bounds { index < length (value self.old).words }
+        requires bounds { index < length (value self.old).raw_entries }
         requires placed { IsPlacedTable (value self.old) }
-        ensures request { PutAtOnce (S.state image.old) (S.state image.new) (table_place (value self.old) + 8 * index)
-            (to_be_bytes w64 (slice_index (value self.old).words index)) result }
+        ensures request { AtomicWriteOutcome (S.state image.old) (S.state image.new) (table_start (value self.old) + 8 * index)
+            (to_be_bytes w64 (slice_index (value self.old).raw_entries index)) result }
         ensures ok { OnOk result (value self.new ≡ value self.old) }
         ensures err { OnErr result (value self.new ≡ record (value self.old) { modified = true }) }
     {
-        let result = put_word(alloc, self, image, index);
+        let result = put_raw_entry(alloc, self, image, index);
         if result.is_err() {
             self.set_modified();
         }
@@ -231,12 +231,12 @@ fn is_clear(bytes: &[u8]) -> bool
 
 /// Decodes the words that bytes represent, in an image with this header, into as many empty entries.
 fn decode<E: TableEntry>(bytes: &[u8], header: &Header, entries: &mut [E]) -> Result<(), Fault>
-    requires { E.words entries.old ≡ replicate (length bytes.now / 8) 0 }
-    ensures words { OnOk result (E.words entries.new ≡ words_in (bytes_of bytes.now) 0 (length bytes.now / 8)) }
-    ensures sound { OnOk result (AreSound E.kind (layout_of header.now.fields) (words_in (bytes_of bytes.now) 0 (length bytes.now / 8))) }
-    ensures fit { OnOk result (AreFit (words_in (bytes_of bytes.now) 0 (length bytes.now / 8))) }
+    requires { E.raw_entries entries.old ≡ replicate (length bytes.now / 8) 0 }
+    ensures raw_entries { OnOk result (E.raw_entries entries.new ≡ raw_entries_in (bytes_of bytes.now) 0 (length bytes.now / 8)) }
+    ensures sound { OnOk result (AreSound E.kind (layout_of header.now.fields) (raw_entries_in (bytes_of bytes.now) 0 (length bytes.now / 8))) }
+    ensures fit { OnOk result (AreFit (raw_entries_in (bytes_of bytes.now) 0 (length bytes.now / 8))) }
     ensures damaged { OnErr result (HasUnsound E.kind (layout_of header.now.fields)
-        (words_in (bytes_of bytes.now) 0 (length bytes.now / 8))) }
+        (raw_entries_in (bytes_of bytes.now) 0 (length bytes.now / 8))) }
     ensures refused { IsOkUnless result Fault.DamagedTable }
 {
     // Most words of most tables are 0, as what stands there already.
@@ -244,9 +244,9 @@ fn decode<E: TableEntry>(bytes: &[u8], header: &Header, entries: &mut [E]) -> Re
         return Ok(());
     }
     for index in 0..entries.len() {
-        let word = word_at(bytes, 8 * index);
-        if word != 0 {
-            entries[index] = E::try_from_plain(word, header)?;
+        let raw_entry = raw_entry_at(bytes, 8 * index);
+        if raw_entry != 0 {
+            entries[index] = E::try_from_plain(raw_entry, header)?;
         }
     }
     Ok(())
@@ -254,11 +254,11 @@ fn decode<E: TableEntry>(bytes: &[u8], header: &Header, entries: &mut [E]) -> Re
 
 /// The words that bytes represent, in an image with this header.
 fn entries_in<E: TableEntry>(alloc: Global, bytes: &[u8], header: &Header) -> Result<Vec<E>, Fault>
-    ensures words { IfOk result (λ entries. E.words entries.items ≡ words_in (bytes_of bytes.now) 0 (length bytes.now / 8)) }
-    ensures sound { OnOk result (AreSound E.kind (layout_of header.now.fields) (words_in (bytes_of bytes.now) 0 (length bytes.now / 8))) }
-    ensures fit { OnOk result (AreFit (words_in (bytes_of bytes.now) 0 (length bytes.now / 8))) }
+    ensures raw_entries { IfOk result (λ entries. E.raw_entries entries.items ≡ raw_entries_in (bytes_of bytes.now) 0 (length bytes.now / 8)) }
+    ensures sound { OnOk result (AreSound E.kind (layout_of header.now.fields) (raw_entries_in (bytes_of bytes.now) 0 (length bytes.now / 8))) }
+    ensures fit { OnOk result (AreFit (raw_entries_in (bytes_of bytes.now) 0 (length bytes.now / 8))) }
     ensures refused { IfErr result (WhyNotDecoded E.kind (layout_of header.now.fields)
-        (words_in (bytes_of bytes.now) 0 (length bytes.now / 8))) }
+        (raw_entries_in (bytes_of bytes.now) 0 (length bytes.now / 8))) }
 {
     let count = bytes.len() / 8;
     let mut entries = vec![in alloc; E::empty(); count]?;
@@ -278,12 +278,12 @@ pub fn load_bytes<S: Storage>(
     cluster: HostCluster,
     entries: usize,
 ) -> Result<Vec<u8>, Fault>
-    requires reach { IsInReach header.now.fields.cluster_bits cluster }
-    requires few { entries ≤ 2 ^ 22 }
-    ensures words { IfOk result (λ bytes. words_in (bytes_of bytes.items) 0 (length bytes.items / 8)
-        ≡ words_in (bytes_of (S.state image.old).bytes) (cluster * cluster_size header.now.fields) entries) }
+    requires reach { IsAddressable header.now.fields.cluster_bits cluster }
+    requires entries_bounded { entries ≤ 2 ^ 22 }
+    ensures raw_entries { IfOk result (λ bytes. raw_entries_in (bytes_of bytes.items) 0 (length bytes.items / 8)
+        ≡ raw_entries_in (bytes_of (S.state image.old).bytes) (cluster * cluster_size header.now.fields) entries) }
     ensures whole { IfOk result (λ bytes. length bytes.items ≡ entries * 8) }
-    ensures kept { Kept (S.state image.old) (S.state image.new) }
+    ensures unchanged_but_faults { UnchangedButFaults (S.state image.old) (S.state image.new) }
     ensures faults { CountsFaults (S.state image.old).faults (S.state image.new).faults result }
     ensures shaped { Shaped header.now.fields }
 {
@@ -299,17 +299,17 @@ fn load_entries<E: TableEntry, S: Storage>(
     cluster: HostCluster,
     entries: usize,
 ) -> Result<Vec<E>, Fault>
-    requires reach { IsInReach header.now.fields.cluster_bits cluster }
-    requires few { entries ≤ max_entries E.kind }
-    ensures words { IfOk result (λ content. E.words content.items
-        ≡ words_in (bytes_of (S.state image.old).bytes) (cluster * cluster_size header.now.fields) entries) }
+    requires reach { IsAddressable header.now.fields.cluster_bits cluster }
+    requires entries_bounded { entries ≤ max_entries E.kind }
+    ensures raw_entries { IfOk result (λ content. E.raw_entries content.items
+        ≡ raw_entries_in (bytes_of (S.state image.old).bytes) (cluster * cluster_size header.now.fields) entries) }
     ensures sound { OnOk result (AreSound E.kind (layout_of header.now.fields)
-        (words_in (bytes_of (S.state image.old).bytes) (cluster * cluster_size header.now.fields) entries)) }
-    ensures fit { OnOk result (AreFit (words_in (bytes_of (S.state image.old).bytes) (cluster * cluster_size header.now.fields) entries)) }
+        (raw_entries_in (bytes_of (S.state image.old).bytes) (cluster * cluster_size header.now.fields) entries)) }
+    ensures fit { OnOk result (AreFit (raw_entries_in (bytes_of (S.state image.old).bytes) (cluster * cluster_size header.now.fields) entries)) }
     ensures refused { IfErr result (WhyNotLoaded E.kind (layout_of header.now.fields)
-        (words_in (bytes_of (S.state image.old).bytes) (cluster * cluster_size header.now.fields) entries) (S.state image.old).faults
+        (raw_entries_in (bytes_of (S.state image.old).bytes) (cluster * cluster_size header.now.fields) entries) (S.state image.old).faults
         (S.state image.new).faults) }
-    ensures kept { Kept (S.state image.old) (S.state image.new) }
+    ensures unchanged_but_faults { UnchangedButFaults (S.state image.old) (S.state image.new) }
     ensures faults { OnOk result ((S.state image.new).faults ≡ (S.state image.old).faults) }
     ensures shaped { Shaped header.now.fields }
 {
@@ -319,7 +319,7 @@ fn load_entries<E: TableEntry, S: Storage>(
 
 /// The word at an index, or the empty one past the end.
 fn entry_or_empty<T: Table>(table: &T, index: usize) -> T::InternalEntry
-    ensures { T.InternalEntry.word result ≡ slice_index (T.value table.now).words index }
+    ensures { T.InternalEntry.raw_entry result ≡ slice_index (T.value table.now).raw_entries index }
 {
     match table.get_ref(index) {
         Some(entry) => *entry,
@@ -333,8 +333,8 @@ pub fn longer_content<T: Table>(
     table: &T,
     count: usize,
 ) -> Result<Vec<T::InternalEntry>, Fault>
-    requires { length (T.value table.now).words ≤ count }
-    ensures words { IfOk result (λ content. T.InternalEntry.words content.items ≡ padded (T.value table.now).words count) }
+    requires { length (T.value table.now).raw_entries ≤ count }
+    ensures raw_entries { IfOk result (λ content. T.InternalEntry.raw_entries content.items ≡ padded (T.value table.now).raw_entries count) }
     ensures refused { IsOkUnless result Fault.Memory }
 {
     let mut content = Vec::with_capacity(alloc, count)?;
@@ -347,7 +347,7 @@ pub fn longer_content<T: Table>(
 /// Where a table begins that has a cluster.
 pub fn first_byte<T: Table>(table: &T) -> u64
     requires { IsPlacedTable (T.value table.now) }
-    ensures place { result ≡ table_place (T.value table.now) }
+    ensures place { result ≡ table_start (T.value table.now) }
     ensures table { IsTable T.InternalEntry.kind (T.value table.now) }
 {
     first_byte_of(table.get_cluster(), table.cluster_bits())
@@ -361,40 +361,40 @@ pub fn spend(pending: Option<PendingClusters>) {
 }
 
 /// Puts the bytes of a table's words into as many zeroes.
-fn put_words<T: Table>(table: &T, bytes: &mut [u8])
-    requires { bytes.old ≡ replicate (8 * length (T.value table.now).words) 0 }
-    ensures { bytes.new ≡ table_bytes (T.value table.now).words }
+fn put_raw_entries<T: Table>(table: &T, bytes: &mut [u8])
+    requires { bytes.old ≡ replicate (8 * length (T.value table.now).raw_entries) 0 }
+    ensures { bytes.new ≡ table_bytes (T.value table.now).raw_entries }
 {
     for index in 0..table.entries() {
-        let word = table.get(index).to_plain();
+        let raw_entry = table.get(index).to_plain();
         // A word 0 stands there already.
-        if word != 0 {
-            bytes[8 * index..8 * index + 8].copy_from_slice(&word.to_be_bytes());
+        if raw_entry != 0 {
+            bytes[8 * index..8 * index + 8].copy_from_slice(&raw_entry.to_be_bytes());
         }
     }
 }
 
 /// The bytes of a table's words.
 fn bytes_in<T: Table>(alloc: Global, table: &T) -> Result<Vec<u8>, Fault>
-    ensures bytes { IfOk result (λ bytes. bytes.items ≡ table_bytes (T.value table.now).words) }
+    ensures bytes { IfOk result (λ bytes. bytes.items ≡ table_bytes (T.value table.now).raw_entries) }
     ensures refused { IsOkUnless result Fault.Memory }
 {
     let mut bytes = zeroes(alloc, table.byte_size())?;
-    put_words(table, &mut bytes);
+    put_raw_entries(table, &mut bytes);
     Ok(bytes)
 }
 
 /// Writes a table's bytes to its place.
 fn put_table<T: Table, S: Storage>(alloc: Global, table: &T, image: &mut S) -> Result<(), Fault>
     requires { IsPlacedTable (T.value table.now) }
-    ensures request { Put (S.state image.old) (S.state image.new) (table_place (T.value table.now))
-        (table_bytes (T.value table.now).words) result }
-    ensures at_once { IsAtOnce (unit_of (S.state image.old).shape) (table_place (T.value table.now)) (8 * length (T.value table.now).words)
-        → PutAtOnce (S.state image.old) (S.state image.new) (table_place (T.value table.now))
-        (table_bytes (T.value table.now).words) result }
-    ensures once { 8 * length (T.value table.now).words ≡ 2 ^ (T.value table.now).layout.cluster_bits
-        → PutAtOnce (S.state image.old) (S.state image.new) (table_place (T.value table.now))
-        (table_bytes (T.value table.now).words) result }
+    ensures request { WriteOutcome (S.state image.old) (S.state image.new) (table_start (T.value table.now))
+        (table_bytes (T.value table.now).raw_entries) result }
+    ensures in_one_request { FitsOneRequest (unit_of (S.state image.old).shape) (table_start (T.value table.now)) (8 * length (T.value table.now).raw_entries)
+        → AtomicWriteOutcome (S.state image.old) (S.state image.new) (table_start (T.value table.now))
+        (table_bytes (T.value table.now).raw_entries) result }
+    ensures single_request { 8 * length (T.value table.now).raw_entries ≡ 2 ^ (T.value table.now).layout.cluster_bits
+        → AtomicWriteOutcome (S.state image.old) (S.state image.new) (table_start (T.value table.now))
+        (table_bytes (T.value table.now).raw_entries) result }
 {
     let bytes = bytes_in(alloc, table)?;
     let place = first_byte(table);
@@ -402,18 +402,18 @@ fn put_table<T: Table, S: Storage>(alloc: Global, table: &T, image: &mut S) -> R
 }
 
 /// Writes the bytes of a table's word to its place.
-fn put_word<T: Table, S: Storage>(
+fn put_raw_entry<T: Table, S: Storage>(
     alloc: Global,
     table: &T,
     image: &mut S,
     index: usize,
 ) -> Result<(), Fault>
-    requires bounds { index < length (T.value table.now).words }
+    requires bounds { index < length (T.value table.now).raw_entries }
     requires placed { IsPlacedTable (T.value table.now) }
-    ensures { PutAtOnce (S.state image.old) (S.state image.new) (table_place (T.value table.now) + 8 * index)
-        (to_be_bytes w64 (slice_index (T.value table.now).words index)) result }
+    ensures { AtomicWriteOutcome (S.state image.old) (S.state image.new) (table_start (T.value table.now) + 8 * index)
+        (to_be_bytes w64 (slice_index (T.value table.now).raw_entries index)) result }
 {
-    let word = table.get(index).to_plain();
+    let raw_entry = table.get(index).to_plain();
     let place = first_byte(table) + 8 * index as u64;
-    image.write(alloc, &word.to_be_bytes(), place)
+    image.write(alloc, &raw_entry.to_be_bytes(), place)
 }

@@ -5,8 +5,8 @@
 
 ghost use Rattle.std.specs.Prelude.{◌≡◌, ℕ, ◌+◌, ◌-◌, ◌*◌, ◌/◌, ◌%◌, ◌^◌, ◌<◌, ◌≤◌, IfOk, IsOkUnless};
 ghost use Rattle.qcow2_types.specs.Bytes.{be, bytes_of};
-ghost use Rattle.qcow2_types.specs.Words.{bits_at, has_bit as has_bit_of, table_offset, block_offset, is_place as is_place_of, packed_place, packed_end, packed_mapping, standard_mapping, mapping_of, l1_word_sound, block_word_sound};
-ghost use Rattle.qcow2_metadata.specs.MappingView.{seen, BacksAt, IsNamed};
+ghost use Rattle.qcow2_types.specs.Words.{bits_at, has_bit as has_bit_of, table_offset, block_offset, is_cluster_offset as is_place_of, compressed_offset, compressed_end, compressed_mapping, standard_mapping, mapping_of, l1_entry_valid, reftable_entry_valid};
+ghost use Rattle.qcow2_metadata.specs.MappingView.{seen, BacksAt, IsHostAddressable};
 
 use crate::layout::TableLayout;
 use crate::mapping::L2Mapping;
@@ -15,7 +15,7 @@ use imago_storage::Fault;
 use qcow2_types::{HostCluster, HostOffset, MAX_OFFSET};
 
 /// The big-endian number of the 8 bytes from a place on, 0 past the end.
-pub fn word_at(bytes: &[u8], at: usize) -> u64
+pub fn raw_entry_at(bytes: &[u8], at: usize) -> u64
     requires { at + 8 < 2 ^ 64 }
     ensures { result ≡ be (bytes_of bytes.now) at 8 }
 {
@@ -31,12 +31,12 @@ pub fn word_at(bytes: &[u8], at: usize) -> u64
             bytes[at + 7],
         ])
     } else {
-        word_at_end(bytes, at)
+        raw_entry_at_end(bytes, at)
     }
 }
 
 /// The same, of a word that may pass the end.
-fn word_at_end(bytes: &[u8], at: usize) -> u64
+fn raw_entry_at_end(bytes: &[u8], at: usize) -> u64
     requires { at + 8 < 2 ^ 64 }
     ensures { result ≡ be (bytes_of bytes.now) at 8 }
 {
@@ -48,38 +48,38 @@ fn word_at_end(bytes: &[u8], at: usize) -> u64
 }
 
 /// Whether a bit is set.
-pub(crate) fn has_bit(word: u64, bit: u32) -> bool
+pub(crate) fn has_bit(raw_entry: u64, bit: u32) -> bool
     requires { bit < 64 }
-    ensures { result ≡ has_bit_of word bit }
+    ensures { result ≡ has_bit_of raw_entry bit }
 {
-    word >> bit & 1 == 1
+    raw_entry >> bit & 1 == 1
 }
 
 /// The number that `count` bits from `first` on represent.
-pub(crate) fn bits(word: u64, first: u32, count: u32) -> u64
+pub(crate) fn bits(raw_entry: u64, first: u32, count: u32) -> u64
     requires first { first < 64 }
     requires count { count < 64 }
-    ensures { result ≡ bits_at word first count }
+    ensures { result ≡ bits_at raw_entry first count }
 {
-    word >> first & ((1 << count) - 1)
+    raw_entry >> first & ((1 << count) - 1)
 }
 
 /// The place in an L1 word or a standard L2 word; 0 is none.
-pub fn offset_in(word: u64) -> u64
-    ensures { result ≡ table_offset word }
+pub fn offset_in(raw_entry: u64) -> u64
+    ensures { result ≡ table_offset raw_entry }
 {
-    word & MAX_OFFSET
+    raw_entry & MAX_OFFSET
 }
 
 /// The place in a word of the refcount table; 0 is none.
-pub fn block_offset_in(word: u64) -> u64
-    ensures { result ≡ block_offset word }
+pub fn block_offset_in(raw_entry: u64) -> u64
+    ensures { result ≡ block_offset raw_entry }
 {
-    word >> 9 << 9
+    raw_entry >> 9 << 9
 }
 
 /// Whether a cluster can begin at a place.
-pub(crate) fn is_place(offset: u64, cluster_bits: u32) -> bool
+pub(crate) fn is_cluster_offset(offset: u64, cluster_bits: u32) -> bool
     requires { cluster_bits ≤ 21 }
     ensures { result ≡ is_place_of cluster_bits offset }
 {
@@ -87,47 +87,49 @@ pub(crate) fn is_place(offset: u64, cluster_bits: u32) -> bool
 }
 
 /// Whether a word may stand in the L1 table.
-pub(crate) fn is_l1_word(word: u64, cluster_bits: u32) -> bool
+pub(crate) fn is_l1_entry(raw_entry: u64, cluster_bits: u32) -> bool
     requires { cluster_bits ≤ 21 }
-    ensures { result ≡ l1_word_sound cluster_bits word }
+    ensures { result ≡ l1_entry_valid cluster_bits raw_entry }
 {
-    bits(word, 0, 9) == 0 && bits(word, 56, 7) == 0 && is_place(offset_in(word), cluster_bits)
+    bits(raw_entry, 0, 9) == 0
+        && bits(raw_entry, 56, 7) == 0
+        && is_cluster_offset(offset_in(raw_entry), cluster_bits)
 }
 
 /// Whether a word may stand in the refcount table.
-pub(crate) fn is_block_word(word: u64, cluster_bits: u32) -> bool
+pub(crate) fn is_reftable_entry(raw_entry: u64, cluster_bits: u32) -> bool
     requires { cluster_bits ≤ 21 }
-    ensures { result ≡ block_word_sound cluster_bits word }
+    ensures { result ≡ reftable_entry_valid cluster_bits raw_entry }
 {
-    bits(word, 0, 9) == 0 && is_place(block_offset_in(word), cluster_bits)
+    bits(raw_entry, 0, 9) == 0 && is_cluster_offset(block_offset_in(raw_entry), cluster_bits)
 }
 
 /// The place of the first byte that a compressed word names, and the bytes from there to the end of its last sector.
 #[tactic(auto, using(qcow2_types::proofs::Numbers::Reach::sectors_fit, crate::proofs::WordFacts::packed_fits))]
-pub(crate) fn packed_range(word: u64, cluster_bits: u32) -> (u64, u64)
+pub(crate) fn compressed_byte_range(raw_entry: u64, cluster_bits: u32) -> (u64, u64)
     requires { (9 ≤ cluster_bits) × (cluster_bits ≤ 21) }
-    ensures place { result.0 ≡ packed_place cluster_bits word }
-    ensures length { result.1 ≡ packed_end cluster_bits word - packed_place cluster_bits word }
-    ensures some { 0 < result.1 }
-    ensures few { result.1 < 2 ^ 23 }
+    ensures place { result.0 ≡ compressed_offset cluster_bits raw_entry }
+    ensures length { result.1 ≡ compressed_end cluster_bits raw_entry - compressed_offset cluster_bits raw_entry }
+    ensures nonempty { 0 < result.1 }
+    ensures length_bounded { result.1 < 2 ^ 23 }
 {
     let split = 70 - cluster_bits;
-    let place = bits(word, 0, split);
-    let sectors = bits(word, split, cluster_bits - 8);
+    let place = bits(raw_entry, 0, split);
+    let sectors = bits(raw_entry, split, cluster_bits - 8);
     let end = (place / 512 + sectors + 1) * 512;
     (place, end - place)
 }
 
 /// What a compressed word means, or `Fault::DamagedTable` where it means nothing.
-pub(crate) fn compressed(word: u64, cluster_bits: u32) -> Result<L2Mapping, Fault>
+pub(crate) fn compressed(raw_entry: u64, cluster_bits: u32) -> Result<L2Mapping, Fault>
     requires { (9 ≤ cluster_bits) × (cluster_bits ≤ 21) }
-    ensures means { seen result ≡ packed_mapping cluster_bits word }
-    ensures named { IfOk result (IsNamed cluster_bits) }
+    ensures means { seen result ≡ compressed_mapping cluster_bits raw_entry }
+    ensures named { IfOk result (IsHostAddressable cluster_bits) }
     ensures backs { (place : ℕ) → IfOk result (BacksAt place) }
     ensures refused { IsOkUnless result Fault.DamagedTable }
 {
-    let (place, length) = packed_range(word, cluster_bits);
-    if has_bit(word, 63) || place >= 1 << 56 {
+    let (place, length) = compressed_byte_range(raw_entry, cluster_bits);
+    if has_bit(raw_entry, 63) || place >= 1 << 56 {
         return Err(Fault::DamagedTable);
     }
     Ok(L2Mapping::Compressed {
@@ -139,21 +141,23 @@ pub(crate) fn compressed(word: u64, cluster_bits: u32) -> Result<L2Mapping, Faul
 /// What a standard word means, or `Fault::DamagedTable` where it means nothing. The layer below is read at `backing_offset`.
 #[tactic(auto, using(qcow2_types::proofs::Numbers::Reach::cluster_begin))]
 pub(crate) fn standard(
-    word: u64,
+    raw_entry: u64,
     layout: TableLayout,
     backing_offset: u64,
 ) -> Result<L2Mapping, Fault>
-    ensures means { seen result ≡ standard_mapping layout word }
-    ensures named { IfOk result (IsNamed layout.cluster_bits) }
+    ensures means { seen result ≡ standard_mapping layout raw_entry }
+    ensures named { IfOk result (IsHostAddressable layout.cluster_bits) }
     ensures backs { IfOk result (BacksAt backing_offset) }
     ensures refused { IsOkUnless result Fault.DamagedTable }
 {
-    let offset = offset_in(word);
-    let copied = has_bit(word, 63);
-    let zero = has_bit(word, 0);
-    let reserved = bits(word, 1, 8) != 0 || bits(word, 56, 6) != 0 || zero && layout.version() != 3;
+    let offset = offset_in(raw_entry);
+    let copied = has_bit(raw_entry, 63);
+    let zero = has_bit(raw_entry, 0);
+    let reserved = bits(raw_entry, 1, 8) != 0
+        || bits(raw_entry, 56, 6) != 0
+        || zero && layout.version() != 3;
     let cluster_bits = layout.cluster_bits();
-    if reserved || !is_place(offset, cluster_bits) {
+    if reserved || !is_cluster_offset(offset, cluster_bits) {
         return Err(Fault::DamagedTable);
     }
     let named = offset != 0 || layout.external_data() && copied;
@@ -176,18 +180,18 @@ pub(crate) fn standard(
 /// What an L2 word means, or `Fault::DamagedTable` where it means nothing. The layer below is read at `backing_offset`.
 #[tactic(auto, unfolding(qcow2_types::specs::Words::mapping_of))]
 pub(crate) fn l2_mapping(
-    word: u64,
+    raw_entry: u64,
     layout: TableLayout,
     backing_offset: u64,
 ) -> Result<L2Mapping, Fault>
-    ensures means { seen result ≡ mapping_of layout word }
-    ensures named { IfOk result (IsNamed layout.cluster_bits) }
+    ensures means { seen result ≡ mapping_of layout raw_entry }
+    ensures named { IfOk result (IsHostAddressable layout.cluster_bits) }
     ensures backs { IfOk result (BacksAt backing_offset) }
     ensures refused { IsOkUnless result Fault.DamagedTable }
 {
-    if has_bit(word, 62) {
-        compressed(word, layout.cluster_bits())
+    if has_bit(raw_entry, 62) {
+        compressed(raw_entry, layout.cluster_bits())
     } else {
-        standard(word, layout, backing_offset)
+        standard(raw_entry, layout, backing_offset)
     }
 }

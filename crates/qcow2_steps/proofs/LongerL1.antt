@@ -6,11 +6,11 @@ use Rattle.std.proofs.lemmas.Bool.{cases_eq, cases_lt, le-ltb}
 use Rattle.std.proofs.lemmas.Bool.Decides.{nat_tests}
 use Rattle.std.proofs.lemmas.Nat.{mod_below, pow_pos}
 use Rattle.std.proofs.Math.Nat.{div-mul-le_self, lt-div-mul-add}
-use Rattle.qcow2_types.specs.Bytes.{Bytes, sum_below, word}
+use Rattle.qcow2_types.specs.Bytes.{Bytes, sum_below, raw_entry}
 use Rattle.qcow2_types.specs.Counts.{block_at, count, counter}
 use Rattle.qcow2_types.specs.Entries.{entry, l2_table}
 use Rattle.qcow2_types.specs.Frames.{Outside, Same, touches}
-use Rattle.qcow2_types.specs.Header.{Fields, Header, cluster_size, header_of, words_of_cluster}
+use Rattle.qcow2_types.specs.Header.{Fields, Header, cluster_size, header_of, entries_of_cluster}
 use Rattle.qcow2_types.specs.References.{meets, of_copied, of_mapping, structure}
 use Rattle.qcow2_types.specs.Slots.{Live, or_none, over_slots, slot}
 use Rattle.qcow2_types.specs.Switched.{L1Switched, with_l1, with_l1_table}
@@ -27,8 +27,8 @@ use Rattle.qcow2_types.proofs.Switching.Switches.{cluster-long, l1-switched, sum
 use Rattle.qcow2_metadata.specs.Blocks.{Block}
 use Rattle.qcow2_metadata.specs.Tables.{TableValue}
 use Rattle.qcow2_alloc.specs.Memory.{memory, patches}
-use Rattle.qcow2_alloc.specs.Quiet.{Metadata, IsSound, counted, in_memory, named_at_all, referenced, waiting}
-use Rattle.qcow2_alloc.specs.Safety.{IsCachedBlock, IsCachedTable, Safe}
+use Rattle.qcow2_alloc.specs.GuestView.{Metadata, IsSound, counted, in_memory, referenced_at_all, referenced, waiting}
+use Rattle.qcow2_alloc.specs.WellFormedness.{IsCachedBlock, IsCachedTable, WellFormed}
 use Rattle.qcow2_alloc.proofs.Freeing.Lists.{map-same}
 use Rattle.qcow2_alloc.proofs.Memory.FreeClusterWrites.{over-agrees}
 use Rattle.qcow2_alloc.proofs.Memory.MemoryImage.{range-stays}
@@ -36,8 +36,8 @@ use Rattle.qcow2_alloc.proofs.Memory.Patches.{all-weaker, patches-are, place-the
 use Rattle.qcow2_alloc.proofs.Memory.StructureWrites.{memory-start, unmet-stays}
 use Rattle.qcow2_alloc.proofs.Memory.FittingWords.{counters-same}
 use Rattle.qcow2_alloc.proofs.Memory.KeptWords.{ordered-still}
-use Rattle.qcow2_alloc.proofs.Quiet.QuietEntries.{metadata-among}
-use Rattle.qcow2_alloc.proofs.Quiet.ShownDisks.{in-cluster, memory-same, named-apart}
+use Rattle.qcow2_alloc.proofs.GuestView.QuietEntries.{metadata-among}
+use Rattle.qcow2_alloc.proofs.GuestView.ShownDisks.{in-cluster, memory-same, named-apart}
 use Rattle.qcow2_steps.specs.Advancing.{Advances}
 use Rattle.qcow2_steps.specs.LongerL1.{IsReadyL1Table, NamesL1Table, new_l1, old_l1, with_longer_l1}
 use Rattle.qcow2_steps.specs.Values.{file_value, memory_value, own_value_by}
@@ -63,13 +63,13 @@ meets-most h d first long = grind (arith, nat_tests)
 slots-longer : (s t : ℕ → ℕ) (h : Fields) (o more : ℕ) (p q : ℕ → ℕ → ℕ) → ((i : ℕ) → t i ≡ s i) → ((i : ℕ) → h.l1_entries ≤ i → s i ≡ 0) → ((i j : ℕ) → Live s h i j → q i j ≡ p i j)
     → over_slots t (with_l1 h o (h.l1_entries + more)) q ≡ over_slots s h p
 unfolding over_slots
-slots-longer s t h o more p q same past words =
-    sum-longer h.l1_entries more (λ i. or_none (t i) (sum_below (words_of_cluster h) (λ j. q i j))) (λ i le. rw (same i, past i le) refl)
+slots-longer s t h o more p q same past raw_entries =
+    sum-longer h.l1_entries more (λ i. or_none (t i) (sum_below (entries_of_cluster h) (λ j. q i j))) (λ i le. rw (same i, past i le) refl)
     ∙ sum-same h.l1_entries _ _ (λ k lt. elim (cases_eq (s k) 0) [
       | inl e ↦ rw (same k, e) refl
       | inr there ↦
-          ap (λ z. or_none z (sum_below (words_of_cluster h) (λ j. q k j))) (same k)
-          ∙ ap (or_none (s k)) (sum-same (words_of_cluster h) _ _ (λ j less. words k j (record { in_l1 = lt; is_there = there; in_table = less })))
+          ap (λ z. or_none z (sum_below (entries_of_cluster h) (λ j. q k j))) (same k)
+          ∙ ap (or_none (s k)) (sum-same (entries_of_cluster h) _ _ (λ j less. raw_entries k j (record { in_l1 = lt; is_there = there; in_table = less })))
     ])
 
 module _ (m : Metadata) (o more : ℕ) (x : Bytes) (sound : IsSound m) (ready : IsReadyL1Table m o more) (by : NamesL1Table m o more x) where
@@ -101,14 +101,14 @@ module _ (m : Metadata) (o more : ℕ) (x : Bytes) (sound : IsSound m) (ready : 
   places = places-there m sound
 
   in-file : L1Switched f x m.header o more
-  in-file = l1-table-switched f x m.header sound.safe.consistent o more by.loads by.outside ready.words ready.zeroes
-      (λ d met. let r = ready.reserved d met in let none = r.0.unnamed in let le = refs-file f g h d in (omega (arith, none, le), r.1))
+  in-file = l1-table-switched f x m.header sound.well_formed.consistent o more by.loads by.outside ready.raw_entries ready.zeroes
+      (λ d met. let r = ready.reserved d met in let none = r.0.not_referenced in let le = refs-file f g h d in (omega (arith, none, le), r.1))
 
   -- What the structure doesn't have keeps its bytes.
   kept-there : (d : ℕ) → structure f h (meets h d) ≡ 0 → Same f x (d * cluster_size h) (cluster_size h)
   kept-there d none =
       let part : meets h d 0 (cluster_size h) ≤ structure f h (meets h d) = one-part f h (meets h d) header tt in
-      let size = cluster-long f m.header sound.safe.consistent in
+      let size = cluster-long f m.header sound.well_formed.consistent in
       unmet-stays f x h d 0 (cluster_size h) 0 64 (omega (arith, part, none)) (omega arith) (omega (arith, size)) by.outside
 
   -- What is cached fits.
@@ -123,8 +123,8 @@ module _ (m : Metadata) (o more : ℕ) (x : Bytes) (sound : IsSound m) (ready : 
         let some : l2_table f h live.0 ≢ 0 = λ none. place-there (cluster_size h) cluster (pow_pos h.cluster_bits) live.3 (sym place ∙ none) in
         let inside : live.0 < h.l1_entries = table-inside f h live.0 some in
         is.clean off (live.0, inside, place, live.3)
-        ∙ sym (map-same (word x (cluster * cluster_size h)) (word f (cluster * cluster_size h)) (words_of_cluster h)
-        (λ j less. subst (λ p. word x p j ≡ word f p j) place (in-file.kept.words live.0 j (record { in_l1 = inside; is_there = some; in_table = less }) (λ e. cc))));
+        ∙ sym (map-same (raw_entry x (cluster * cluster_size h)) (raw_entry f (cluster * cluster_size h)) (entries_of_cluster h)
+        (λ j less. subst (λ p. raw_entry x p j ≡ raw_entry f p j) place (in-file.same_structure_outside.raw_entries live.0 j (record { in_l1 = inside; is_there = some; in_table = less }) (λ e. cc))));
   }
 
   block-still : (cluster : ℕ) (b : Block) → IsCachedBlock f h cluster b → IsCachedBlock x new cluster b
@@ -140,14 +140,14 @@ module _ (m : Metadata) (o more : ℕ) (x : Bytes) (sound : IsSound m) (ready : 
         let place : block_at f h live.0 ≡ cluster * cluster_size h = sym (in-file.blocks live.0) ∙ live.2 in
         let some : block_at f h live.0 ≢ 0 = λ none. place-there (cluster_size h) cluster (pow_pos h.cluster_bits) live.3 (sym place ∙ none) in
         is.clean off (live.0, live.1, place, live.3)
-        ∙ sym (counters-same f x h (cluster * cluster_size h) (subst (λ p. Same f x p (cluster_size h)) place (in-file.kept.counters live.0 live.1 some (λ e. cc))));
+        ∙ sym (counters-same f x h (cluster * cluster_size h) (subst (λ p. Same f x p (cluster_size h)) place (in-file.same_structure_outside.counters live.0 live.1 some (λ e. cc))));
   }
 
   tables-fit : AllByRecursion (λ e. IsCachedTable x new e.0 e.1.value) m.cached.tables
-  tables-fit = all-weaker _ _ (λ e is. table-still e.0 e.1.value is) m.cached.tables sound.safe.tables
+  tables-fit = all-weaker _ _ (λ e is. table-still e.0 e.1.value is) m.cached.tables sound.well_formed.tables
 
   blocks-fit : AllByRecursion (λ e. IsCachedBlock x new e.0 e.1.value) m.cached.blocks
-  blocks-fit = all-weaker _ _ (λ e is. block-still e.0 e.1.value is) m.cached.blocks sound.safe.blocks
+  blocks-fit = all-weaker _ _ (λ e is. block-still e.0 e.1.value is) m.cached.blocks sound.well_formed.blocks
 
   -- In memory the header changes, too,
   loads-there : header_of true y ≡ Ok H'
@@ -160,23 +160,23 @@ module _ (m : Metadata) (o more : ℕ) (x : Bytes) (sound : IsSound m) (ready : 
   table-there : Same f g o long
   table-there k less =
       let met = inside-meets h (o + k) o long (omega arith) (omega (arith, less)) in
-      in-cluster h f g (o + k) (memory-same f m.header ((o + k) / cluster_size h) (ready.reserved ((o + k) / cluster_size h) met).0.used.apart sound.safe.consistent m.cached m.order sound.safe)
+      in-cluster h f g (o + k) (memory-same f m.header ((o + k) / cluster_size h) (ready.reserved ((o + k) / cluster_size h) met).0.used.apart sound.well_formed.consistent m.cached m.order sound.well_formed)
 
-  old-there : (i : ℕ) → i < h.l1_entries → word g h.l1_offset i ≡ word f h.l1_offset i
+  old-there : (i : ℕ) → i < h.l1_entries → raw_entry g h.l1_offset i ≡ raw_entry f h.l1_offset i
   old-there i less = word-same f g h.l1_offset (h.l1_entries * 8) i
-      (range-stays f m.header sound.safe.consistent l1_table tt refl h.l1_offset (h.l1_entries * 8) (λ w. refl) (patches h m.cached) (patches-are f m.header sound.safe.consistent m.cached sound.safe.tables sound.safe.blocks))
+      (range-stays f m.header sound.well_formed.consistent l1_table tt refl h.l1_offset (h.l1_entries * 8) (λ w. refl) (patches h m.cached) (patches-are f m.header sound.well_formed.consistent m.cached sound.well_formed.tables sound.well_formed.blocks))
       (omega (arith, less))
 
-  new-there : (i : ℕ) → i < h.l1_entries + more → word g o i ≡ word f o i
+  new-there : (i : ℕ) → i < h.l1_entries + more → raw_entry g o i ≡ raw_entry f o i
   new-there i less = word-same f g o long i table-there (omega (arith, less))
 
   over-there : L1Switched g y m.header o more
   over-there = l1-table-switched g y m.header (within m sound) o more loads-there outside-there
-      (λ i less. new-there i (omega (arith, less)) ∙ ready.words i less ∙ sym (old-there i less))
+      (λ i less. new-there i (omega (arith, less)) ∙ ready.raw_entries i less ∙ sym (old-there i less))
       (λ i from less. new-there i less ∙ ready.zeroes i from less)
       (λ d met.
       let r = ready.reserved d met in
-      let none = r.0.unnamed in
+      let none = r.0.not_referenced in
       let le = refs-cached f g h d places in
       let taken = r.0.used.taken in
       (omega (arith, none, le), omega (arith, taken)))
@@ -184,8 +184,8 @@ module _ (m : Metadata) (o more : ℕ) (x : Bytes) (sound : IsSound m) (ready : 
   live-there : (i j : ℕ) → Live (l2_table f h) h i j → Live (l2_table g h) h i j
   live-there i j live = record { in_l1 = live.in_l1; is_there = λ none. live.is_there (sym (places.l1 i) ∙ none); in_table = live.in_table }
 
-  names : (d : ℕ) → named_at_all later d + old_l1 m d ≡ named_at_all m d + new_l1 m o more d
-  names d = l1-switched f g x y h o more d in-file.blocks in-file.tables (λ i j live. (in-file.kept.words i j live (λ e. cc), over-there.slots i j (live-there i j live)))
+  names : (d : ℕ) → referenced_at_all later d + old_l1 m d ≡ referenced_at_all m d + new_l1 m o more d
+  names d = l1-switched f g x y h o more d in-file.blocks in-file.tables (λ i j live. (in-file.same_structure_outside.raw_entries i j live (λ e. cc), over-there.slots i j (live-there i j live)))
 
   no-table : (i : ℕ) → h.l1_entries ≤ i → l2_table f h i ≡ 0
   no-table i le = let past : nat_lt i h.l1_entries ≡ false = le-ltb _ _ le in rw past refl
@@ -211,19 +211,19 @@ module _ (m : Metadata) (o more : ℕ) (x : Bytes) (sound : IsSound m) (ready : 
   references-there = over-there.references
 
   -- A cluster has a part of the new table, and was reserved, or it has none.
-  which : (d : ℕ) → (new_l1 m o more d ≡ 0) ⊎ ((new_l1 m o more d ≡ 1) × (named_at_all m d ≡ 0) × (waiting m d ≡ 0) × (1 ≤ count f h d) × (1 ≤ counted m d))
+  which : (d : ℕ) → (new_l1 m o more d ≡ 0) ⊎ ((new_l1 m o more d ≡ 1) × (referenced_at_all m d ≡ 0) × (waiting m d ≡ 0) × (1 ≤ count f h d) × (1 ≤ counted m d))
   which d =
       let most = meets-most h d o long in
       elim (cases_lt 0 (new_l1 m o more d)) [
-        | inl met ↦ let r = ready.reserved d met in let taken = r.0.used.taken in inr (omega (arith, met, most), r.0.unnamed, r.0.waits, r.1, omega (arith, taken))
+        | inl met ↦ let r = ready.reserved d met in let taken = r.0.used.taken in inr (omega (arith, met, most), r.0.not_referenced, r.0.waits, r.1, omega (arith, taken))
         | inr none ↦ inl (omega (arith, none))
       ]
 
-  safe-still : Safe x H' m.cached m.order
+  safe-still : WellFormed x H' m.cached m.order
   safe-still = record {
     consistent = in-file.consistent;
-    tables_apart = sound.safe.tables_apart;
-    blocks_apart = sound.safe.blocks_apart;
+    tables_apart = sound.well_formed.tables_apart;
+    blocks_apart = sound.well_formed.blocks_apart;
     tables = tables-fit;
     blocks = blocks-fit;
     apart = λ d some.
@@ -231,7 +231,7 @@ module _ (m : Metadata) (o more : ℕ) (x : Bytes) (sound : IsSound m) (ready : 
         let same = marks d in
         let stands = base d in
         elim (which d) [
-          | inl none ↦ let one = sound.safe.apart d (omega (arith, same, stands, none, some)) in omega (arith, all, none, one)
+          | inl none ↦ let one = sound.well_formed.apart d (omega (arith, same, stands, none, some)) in omega (arith, all, none, one)
           | inr at ↦ omega (arith, all, at.0, at.1)
         ];
     ordered = ordered-still f g x y h new
@@ -245,13 +245,13 @@ module _ (m : Metadata) (o more : ℕ) (x : Bytes) (sound : IsSound m) (ready : 
         ])
         (λ d. named-counted x H' in-file.consistent d)
         (λ d le. let file = file-counts d in let cached = counts-there d in omega (arith, file, cached, le))
-        m.order sound.safe.ordered;
+        m.order sound.well_formed.ordered;
     covered = λ d. named-counted y H' over-there.consistent d;
   }
 
   pub longer-sound : IsSound later
   longer-sound = record {
-    safe = safe-still;
+    well_formed = safe-still;
     table = record { layout = sound.table.layout; long = sound.table.long; placed = sound.table.placed; names = λ i less. sound.table.names i less ∙ sym (in-file.blocks i) };
     covered = λ d.
         let was = sound.covered d in
@@ -261,8 +261,8 @@ module _ (m : Metadata) (o more : ℕ) (x : Bytes) (sound : IsSound m) (ready : 
           | inl none ↦ omega (arith, was, all, counts, none)
           | inr at ↦ let le = refs-cached f g h d places in omega (arith, all, counts, at.0, at.1, at.2, at.4, le)
         ];
-    unnamed = λ d some.
-        let none = sound.unnamed d some in
+    not_referenced = λ d some.
+        let none = sound.not_referenced d some in
         let all = names d in
         elim (which d) [
           | inl away ↦ omega (arith, none, all, away)
@@ -275,9 +275,9 @@ module _ (m : Metadata) (o more : ℕ) (x : Bytes) (sound : IsSound m) (ready : 
 
   file-apart : (guest d : ℕ) (k : Bool) → entry f h guest ≡ data_at d k → structure f h (meets h d) ≡ 0
   file-apart guest d k is =
-      let there = data-slot f m.header sound.safe.consistent guest d k is in
+      let there = data-slot f m.header sound.well_formed.consistent guest d k is in
       let one = ap (of_mapping h (meets h d)) there.1 ∙ meets-own h d in
-      named-apart f g h d (guest / words_of_cluster h) (guest % words_of_cluster h) (slot f h (guest / words_of_cluster h) (guest % words_of_cluster h)) sound.safe.apart there.0 (inl refl) (omega (arith, one))
+      named-apart f g h d (guest / entries_of_cluster h) (guest % entries_of_cluster h) (slot f h (guest / entries_of_cluster h) (guest % entries_of_cluster h)) sound.well_formed.apart there.0 (inl refl) (omega (arith, one))
 
   -- Each guest cluster has its word,
   pub words-kept : (guest : ℕ) → (entry y new guest ≡ entry g h guest) × (entry x new guest ≡ entry f h guest)
@@ -299,22 +299,22 @@ module _ (m : Metadata) (o more : ℕ) (x : Bytes) (sound : IsSound m) (ready : 
     header = header-l1 m.header o (m.header.fields.l1_entries + more);
     file = record { consistent = in-file.consistent; header = header-l1 m.header o (m.header.fields.l1_entries + more); shows = λ p. inl (file-shows-same p) };
     memory = λ p. inl (memory-shows-same p);
-    words = λ guest. inl (over-there.entries guest);
+    raw_entries = λ guest. inl (over-there.entries guest);
     used = λ d used none. record {
       apart = let stands = base d in let was = used.apart in omega (arith, stands, was, none);
       taken = let counts = counts-there d in let taken = used.taken in omega (arith, counts, taken);
     };
     waits = λ d used none. omega arith;
     names = λ d used none. let all = names d in omega (arith, all, none);
-    kept = λ p used none. inr (in-cluster h f x p (kept-there (p / cluster_size h) used.apart));
+    used_bytes_unchanged = λ p used none. inr (in-cluster h f x p (kept-there (p / cluster_size h) used.apart));
     law = λ d. let counts = counts-there d in let all = references-there d in omega (arith, counts, all);
   }
 
   -- Nothing names the old table's clusters.
-  pub old-unnamed : (d : ℕ) → old_l1 m d ≡ 1 → named_at_all later d ≡ 0
+  pub old-unnamed : (d : ℕ) → old_l1 m d ≡ 1 → referenced_at_all later d ≡ 0
   old-unnamed d own =
       let le = l1-part f h (meets h d) in
-      let one = sound.safe.apart d (omega (arith, le, own)) in
+      let one = sound.well_formed.apart d (omega (arith, le, own)) in
       let all = names d in
       elim (which d) [
         | inl none ↦ omega (arith, one, all, none, own)

@@ -5,15 +5,15 @@ use Rattle.std.proofs.Math.Nat.{le-max_left, le-max_right}
 use Rattle.std.proofs.lemmas.Bool.{cases_eq}
 use Rattle.qcow2_types.specs.Bytes.{Bytes}
 use Rattle.qcow2_types.specs.Entries.{l2_table}
-use Rattle.qcow2_types.specs.Header.{Fields, words_of_cluster}
+use Rattle.qcow2_types.specs.Header.{Fields, entries_of_cluster}
 use Rattle.qcow2_types.specs.References.{meets, of_copied, of_mapping, structure}
 use Rattle.qcow2_types.specs.Slots.{Live, slot}
-use Rattle.qcow2_types.specs.Versions.{copied, named, of_either}
+use Rattle.qcow2_types.specs.Versions.{copied, references_in_either, of_either}
 use Rattle.qcow2_types.proofs.Changes.DataWrites.{alone-slot, alone-structure}
 use Rattle.qcow2_types.proofs.Counting.Named.{copied-named}
 use Rattle.qcow2_types.proofs.Counting.Slots.{slot-le}
-use Rattle.qcow2_alloc.specs.Quiet.{Metadata, IsSound, in_memory, named_at_all}
-use Rattle.qcow2_steps.specs.Data.{IsNamedFor}
+use Rattle.qcow2_alloc.specs.GuestView.{Metadata, IsSound, in_memory, referenced_at_all}
+use Rattle.qcow2_steps.specs.Data.{IsReferencedFor}
 
 -- Of what one word names as copied in either version, all do.
 copied-by : (f g : Bytes) (h : Fields) (c i j : ℕ) → Live (l2_table f h) h i j → 0 < of_copied h (meets h c) (slot f h i j) + of_copied h (meets h c) (slot g h i j) → 0 < copied f g h c
@@ -42,22 +42,22 @@ other-word e i j k n apart = elim (cases_eq k i) [
 
 pub named-alone : (m : Metadata) (i j c : ℕ) → IsSound m → Live (l2_table m.file m.header.fields) m.header.fields i j
     → 0 < of_copied m.header.fields (meets m.header.fields c) (slot m.file m.header.fields i j) + of_copied m.header.fields (meets m.header.fields c) (slot (in_memory m) m.header.fields i j)
-    → IsNamedFor m (i * words_of_cluster m.header.fields + j) c × (structure m.file m.header.fields (meets m.header.fields c) ≡ 0)
+    → IsReferencedFor m (i * entries_of_cluster m.header.fields + j) c × (structure m.file m.header.fields (meets m.header.fields c) ≡ 0)
 named-alone m i j c sound live some =
     let marked = copied-by m.file (in_memory m) m.header.fields c i j live some in
-    let once : named m.file (in_memory m) m.header.fields c ≤ 1 = sound.safe.apart c (omega (arith, marked)) in
+    let once : references_in_either m.file (in_memory m) m.header.fields c ≤ 1 = sound.well_formed.apart c (omega (arith, marked)) in
     let here = either-names m.file (in_memory m) m.header.fields c i j some in (
-      λ k n live' apart. alone-slot m.file (in_memory m) m.header.fields c i j once live here k n live' (other-word (words_of_cluster m.header.fields) i j k n apart),
+      λ k n live' apart. alone-slot m.file (in_memory m) m.header.fields c i j once live here k n live' (other-word (entries_of_cluster m.header.fields) i j k n apart),
       alone-structure m.file (in_memory m) m.header.fields c i j once live here,
     )
 
 -- What nothing names no word does.
-unnamed-slot : (f g : Bytes) (h : Fields) (c : ℕ) → named f g h c ≡ 0 → ((i j : ℕ) → Live (l2_table f h) h i j → of_either h (meets h c) (slot f h i j) (slot g h i j) ≡ 0) × (structure f h (meets h c) ≡ 0)
-unfolding named
+unnamed-slot : (f g : Bytes) (h : Fields) (c : ℕ) → references_in_either f g h c ≡ 0 → ((i j : ℕ) → Live (l2_table f h) h i j → of_either h (meets h c) (slot f h i j) (slot g h i j) ≡ 0) × (structure f h (meets h c) ≡ 0)
+unfolding references_in_either
 unnamed-slot f g h c none = (
   λ i j live. let all = slot-le (l2_table f h) h (λ k n. of_either h (meets h c) (slot f h k n) (slot g h k n)) i j live in omega (arith, all, none),
   omega (arith, none),
 )
 
-pub unnamed-for : (m : Metadata) (guest c : ℕ) → named_at_all m c ≡ 0 → IsNamedFor m guest c × (structure m.file m.header.fields (meets m.header.fields c) ≡ 0)
+pub unnamed-for : (m : Metadata) (guest c : ℕ) → referenced_at_all m c ≡ 0 → IsReferencedFor m guest c × (structure m.file m.header.fields (meets m.header.fields c) ≡ 0)
 unnamed-for m guest c none = let both = unnamed-slot m.file (in_memory m) m.header.fields c none in (λ i j live apart. both.0 i j live, both.1)

@@ -8,18 +8,18 @@ use Rattle.qcow2_types.specs.Header.{Fields, Header, cluster_size}
 use Rattle.qcow2_types.specs.Pending.{FreeEntry}
 use Rattle.qcow2_types.specs.References.{meets, refs, structure}
 use Rattle.qcow2_types.specs.Switched.{SizeSwitched, sized, with_size}
-use Rattle.qcow2_types.specs.Versions.{named}
+use Rattle.qcow2_types.specs.Versions.{references_in_either}
 use Rattle.qcow2_types.specs.Words.{Mapping, damaged, data_at, packed, unmapped, zeroes}
 use Rattle.qcow2_types.proofs.Counting.Either.{named-clean, refs-file}
 use Rattle.qcow2_types.proofs.Counting.Parts.{header, one-part}
 use Rattle.qcow2_types.proofs.Switching.SizeSwitch.{size-switched}
 use Rattle.qcow2_types.proofs.Switching.Switches.{cluster-long}
 use Rattle.qcow2_metadata.specs.Tables.{TableValue}
-use Rattle.qcow2_alloc.specs.Quiet.{IsSound, Metadata, counted, in_memory, named_at_all, referenced, waiting, waiting_metadata}
+use Rattle.qcow2_alloc.specs.GuestView.{IsSound, Metadata, counted, in_memory, referenced_at_all, referenced, waiting, waiting_metadata}
 use Rattle.qcow2_alloc.proofs.Caching.EmptyCaches.{empty-safe}
 use Rattle.qcow2_alloc.proofs.Memory.SafeLaws.{clean-memory}
 use Rattle.qcow2_alloc.proofs.Memory.StructureWrites.{unmet-stays}
-use Rattle.qcow2_steps.specs.Sizes.{KeepsAllButSize, NamesSize, rested}
+use Rattle.qcow2_steps.specs.Sizes.{KeepsAllButSize, WritesHeaderSize, rested}
 use Rattle.qcow2_steps.specs.Values.{own_value, own_value_by}
 use Rattle.qcow2_steps.proofs.QuietValues.{data-used}
 use Rattle.qcow2_steps.proofs.Values.{value-same}
@@ -33,7 +33,7 @@ sized-value x h n p unmapped = refl
 sized-value x h n p damaged = refl
 
 module _ (f : Bytes) (H : Header) (n : ℕ) (x : Bytes) (table : TableValue) (pending : List FreeEntry)
-    (sound : IsSound (rested f H table pending)) (by : NamesSize f H n x) where
+    (sound : IsSound (rested f H table pending)) (by : WritesHeaderSize f H n x) where
   abbrev h : Fields
   h = H.fields
 
@@ -44,7 +44,7 @@ module _ (f : Bytes) (H : Header) (n : ℕ) (x : Bytes) (table : TableValue) (pe
   after = rested x (with_size H n) table pending
 
   switched : SizeSwitched f x H n
-  switched = size-switched f x H sound.safe.consistent n by.loads by.outside
+  switched = size-switched f x H sound.well_formed.consistent n by.loads by.outside
 
   memory-then : in_memory before ≡ f
   memory-then = clean-memory f h (record { tables = []; blocks = [] }) tt tt
@@ -59,7 +59,7 @@ module _ (f : Bytes) (H : Header) (n : ℕ) (x : Bytes) (table : TableValue) (pe
       let used = data-used before sound guest d copied (ap (λ b. entry b h guest) memory-then ∙ is) in
       let part : meets h d 0 (cluster_size h) ≤ structure f h (meets h d) = one-part f h (meets h d) header tt in
       let none = used.apart in
-      let size = cluster-long f H sound.safe.consistent in
+      let size = cluster-long f H sound.well_formed.consistent in
       let same = unmet-stays f x h d 0 (cluster_size h) 0 64 (omega (arith, part, none)) (omega arith) (omega (arith, size)) by.outside in
       same (p % cluster_size h) (mod_below p (cluster_size h) (pow_pos h.cluster_bits))
 
@@ -75,15 +75,15 @@ module _ (f : Bytes) (H : Header) (n : ℕ) (x : Bytes) (table : TableValue) (pe
   names-now : (c : ℕ) → referenced after c ≡ referenced before c
   names-now c = ap (λ b. refs b (sized h n) c) memory-now ∙ switched.references c ∙ ap (λ b. refs b h c) (sym memory-then)
 
-  none-named : (c : ℕ) → named_at_all before c ≡ 0 → named_at_all after c ≡ 0
+  none-named : (c : ℕ) → referenced_at_all before c ≡ 0 → referenced_at_all after c ≡ 0
   none-named c none =
-      ap (λ b. named x b (sized h n) c) memory-now ∙ named-clean x x (sized h n) c (λ i j live. refl) ∙ switched.references c
-      ∙ (let fewer : refs f h c ≤ named f (in_memory before) h c = refs-file f (in_memory before) h c in omega (arith, fewer, none))
+      ap (λ b. references_in_either x b (sized h n) c) memory-now ∙ named-clean x x (sized h n) c (λ i j live. refl) ∙ switched.references c
+      ∙ (let fewer : refs f h c ≤ references_in_either f (in_memory before) h c = refs-file f (in_memory before) h c in omega (arith, fewer, none))
 
   pub keeps-all : KeepsAllButSize f H n x table pending
   keeps-all = record {
     sound = record {
-      safe = empty-safe x (with_size H n) switched.consistent;
+      well_formed = empty-safe x (with_size H n) switched.consistent;
       table = record {
         layout = sound.table.layout;
         long = sound.table.long;
@@ -95,10 +95,10 @@ module _ (f : Bytes) (H : Header) (n : ℕ) (x : Bytes) (table : TableValue) (pe
           let counts = counts-now c in
           let names = names-now c in
           omega (arith, covered, counts, names);
-      unnamed = λ c some. none-named c (sound.unnamed c some);
+      not_referenced = λ c some. none-named c (sound.not_referenced c some);
     };
     values = value-kept;
-    words = switched.entries;
+    raw_entries = switched.entries;
     counts = switched.counts;
     names = switched.references;
   }

@@ -4,13 +4,13 @@ use Rattle.std.specs.Prelude.{◌⊎◌}
 use Rattle.imago_storage.specs.Disk.{Value}
 use Rattle.qcow2_types.specs.Bytes.{Bytes}
 use Rattle.qcow2_types.specs.Header.{Header, cluster_size}
-use Rattle.qcow2_alloc.specs.Quiet.{Metadata, IsUsed}
-use Rattle.qcow2_steps.specs.Advancing.{Advances, MayBeLeft}
+use Rattle.qcow2_alloc.specs.GuestView.{Metadata, IsUsed}
+use Rattle.qcow2_steps.specs.Advancing.{Advances, MayBeCrashImage}
 use Rattle.qcow2_steps.specs.Words.{IsReserved}
 use Rattle.qcow2_steps.proofs.Headers.{header-bits, header-then}
 
 -- What may be left where this is given may be left where more is.
-pub left-weaker : (gives more : ℕ → Option Value → Type 0) → ((p : ℕ) (v : Option Value) → gives p v → more p v) → (m : Metadata) (x : Bytes) (H : Header) → MayBeLeft gives m x H → MayBeLeft more m x H
+pub left-weaker : (gives more : ℕ → Option Value → Type 0) → ((p : ℕ) (v : Option Value) → gives p v → more p v) → (m : Metadata) (x : Bytes) (H : Header) → MayBeCrashImage gives m x H → MayBeCrashImage more m x H
 left-weaker gives more from m x H left = record {
   consistent = left.consistent;
   header = left.header;
@@ -25,16 +25,16 @@ pub advances-weaker : (gives more : ℕ → Option Value → Type 0) (written wi
     → ((p : ℕ) (v : Option Value) → gives p v → more p v) → ((q : ℕ) → written q → wider q) → ((guest : ℕ) → set guest → further guest)
     → ((c : ℕ) → handed c + t c ≡ h c + taken c) → ((c : ℕ) → IsUsed m c → t c ≡ 0 → taken c ≡ 0)
     → Advances gives written set handed taken m m' → Advances more wider further h t m m'
-advances-weaker gives more written wider set further handed taken h t m m' given place word same spared step = record {
+advances-weaker gives more written wider set further handed taken h t m m' given place raw_entry same spared step = record {
   sound = step.sound;
   header = step.header;
   file = left-weaker gives more given m m'.file m'.header step.file;
   memory = λ p. elim (step.memory p) [ inl was ↦ inl was | inr now ↦ inr (given p _ now) ];
-  words = λ guest. elim (step.words guest) [ inl was ↦ inl was | inr now ↦ inr (word guest now) ];
+  raw_entries = λ guest. elim (step.raw_entries guest) [ inl was ↦ inl was | inr now ↦ inr (raw_entry guest now) ];
   used = λ c used none. step.used c used (spared c used none);
   waits = λ c used none. step.waits c used (spared c used none);
   names = λ c used none. step.names c used (spared c used none);
-  kept = λ p used none. elim (step.kept p used (spared _ used none)) [ inl now ↦ inl (place p now) | inr was ↦ inr was ];
+  used_bytes_unchanged = λ p used none. elim (step.used_bytes_unchanged p used (spared _ used none)) [ inl now ↦ inl (place p now) | inr was ↦ inr was ];
   law = λ c. let law = step.law c in let e = same c in omega (arith, law, e);
 }
 
@@ -43,7 +43,7 @@ module _ (gives gives' : ℕ → Option Value → Type 0) (written set : ℕ →
   Either p v = gives p v ⊎ gives' p v
 
   -- What may be left in the second may be left in both.
-  pub left-then : (x : Bytes) (H : Header) → MayBeLeft gives' m1 x H → MayBeLeft Either m x H
+  pub left-then : (x : Bytes) (H : Header) → MayBeCrashImage gives' m1 x H → MayBeCrashImage Either m x H
   left-then x H left = record {
     consistent = left.consistent;
     header = header-then m.header m1.header H first.header left.header;
@@ -84,22 +84,22 @@ module _ (gives gives' : ℕ → Option Value → Type 0) (written set : ℕ →
         ]
         | inr given ↦ inr (inr given)
       ];
-      words = λ guest. elim (second.words guest) [
-        | inl same ↦ elim (first.words guest) [
+      raw_entries = λ guest. elim (second.raw_entries guest) [
+        | inl same ↦ elim (first.raw_entries guest) [
           | inl was ↦ inl (same ∙ was)
           | inr now ↦ inr (inl now)
         ]
         | inr now ↦ inr (inr now)
       ];
-      used = λ c used none. let still = still-used c used none in second.used c still.0 still.2;
-      waits = λ c used none. let still = still-used c used none in let one = first.waits c used still.1 in let two = second.waits c still.0 still.2 in omega (arith, one, two);
-      names = λ c used none. let still = still-used c used none in let one = first.names c used still.1 in let two = second.names c still.0 still.2 in omega (arith, one, two);
-      kept = λ p used none.
-          let still = still-used (p / cluster_size m.header.fields) used none in
-          let there = subst (λ s. IsUsed m1 (p / s) → taken' (p / s) ≡ 0 → written' p ⊎ (m2.file p ≡ m1.file p)) size-same (second.kept p) still.0 still.2 in
+      used = λ c used none. let has_no_dirty_data = still-used c used none in second.used c has_no_dirty_data.0 has_no_dirty_data.2;
+      waits = λ c used none. let has_no_dirty_data = still-used c used none in let one = first.waits c used has_no_dirty_data.1 in let two = second.waits c has_no_dirty_data.0 has_no_dirty_data.2 in omega (arith, one, two);
+      names = λ c used none. let has_no_dirty_data = still-used c used none in let one = first.names c used has_no_dirty_data.1 in let two = second.names c has_no_dirty_data.0 has_no_dirty_data.2 in omega (arith, one, two);
+      used_bytes_unchanged = λ p used none.
+          let has_no_dirty_data = still-used (p / cluster_size m.header.fields) used none in
+          let there = subst (λ s. IsUsed m1 (p / s) → taken' (p / s) ≡ 0 → written' p ⊎ (m2.file p ≡ m1.file p)) size-same (second.used_bytes_unchanged p) has_no_dirty_data.0 has_no_dirty_data.2 in
           elim there [
             | inl now ↦ inl (inr now)
-            | inr same ↦ elim (first.kept p used still.1) [
+            | inr same ↦ elim (first.used_bytes_unchanged p used has_no_dirty_data.1) [
               | inl now ↦ inl (inl now)
               | inr was ↦ inr (same ∙ was)
             ]
@@ -111,6 +111,6 @@ module _ (gives gives' : ℕ → Option Value → Type 0) (written set : ℕ →
 pub reserved-still : (gives : ℕ → Option Value → Type 0) (written set : ℕ → Type 0) (handed taken : ℕ → ℕ) (m m' : Metadata) → Advances gives written set handed taken m m' → (c : ℕ) → IsReserved m c → taken c ≡ 0 → IsReserved m' c
 reserved-still gives written set handed taken m m' step c reserved none = record {
   used = step.used c reserved.used none;
-  unnamed = let fewer = step.names c reserved.used none in let was = reserved.unnamed in omega (arith, fewer, was);
+  not_referenced = let fewer = step.names c reserved.used none in let was = reserved.not_referenced in omega (arith, fewer, was);
   waits = let fewer = step.waits c reserved.used none in let was = reserved.waits in omega (arith, fewer, was);
 }

@@ -9,11 +9,11 @@ use Rattle.qcow2_types.specs.Bytes.{Bytes, splice, sum_below}
 use Rattle.qcow2_types.specs.Consistency.{IsConsistent}
 use Rattle.qcow2_types.specs.Counts.{count}
 use Rattle.qcow2_types.specs.Entries.{entry, l2_mapping, l2_table}
-use Rattle.qcow2_types.specs.Header.{Fields, Header, cluster_size, layout_of, words_of_cluster}
+use Rattle.qcow2_types.specs.Header.{Fields, Header, cluster_size, layout_of, entries_of_cluster}
 use Rattle.qcow2_types.specs.References.{Weight, contents, meets, of_cluster, of_copied, of_mapping, of_table, of_table_or_none, refs, structure}
 use Rattle.qcow2_types.specs.Slots.{slot}
 use Rattle.qcow2_types.specs.Steps.{TableReplaced, TableSwapped}
-use Rattle.qcow2_types.specs.Words.{unmarked_mapping, Mapping, data_at, zeroes, packed, unmapped, damaged, is_damaged, l1_word_sound, mapping_of, table_offset}
+use Rattle.qcow2_types.specs.Words.{mapping_without_copied, Mapping, data_at, zeroes, packed, unmapped, damaged, is_damaged, l1_entry_valid, mapping_of, table_offset}
 use Rattle.qcow2_types.proofs.Counting.Consistent.{consistent-shaped, copied-named-once, meets-own, meets-other, named-counted, some-words, structure-named-once}
 use Rattle.qcow2_types.proofs.Counting.Limit.{sum-zero}
 use Rattle.qcow2_types.proofs.Counting.Named.{structure-le-refs}
@@ -25,7 +25,7 @@ use Rattle.qcow2_alloc.proofs.Memory.Patches.{place-there}
 use Rattle.qcow2_steps.specs.NewTables.{copied_as, slot_or_none}
 
 -- The mark of a cluster changes nothing but what is named as copied.
-unmarked-weighs : (h : Fields) (w : Weight) (n : Mapping) → of_mapping h w (unmarked_mapping n) ≡ of_mapping h w n
+unmarked-weighs : (h : Fields) (w : Weight) (n : Mapping) → of_mapping h w (mapping_without_copied n) ≡ of_mapping h w n
 unmarked-weighs h w (data_at d copied) = refl
 unmarked-weighs h w (zeroes (Some d) copied) = refl
 unmarked-weighs h w (zeroes None copied) = refl
@@ -33,7 +33,7 @@ unmarked-weighs h w (packed offset n) = refl
 unmarked-weighs h w unmapped = refl
 unmarked-weighs h w damaged = refl
 
-unmarked-free : (h : Fields) (w : Weight) (n : Mapping) → of_copied h w (unmarked_mapping n) ≡ 0
+unmarked-free : (h : Fields) (w : Weight) (n : Mapping) → of_copied h w (mapping_without_copied n) ≡ 0
 unmarked-free h w (data_at d copied) = refl
 unmarked-free h w (zeroes (Some d) copied) = refl
 unmarked-free h w (zeroes None copied) = refl
@@ -41,14 +41,14 @@ unmarked-free h w (packed offset n) = refl
 unmarked-free h w unmapped = refl
 unmarked-free h w damaged = refl
 
-unmarked-sane : (n : Mapping) → is_damaged (unmarked_mapping n) ≡ is_damaged n
+unmarked-sane : (n : Mapping) → is_damaged (mapping_without_copied n) ≡ is_damaged n
 unmarked-sane (data_at d copied) = refl
 unmarked-sane (zeroes d copied) = refl
 unmarked-sane (packed offset n) = refl
 unmarked-sane unmapped = refl
 unmarked-sane damaged = refl
 
-unmarked-twice : (n : Mapping) → unmarked_mapping (unmarked_mapping n) ≡ unmarked_mapping n
+unmarked-twice : (n : Mapping) → mapping_without_copied (mapping_without_copied n) ≡ mapping_without_copied n
 unmarked-twice (data_at d copied) = refl
 unmarked-twice (zeroes d copied) = refl
 unmarked-twice (packed offset n) = refl
@@ -68,7 +68,7 @@ copied-sane : (marks : Bool) (n : Mapping) → is_damaged (copied_as marks n) �
 copied-sane true n = refl
 copied-sane false n = unmarked-sane n
 
-copied-unmarked : (marks : Bool) (n : Mapping) → unmarked_mapping (copied_as marks n) ≡ unmarked_mapping n
+copied-unmarked : (marks : Bool) (n : Mapping) → mapping_without_copied (copied_as marks n) ≡ mapping_without_copied n
 copied-unmarked true n = refl
 copied-unmarked false n = unmarked-twice n
 
@@ -86,9 +86,9 @@ slot-there f h i j there = choose (l2_table f h i) unmapped (slot f h i j) there
 chosen : (p n : ℕ) → p ≢ 0 → (if p == 0 then 0 else n) ≡ n
 chosen p n apart = grind (arith, nat_tests)
 
-module _ (f : Bytes) (H : Header) (was : IsConsistent f H) (marks : Bool) (i c w : ℕ) (inside : i < H.fields.l1_entries) (fits : w < 2 ^ 64) (sane : IsTrue (l1_word_sound H.fields.cluster_bits w))
-    (names : table_offset w ≡ c * cluster_size H.fields) (some : c ≢ 0) (unnamed : refs f H.fields c ≡ 0) (counted : 1 ≤ count f H.fields c)
-    (copies : (j : ℕ) → j < words_of_cluster H.fields → l2_mapping f H.fields (c * cluster_size H.fields) j ≡ copied_as marks (slot_or_none f H.fields i j)) where
+module _ (f : Bytes) (H : Header) (was : IsConsistent f H) (marks : Bool) (i c w : ℕ) (inside : i < H.fields.l1_entries) (fits : w < 2 ^ 64) (sane : IsTrue (l1_entry_valid H.fields.cluster_bits w))
+    (names : table_offset w ≡ c * cluster_size H.fields) (some : c ≢ 0) (not_referenced : refs f H.fields c ≡ 0) (counted : 1 ≤ count f H.fields c)
+    (copies : (j : ℕ) → j < entries_of_cluster H.fields → l2_mapping f H.fields (c * cluster_size H.fields) j ≡ copied_as marks (slot_or_none f H.fields i j)) where
   abbrev h : Fields
   h = H.fields
 
@@ -102,18 +102,18 @@ module _ (f : Bytes) (H : Header) (was : IsConsistent f H) (marks : Bool) (i c w
   there = place-there (cluster_size h) c (pow_pos h.cluster_bits) some
 
   pub replaced : TableReplaced f x H i t
-  replaced = table-replaced-spliced f H was i inside w fits sane c t names there refl unnamed
+  replaced = table-replaced-spliced f H was i inside w fits sane c t names there refl not_referenced
 
   -- Its words weigh what those of the old one do,
   as-before : (of : Mapping → ℕ) → ((n : Mapping) → of (copied_as marks n) ≡ of n) → of unmapped ≡ 0 → of_table f h of t ≡ of_table_or_none f h of (l2_table f h i)
   unfolding of_table
   as-before of same none = elim (cases_eq (l2_table f h i) 0) [
     | inl empty ↦
-        let zero : sum_below (words_of_cluster h) (λ j. of (l2_mapping f h t j)) ≡ 0 = sum-zero _ _ (λ j less. ap of (copies j less) ∙ same (slot_or_none f h i j) ∙ ap of (none-there f h i j empty) ∙ none) in
+        let zero : sum_below (entries_of_cluster h) (λ j. of (l2_mapping f h t j)) ≡ 0 = sum-zero _ _ (λ j less. ap of (copies j less) ∙ same (slot_or_none f h i j) ∙ ap of (none-there f h i j empty) ∙ none) in
         rw empty zero
     | inr full ↦
-        sum-same (words_of_cluster h) (λ j. of (l2_mapping f h t j)) (λ j. of (slot f h i j)) (λ j less. ap of (copies j less) ∙ same (slot_or_none f h i j) ∙ ap of (slot-there f h i j full))
-        ∙ sym (chosen (l2_table f h i) (sum_below (words_of_cluster h) (λ j. of (slot f h i j))) full)
+        sum-same (entries_of_cluster h) (λ j. of (l2_mapping f h t j)) (λ j. of (slot f h i j)) (λ j less. ap of (copies j less) ∙ same (slot_or_none f h i j) ∙ ap of (slot-there f h i j full))
+        ∙ sym (chosen (l2_table f h i) (sum_below (entries_of_cluster h) (λ j. of (slot f h i j))) full)
   ]
 
   -- and no more of them are marked.
@@ -121,23 +121,23 @@ module _ (f : Bytes) (H : Header) (was : IsConsistent f H) (marks : Bool) (i c w
   unfolding of_table
   marks-before of fewer none = elim (cases_eq (l2_table f h i) 0) [
     | inl empty ↦
-        let zero : sum_below (words_of_cluster h) (λ j. of (l2_mapping f h t j)) ≡ 0 = sum-zero _ _ (λ j less.
+        let zero : sum_below (entries_of_cluster h) (λ j. of (l2_mapping f h t j)) ≡ 0 = sum-zero _ _ (λ j less.
         let le : of (l2_mapping f h t j) ≤ of (slot_or_none f h i j) = subst (λ n. of n ≤ of (slot_or_none f h i j)) (sym (copies j less)) (fewer (slot_or_none f h i j)) in
         let nothing : of (slot_or_none f h i j) ≡ 0 = ap of (none-there f h i j empty) ∙ none in
         omega (arith, le, nothing)) in
         omega (arith, zero)
     | inr full ↦
-        let le : sum_below (words_of_cluster h) (λ j. of (l2_mapping f h t j)) ≤ sum_below (words_of_cluster h) (λ j. of (slot f h i j)) = sum-mono (words_of_cluster h) _ _ (λ j less.
+        let le : sum_below (entries_of_cluster h) (λ j. of (l2_mapping f h t j)) ≤ sum_below (entries_of_cluster h) (λ j. of (slot f h i j)) = sum-mono (entries_of_cluster h) _ _ (λ j less.
         subst (λ n. of n ≤ of (slot f h i j)) (sym (copies j less)) (subst (λ n. of (copied_as marks n) ≤ of (slot f h i j)) (sym (slot-there f h i j full)) (fewer (slot f h i j)))) in
-        subst (λ n. sum_below (words_of_cluster h) (λ j. of (l2_mapping f h t j)) ≤ n) (sym (chosen (l2_table f h i) (sum_below (words_of_cluster h) (λ j. of (slot f h i j))) full)) le
+        subst (λ n. sum_below (entries_of_cluster h) (λ j. of (l2_mapping f h t j)) ≤ n) (sym (chosen (l2_table f h i) (sum_below (entries_of_cluster h) (λ j. of (slot f h i j))) full)) le
   ]
 
   -- So each cluster is named as often, but for the two tables' own.
   pub references : (d : ℕ) → refs x h d + of_cluster h (meets h d) (l2_table f h i) ≡ refs f h d + meets h d t (cluster_size h)
   references d =
       let all = replaced.references d in
-      let words = as-before (of_mapping h (meets h d)) (copied-weighs marks h (meets h d)) refl in
-      omega (arith, all, words)
+      let raw_entries = as-before (of_mapping h (meets h d)) (copied-weighs marks h (meets h d)) refl in
+      omega (arith, all, raw_entries)
 
   fewer-copied : (d : ℕ) → contents x h (of_copied h (meets h d)) ≤ contents f h (of_copied h (meets h d))
   fewer-copied d =
@@ -151,10 +151,10 @@ module _ (f : Bytes) (H : Header) (was : IsConsistent f H) (marks : Bool) (i c w
   old-apart =
       let le = term-le-sum h.l1_entries i (λ k. of_cluster h (meets h c) (l2_table f h k)) inside in
       let all = structure-le-refs f h c in
-      omega (arith, le, all, unnamed)
+      omega (arith, le, all, not_referenced)
 
   once : refs x h c ≡ 1
-  once = let all = references c in let own = meets-own h c in let apart = old-apart in omega (arith, all, own, apart, unnamed)
+  once = let all = references c in let own = meets-own h c in let apart = old-apart in omega (arith, all, own, apart, not_referenced)
 
   elsewhere : (d : ℕ) → d ≢ c → (refs x h d ≤ refs f h d) × (structure x h (meets h d) ≤ structure f h (meets h d))
   elsewhere d apart =
@@ -163,7 +163,7 @@ module _ (f : Bytes) (H : Header) (was : IsConsistent f H) (marks : Bool) (i c w
       let base = replaced.structure (meets h d) in
       (omega (arith, all, none), omega (arith, base, none))
 
-  plain : (j : ℕ) → j < words_of_cluster h → IsFalse (is_damaged (l2_mapping f h t j))
+  plain : (j : ℕ) → j < entries_of_cluster h → IsFalse (is_damaged (l2_mapping f h t j))
   plain j less = ap is_damaged (copies j less) ∙ copied-sane marks (slot_or_none f h i j) ∙ elim (cases_eq (l2_table f h i) 0) [
     | inl empty ↦ ap is_damaged (none-there f h i j empty)
     | inr full ↦ ap is_damaged (slot-there f h i j full) ∙ (sound-words f h was.readable.tables).slots i j (record { in_l1 = inside; is_there = full; in_table = less })
@@ -188,28 +188,28 @@ module _ (f : Bytes) (H : Header) (was : IsConsistent f H) (marks : Bool) (i c w
   ]
 
   pub swapped : TableSwapped f x H i t
-  swapped = table-swapped-spliced f H was i inside w fits sane c t names there refl unnamed plain covered apart-still
+  swapped = table-swapped-spliced f H was i inside w fits sane c t names there refl not_referenced plain covered apart-still
 
   -- A guest cluster of the table has its mapping as it was copied,
-  pub entry-copied : (guest : ℕ) → guest / words_of_cluster h ≡ i → entry x h guest ≡ copied_as marks (entry f h guest)
+  pub entry-copied : (guest : ℕ) → guest / entries_of_cluster h ≡ i → entry x h guest ≡ copied_as marks (entry f h guest)
   entry-copied guest row =
-      let less : guest % words_of_cluster h < words_of_cluster h = mod_below guest (words_of_cluster h) (some-words h (consistent-shaped f H was)) in
+      let less : guest % entries_of_cluster h < entries_of_cluster h = mod_below guest (entries_of_cluster h) (some-words h (consistent-shaped f H was)) in
       swapped.entries guest row
-      ∙ copies (guest % words_of_cluster h) less
-      ∙ ap (λ k. copied_as marks (slot_or_none f h k (guest % words_of_cluster h))) (sym row)
+      ∙ copies (guest % entries_of_cluster h) less
+      ∙ ap (λ k. copied_as marks (slot_or_none f h k (guest % entries_of_cluster h))) (sym row)
       ∙ ap (copied_as marks) (sym (entry-slot f h guest was.readable.tables))
 
   -- any other its own,
-  pub entry-elsewhere : (guest : ℕ) → guest / words_of_cluster h ≢ i → entry x h guest ≡ entry f h guest
+  pub entry-elsewhere : (guest : ℕ) → guest / entries_of_cluster h ≢ i → entry x h guest ≡ entry f h guest
   entry-elsewhere guest apart = (swapped.elsewhere guest (inl apart)).mapping
 
   -- and so each has its own but for the mark.
-  pub entry-unmarked : (guest : ℕ) → unmarked_mapping (entry x h guest) ≡ unmarked_mapping (entry f h guest)
-  entry-unmarked guest = elim (cases_eq (guest / words_of_cluster h) i) [
-    | inr apart ↦ ap unmarked_mapping (entry-elsewhere guest apart)
-    | inl row ↦ ap unmarked_mapping (entry-copied guest row) ∙ copied-unmarked marks (entry f h guest)
+  pub entry-unmarked : (guest : ℕ) → mapping_without_copied (entry x h guest) ≡ mapping_without_copied (entry f h guest)
+  entry-unmarked guest = elim (cases_eq (guest / entries_of_cluster h) i) [
+    | inr apart ↦ ap mapping_without_copied (entry-elsewhere guest apart)
+    | inl row ↦ ap mapping_without_copied (entry-copied guest row) ∙ copied-unmarked marks (entry f h guest)
   ]
 
   -- A word of the new table means what the old one's did, as it was copied.
-  pub slot-new : (j : ℕ) → j < words_of_cluster h → slot x h i j ≡ copied_as marks (slot_or_none f h i j)
-  slot-new j less = ap (λ p. l2_mapping x h p j) replaced.here ∙ ap (mapping_of (layout_of h)) (replaced.words j less) ∙ copies j less
+  pub slot-new : (j : ℕ) → j < entries_of_cluster h → slot x h i j ≡ copied_as marks (slot_or_none f h i j)
+  slot-new j less = ap (λ p. l2_mapping x h p j) replaced.here ∙ ap (mapping_of (layout_of h)) (replaced.raw_entries j less) ∙ copies j less

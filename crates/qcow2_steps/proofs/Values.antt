@@ -6,7 +6,7 @@ use Rattle.qcow2_types.specs.Consistency.{IsConsistent}
 use Rattle.qcow2_types.specs.Header.{Fields, cluster_size}
 use Rattle.qcow2_types.specs.Versions.{SamePlaces}
 use Rattle.qcow2_types.specs.Words.{Mapping, data_at, zeroes, packed, unmapped, damaged}
-use Rattle.qcow2_alloc.specs.Quiet.{Metadata, IsSound, in_memory}
+use Rattle.qcow2_alloc.specs.GuestView.{Metadata, IsSound, in_memory}
 use Rattle.qcow2_alloc.proofs.Memory.MemoryImage.{safe-memory}
 use Rattle.qcow2_alloc.proofs.Memory.MemoryWords.{places-in-memory}
 use Rattle.qcow2_steps.specs.Values.{own_value_by}
@@ -24,7 +24,7 @@ value-same f x h p damaged same = refl
 -- The image in memory is consistent, and has its tables and blocks where the file has them.
 module _ (m : Metadata) (sound : IsSound m) where
   pub within : IsConsistent (in_memory m) m.header
-  within = safe-memory m.file m.header m.cached m.order sound.safe
+  within = safe-memory m.file m.header m.cached m.order sound.well_formed
 
   pub places-there : SamePlaces m.file (in_memory m) m.header.fields
-  places-there = places-in-memory m.file m.header sound.safe.consistent m.cached sound.safe.tables sound.safe.blocks
+  places-there = places-in-memory m.file m.header sound.well_formed.consistent m.cached sound.well_formed.tables sound.well_formed.blocks

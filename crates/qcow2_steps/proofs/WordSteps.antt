@@ -8,10 +8,10 @@ use Rattle.qcow2_types.proofs.Counting.Consistent.{meets-other, meets-own}
 use Rattle.qcow2_types.proofs.Counting.Either.{refs-cached}
 use Rattle.qcow2_alloc.specs.FreeList.{covers}
 use Rattle.qcow2_alloc.specs.Memory.{Cached}
-use Rattle.qcow2_alloc.specs.Quiet.{Metadata, IsSound, IsUsed, counted, covers_metadata, in_memory, named_at_all, referenced, waiting}
+use Rattle.qcow2_alloc.specs.GuestView.{Metadata, IsSound, IsUsed, counted, covers_metadata, in_memory, referenced_at_all, referenced, waiting}
 use Rattle.qcow2_alloc.proofs.Freeing.ClusterOccurrences.{listed_push}
-use Rattle.qcow2_alloc.proofs.Quiet.QuietEntries.{metadata-among, metadata_push}
-use Rattle.qcow2_steps.specs.Words.{ChangesWord, DropsNames, IsReserved, NamesCluster}
+use Rattle.qcow2_alloc.proofs.GuestView.QuietEntries.{metadata-among, metadata_push}
+use Rattle.qcow2_steps.specs.Words.{ChangesEntry, DropsNames, IsReserved, LinksCluster}
 use Rattle.qcow2_steps.proofs.Values.{places-there}
 
 module _ (m : Metadata) (i j : ℕ) (old : Mapping) (cached' : Cached) where
@@ -19,17 +19,17 @@ module _ (m : Metadata) (i j : ℕ) (old : Mapping) (cached' : Cached) where
   later = record m { cached = cached' }
 
   -- What is used stays so, as counts and the structure do.
-  pub used-after : (new : Mapping) → ChangesWord m i j old new cached' → (c : ℕ) → IsUsed m c → IsUsed later c
+  pub used-after : (new : Mapping) → ChangesEntry m i j old new cached' → (c : ℕ) → IsUsed m c → IsUsed later c
   used-after new changes c used = record { apart = used.apart; taken = let same = changes.written.counts c in let taken = used.taken in omega (arith, same, taken) }
 
-  reserved-after : (new : Mapping) → ChangesWord m i j old new cached' → (c : ℕ) → named_at_all later c ≤ named_at_all m c → IsReserved m c → IsReserved later c
+  reserved-after : (new : Mapping) → ChangesEntry m i j old new cached' → (c : ℕ) → referenced_at_all later c ≤ referenced_at_all m c → IsReserved m c → IsReserved later c
   reserved-after new changes c fewer reserved = record {
     used = used-after new changes c reserved.used;
-    unnamed = let none = reserved.unnamed in omega (arith, none, fewer);
+    not_referenced = let none = reserved.not_referenced in omega (arith, none, fewer);
     waits = reserved.waits;
   }
 
-  pub named-reserved : (x : ℕ) → NamesCluster m i j old x cached' → (c : ℕ) → c ≢ x → IsReserved m c → IsReserved later c
+  pub named-reserved : (x : ℕ) → LinksCluster m i j old x cached' → (c : ℕ) → c ≢ x → IsReserved m c → IsReserved later c
   named-reserved x names c other reserved = reserved-after (data_at x true) names.changed c (names.others c other) reserved
 
   pub dropped-reserved : (new : Mapping) → DropsNames m i j old new cached' → (c : ℕ) → IsReserved m c → IsReserved later c
@@ -37,17 +37,17 @@ module _ (m : Metadata) (i j : ℕ) (old : Mapping) (cached' : Cached) where
 
   module _ (sound : IsSound m) where
     -- What a word named that comes to name a reserved cluster is counted for it still.
-    pub named-owed : (x : ℕ) → NamesCluster m i j old x cached' → IsReserved m x → (c : ℕ) → referenced later c + waiting m c + of_mapping m.header.fields (meets m.header.fields c) old ≤ counted m c
+    pub named-owed : (x : ℕ) → LinksCluster m i j old x cached' → IsReserved m x → (c : ℕ) → referenced later c + waiting m c + of_mapping m.header.fields (meets m.header.fields c) old ≤ counted m c
     named-owed x names reserved c = elim (cases_eq c x) [
       | inl is ↦ subst (λ d. referenced later d + waiting m d + of_mapping m.header.fields (meets m.header.fields d) old ≤ counted m d) (sym is) (
           let own : of_mapping m.header.fields (meets m.header.fields x) (data_at x true) ≡ 1 = meets-own m.header.fields x in
           let moved = names.changed.references x in
           let once = names.references in
           let le = refs-cached m.file (in_memory m) m.header.fields x (places-there m sound) in
-          let unnamed = reserved.unnamed in
+          let not_referenced = reserved.not_referenced in
           let waits = reserved.waits in
           let taken = reserved.used.taken in
-          omega (arith, own, moved, once, le, unnamed, waits, taken))
+          omega (arith, own, moved, once, le, not_referenced, waits, taken))
       | inr other ↦
           let nothing : of_mapping m.header.fields (meets m.header.fields c) (data_at x true) ≡ 0 = meets-other m.header.fields c x (λ e. other (sym e)) in
           let moved = names.changed.references c in
@@ -55,9 +55,9 @@ module _ (m : Metadata) (i j : ℕ) (old : Mapping) (cached' : Cached) where
           omega (arith, nothing, moved, was)
     ]
 
-    pub named-sound : (x : ℕ) → NamesCluster m i j old x cached' → IsReserved m x → IsSound later
+    pub named-sound : (x : ℕ) → LinksCluster m i j old x cached' → IsReserved m x → IsSound later
     named-sound x names reserved = record {
-      safe = names.changed.safe;
+      well_formed = names.changed.well_formed;
       table = sound.table;
       covered = λ c.
           let same = names.changed.written.counts c in
@@ -70,25 +70,25 @@ module _ (m : Metadata) (i j : ℕ) (old : Mapping) (cached' : Cached) where
                 let was = sound.covered c in
                 omega (arith, nothing, moved, was, same)
           ];
-      unnamed = λ c waits.
+      not_referenced = λ c waits.
           let among = metadata-among c m.pending in
           elim (cases_eq c x) [
             | inl is ↦ absurd (let gone = subst (λ d. waiting m d ≡ 0) (sym is) reserved.waits in omega (arith, waits, among, gone))
-            | inr other ↦ let was = sound.unnamed c waits in let now = names.others c other in omega (arith, was, now)
+            | inr other ↦ let was = sound.not_referenced c waits in let now = names.others c other in omega (arith, was, now)
           ];
     }
 
     module _ (new : Mapping) (drops : DropsNames m i j old new cached') where
       pub dropped-sound : IsSound later
       dropped-sound = record {
-        safe = drops.changed.safe;
+        well_formed = drops.changed.well_formed;
         table = sound.table;
         covered = λ c.
             let same = drops.changed.written.counts c in
             let fewer = drops.references c in
             let was = sound.covered c in
             omega (arith, same, fewer, was);
-        unnamed = λ c waits. let was = sound.unnamed c waits in let now = drops.names c in omega (arith, was, now);
+        not_referenced = λ c waits. let was = sound.not_referenced c waits in let now = drops.names c in omega (arith, was, now);
       }
 
       pub dropped-owed : (c : ℕ) → referenced later c + waiting m c + of_mapping m.header.fields (meets m.header.fields c) old ≤ counted m c + of_mapping m.header.fields (meets m.header.fields c) new
@@ -99,7 +99,7 @@ module _ (m : Metadata) (i j : ℕ) (old : Mapping) (cached' : Cached) where
           → ((c : ℕ) → of_mapping m.header.fields (meets m.header.fields c) new + covers c e ≤ of_mapping m.header.fields (meets m.header.fields c) old)
           → IsSound (record m { cached = cached'; pending = m.pending ++ e ∷ [] })
       waits-sound e guest back = record {
-        safe = drops.changed.safe;
+        well_formed = drops.changed.well_formed;
         table = sound.table;
         covered = λ c.
             let same = drops.changed.written.counts c in
@@ -108,10 +108,10 @@ module _ (m : Metadata) (i j : ℕ) (old : Mapping) (cached' : Cached) where
             let was = sound.covered c in
             let more = listed_push m.pending e c in
             omega (arith, same, moved, less, was, more);
-        unnamed = λ c waits.
+        not_referenced = λ c waits.
             let more = metadata_push m.pending e c in
             let none : covers_metadata c e ≡ 0 = rw guest refl in
-            let was : named_at_all m c ≡ 0 = sound.unnamed c (omega (arith, waits, more, none)) in
+            let was : referenced_at_all m c ≡ 0 = sound.not_referenced c (omega (arith, waits, more, none)) in
             let now = drops.names c in
             omega (arith, was, now);
       }

@@ -8,7 +8,7 @@ use Rattle.imago_storage.specs.Disk.{Value, byte}
 use Rattle.qcow2_types.specs.Bytes.{Bytes}
 use Rattle.qcow2_types.specs.Consistency.{IsConsistent}
 use Rattle.qcow2_types.specs.Entries.{entry, l2_table}
-use Rattle.qcow2_types.specs.Header.{Header, cluster_size, words_of_cluster}
+use Rattle.qcow2_types.specs.Header.{Header, cluster_size, entries_of_cluster}
 use Rattle.qcow2_types.specs.References.{meets, of_mapping}
 use Rattle.qcow2_types.specs.Slots.{Live, slot}
 use Rattle.qcow2_types.specs.Versions.{of_either}
@@ -16,9 +16,9 @@ use Rattle.qcow2_types.specs.Words.{Mapping, data_at, zeroes, packed, unmapped, 
 use Rattle.qcow2_types.proofs.Counting.Consistent.{consistent-shaped, meets-own, some-words}
 use Rattle.qcow2_types.proofs.Showing.Shows.{guest-live, guest-slot-none, guest-slot-there}
 use Rattle.qcow2_types.proofs.Showing.Values.{entry-slot}
-use Rattle.qcow2_alloc.specs.Quiet.{Metadata, IsSound, in_memory}
-use Rattle.qcow2_steps.specs.Advancing.{MayBeLeft}
-use Rattle.qcow2_steps.specs.Data.{AreNamedFor, GivesData, WritesBeside}
+use Rattle.qcow2_alloc.specs.GuestView.{Metadata, IsSound, in_memory}
+use Rattle.qcow2_steps.specs.Advancing.{MayBeCrashImage}
+use Rattle.qcow2_steps.specs.Data.{AreReferencedFor, GivesData, WritesBeside}
 use Rattle.qcow2_steps.specs.Values.{file_value, memory_value, own_value, own_value_by}
 use Rattle.qcow2_steps.proofs.DataRuns.{beside-words, stop-writes}
 use Rattle.qcow2_steps.proofs.Headers.{header-same}
@@ -26,9 +26,9 @@ use Rattle.qcow2_steps.proofs.Values.{places-there, within}
 
 -- The word of a guest cluster that maps it to data is one of a table that there is.
 pub data-slot : (f : Bytes) (H : Header) → IsConsistent f H → (guest d : ℕ) (copied : Bool) → entry f H.fields guest ≡ data_at d copied
-    → Live (l2_table f H.fields) H.fields (guest / words_of_cluster H.fields) (guest % words_of_cluster H.fields)
-    × (slot f H.fields (guest / words_of_cluster H.fields) (guest % words_of_cluster H.fields) ≡ data_at d copied)
-data-slot f H was guest d copied is = elim (cases_eq (l2_table f H.fields (guest / words_of_cluster H.fields)) 0) [
+    → Live (l2_table f H.fields) H.fields (guest / entries_of_cluster H.fields) (guest % entries_of_cluster H.fields)
+    × (slot f H.fields (guest / entries_of_cluster H.fields) (guest % entries_of_cluster H.fields) ≡ data_at d copied)
+data-slot f H was guest d copied is = elim (cases_eq (l2_table f H.fields (guest / entries_of_cluster H.fields)) 0) [
   | inl none ↦ let bad : unmapped ≡ data_at d copied = sym (guest-slot-none f H.fields guest none) ∙ sym (entry-slot f H.fields guest was.readable.tables) ∙ is in absurd cc
   | inr there ↦ (
     guest-live f H.fields guest (some-words H.fields (consistent-shaped f H was)) there,
@@ -45,7 +45,7 @@ shifted p c d first s r e is there =
     omega (arith, is, guests, hosts, same)
 
 -- Of the words w of an image of m, those that name the clusters c to c + k belong to guest clusters in a row.
-module _ (m : Metadata) (first c k : ℕ) (own : AreNamedFor m first c k) (w : Bytes) (was : IsConsistent w m.header) (tables : (i : ℕ) → l2_table w m.header.fields i ≡ l2_table m.file m.header.fields i)
+module _ (m : Metadata) (first c k : ℕ) (own : AreReferencedFor m first c k) (w : Bytes) (was : IsConsistent w m.header) (tables : (i : ℕ) → l2_table w m.header.fields i ≡ l2_table m.file m.header.fields i)
     (among : (d i j : ℕ) → of_mapping m.header.fields (meets m.header.fields d) (slot w m.header.fields i j)
     ≤ of_either m.header.fields (meets m.header.fields d) (slot m.file m.header.fields i j) (slot (in_memory m) m.header.fields i j)) where
   -- So a guest cluster whose data is there is its own.
@@ -53,18 +53,18 @@ module _ (m : Metadata) (first c k : ℕ) (own : AreNamedFor m first c k) (w : B
   own-guest guest d copied is from upto =
       let there = data-slot w m.header was guest d copied is in
       let behind : c + (d - c) ≡ d = omega (arith, from) in
-      let number : guest / words_of_cluster m.header.fields * words_of_cluster m.header.fields + guest % words_of_cluster m.header.fields ≡ guest = div-add-mod' guest (words_of_cluster m.header.fields) in
-      let live : Live (l2_table m.file m.header.fields) m.header.fields (guest / words_of_cluster m.header.fields) (guest % words_of_cluster m.header.fields) =
-      record { in_l1 = there.0.in_l1; is_there = λ none. there.0.is_there (tables (guest / words_of_cluster m.header.fields) ∙ none); in_table = there.0.in_table } in
+      let number : guest / entries_of_cluster m.header.fields * entries_of_cluster m.header.fields + guest % entries_of_cluster m.header.fields ≡ guest = div-add-mod' guest (entries_of_cluster m.header.fields) in
+      let live : Live (l2_table m.file m.header.fields) m.header.fields (guest / entries_of_cluster m.header.fields) (guest % entries_of_cluster m.header.fields) =
+      record { in_l1 = there.0.in_l1; is_there = λ none. there.0.is_there (tables (guest / entries_of_cluster m.header.fields) ∙ none); in_table = there.0.in_table } in
       elim (cases_eq guest (first + (d - c))) [
         | inl same ↦ same
         | inr other ↦ absurd (
-            let none = subst (λ e. of_either m.header.fields (meets m.header.fields e) (slot m.file m.header.fields (guest / words_of_cluster m.header.fields) (guest % words_of_cluster m.header.fields))
-            (slot (in_memory m) m.header.fields (guest / words_of_cluster m.header.fields) (guest % words_of_cluster m.header.fields)) ≡ 0) behind
-            (own (d - c) (omega (arith, from, upto)) (guest / words_of_cluster m.header.fields) (guest % words_of_cluster m.header.fields) live (λ e. other (sym number ∙ e))) in
-            let one : of_mapping m.header.fields (meets m.header.fields d) (slot w m.header.fields (guest / words_of_cluster m.header.fields) (guest % words_of_cluster m.header.fields)) ≡ 1 =
+            let none = subst (λ e. of_either m.header.fields (meets m.header.fields e) (slot m.file m.header.fields (guest / entries_of_cluster m.header.fields) (guest % entries_of_cluster m.header.fields))
+            (slot (in_memory m) m.header.fields (guest / entries_of_cluster m.header.fields) (guest % entries_of_cluster m.header.fields)) ≡ 0) behind
+            (own (d - c) (omega (arith, from, upto)) (guest / entries_of_cluster m.header.fields) (guest % entries_of_cluster m.header.fields) live (λ e. other (sym number ∙ e))) in
+            let one : of_mapping m.header.fields (meets m.header.fields d) (slot w m.header.fields (guest / entries_of_cluster m.header.fields) (guest % entries_of_cluster m.header.fields)) ≡ 1 =
             ap (of_mapping m.header.fields (meets m.header.fields d)) there.1 ∙ meets-own m.header.fields d in
-            let le = among d (guest / words_of_cluster m.header.fields) (guest % words_of_cluster m.header.fields) in
+            let le = among d (guest / entries_of_cluster m.header.fields) (guest % entries_of_cluster m.header.fields) in
             omega (arith, none, one, le))
       ]
 
@@ -121,16 +121,16 @@ module _ (m : Metadata) (first c k : ℕ) (own : AreNamedFor m first c k) (w : B
     by-word unmapped is = inl refl
     by-word damaged is = inl refl
 
-module _ (m : Metadata) (first c k at n : ℕ) (x y : Bytes) (sound : IsSound m) (writes : WritesBeside m c k at n x) (own : AreNamedFor m first c k) (either : (q : ℕ) → (y q ≡ m.file q) ⊎ (y q ≡ x q)) (p : ℕ) where
+module _ (m : Metadata) (first c k at n : ℕ) (x y : Bytes) (sound : IsSound m) (writes : WritesBeside m c k at n x) (own : AreReferencedFor m first c k) (either : (q : ℕ) → (y q ≡ m.file q) ⊎ (y q ≡ x q)) (p : ℕ) where
   abbrev Gives : Option Value → Type 0
   Gives = GivesData m.header.fields first c at n x p
 
   -- by the words of the file
   file-written : (own_value y y m.header.fields p ≡ file_value m p) ⊎ Gives (own_value y y m.header.fields p)
   file-written =
-      let words = beside-words m sound c k at n y (stop-writes m c k at n x y writes either) in
-      let same : own_value y y m.header.fields p ≡ own_value_by y m.header.fields p (entry m.file m.header.fields (p / cluster_size m.header.fields)) = ap (own_value_by y m.header.fields p) (words.file_entries (p / cluster_size m.header.fields)) in
-      elim (by-word m first c k own m.file sound.safe.consistent (λ i. refl) (λ d i j. le-max_left _ _) at n x y writes either p (entry m.file m.header.fields (p / cluster_size m.header.fields)) refl) [
+      let raw_entries = beside-words m sound c k at n y (stop-writes m c k at n x y writes either) in
+      let same : own_value y y m.header.fields p ≡ own_value_by y m.header.fields p (entry m.file m.header.fields (p / cluster_size m.header.fields)) = ap (own_value_by y m.header.fields p) (raw_entries.file_entries (p / cluster_size m.header.fields)) in
+      elim (by-word m first c k own m.file sound.well_formed.consistent (λ i. refl) (λ d i j. le-max_left _ _) at n x y writes either p (entry m.file m.header.fields (p / cluster_size m.header.fields)) refl) [
         | inl is ↦ inl (same ∙ is)
         | inr given ↦ inr (subst Gives (sym same) given)
       ]
@@ -138,19 +138,19 @@ module _ (m : Metadata) (first c k at n : ℕ) (x y : Bytes) (sound : IsSound m)
   -- and by those in memory
   memory-written : (memory_value (record m { file = y }) p ≡ memory_value m p) ⊎ Gives (memory_value (record m { file = y }) p)
   memory-written =
-      let words = beside-words m sound c k at n y (stop-writes m c k at n x y writes either) in
-      let same : memory_value (record m { file = y }) p ≡ own_value_by y m.header.fields p (entry (in_memory m) m.header.fields (p / cluster_size m.header.fields)) = ap (own_value_by y m.header.fields p) (words.memory_entries (p / cluster_size m.header.fields)) in
+      let raw_entries = beside-words m sound c k at n y (stop-writes m c k at n x y writes either) in
+      let same : memory_value (record m { file = y }) p ≡ own_value_by y m.header.fields p (entry (in_memory m) m.header.fields (p / cluster_size m.header.fields)) = ap (own_value_by y m.header.fields p) (raw_entries.memory_entries (p / cluster_size m.header.fields)) in
       elim (by-word m first c k own (in_memory m) (within m sound) (places-there m sound).l1 (λ d i j. le-max_right _ _) at n x y writes either p (entry (in_memory m) m.header.fields (p / cluster_size m.header.fields)) refl) [
         | inl is ↦ inl (same ∙ is)
         | inr given ↦ inr (subst Gives (sym same) given)
       ]
 
-pub written-memory : (m : Metadata) (first c k at n : ℕ) (x : Bytes) → IsSound m → WritesBeside m c k at n x → AreNamedFor m first c k → (p : ℕ)
+pub written-memory : (m : Metadata) (first c k at n : ℕ) (x : Bytes) → IsSound m → WritesBeside m c k at n x → AreReferencedFor m first c k → (p : ℕ)
     → (memory_value (record m { file = x }) p ≡ memory_value m p) ⊎ GivesData m.header.fields first c at n x p (memory_value (record m { file = x }) p)
 written-memory m first c k at n x sound writes own p = memory-written m first c k at n x x sound writes own (λ q. inr refl) p
 
-pub written-stops : (m : Metadata) (first c k at n : ℕ) (x y : Bytes) → IsSound m → WritesBeside m c k at n x → AreNamedFor m first c k
-    → ((q : ℕ) → (y q ≡ m.file q) ⊎ (y q ≡ x q)) → MayBeLeft (GivesData m.header.fields first c at n x) m y m.header
+pub written-stops : (m : Metadata) (first c k at n : ℕ) (x y : Bytes) → IsSound m → WritesBeside m c k at n x → AreReferencedFor m first c k
+    → ((q : ℕ) → (y q ≡ m.file q) ⊎ (y q ≡ x q)) → MayBeCrashImage (GivesData m.header.fields first c at n x) m y m.header
 written-stops m first c k at n x y sound writes own either = record {
   consistent = (beside-words m sound c k at n y (stop-writes m c k at n x y writes either)).consistent;
   header = header-same m.header;

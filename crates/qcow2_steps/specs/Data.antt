@@ -6,12 +6,12 @@ use Rattle.qcow2_types.specs.Consistency.{IsConsistent}
 use Rattle.qcow2_types.specs.Counts.{count}
 use Rattle.qcow2_types.specs.Entries.{entry, l2_table}
 use Rattle.qcow2_types.specs.Frames.{Outside}
-use Rattle.qcow2_types.specs.Header.{Fields, cluster_size, words_of_cluster}
+use Rattle.qcow2_types.specs.Header.{Fields, cluster_size, entries_of_cluster}
 use Rattle.qcow2_types.specs.References.{meets, of_copied, refs, structure}
 use Rattle.qcow2_types.specs.Slots.{Live, slot}
 use Rattle.qcow2_types.specs.Versions.{KeepsSlots, of_either}
 use Rattle.qcow2_types.specs.Words.{Mapping, data_at, zeroes}
-use Rattle.qcow2_alloc.specs.Quiet.{Metadata, counted, in_memory, named_at_all, referenced}
+use Rattle.qcow2_alloc.specs.GuestView.{Metadata, counted, in_memory, referenced_at_all, referenced}
 
 -- x is the file with n other bytes from `at` on, in clusters c to c + k.
 pub record WritesBeside (m : Metadata) (c k at n : ℕ) (x : Bytes) : Type 0 where
@@ -21,7 +21,7 @@ pub record WritesBeside (m : Metadata) (c k at n : ℕ) (x : Bytes) : Type 0 whe
   pub outside : Outside m.file x at n
 
 -- With x as its file the image has each word that it had, in the file and in memory, and counts and names each cluster as often there.
-pub record KeepsWords (m : Metadata) (x : Bytes) : Type 0 where
+pub record KeepsRawEntries (m : Metadata) (x : Bytes) : Type 0 where
   pub consistent : IsConsistent x m.header
   pub file : KeepsSlots m.file x m.header.fields
   pub memory : KeepsSlots (in_memory m) (in_memory (record m { file = x })) m.header.fields
@@ -32,7 +32,7 @@ pub record KeepsWords (m : Metadata) (x : Bytes) : Type 0 where
   pub counts : (d : ℕ) → counted (record m { file = x }) d ≡ counted m d
   pub file_references : (d : ℕ) → refs x m.header.fields d ≡ refs m.file m.header.fields d
   pub references : (d : ℕ) → referenced (record m { file = x }) d ≡ referenced m d
-  pub names : (d : ℕ) → named_at_all (record m { file = x }) d ≡ named_at_all m d
+  pub names : (d : ℕ) → referenced_at_all (record m { file = x }) d ≡ referenced_at_all m d
   pub apart : (d : ℕ) → structure x m.header.fields (meets m.header.fields d) ≡ structure m.file m.header.fields (meets m.header.fields d)
 
 -- how often a word that means this names cluster c as copied
@@ -40,14 +40,14 @@ abbrev pub copies_at : Metadata → Mapping → ℕ → ℕ
 copies_at m mapping c = of_copied m.header.fields (meets m.header.fields c) mapping
 
 -- No word of another guest cluster names cluster c, in the file or in memory.
-abbrev pub IsNamedFor : Metadata → ℕ → ℕ → Type 0
-IsNamedFor m guest c = (i j : ℕ) → Live (l2_table m.file m.header.fields) m.header.fields i j
-    → i * words_of_cluster m.header.fields + j ≢ guest
+abbrev pub IsReferencedFor : Metadata → ℕ → ℕ → Type 0
+IsReferencedFor m guest c = (i j : ℕ) → Live (l2_table m.file m.header.fields) m.header.fields i j
+    → i * entries_of_cluster m.header.fields + j ≢ guest
     → of_either m.header.fields (meets m.header.fields c) (slot m.file m.header.fields i j) (slot (in_memory m) m.header.fields i j) ≡ 0
 
 -- Each of clusters c to c + k is so for the guest cluster that lies as far behind `first` as it does behind c.
-abbrev pub AreNamedFor : Metadata → ℕ → ℕ → ℕ → Type 0
-AreNamedFor m first c k = (d : ℕ) → d ≤ k → IsNamedFor m (first + d) (c + d)
+abbrev pub AreReferencedFor : Metadata → ℕ → ℕ → ℕ → Type 0
+AreReferencedFor m first c k = (d : ℕ) → d ≤ k → IsReferencedFor m (first + d) (c + d)
 
 -- Byte q of a file lies as far behind cluster c as the place behind guest cluster `first`.
 abbrev pub IsByteOf : Fields → ℕ → ℕ → ℕ → ℕ → Type 0
@@ -62,9 +62,9 @@ pub record GivesData (h : Fields) (first c at n : ℕ) (x : Bytes) (p : ℕ) (v 
   pub value : v ≡ Some (byte (x q))
 
 -- A cluster that no place shows by these words: no table, block or header stands in it, and no word has its data there.
-pub record IsHidden (words : Bytes) (h : Fields) (c : ℕ) : Type 0 where
-  pub apart : structure words h (meets h c) ≡ 0
-  pub dataless : (guest : ℕ) (copied : Bool) → entry words h guest ≢ data_at c copied
+pub record IsHidden (raw_entries : Bytes) (h : Fields) (c : ℕ) : Type 0 where
+  pub apart : structure raw_entries h (meets h c) ≡ 0
+  pub dataless : (guest : ℕ) (copied : Bool) → entry raw_entries h guest ≢ data_at c copied
 
 -- The same by the words of the file, and by those in memory.
 abbrev pub IsHiddenIn : Metadata → ℕ → Type 0

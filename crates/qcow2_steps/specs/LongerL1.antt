@@ -1,12 +1,12 @@
 -- The header names a longer L1 table, elsewhere.
 use Rattle.std.specs.Prelude.{◌≡◌, ℕ, ◌+◌, ◌*◌, ◌<◌, ◌≤◌, true, Ok}
-use Rattle.qcow2_types.specs.Bytes.{Bytes, word}
+use Rattle.qcow2_types.specs.Bytes.{Bytes, raw_entry}
 use Rattle.qcow2_types.specs.Counts.{count}
 use Rattle.qcow2_types.specs.Frames.{Outside}
 use Rattle.qcow2_types.specs.Header.{header_of}
 use Rattle.qcow2_types.specs.References.{meets}
 use Rattle.qcow2_types.specs.Switched.{with_l1_table}
-use Rattle.qcow2_alloc.specs.Quiet.{Metadata}
+use Rattle.qcow2_alloc.specs.GuestView.{Metadata}
 use Rattle.qcow2_steps.specs.Words.{IsReserved}
 
 -- 1 where cluster d has a part of the L1 table, and of one of so many more words at this place, else 0
@@ -19,8 +19,8 @@ new_l1 m offset more d = meets m.header.fields d offset ((m.header.fields.l1_ent
 -- There stands what may become the L1 table: the words of this one, and then zeroes, in clusters that are reserved, and counted in the
 -- file, too.
 pub record IsReadyL1Table (m : Metadata) (offset more : ℕ) : Type 0 where
-  pub words : (i : ℕ) → i < m.header.fields.l1_entries → word m.file offset i ≡ word m.file m.header.fields.l1_offset i
-  pub zeroes : (i : ℕ) → m.header.fields.l1_entries ≤ i → i < m.header.fields.l1_entries + more → word m.file offset i ≡ 0
+  pub raw_entries : (i : ℕ) → i < m.header.fields.l1_entries → raw_entry m.file offset i ≡ raw_entry m.file m.header.fields.l1_offset i
+  pub zeroes : (i : ℕ) → m.header.fields.l1_entries ≤ i → i < m.header.fields.l1_entries + more → raw_entry m.file offset i ≡ 0
   pub reserved : (d : ℕ) → 0 < new_l1 m offset more d → IsReserved m d × (1 ≤ count m.file m.header.fields d)
 
 -- x is the file with the header that names it, in other first bytes.

@@ -5,12 +5,12 @@ use Rattle.std.specs.List.{AllByRecursion}
 use Rattle.qcow2_types.specs.Bytes.{Bytes, splice}
 use Rattle.qcow2_types.specs.Counts.{count}
 use Rattle.qcow2_types.specs.Entries.{l2_mapping, l2_table}
-use Rattle.qcow2_types.specs.Header.{Fields, cluster_size, words_of_cluster}
+use Rattle.qcow2_types.specs.Header.{Fields, cluster_size, entries_of_cluster}
 use Rattle.qcow2_types.specs.References.{meets, of_cluster}
 use Rattle.qcow2_types.specs.Slots.{slot}
-use Rattle.qcow2_types.specs.Words.{unmarked_mapping, Mapping, l1_word_sound, table_offset, unmapped}
-use Rattle.qcow2_metadata.specs.Tables.{words_in}
-use Rattle.qcow2_alloc.specs.Quiet.{Metadata}
+use Rattle.qcow2_types.specs.Words.{mapping_without_copied, Mapping, l1_entry_valid, table_offset, unmapped}
+use Rattle.qcow2_metadata.specs.Tables.{raw_entries_in}
+use Rattle.qcow2_alloc.specs.GuestView.{Metadata}
 use Rattle.qcow2_steps.specs.Words.{IsReserved}
 
 -- what word j of the table means that word i of the L1 table names; where it names none, nothing is mapped
@@ -20,42 +20,42 @@ slot_or_none f h i j = if l2_table f h i == 0 then unmapped else slot f h i j
 -- the mapping of a word that is copied, with its mark or without
 abbrev pub copied_as : (marks : Bool) → Mapping → Mapping
 copied_as true mapping = mapping
-copied_as false mapping = unmarked_mapping mapping
+copied_as false mapping = mapping_without_copied mapping
 
 -- the image with word i of the L1 table in its file, which is written at once
-abbrev pub with_l1_word : Metadata → ℕ → ℕ → Metadata
-with_l1_word m i w = record m { file = splice m.file (m.header.fields.l1_offset + 8 * i) (to_be_bytes w64 w) }
+abbrev pub with_l1_entry : Metadata → ℕ → ℕ → Metadata
+with_l1_entry m i w = record m { file = splice m.file (m.header.fields.l1_offset + 8 * i) (to_be_bytes w64 w) }
 
 -- Cluster c holds what may become table i: it is reserved, and counted in the file, too; its words mean there what those of the table do
 -- that word i names by now, with their marks or without; of this nothing waits to be written, and what is cached at c, if anything is, is
 -- what the file has there.
 pub record IsReadyL2Table (m : Metadata) (marks : Bool) (i c : ℕ) : Type 0 where
   pub inside : i < m.header.fields.l1_entries
-  pub some : c ≢ 0
+  pub cluster_nonzero : c ≢ 0
   pub reserved : IsReserved m c
   pub counts : 1 ≤ count m.file m.header.fields c
-  pub words : (j : ℕ) → j < words_of_cluster m.header.fields
+  pub raw_entries : (j : ℕ) → j < entries_of_cluster m.header.fields
       → l2_mapping m.file m.header.fields (c * cluster_size m.header.fields) j ≡ copied_as marks (slot_or_none m.file m.header.fields i j)
   pub settled : AllByRecursion
       (λ e. e.1.value.modified ≡ true → e.0 * cluster_size m.header.fields ≢ l2_table m.file m.header.fields i) m.cached.tables
   pub cached : AllByRecursion
-      (λ e. e.0 ≡ c → e.1.value.words ≡ words_in m.file (c * cluster_size m.header.fields) (words_of_cluster m.header.fields))
+      (λ e. e.0 ≡ c → e.1.value.raw_entries ≡ raw_entries_in m.file (c * cluster_size m.header.fields) (entries_of_cluster m.header.fields))
       m.cached.tables
 
 -- a word that names the table in cluster c
 pub record NamesTable (h : Fields) (c w : ℕ) : Type 0 where
   pub fits : w < 2 ^ 64
-  pub sane : IsTrue (l1_word_sound h.cluster_bits w)
+  pub sane : IsTrue (l1_entry_valid h.cluster_bits w)
   pub names : table_offset w ≡ c * cluster_size h
 
 -- the guest clusters that have their words in table i
 abbrev pub IsOfTable : Fields → ℕ → ℕ → Type 0
-IsOfTable h i guest = guest / words_of_cluster h ≡ i
+IsOfTable h i guest = guest / entries_of_cluster h ≡ i
 
 -- those whose words lose their marks where they are copied without
-abbrev pub LosesMark : (marks : Bool) → Fields → ℕ → ℕ → Type 0
-LosesMark true h i guest = ⊥
-LosesMark false h i guest = IsOfTable h i guest
+abbrev pub LosesCopied : (marks : Bool) → Fields → ℕ → ℕ → Type 0
+LosesCopied true h i guest = ⊥
+LosesCopied false h i guest = IsOfTable h i guest
 
 -- 1 where cluster d holds the table that word i of the L1 table names, else 0
 abbrev pub old_table : Metadata → ℕ → ℕ → ℕ

@@ -10,7 +10,7 @@ use Rattle.qcow2_types.specs.References.{refs}
 use Rattle.qcow2_types.specs.Switched.{sized, with_size}
 use Rattle.qcow2_metadata.specs.Tables.{TableValue}
 use Rattle.qcow2_alloc.specs.declared.cache.CacheDependency.TheVariants.{Unset}
-use Rattle.qcow2_alloc.specs.Quiet.{IsSound, Metadata}
+use Rattle.qcow2_alloc.specs.GuestView.{IsSound, Metadata}
 use Rattle.qcow2_steps.specs.Values.{own_value}
 
 -- an image of which nothing is cached
@@ -25,7 +25,7 @@ rested f H table pending = record {
 }
 
 -- x is the file with the header that names this size, in other first bytes.
-pub record NamesSize (f : Bytes) (H : Header) (n : ℕ) (x : Bytes) : Type 0 where
+pub record WritesHeaderSize (f : Bytes) (H : Header) (n : ℕ) (x : Bytes) : Type 0 where
   pub loads : header_of true x ≡ Ok (with_size H n)
   pub outside : Outside f x 0 64
 
@@ -34,6 +34,6 @@ pub record NamesSize (f : Bytes) (H : Header) (n : ℕ) (x : Bytes) : Type 0 whe
 pub record KeepsAllButSize (f : Bytes) (H : Header) (n : ℕ) (x : Bytes) (table : TableValue) (pending : List FreeEntry) : Type 0 where
   pub sound : IsSound (rested x (with_size H n) table pending)
   pub values : (p : ℕ) → own_value x x (sized H.fields n) p ≡ own_value f f H.fields p
-  pub words : (guest : ℕ) → entry x (sized H.fields n) guest ≡ entry f H.fields guest
+  pub raw_entries : (guest : ℕ) → entry x (sized H.fields n) guest ≡ entry f H.fields guest
   pub counts : (c : ℕ) → count x (sized H.fields n) c ≡ count f H.fields c
   pub names : (c : ℕ) → refs x (sized H.fields n) c ≡ refs f H.fields c

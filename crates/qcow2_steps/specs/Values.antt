@@ -5,7 +5,7 @@ use Rattle.qcow2_types.specs.Bytes.{Bytes}
 use Rattle.qcow2_types.specs.Entries.{entry}
 use Rattle.qcow2_types.specs.Header.{Fields, cluster_size}
 use Rattle.qcow2_types.specs.Words.{Mapping, data_at, zeroes, packed, unmapped, damaged}
-use Rattle.qcow2_alloc.specs.Quiet.{Metadata, in_memory}
+use Rattle.qcow2_alloc.specs.GuestView.{Metadata, in_memory}
 
 -- by the mapping of its guest cluster, where data has the bytes of this file
 abbrev pub own_value_by : Bytes → Fields → ℕ → Mapping → Option Value
@@ -17,7 +17,7 @@ own_value_by file h p damaged = Some damaged_place
 
 -- by these words
 abbrev pub own_value : Bytes → Bytes → Fields → ℕ → Option Value
-own_value words file h p = own_value_by file h p (entry words h (p / cluster_size h))
+own_value raw_entries file h p = own_value_by file h p (entry raw_entries h (p / cluster_size h))
 
 -- by the words of its file, and by those in memory
 abbrev pub file_value : Metadata → ℕ → Option Value

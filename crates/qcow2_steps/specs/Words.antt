@@ -1,43 +1,43 @@
 -- A word of a cached L2 table is set: which places that concerns, and what they show then.
 use Rattle.std.specs.Prelude.{◌≡◌, ◌≢◌, ◌⊎◌, ℕ, ◌/◌, ◌%◌, Option}
 use Rattle.imago_storage.specs.Disk.{Value}
-use Rattle.qcow2_types.specs.Header.{Fields, cluster_size, words_of_cluster}
+use Rattle.qcow2_types.specs.Header.{Fields, cluster_size, entries_of_cluster}
 use Rattle.qcow2_types.specs.References.{meets, of_mapping}
 use Rattle.qcow2_types.specs.Words.{Mapping}
-use Rattle.qcow2_alloc.specs.Changes.{ClusterNamed, NamesDropped, WordChanged, file_with}
+use Rattle.qcow2_alloc.specs.Changes.{ClusterLinked, ReferencesDropped, EntryChanged, file_with}
 use Rattle.qcow2_alloc.specs.Memory.{Cached}
-use Rattle.qcow2_alloc.specs.Quiet.{Metadata, IsUsed, named_at_all, waiting}
+use Rattle.qcow2_alloc.specs.GuestView.{Metadata, IsUsed, referenced_at_all, waiting}
 use Rattle.qcow2_steps.specs.Values.{own_value_by}
 
 -- Word j of L2 table i meant `old` in memory, and means `new` with this cached. Nothing else changes.
-abbrev pub ChangesWord : Metadata → ℕ → ℕ → Mapping → Mapping → Cached → Type 0
-ChangesWord m i j old new cached' = WordChanged (file_with m.file m.header m.order m.cached) i j old new cached'
+abbrev pub ChangesEntry : Metadata → ℕ → ℕ → Mapping → Mapping → Cached → Type 0
+ChangesEntry m i j old new cached' = EntryChanged (file_with m.file m.header m.order m.cached) i j old new cached'
 
 -- The same, where it names cluster x then, which nothing named,
-abbrev pub NamesCluster : Metadata → ℕ → ℕ → Mapping → ℕ → Cached → Type 0
-NamesCluster m i j old x cached' = ClusterNamed (file_with m.file m.header m.order m.cached) i j old x cached'
+abbrev pub LinksCluster : Metadata → ℕ → ℕ → Mapping → ℕ → Cached → Type 0
+LinksCluster m i j old x cached' = ClusterLinked (file_with m.file m.header m.order m.cached) i j old x cached'
 
 -- or names no more than it did.
 abbrev pub DropsNames : Metadata → ℕ → ℕ → Mapping → Mapping → Cached → Type 0
-DropsNames m i j old new cached' = NamesDropped (file_with m.file m.header m.order m.cached) i j old new cached'
+DropsNames m i j old new cached' = ReferencesDropped (file_with m.file m.header m.order m.cached) i j old new cached'
 
 -- how often a word that means this names cluster c
 abbrev pub names_at : Metadata → Mapping → ℕ → ℕ
 names_at m mapping c = of_mapping m.header.fields (meets m.header.fields c) mapping
 
 -- the guest cluster of word j of L2 table i; and another one
-abbrev pub IsOfWord : Fields → ℕ → ℕ → ℕ → Type 0
-IsOfWord h i j guest = (guest / words_of_cluster h ≡ i) × (guest % words_of_cluster h ≡ j)
+abbrev pub IsOfEntry : Fields → ℕ → ℕ → ℕ → Type 0
+IsOfEntry h i j guest = (guest / entries_of_cluster h ≡ i) × (guest % entries_of_cluster h ≡ j)
 
 abbrev pub IsOfOther : Fields → ℕ → ℕ → ℕ → Type 0
-IsOfOther h i j guest = (guest / words_of_cluster h ≢ i) ⊎ (guest % words_of_cluster h ≢ j)
+IsOfOther h i j guest = (guest / entries_of_cluster h ≢ i) ⊎ (guest % entries_of_cluster h ≢ j)
 
 -- Cluster c was handed out, and nothing names it yet: it is counted beyond what waits to free it, and it holds no table, block or header.
 pub record IsReserved (m : Metadata) (c : ℕ) : Type 0 where
   pub used : IsUsed m c
-  pub unnamed : named_at_all m c ≡ 0
+  pub not_referenced : referenced_at_all m c ≡ 0
   pub waits : waiting m c ≡ 0
 
 -- What a place shows whose word means this now.
-abbrev pub GivesWord : Metadata → ℕ → ℕ → Mapping → ℕ → Option Value → Type 0
-GivesWord m i j new p v = IsOfWord m.header.fields i j (p / cluster_size m.header.fields) × (v ≡ own_value_by m.file m.header.fields p new)
+abbrev pub GivesEntry : Metadata → ℕ → ℕ → Mapping → ℕ → Option Value → Type 0
+GivesEntry m i j new p v = IsOfEntry m.header.fields i j (p / cluster_size m.header.fields) × (v ≡ own_value_by m.file m.header.fields p new)

@@ -11,10 +11,10 @@ ghost use Rattle.qcow2_types.specs.Pending.{FreeEntry};
 ghost use Rattle.qcow2_types.specs.Words.{Mapping, data_at};
 ghost use Rattle.qcow2_alloc.specs.FreeList.{covers};
 ghost use Rattle.qcow2_alloc.specs.Memory.{Cached};
-ghost use Rattle.qcow2_alloc.specs.Quiet.{Metadata, IsQuiet, IsSound, ShowsEither, counted, covers_metadata, in_memory, named_at_all, one_at, referenced, waiting};
-ghost use Rattle.qcow2_steps.specs.Advancing.{Advances, MayBeLeft};
-ghost use Rattle.qcow2_steps.specs.Data.{AreNamedFor, GivesData, IsHiddenIn, WritesBeside};
-ghost use Rattle.qcow2_steps.specs.Words.{DropsNames, GivesWord, IsOfWord, IsReserved, NamesCluster, names_at};
+ghost use Rattle.qcow2_alloc.specs.GuestView.{Metadata, GuestUnchanged, IsSound, ShowsEither, counted, covers_metadata, in_memory, referenced_at_all, one_at, referenced, waiting};
+ghost use Rattle.qcow2_steps.specs.Advancing.{Advances, MayBeCrashImage};
+ghost use Rattle.qcow2_steps.specs.Data.{AreReferencedFor, GivesData, IsHiddenIn, WritesBeside};
+ghost use Rattle.qcow2_steps.specs.Words.{DropsNames, GivesEntry, IsOfEntry, IsReserved, LinksCluster, names_at};
 
 use std::marker::Brand;
 
@@ -44,26 +44,26 @@ pub fn steps_add_up<First: Step, Second: Step>()
         → Advances Second.gives Second.written Second.set handed' taken' m1 m2
         → Advances (λ p v. First.gives p v ⊎ Second.gives p v) (λ q. First.written q ⊎ Second.written q)
         (λ guest. First.set guest ⊎ Second.set guest) (λ c. handed c + handed' c) (λ c. taken c + taken' c) m m2 }
-    ensures stops { (handed taken : ℕ → ℕ) (m m1 : Metadata) (x : Bytes) (H : Header)
-        → Advances First.gives First.written First.set handed taken m m1 → MayBeLeft Second.gives m1 x H
-        → MayBeLeft (λ p v. First.gives p v ⊎ Second.gives p v) m x H }
+    ensures crash_images { (handed taken : ℕ → ℕ) (m m1 : Metadata) (x : Bytes) (H : Header)
+        → Advances First.gives First.written First.set handed taken m m1 → MayBeCrashImage Second.gives m1 x H
+        → MayBeCrashImage (λ p v. First.gives p v ⊎ Second.gives p v) m x H }
     ensures reserved { (handed taken : ℕ → ℕ) (m m1 : Metadata) → Advances First.gives First.written First.set handed taken m m1
         → (c : ℕ) → IsReserved m c → taken c ≡ 0 → IsReserved m1 c }
 {}
 
 /// What is quiet, and takes nothing that is named, gives nothing.
-pub fn what_is_quiet_advances()
-    ensures quietly { (m m' : Metadata) (handed taken : ℕ → ℕ) → IsSound m → IsSound m' → IsQuiet handed taken m m'
+pub fn unchanged_guest_advances()
+    ensures preserves_guest { (m m' : Metadata) (handed taken : ℕ → ℕ) → IsSound m → IsSound m' → GuestUnchanged handed taken m m'
         → ((c : ℕ) → 0 < referenced m c → taken c ≡ 0) → Advances (λ p v. ⊥) (λ q. ⊥) (λ guest. ⊥) handed taken m m' }
-    ensures clean { (m m' : Metadata) (handed taken : ℕ → ℕ) → IsSound m → IsSound m' → IsQuiet handed taken m m'
+    ensures clean { (m m' : Metadata) (handed taken : ℕ → ℕ) → IsSound m → IsSound m' → GuestUnchanged handed taken m m'
         → ((guest : ℕ) → entry m'.file m'.header.fields guest ≡ entry (in_memory m') m'.header.fields guest)
         → Advances (λ p v. ⊥) (λ q. ⊥) (λ guest. ⊥) handed taken m m' }
-    ensures stops { (m : Metadata) (x : Bytes) (H : Header) → IsSound m → ShowsEither m x H → MayBeLeft (λ p v. ⊥) m x H }
+    ensures crash_images { (m : Metadata) (x : Bytes) (H : Header) → IsSound m → ShowsEither m x H → MayBeCrashImage (λ p v. ⊥) m x H }
 {}
 
 /// Bytes that are written for guest clusters in a row give these.
 pub fn what_is_written_advances()
-    ensures { (m : Metadata) (first c k at n : ℕ) (x : Bytes) → IsSound m → WritesBeside m c k at n x → AreNamedFor m first c k
+    ensures { (m : Metadata) (first c k at n : ℕ) (x : Bytes) → IsSound m → WritesBeside m c k at n x → AreReferencedFor m first c k
         → Advances (GivesData m.header.fields first c at n x) (IsIn at n) (λ guest. ⊥) (λ _. 0) (λ _. 0) m (record m { file = x }) }
 {}
 
@@ -71,29 +71,29 @@ pub fn what_is_written_advances()
 pub fn what_is_hidden_advances()
     ensures hidden { (m : Metadata) (c at n : ℕ) (x : Bytes) → IsSound m → WritesBeside m c 0 at n x → IsHiddenIn m c
         → Advances (λ p v. ⊥) (IsIn at n) (λ guest. ⊥) (λ _. 0) (λ _. 0) m (record m { file = x }) }
-    ensures stops { (m : Metadata) (c at n : ℕ) (x y : Bytes) → IsSound m → WritesBeside m c 0 at n x → IsHiddenIn m c
-        → ((q : ℕ) → (y q ≡ m.file q) ⊎ (y q ≡ x q)) → MayBeLeft (λ p v. ⊥) m y m.header }
+    ensures crash_images { (m : Metadata) (c at n : ℕ) (x y : Bytes) → IsSound m → WritesBeside m c 0 at n x → IsHiddenIn m c
+        → ((q : ℕ) → (y q ≡ m.file q) ⊎ (y q ≡ x q)) → MayBeCrashImage (λ p v. ⊥) m y m.header }
 {}
 
 /// What is put among what waits to be freed is taken, also where other words name it still. So where a word names less, and what it named
 /// no longer waits, this is handed out by the one and taken by the other.
-pub fn what_is_put_off_advances()
+pub fn deferred_frees_advance()
     ensures pushed { (m : Metadata) (e : FreeEntry) → IsSound m → ((c : ℕ) → referenced m c + waiting m c + covers c e ≤ counted m c)
-        → ((c : ℕ) → 0 < covers_metadata c e → named_at_all m c ≡ 0)
+        → ((c : ℕ) → 0 < covers_metadata c e → referenced_at_all m c ≡ 0)
         → Advances (λ p v. ⊥) (λ q. ⊥) (λ guest. ⊥) (λ _. 0) (λ c. covers c e) m (record m { pending = m.pending ++ e ∷ [] }) }
     ensures dropped { (m : Metadata) (i j : ℕ) (old new : Mapping) (e : FreeEntry) (cached' : Cached) → IsSound m
         → DropsNames m i j old new cached' → e.metadata ≡ false → ((c : ℕ) → names_at m new c + covers c e ≡ names_at m old c)
-        → Advances (GivesWord m i j new) (λ q. ⊥) (IsOfWord m.header.fields i j) (λ c. covers c e) (λ c. covers c e)
+        → Advances (GivesEntry m i j new) (λ q. ⊥) (IsOfEntry m.header.fields i j) (λ c. covers c e) (λ c. covers c e)
         m (record m { cached = cached'; pending = m.pending ++ e ∷ [] }) }
 {}
 
 /// A word that is set gives what it means, to its guest cluster. The cluster that it names anew is taken, and what it named is handed out.
 pub fn what_is_set_advances()
-    ensures named { (m : Metadata) (i j x : ℕ) (old : Mapping) (cached' : Cached) → IsSound m → NamesCluster m i j old x cached'
+    ensures named { (m : Metadata) (i j x : ℕ) (old : Mapping) (cached' : Cached) → IsSound m → LinksCluster m i j old x cached'
         → IsReserved m x
-        → Advances (GivesWord m i j (data_at x true)) (λ q. ⊥) (IsOfWord m.header.fields i j)
+        → Advances (GivesEntry m i j (data_at x true)) (λ q. ⊥) (IsOfEntry m.header.fields i j)
         (names_at m old) (one_at x) m (record m { cached = cached' }) }
     ensures dropped { (m : Metadata) (i j : ℕ) (old new : Mapping) (handed : ℕ → ℕ) (cached' : Cached) → IsSound m
         → DropsNames m i j old new cached' → ((c : ℕ) → names_at m new c + handed c ≡ names_at m old c)
-        → Advances (GivesWord m i j new) (λ q. ⊥) (IsOfWord m.header.fields i j) handed (λ _. 0) m (record m { cached = cached' }) }
+        → Advances (GivesEntry m i j new) (λ q. ⊥) (IsOfEntry m.header.fields i j) handed (λ _. 0) m (record m { cached = cached' }) }
 {}

@@ -4,7 +4,7 @@
 ghost use Rattle.std.specs.Prelude.{◌≡◌, ℕ};
 ghost use Rattle.qcow2_types.specs.Bytes.{Bytes};
 ghost use Rattle.qcow2_types.specs.Entries.{entry};
-ghost use Rattle.qcow2_alloc.specs.Quiet.{Metadata, IsSound, in_memory, named_at_all};
+ghost use Rattle.qcow2_alloc.specs.GuestView.{Metadata, IsSound, in_memory, referenced_at_all};
 ghost use Rattle.qcow2_steps.specs.Advancing.{Advances};
 ghost use Rattle.qcow2_steps.specs.LongerL1.{IsReadyL1Table, NamesL1Table, new_l1, old_l1, with_longer_l1};
 ghost use Rattle.qcow2_steps.specs.Values.{file_value, memory_value};
@@ -12,7 +12,7 @@ ghost use Rattle.qcow2_steps.specs.Values.{file_value, memory_value};
 /// The header may name an L1 table that is ready for it, by one request: the image stays sound, with each word, and each place shows what
 /// it did, in the file and in memory. The clusters of the new table are taken, and those of the old one handed out; nothing names them
 /// then.
-pub fn naming_a_longer_l1_table()
+pub fn switching_to_a_longer_l1_table()
     ensures sound { (m : Metadata) (offset more : ℕ) (x : Bytes) → IsSound m → IsReadyL1Table m offset more → NamesL1Table m offset more x
         → IsSound (with_longer_l1 m offset more x) }
     ensures advances { (m : Metadata) (offset more : ℕ) (x : Bytes) → IsSound m → IsReadyL1Table m offset more
@@ -22,11 +22,11 @@ pub fn naming_a_longer_l1_table()
         → (p : ℕ) → file_value (with_longer_l1 m offset more x) p ≡ file_value m p }
     ensures memory { (m : Metadata) (offset more : ℕ) (x : Bytes) → IsSound m → IsReadyL1Table m offset more → NamesL1Table m offset more x
         → (p : ℕ) → memory_value (with_longer_l1 m offset more x) p ≡ memory_value m p }
-    ensures words { (m : Metadata) (offset more guest : ℕ) (x : Bytes) → IsSound m → IsReadyL1Table m offset more
+    ensures raw_entries { (m : Metadata) (offset more guest : ℕ) (x : Bytes) → IsSound m → IsReadyL1Table m offset more
         → NamesL1Table m offset more x
         → (entry (in_memory (with_longer_l1 m offset more x)) (with_longer_l1 m offset more x).header.fields guest
         ≡ entry (in_memory m) m.header.fields guest)
         × (entry x (with_longer_l1 m offset more x).header.fields guest ≡ entry m.file m.header.fields guest) }
     ensures old { (m : Metadata) (offset more d : ℕ) (x : Bytes) → IsSound m → IsReadyL1Table m offset more → NamesL1Table m offset more x
-        → old_l1 m d ≡ 1 → named_at_all (with_longer_l1 m offset more x) d ≡ 0 }
+        → old_l1 m d ≡ 1 → referenced_at_all (with_longer_l1 m offset more x) d ≡ 0 }
 {}

@@ -15,8 +15,8 @@ be f i zero = 0
 be f i (suc n) = be f i n * 256 + f (i + n)
 
 -- word i of the table at this place
-unfoldable pub word : Bytes → ℕ → ℕ → ℕ
-word f offset i = be f (offset + 8 * i) 8
+unfoldable pub raw_entry : Bytes → ℕ → ℕ → ℕ
+raw_entry f offset i = be f (offset + 8 * i) 8
 
 -- the n bytes from place i on
 unfoldable pub run : Bytes → ℕ → ℕ → List ℕ

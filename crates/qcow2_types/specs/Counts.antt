@@ -1,7 +1,7 @@
 -- How often each host cluster is counted.
 use Rattle.std.specs.Prelude.{ℕ, ◌+◌, ◌*◌, ◌/◌, ◌%◌, ◌^◌, Bool, ◌==◌, nat_lt, nat_le, if◌then◌else◌}
-use Rattle.qcow2_types.specs.Bytes.{Bytes, be, word, all_below}
-use Rattle.qcow2_types.specs.Words.{block_offset, block_word_sound}
+use Rattle.qcow2_types.specs.Bytes.{Bytes, be, raw_entry, all_below}
+use Rattle.qcow2_types.specs.Words.{block_offset, reftable_entry_valid}
 use Rattle.qcow2_types.specs.Header.{Fields, cluster_size, refcount_table_entries}
 
 -- the bits of a counter, and the counters of a block, which fills one cluster
@@ -14,11 +14,11 @@ counters_of_block h = cluster_size h * 8 / counter_bits h
 
 -- the block that word i of the refcount table names; 0 is none, and so it is past the entries
 abbrev pub block_at : Bytes → Fields → ℕ → ℕ
-block_at f h i = if nat_lt i (refcount_table_entries h) then block_offset (word f h.refcount_table_offset i) else 0
+block_at f h i = if nat_lt i (refcount_table_entries h) then block_offset (raw_entry f h.refcount_table_offset i) else 0
 
 -- The refcount table is damaged as a whole where one of its words has no meaning.
 unfoldable pub refcount_table_sound : Bytes → Fields → Bool
-refcount_table_sound f h = all_below (refcount_table_entries h) (λ i. block_word_sound h.cluster_bits (word f h.refcount_table_offset i))
+refcount_table_sound f h = all_below (refcount_table_entries h) (λ i. reftable_entry_valid h.cluster_bits (raw_entry f h.refcount_table_offset i))
 
 -- a counter of whole bytes is a big-endian number
 abbrev pub wide_counter : Bytes → ℕ → ℕ → ℕ → ℕ

@@ -1,24 +1,24 @@
 -- Where a guest cluster is: through the L1 table and an L2 table.
 use Rattle.std.specs.Prelude.{ℕ, ◌/◌, ◌%◌, Bool, not, ◌==◌, nat_lt, if◌then◌else◌, ◌^◌}
-use Rattle.qcow2_types.specs.Bytes.{Bytes, word, all_below}
-use Rattle.qcow2_types.specs.Words.{Mapping, damaged, unmapped, mapping_of, is_damaged, l1_word_sound, table_offset}
-use Rattle.qcow2_types.specs.Header.{Fields, words_of_cluster, layout_of}
+use Rattle.qcow2_types.specs.Bytes.{Bytes, raw_entry, all_below}
+use Rattle.qcow2_types.specs.Words.{Mapping, damaged, unmapped, mapping_of, is_damaged, l1_entry_valid, table_offset}
+use Rattle.qcow2_types.specs.Header.{Fields, entries_of_cluster, layout_of}
 
 -- the L2 table that word i of the L1 table names; 0 is none, and so it is past the entries
 abbrev pub l2_table : Bytes → Fields → ℕ → ℕ
-l2_table f h i = if nat_lt i h.l1_entries then table_offset (word f h.l1_offset i) else 0
+l2_table f h i = if nat_lt i h.l1_entries then table_offset (raw_entry f h.l1_offset i) else 0
 
 -- what word i of the L2 table at this place means
 abbrev pub l2_mapping : Bytes → Fields → ℕ → ℕ → Mapping
-l2_mapping f h table i = mapping_of (layout_of h) (word f table i)
+l2_mapping f h table i = mapping_of (layout_of h) (raw_entry f table i)
 
 -- A table is damaged as a whole where one of its words has no meaning.
 unfoldable pub l1_table_sound : Bytes → Fields → Bool
-l1_table_sound f h = all_below h.l1_entries (λ i. l1_word_sound h.cluster_bits (word f h.l1_offset i))
+l1_table_sound f h = all_below h.l1_entries (λ i. l1_entry_valid h.cluster_bits (raw_entry f h.l1_offset i))
 
 -- An L2 table is damaged as a whole where one of its words has no meaning.
 unfoldable pub l2_table_sound : Bytes → Fields → ℕ → Bool
-l2_table_sound f h table = all_below (words_of_cluster h) (λ i. not (is_damaged (l2_mapping f h table i)))
+l2_table_sound f h table = all_below (entries_of_cluster h) (λ i. not (is_damaged (l2_mapping f h table i)))
 
 -- word i of the L2 table at this place, which is damaged as a whole or not
 abbrev pub entry_of_table : Bytes → Fields → ℕ → ℕ → Mapping
@@ -30,7 +30,7 @@ entry_through f h table i = if table == 0 then unmapped else entry_of_table f h 
 
 -- guest cluster g: word g mod e of the L2 table that L1 word g / e names, with e words to a table
 unfoldable pub entry : Bytes → Fields → ℕ → Mapping
-entry f h g = let e = words_of_cluster h in if l1_table_sound f h then entry_through f h (l2_table f h (g / e)) (g % e) else damaged
+entry f h g = let e = entries_of_cluster h in if l1_table_sound f h then entry_through f h (l2_table f h (g / e)) (g % e) else damaged
 
 -- the words of an L2 table: 8 bytes each, in one cluster of 2^cluster_bits bytes
 abbrev pub l2_entries : ℕ → ℕ

@@ -1,6 +1,6 @@
 -- What a change of some bytes of a file leaves of an image.
 use Rattle.std.specs.Prelude.{◌≡◌, ◌≢◌, ℕ, ◌+◌, ◌*◌, ◌<◌, ◌≤◌, Bool, ◌&&◌, nat_lt, if◌then◌else◌, ◌⊎◌}
-use Rattle.qcow2_types.specs.Bytes.{Bytes, word}
+use Rattle.qcow2_types.specs.Bytes.{Bytes, raw_entry}
 use Rattle.qcow2_types.specs.Words.{data_at}
 use Rattle.qcow2_types.specs.Header.{Fields, cluster_size, refcount_table_entries}
 use Rattle.qcow2_types.specs.Entries.{entry, l2_table}
@@ -30,13 +30,13 @@ pub data Skipped : Type 0 where
   table : (i : ℕ) → Skipped
 
 -- g has the structure of f as it stands, but for the skipped part.
-pub record Kept (f g : Bytes) (h : Fields) (skip : Skipped) : Type 0 where
+pub record SameStructureOutside (f g : Bytes) (h : Fields) (skip : Skipped) : Type 0 where
   pub start : skip ≢ first_cluster → Same f g 0 (cluster_size h)
-  pub l1 : (i : ℕ) → i < h.l1_entries → skip ≢ l1_word i → word g h.l1_offset i ≡ word f h.l1_offset i
+  pub l1 : (i : ℕ) → i < h.l1_entries → skip ≢ l1_word i → raw_entry g h.l1_offset i ≡ raw_entry f h.l1_offset i
   pub blocks : (i : ℕ) → i < refcount_table_entries h → skip ≢ block_word i
-      → word g h.refcount_table_offset i ≡ word f h.refcount_table_offset i
+      → raw_entry g h.refcount_table_offset i ≡ raw_entry f h.refcount_table_offset i
   pub counters : (i : ℕ) → i < refcount_table_entries h → block_at f h i ≢ 0 → skip ≢ block i → Same f g (block_at f h i) (cluster_size h)
-  pub words : (i j : ℕ) → Live (l2_table f h) h i j → skip ≢ table i → word g (l2_table f h i) j ≡ word f (l2_table f h i) j
+  pub raw_entries : (i j : ℕ) → Live (l2_table f h) h i j → skip ≢ table i → raw_entry g (l2_table f h i) j ≡ raw_entry f (l2_table f h i) j
 
 -- x shows what f does at a guest cluster: the same mapping, and the bytes of the cluster that it names
 pub record ShowsAs (x f : Bytes) (h : Fields) (guest : ℕ) : Type 0 where

@@ -2,7 +2,7 @@
 use Rattle.std.specs.Prelude.{IsTrue, ℕ, ◌<◌, ◌≤◌, zero, suc, ◌+◌, ◌-◌, ◌*◌, ◌/◌, ◌^◌, Bool, true, false, ◌&&◌, ◌||◌, not, ◌==◌, nat_lt, nat_le, if◌then◌else◌, List, [], ◌∷◌, ◌++◌, length, take, drop, take_while, Option, Some, None, Result, Ok, Err}
 use Rattle.std.specs.Str.{is_utf8}
 use Rattle.qcow2_types.specs.Bytes.{Bytes, be, run}
-use Rattle.qcow2_types.specs.Words.{Layout, has_bit, is_place}
+use Rattle.qcow2_types.specs.Words.{Layout, has_bit, is_cluster_offset}
 use Rattle.imago_storage.specs.declared.fault.Fault.{Fault}
 use Rattle.imago_storage.specs.declared.fault.Fault.TheVariants.{DamagedHeader, Unsupported, Limit}
 
@@ -75,12 +75,12 @@ abbrev pub cluster_size : Fields → ℕ
 cluster_size h = 2 ^ h.cluster_bits
 
 -- the words of a table of one cluster
-abbrev pub words_of_cluster : Fields → ℕ
-words_of_cluster h = cluster_size h / 8
+abbrev pub entries_of_cluster : Fields → ℕ
+entries_of_cluster h = cluster_size h / 8
 
 -- the words of the refcount table
 abbrev pub refcount_table_entries : Fields → ℕ
-refcount_table_entries h = h.refcount_table_clusters * words_of_cluster h
+refcount_table_entries h = h.refcount_table_clusters * entries_of_cluster h
 
 -- whether the header is of version 3
 abbrev pub is_version_3 : Fields → Bool
@@ -99,8 +99,8 @@ pub record Limited (h : Fields) : Type 0 where
   pub size : h.size < 2 ^ 63
   pub l1_entries : h.l1_entries ≤ 2 ^ 22
   pub refcount_entries : refcount_table_entries h ≤ 2 ^ 20
-  pub l1_place : IsTrue (is_place h.cluster_bits h.l1_offset)
-  pub refcount_place : IsTrue (is_place h.cluster_bits h.refcount_table_offset)
+  pub l1_place : IsTrue (is_cluster_offset h.cluster_bits h.l1_offset)
+  pub refcount_place : IsTrue (is_cluster_offset h.cluster_bits h.refcount_table_offset)
 
 -- A rule: whether it is broken, and the refusal where it is.
 abbrev pub Rule : Type 0
@@ -140,8 +140,8 @@ rules_of_size h =
     (nat_lt (2 ^ 63 - 1) h.size, Limit h.size)
     ∷ (nat_lt (2 ^ 22) h.l1_entries, Limit h.l1_entries)
     ∷ (nat_lt (2 ^ 20) (refcount_table_entries h), Limit (refcount_table_entries h))
-    ∷ (not (is_place h.cluster_bits h.l1_offset), DamagedHeader)
-    ∷ (not (is_place h.cluster_bits h.refcount_table_offset), DamagedHeader)
+    ∷ (not (is_cluster_offset h.cluster_bits h.l1_offset), DamagedHeader)
+    ∷ (not (is_cluster_offset h.cluster_bits h.refcount_table_offset), DamagedHeader)
     ∷ []
 
 -- There is no name of a backing file where its offset or its length is 0.

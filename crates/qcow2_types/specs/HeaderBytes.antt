@@ -73,14 +73,14 @@ name_bytes None = []
 name_bytes (Some name) = name
 
 -- The name follows the extensions. Where there is none its place is 0.
-abbrev pub name_place : Header → Option (List ℕ) → ℕ
-name_place h None = 0
-name_place h (Some name) = fields_length h.fields + length (extensions_bytes h)
+abbrev pub backing_name_offset : Header → Option (List ℕ) → ℕ
+backing_name_offset h None = 0
+backing_name_offset h (Some name) = fields_length h.fields + length (extensions_bytes h)
 
 -- the fields as they are written: with the name's place and length, and the length of a header that has no more fields
 unfoldable pub written_fields : Header → Fields
 written_fields h = record h.fields {
-  backing_offset = name_place h h.backing_name;
+  backing_offset = backing_name_offset h h.backing_name;
   backing_length = length (name_bytes h.backing_name);
   header_length = fields_length h.fields;
 }

@@ -35,5 +35,5 @@ pub record FirstFieldsFit (h : Fields) : Type 0 where
   pub snapshots : h.snapshots < 2 ^ 32
 
 -- A backing file's name lies behind bytes 0 to 63, where there is one: else a write of these would change the name.
-abbrev pub IsNameBehind : Fields → Type 0
-IsNameBehind h = has_backing_name h ≡ true → 64 ≤ h.backing_offset
+abbrev pub IsNameAfterFields : Fields → Type 0
+IsNameAfterFields h = has_backing_name h ≡ true → 64 ≤ h.backing_offset

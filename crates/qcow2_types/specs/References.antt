@@ -2,7 +2,7 @@
 use Rattle.std.specs.Prelude.{ℕ, ◌+◌, ◌*◌, true, ◌&&◌, ◌==◌, nat_lt, if◌then◌else◌, Some, None}
 use Rattle.qcow2_types.specs.Bytes.{Bytes, sum_below}
 use Rattle.qcow2_types.specs.Words.{Mapping, data_at, zeroes, packed, unmapped, damaged}
-use Rattle.qcow2_types.specs.Header.{Fields, cluster_size, words_of_cluster, refcount_table_entries}
+use Rattle.qcow2_types.specs.Header.{Fields, cluster_size, entries_of_cluster, refcount_table_entries}
 use Rattle.qcow2_types.specs.Entries.{l2_table, l2_mapping}
 use Rattle.qcow2_types.specs.Counts.{block_at}
 
@@ -25,7 +25,7 @@ structure f h weight =
 
 -- Summed over what the words of an L2 table mean, and over all L2 tables.
 unfoldable pub of_table : Bytes → Fields → (Mapping → ℕ) → ℕ → ℕ
-of_table f h of table = sum_below (words_of_cluster h) (λ i. of (l2_mapping f h table i))
+of_table f h of table = sum_below (entries_of_cluster h) (λ i. of (l2_mapping f h table i))
 
 -- the same, where 0 stands for no table
 abbrev pub of_table_or_none : Bytes → Fields → (Mapping → ℕ) → ℕ → ℕ

@@ -1,39 +1,39 @@
 -- What one write into a consistent image f leaves in the file g: an image that is consistent under the same header.
 use Rattle.std.specs.Prelude.{Bool, true, Ok, ◌≡◌, ◌≢◌, ℕ, ◌+◌, ◌*◌, ◌/◌, ◌%◌, ◌<◌, ◌⊎◌}
 use Rattle.imago_storage.specs.Disk.{Value}
-use Rattle.qcow2_types.specs.Bytes.{Bytes, word, sum_below}
-use Rattle.qcow2_types.specs.Words.{Mapping, unmapped, data_at, unmarked_mapping}
-use Rattle.qcow2_types.specs.Header.{Fields, Header, header_of, cluster_size, words_of_cluster}
+use Rattle.qcow2_types.specs.Bytes.{Bytes, raw_entry, sum_below}
+use Rattle.qcow2_types.specs.Words.{Mapping, unmapped, data_at, mapping_without_copied}
+use Rattle.qcow2_types.specs.Header.{Fields, Header, header_of, cluster_size, entries_of_cluster}
 use Rattle.qcow2_types.specs.Entries.{entry, l2_table, l2_mapping}
 use Rattle.qcow2_types.specs.Counts.{block_at, count, counter, counters_of_block}
 use Rattle.qcow2_types.specs.References.{Weight, structure as structure_sum, contents as contents_sum, of_cluster, of_mapping, of_table, of_table_or_none, meets, refs}
 use Rattle.qcow2_types.specs.Consistency.{IsConsistent}
 use Rattle.qcow2_types.specs.Disk.{shown}
 use Rattle.qcow2_types.specs.Slots.{slot, Live}
-use Rattle.qcow2_types.specs.Frames.{Same, Kept, nothing, block, table, l1_word, block_word, ShowsAs}
+use Rattle.qcow2_types.specs.Frames.{Same, SameStructureOutside, nothing, block, table, l1_word, block_word, ShowsAs}
 use Rattle.qcow2_types.specs.Versions.{KeepsSlots, SamePlaces}
 
 -- Each place whose guest cluster has the mapping that it had, but perhaps for the mark of its cluster, shows what it did.
-abbrev pub ShownByUnmarked : Bytes → Bytes → Header → Type 0
-ShownByUnmarked f g H = (external : Bytes) (p : ℕ) (below : Value)
-    → unmarked_mapping (entry g H.fields (p / cluster_size H.fields)) ≡ unmarked_mapping (entry f H.fields (p / cluster_size H.fields))
+abbrev pub ShownWithoutCopied : Bytes → Bytes → Header → Type 0
+ShownWithoutCopied f g H = (external : Bytes) (p : ℕ) (below : Value)
+    → mapping_without_copied (entry g H.fields (p / cluster_size H.fields)) ≡ mapping_without_copied (entry f H.fields (p / cluster_size H.fields))
     → shown g external H.fields p below ≡ shown f external H.fields p below
 
 -- A data cluster was written that word j of L2 table i names: no guest cluster's mapping changes, and what shows at no other one.
 pub record DataWritten (f g : Bytes) (H : Header) (i j : ℕ) : Type 0 where
   pub consistent : IsConsistent g H
-  pub kept : Kept f g H.fields nothing
+  pub same_structure_outside : SameStructureOutside f g H.fields nothing
   pub keeps : KeepsSlots f g H.fields
   pub references : (c : ℕ) → refs g H.fields c ≡ refs f H.fields c
   pub counts : (c : ℕ) → count g H.fields c ≡ count f H.fields c
   pub entries : (guest : ℕ) → entry g H.fields guest ≡ entry f H.fields guest
-  pub elsewhere : (guest : ℕ) → (guest / words_of_cluster H.fields ≢ i) ⊎ (guest % words_of_cluster H.fields ≢ j)
+  pub elsewhere : (guest : ℕ) → (guest / entries_of_cluster H.fields ≢ i) ⊎ (guest % entries_of_cluster H.fields ≢ j)
       → ShowsAs g f H.fields guest
 
 -- A cluster was written that nothing names, or that is kept for zeroes: the image stays as it is, and shows the same.
 pub record FreeWritten (f g : Bytes) (H : Header) : Type 0 where
   pub consistent : IsConsistent g H
-  pub kept : Kept f g H.fields nothing
+  pub same_structure_outside : SameStructureOutside f g H.fields nothing
   pub keeps : KeepsSlots f g H.fields
   pub references : (c : ℕ) → refs g H.fields c ≡ refs f H.fields c
   pub counts : (c : ℕ) → count g H.fields c ≡ count f H.fields c
@@ -43,7 +43,7 @@ pub record FreeWritten (f g : Bytes) (H : Header) : Type 0 where
 -- cluster, and what shows changes at those alone whose data is in one of them.
 pub record RunWritten (f g : Bytes) (H : Header) (c k : ℕ) : Type 0 where
   pub consistent : IsConsistent g H
-  pub kept : Kept f g H.fields nothing
+  pub same_structure_outside : SameStructureOutside f g H.fields nothing
   pub keeps : KeepsSlots f g H.fields
   pub references : (d : ℕ) → refs g H.fields d ≡ refs f H.fields d
   pub counts : (d : ℕ) → count g H.fields d ≡ count f H.fields d
@@ -55,7 +55,7 @@ pub record RunWritten (f g : Bytes) (H : Header) (c k : ℕ) : Type 0 where
 -- their bytes, and so do those that words name, also those kept for zeroes.
 pub record BlockWritten (f g : Bytes) (H : Header) (b : ℕ) : Type 0 where
   pub consistent : IsConsistent g H
-  pub kept : Kept f g H.fields (block b)
+  pub same_structure_outside : SameStructureOutside f g H.fields (block b)
   pub keeps : KeepsSlots f g H.fields
   pub references : (c : ℕ) → refs g H.fields c ≡ refs f H.fields c
   pub counts : (c : ℕ) → c / counters_of_block H.fields ≢ b → count g H.fields c ≡ count f H.fields c
@@ -74,14 +74,14 @@ pub record CounterWritten (f g : Bytes) (H : Header) (c number : ℕ) : Type 0 w
 -- Clusters that nothing names keep their bytes, and so do those that words name.
 pub record SlotWritten (f g : Bytes) (H : Header) (i j : ℕ) (new : Mapping) : Type 0 where
   pub consistent : IsConsistent g H
-  pub kept : Kept f g H.fields (table i)
+  pub same_structure_outside : SameStructureOutside f g H.fields (table i)
   pub places : SamePlaces f g H.fields
   pub here : slot g H.fields i j ≡ new
-  pub row : (m : ℕ) → m ≢ j → word g (l2_table f H.fields i) m ≡ word f (l2_table f H.fields i) m
+  pub row : (m : ℕ) → m ≢ j → raw_entry g (l2_table f H.fields i) m ≡ raw_entry f (l2_table f H.fields i) m
   pub others : (k m : ℕ) → Live (l2_table f H.fields) H.fields k m → (k ≢ i) ⊎ (m ≢ j) → slot g H.fields k m ≡ slot f H.fields k m
   pub counts : (c : ℕ) → count g H.fields c ≡ count f H.fields c
-  pub entries : (guest : ℕ) → guest / words_of_cluster H.fields ≡ i → guest % words_of_cluster H.fields ≡ j → entry g H.fields guest ≡ new
-  pub elsewhere : (guest : ℕ) → (guest / words_of_cluster H.fields ≢ i) ⊎ (guest % words_of_cluster H.fields ≢ j)
+  pub entries : (guest : ℕ) → guest / entries_of_cluster H.fields ≡ i → guest % entries_of_cluster H.fields ≡ j → entry g H.fields guest ≡ new
+  pub elsewhere : (guest : ℕ) → (guest / entries_of_cluster H.fields ≢ i) ⊎ (guest % entries_of_cluster H.fields ≢ j)
       → ShowsAs g f H.fields guest
   pub free : (c : ℕ) → refs f H.fields c ≡ 0 → Same f g (c * cluster_size H.fields) (cluster_size H.fields)
   pub mapped : (c : ℕ) → 0 < contents_sum f H.fields (of_mapping H.fields (meets H.fields c))
@@ -89,13 +89,13 @@ pub record SlotWritten (f g : Bytes) (H : Header) (i j : ℕ) (new : Mapping) : 
 
 -- summed over what the words of L2 table i mean
 abbrev pub table_sum : Bytes → Fields → (Mapping → ℕ) → ℕ → ℕ
-table_sum f h of i = sum_below (words_of_cluster h) (λ j. of (slot f h i j))
+table_sum f h of i = sum_below (entries_of_cluster h) (λ j. of (slot f h i j))
 
 -- L2 table i was written, whole or in part: no word of another table and no count changes. What is named changes by what the words of
 -- the table name. Clusters that nothing names keep their bytes, and so do those that words name.
 pub record TableWritten (f g : Bytes) (H : Header) (i : ℕ) : Type 0 where
   pub header : header_of true g ≡ Ok H
-  pub kept : Kept f g H.fields (table i)
+  pub same_structure_outside : SameStructureOutside f g H.fields (table i)
   pub places : SamePlaces f g H.fields
   pub others : (k m : ℕ) → Live (l2_table f H.fields) H.fields k m → k ≢ i → slot g H.fields k m ≡ slot f H.fields k m
   pub counts : (c : ℕ) → count g H.fields c ≡ count f H.fields c
@@ -113,12 +113,12 @@ pub record TableWritten (f g : Bytes) (H : Header) (i : ℕ) : Type 0 where
 pub record TableRewritten (f g : Bytes) (H : Header) (i : ℕ) : Type 0 where
   pub written : TableWritten f g H i
   pub consistent : IsConsistent g H
-  pub entries : (guest : ℕ) → guest / words_of_cluster H.fields ≡ i
-      → entry g H.fields guest ≡ slot g H.fields i (guest % words_of_cluster H.fields)
-  pub elsewhere : (guest : ℕ) → (guest / words_of_cluster H.fields ≢ i)
-      ⊎ (slot g H.fields i (guest % words_of_cluster H.fields) ≡ slot f H.fields i (guest % words_of_cluster H.fields))
+  pub entries : (guest : ℕ) → guest / entries_of_cluster H.fields ≡ i
+      → entry g H.fields guest ≡ slot g H.fields i (guest % entries_of_cluster H.fields)
+  pub elsewhere : (guest : ℕ) → (guest / entries_of_cluster H.fields ≢ i)
+      ⊎ (slot g H.fields i (guest % entries_of_cluster H.fields) ≡ slot f H.fields i (guest % entries_of_cluster H.fields))
       → ShowsAs g f H.fields guest
-  pub values : ShownByUnmarked f g H
+  pub values : ShownWithoutCopied f g H
 
 -- Word j of L2 table i was written, and names cluster c as copied data, which nothing named: no other cluster's references change.
 pub record ClusterMapped (f g : Bytes) (H : Header) (i j c : ℕ) : Type 0 where
@@ -129,12 +129,12 @@ pub record ClusterMapped (f g : Bytes) (H : Header) (i j c : ℕ) : Type 0 where
 -- Word i of the L1 table, which named no table, was written and names one of zeroes in cluster c, at this place.
 pub record TableEntered (f g : Bytes) (H : Header) (i c place : ℕ) : Type 0 where
   pub consistent : IsConsistent g H
-  pub kept : Kept f g H.fields (l1_word i)
+  pub same_structure_outside : SameStructureOutside f g H.fields (l1_word i)
   pub here : l2_table g H.fields i ≡ place
   pub tables : (k : ℕ) → k ≢ i → l2_table g H.fields k ≡ l2_table f H.fields k
   pub blocks : (b : ℕ) → block_at g H.fields b ≡ block_at f H.fields b
-  pub zeroes : (j : ℕ) → j < words_of_cluster H.fields → word g place j ≡ 0
-  pub empty : (j : ℕ) → j < words_of_cluster H.fields → slot g H.fields i j ≡ unmapped
+  pub zeroes : (j : ℕ) → j < entries_of_cluster H.fields → raw_entry g place j ≡ 0
+  pub empty : (j : ℕ) → j < entries_of_cluster H.fields → slot g H.fields i j ≡ unmapped
   pub others : (k m : ℕ) → Live (l2_table f H.fields) H.fields k m → slot g H.fields k m ≡ slot f H.fields k m
   pub counts : (d : ℕ) → count g H.fields d ≡ count f H.fields d
   pub named_once : refs g H.fields c ≡ 1
@@ -149,11 +149,11 @@ pub record TableEntered (f g : Bytes) (H : Header) (i c place : ℕ) : Type 0 wh
 -- their bytes, and so do those that words name.
 pub record TableReplaced (f g : Bytes) (H : Header) (i place : ℕ) : Type 0 where
   pub header : header_of true g ≡ Ok H
-  pub kept : Kept f g H.fields (l1_word i)
+  pub same_structure_outside : SameStructureOutside f g H.fields (l1_word i)
   pub here : l2_table g H.fields i ≡ place
   pub tables : (k : ℕ) → k ≢ i → l2_table g H.fields k ≡ l2_table f H.fields k
   pub blocks : (b : ℕ) → block_at g H.fields b ≡ block_at f H.fields b
-  pub words : (j : ℕ) → j < words_of_cluster H.fields → word g place j ≡ word f place j
+  pub raw_entries : (j : ℕ) → j < entries_of_cluster H.fields → raw_entry g place j ≡ raw_entry f place j
   pub others : (k m : ℕ) → Live (l2_table f H.fields) H.fields k m → k ≢ i → slot g H.fields k m ≡ slot f H.fields k m
   pub counts : (d : ℕ) → count g H.fields d ≡ count f H.fields d
   pub structure : (weight : Weight) → structure_sum g H.fields weight + of_cluster H.fields weight (l2_table f H.fields i)
@@ -173,17 +173,17 @@ pub record TableReplaced (f g : Bytes) (H : Header) (i place : ℕ) : Type 0 whe
 pub record TableSwapped (f g : Bytes) (H : Header) (i place : ℕ) : Type 0 where
   pub replaced : TableReplaced f g H i place
   pub consistent : IsConsistent g H
-  pub entries : (guest : ℕ) → guest / words_of_cluster H.fields ≡ i
-      → entry g H.fields guest ≡ l2_mapping f H.fields place (guest % words_of_cluster H.fields)
-  pub elsewhere : (guest : ℕ) → (guest / words_of_cluster H.fields ≢ i)
-      ⊎ (l2_mapping f H.fields place (guest % words_of_cluster H.fields) ≡ entry f H.fields guest) → ShowsAs g f H.fields guest
-  pub values : ShownByUnmarked f g H
+  pub entries : (guest : ℕ) → guest / entries_of_cluster H.fields ≡ i
+      → entry g H.fields guest ≡ l2_mapping f H.fields place (guest % entries_of_cluster H.fields)
+  pub elsewhere : (guest : ℕ) → (guest / entries_of_cluster H.fields ≢ i)
+      ⊎ (l2_mapping f H.fields place (guest % entries_of_cluster H.fields) ≡ entry f H.fields guest) → ShowsAs g f H.fields guest
+  pub values : ShownWithoutCopied f g H
 
 -- Word i of the refcount table, which named no block, was written and names the one in cluster c, at this place. The clusters that it
 -- counts, c perhaps among them, are counted as its bytes say.
 pub record BlockEntered (f g : Bytes) (H : Header) (i c place : ℕ) : Type 0 where
   pub consistent : IsConsistent g H
-  pub kept : Kept f g H.fields (block_word i)
+  pub same_structure_outside : SameStructureOutside f g H.fields (block_word i)
   pub here : block_at g H.fields i ≡ place
   pub blocks : (b : ℕ) → b ≢ i → block_at g H.fields b ≡ block_at f H.fields b
   pub tables : (k : ℕ) → l2_table g H.fields k ≡ l2_table f H.fields k

@@ -3,15 +3,15 @@
 -- and so do those that words name.
 use Rattle.std.specs.Prelude.{◌≡◌, ◌≢◌, ℕ, ◌+◌, ◌*◌, ◌/◌, ◌<◌, ◌==◌, if◌then◌else◌}
 use Rattle.imago_storage.specs.Disk.{Value}
-use Rattle.qcow2_types.specs.Bytes.{Bytes, word, sum_below}
+use Rattle.qcow2_types.specs.Bytes.{Bytes, raw_entry, sum_below}
 use Rattle.qcow2_types.specs.Words.{Mapping}
-use Rattle.qcow2_types.specs.Header.{Fields, Header, cluster_size, words_of_cluster}
+use Rattle.qcow2_types.specs.Header.{Fields, Header, cluster_size, entries_of_cluster}
 use Rattle.qcow2_types.specs.Entries.{entry, l2_table}
 use Rattle.qcow2_types.specs.Counts.{block_at, count, counters_of_block}
 use Rattle.qcow2_types.specs.References.{Weight, structure as structure_sum, contents as contents_sum, of_cluster, of_mapping, meets, refs}
 use Rattle.qcow2_types.specs.Consistency.{IsConsistent, leaks}
 use Rattle.qcow2_types.specs.Disk.{shown}
-use Rattle.qcow2_types.specs.Frames.{Same, Kept, first_cluster}
+use Rattle.qcow2_types.specs.Frames.{Same, SameStructureOutside, first_cluster}
 use Rattle.qcow2_types.specs.Slots.{slot, Live}
 
 -- the fields with another L1 table
@@ -43,8 +43,8 @@ with_l1_table H offset entries = record H { fields = with_l1 H.fields offset ent
 -- The L1 table moved to this place, and has so many more words, which name no table.
 pub record L1Switched (f g : Bytes) (H : Header) (offset more : ℕ) : Type 0 where
   pub consistent : IsConsistent g (with_l1_table H offset (H.fields.l1_entries + more))
-  pub kept : Kept f g H.fields first_cluster
-  pub words : (i : ℕ) → i < H.fields.l1_entries + more → word g offset i ≡ word f offset i
+  pub same_structure_outside : SameStructureOutside f g H.fields first_cluster
+  pub raw_entries : (i : ℕ) → i < H.fields.l1_entries + more → raw_entry g offset i ≡ raw_entry f offset i
   pub tables : (i : ℕ) → l2_table g (with_l1 H.fields offset (H.fields.l1_entries + more)) i ≡ l2_table f H.fields i
   pub slots : (i j : ℕ) → Live (l2_table f H.fields) H.fields i j
       → slot g (with_l1 H.fields offset (H.fields.l1_entries + more)) i j ≡ slot f H.fields i j
@@ -74,18 +74,18 @@ with_refcount_table H offset clusters = record H { fields = with_reftable H.fiel
 
 -- Summed over a refcount table of so many clusters at this place, and over the blocks that its words name where the old ones named
 -- none.
-abbrev pub newly_named : Bytes → Fields → ℕ → ℕ → Weight → ℕ
-newly_named f h offset clusters weight =
+abbrev pub newly_referenced : Bytes → Fields → ℕ → ℕ → Weight → ℕ
+newly_referenced f h offset clusters weight =
     weight offset (clusters * cluster_size h)
-    + sum_below (clusters * words_of_cluster h) (λ i.
+    + sum_below (clusters * entries_of_cluster h) (λ i.
     if block_at f h i == 0 then of_cluster h weight (block_at f (with_reftable h offset clusters) i) else 0)
 
 -- The refcount table moved to this place, and has so many clusters: its words name the blocks that the old ones named, and perhaps new
 -- ones. The clusters of these are counted as their bytes say.
 pub record RefcountTableSwitched (f g : Bytes) (H : Header) (offset clusters : ℕ) : Type 0 where
   pub consistent : IsConsistent g (with_refcount_table H offset clusters)
-  pub kept : Kept f g H.fields first_cluster
-  pub words : (i : ℕ) → i < clusters * words_of_cluster H.fields → word g offset i ≡ word f offset i
+  pub same_structure_outside : SameStructureOutside f g H.fields first_cluster
+  pub raw_entries : (i : ℕ) → i < clusters * entries_of_cluster H.fields → raw_entry g offset i ≡ raw_entry f offset i
   pub tables : (i : ℕ) → l2_table g (with_reftable H.fields offset clusters) i ≡ l2_table f H.fields i
   pub slots : (i j : ℕ) → Live (l2_table f H.fields) H.fields i j
       → slot g (with_reftable H.fields offset clusters) i j ≡ slot f H.fields i j
@@ -97,11 +97,11 @@ pub record RefcountTableSwitched (f g : Bytes) (H : Header) (offset clusters : �
   pub structure : (weight : Weight) → structure_sum g
       (with_reftable H.fields offset clusters) weight + weight H.fields.refcount_table_offset
       (H.fields.refcount_table_clusters * cluster_size H.fields)
-      ≡ structure_sum f H.fields weight + newly_named f H.fields offset clusters weight
+      ≡ structure_sum f H.fields weight + newly_referenced f H.fields offset clusters weight
   pub contents : (of : Mapping → ℕ) → contents_sum g (with_reftable H.fields offset clusters) of ≡ contents_sum f H.fields of
   pub references : (d : ℕ) → refs g (with_reftable H.fields offset clusters) d + meets H.fields d H.fields.refcount_table_offset
       (H.fields.refcount_table_clusters * cluster_size H.fields)
-      ≡ refs f H.fields d + newly_named f H.fields offset clusters (meets H.fields d)
+      ≡ refs f H.fields d + newly_referenced f H.fields offset clusters (meets H.fields d)
   pub entries : (guest : ℕ) → entry g (with_reftable H.fields offset clusters) guest ≡ entry f H.fields guest
   pub shows : (external : Bytes) (p : ℕ) (below : Value)
       → shown g external (with_reftable H.fields offset clusters) p below ≡ shown f external H.fields p below
@@ -120,7 +120,7 @@ with_size H n = record H { fields = sized H.fields n }
 -- The disk has another size, and each place shows what it did.
 pub record SizeSwitched (f g : Bytes) (H : Header) (n : ℕ) : Type 0 where
   pub consistent : IsConsistent g (with_size H n)
-  pub kept : Kept f g H.fields first_cluster
+  pub same_structure_outside : SameStructureOutside f g H.fields first_cluster
   pub tables : (i : ℕ) → l2_table g (sized H.fields n) i ≡ l2_table f H.fields i
   pub slots : (i j : ℕ) → Live (l2_table f H.fields) H.fields i j → slot g (sized H.fields n) i j ≡ slot f H.fields i j
   pub blocks : (i : ℕ) → block_at g (sized H.fields n) i ≡ block_at f H.fields i

@@ -7,11 +7,11 @@ use Rattle.qcow2_types.specs.Counts.{counter_of}
 
 -- each of these words has 64 bits
 abbrev pub AreFit : List ℕ → Type 0
-AreFit words = (i : ℕ) → i < length words → slice_index words i < 2 ^ 64
+AreFit raw_entries = (i : ℕ) → i < length raw_entries → slice_index raw_entries i < 2 ^ 64
 
 -- their bytes, 8 to a word, the highest first
 abbrev pub table_bytes : List ℕ → List ℕ
-table_bytes words = flat_map (to_be_bytes w64) words
+table_bytes raw_entries = flat_map (to_be_bytes w64) raw_entries
 
 -- byte k of counters of whole bytes: a counter's bytes are those of its number, the highest first
 abbrev pub wide_byte : ℕ → List ℕ → ℕ → ℕ

@@ -13,16 +13,16 @@ abbrev pub of_either : Fields → Weight → Mapping → Mapping → ℕ
 of_either h w m n = max (of_mapping h w m) (of_mapping h w n)
 
 -- how often cluster c is named by the structure of f, or by a word in the one or the other version, each word counted once
-unfoldable pub named : Bytes → Bytes → Fields → ℕ → ℕ
-named f g h c = structure f h (meets h c) + over_slots (l2_table f h) h (λ i j. of_either h (meets h c) (slot f h i j) (slot g h i j))
+unfoldable pub references_in_either : Bytes → Bytes → Fields → ℕ → ℕ
+references_in_either f g h c = structure f h (meets h c) + over_slots (l2_table f h) h (λ i j. of_either h (meets h c) (slot f h i j) (slot g h i j))
 
 -- how often cluster c is named as copied by a word in the one or the other version
 unfoldable pub copied : Bytes → Bytes → Fields → ℕ → ℕ
 copied f g h c = over_slots (l2_table f h) h (λ i j. max (of_copied h (meets h c) (slot f h i j)) (of_copied h (meets h c) (slot g h i j)))
 
 -- What is named by the structure or as copied is named once.
-abbrev pub NamedApart : Bytes → Bytes → Fields → Type 0
-NamedApart f g h = (c : ℕ) → 0 < structure f h (meets h c) + copied f g h c → named f g h c ≤ 1
+abbrev pub ReferencedOnce : Bytes → Bytes → Fields → Type 0
+ReferencedOnce f g h = (c : ℕ) → 0 < structure f h (meets h c) + copied f g h c → references_in_either f g h c ≤ 1
 
 -- f and g have their tables and blocks at the same places.
 pub record SamePlaces (f g : Bytes) (h : Fields) : Type 0 where
@@ -46,10 +46,10 @@ pub record ChangesSlot (f g g' : Bytes) (h : Fields) (i j : ℕ) : Type 0 where
 
 -- What holds of the counts while the blocks are to be written before the tables.
 pub record BlocksFirst (f g : Bytes) (h : Fields) : Type 0 where
-  pub cached : (c : ℕ) → named f g h c ≤ count g h c
+  pub cached : (c : ℕ) → references_in_either f g h c ≤ count g h c
   pub file : (c : ℕ) → refs f h c ≤ count f h c
 
 -- What holds of the counts while the tables are to be written before the blocks.
 pub record TablesFirst (f g : Bytes) (h : Fields) : Type 0 where
-  pub file : (c : ℕ) → named f g h c ≤ count f h c
+  pub file : (c : ℕ) → references_in_either f g h c ≤ count f h c
   pub lowered : (c : ℕ) → count g h c ≤ count f h c

@@ -14,8 +14,8 @@ abbrev pub max_offset : ℕ
 max_offset = 0x00ff_ffff_ffff_fe00
 
 -- a place that a cluster can begin at
-abbrev pub is_place : ℕ → ℕ → Bool
-is_place cluster_bits offset = (offset % 2 ^ cluster_bits == 0) && nat_le offset max_offset
+abbrev pub is_cluster_offset : ℕ → ℕ → Bool
+is_cluster_offset cluster_bits offset = (offset % 2 ^ cluster_bits == 0) && nat_le offset max_offset
 
 -- where an L1 word or a standard L2 word points, in bits 9 to 55; 0 is none
 abbrev pub table_offset : ℕ → ℕ
@@ -30,12 +30,12 @@ abbrev pub is_copied : ℕ → Bool
 is_copied w = has_bit w 63
 
 -- An L1 word has bits 0 to 8 and 56 to 62 clear, and its place is one of a cluster.
-abbrev pub l1_word_sound : ℕ → ℕ → Bool
-l1_word_sound cluster_bits w = (bits_at w 0 9 == 0) && (bits_at w 56 7 == 0) && is_place cluster_bits (table_offset w)
+abbrev pub l1_entry_valid : ℕ → ℕ → Bool
+l1_entry_valid cluster_bits w = (bits_at w 0 9 == 0) && (bits_at w 56 7 == 0) && is_cluster_offset cluster_bits (table_offset w)
 
 -- A refcount table word has bits 0 to 8 clear, and its place is one of a cluster.
-abbrev pub block_word_sound : ℕ → ℕ → Bool
-block_word_sound cluster_bits w = (bits_at w 0 9 == 0) && is_place cluster_bits (block_offset w)
+abbrev pub reftable_entry_valid : ℕ → ℕ → Bool
+reftable_entry_valid cluster_bits w = (bits_at w 0 9 == 0) && is_cluster_offset cluster_bits (block_offset w)
 
 -- what an L2 word says of its guest cluster
 pub data Mapping : Type 0 where
@@ -57,27 +57,27 @@ pub record Layout : Type 0 where
   pub external_data : Bool
 
 -- the place of the first byte of a compressed range: the low 70 - cluster_bits bits of the word
-abbrev pub packed_place : ℕ → ℕ → ℕ
-packed_place cluster_bits w = w % 2 ^ (70 - cluster_bits)
+abbrev pub compressed_offset : ℕ → ℕ → ℕ
+compressed_offset cluster_bits w = w % 2 ^ (70 - cluster_bits)
 
 -- the number of sectors of 512 bytes after the one with that byte: the bits above, up to bit 61
-abbrev pub packed_sectors : ℕ → ℕ → ℕ
-packed_sectors cluster_bits w = bits_at w (70 - cluster_bits) (cluster_bits - 8)
+abbrev pub compressed_sectors : ℕ → ℕ → ℕ
+compressed_sectors cluster_bits w = bits_at w (70 - cluster_bits) (cluster_bits - 8)
 
 -- where the last sector ends
-abbrev pub packed_end : ℕ → ℕ → ℕ
-packed_end cluster_bits w = (packed_place cluster_bits w / 512 + packed_sectors cluster_bits w + 1) * 512
+abbrev pub compressed_end : ℕ → ℕ → ℕ
+compressed_end cluster_bits w = (compressed_offset cluster_bits w / 512 + compressed_sectors cluster_bits w + 1) * 512
 
 -- A compressed word (bit 62) names the bytes from its place to the end of its last sector.
-abbrev pub packed_mapping : ℕ → ℕ → Mapping
-packed_mapping cluster_bits w =
-    if has_bit w 63 || nat_le (2 ^ 56) (packed_place cluster_bits w) then damaged
-    else packed (packed_place cluster_bits w) (packed_end cluster_bits w - packed_place cluster_bits w)
+abbrev pub compressed_mapping : ℕ → ℕ → Mapping
+compressed_mapping cluster_bits w =
+    if has_bit w 63 || nat_le (2 ^ 56) (compressed_offset cluster_bits w) then damaged
+    else packed (compressed_offset cluster_bits w) (compressed_end cluster_bits w - compressed_offset cluster_bits w)
 
 -- A standard word has bits 1 to 8 and 56 to 61 clear, in version 2 bit 0 too, and its place is one of a cluster.
-abbrev pub standard_word_sound : Layout → ℕ → Bool
-standard_word_sound layout w = (bits_at w 1 8 == 0) && (bits_at w 56 6 == 0) &&
-    (not (has_bit w 0) || (layout.version == 3)) && is_place layout.cluster_bits (table_offset w)
+abbrev pub standard_entry_valid : Layout → ℕ → Bool
+standard_entry_valid layout w = (bits_at w 1 8 == 0) && (bits_at w 56 6 == 0) &&
+    (not (has_bit w 0) || (layout.version == 3)) && is_cluster_offset layout.cluster_bits (table_offset w)
 
 -- It names a host cluster by an offset that isn't 0. In an external data file cluster 0 can be named too, by the copied bit.
 abbrev pub names_cluster : Layout → ℕ → Bool
@@ -86,14 +86,14 @@ names_cluster layout w = not (table_offset w == 0) || (layout.external_data && i
 -- what a word without bit 62 means
 abbrev pub standard_mapping : Layout → ℕ → Mapping
 standard_mapping layout w =
-    if not (standard_word_sound layout w) then damaged
+    if not (standard_entry_valid layout w) then damaged
     else if has_bit w 0 then zeroes (if names_cluster layout w then Some (table_offset w / 2 ^ layout.cluster_bits) else None) (is_copied w)
     else if names_cluster layout w then data_at (table_offset w / 2 ^ layout.cluster_bits) (is_copied w)
     else unmapped
 
 -- what an L2 word means
 unfoldable pub mapping_of : Layout → ℕ → Mapping
-mapping_of layout w = if has_bit w 62 then packed_mapping layout.cluster_bits w else standard_mapping layout w
+mapping_of layout w = if has_bit w 62 then compressed_mapping layout.cluster_bits w else standard_mapping layout w
 
 -- whether a mapping has no meaning
 abbrev pub is_damaged : Mapping → Bool
@@ -101,7 +101,7 @@ is_damaged damaged = true
 is_damaged _ = false
 
 -- a mapping without the mark that the reference count of its cluster is 1: of what is shown it says nothing
-abbrev pub unmarked_mapping : Mapping → Mapping
-unmarked_mapping (data_at cluster copied) = data_at cluster false
-unmarked_mapping (zeroes cluster copied) = zeroes cluster false
-unmarked_mapping mapping = mapping
+abbrev pub mapping_without_copied : Mapping → Mapping
+mapping_without_copied (data_at cluster copied) = data_at cluster false
+mapping_without_copied (zeroes cluster copied) = zeroes cluster false
+mapping_without_copied mapping = mapping

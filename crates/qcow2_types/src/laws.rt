@@ -31,7 +31,7 @@ pub fn loaded_header_is_within_limits()
 
 /// No L1 word, and no L2 word that isn't compressed, names a place past the greatest.
 pub fn place_is_within_limit()
-    ensures { (word : ℕ) → table_offset word ≤ MAX_OFFSET }
+    ensures { (raw_entry : ℕ) → table_offset raw_entry ≤ MAX_OFFSET }
 {}
 
 /// An image has one verdict at most: what a checker answers by it is the one answer that there is. So a consistent image is never

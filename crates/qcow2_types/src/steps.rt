@@ -3,13 +3,13 @@
 
 ghost use Rattle.std.specs.Prelude.{◌≡◌, ◌≢◌, ◌≤◌, ◌<◌, ◌+◌, ◌*◌, ◌/◌, ◌%◌, ◌^◌, ℕ, List, [], ◌∷◌, length, true, map, IsTrue, IsFalse, Some, Ok};
 ghost use Rattle.std.specs.Int.{w64, to_be_bytes};
-ghost use Rattle.qcow2_types.specs.Bytes.{Bytes, be, bytes_of, word, splice};
-ghost use Rattle.qcow2_types.specs.Words.{data_at, zeroes, unmapped, is_damaged, mapping_of, l1_word_sound, table_offset, block_word_sound, block_offset};
-ghost use Rattle.qcow2_types.specs.Header.{Fields, Header, header_of, cluster_size, words_of_cluster, refcount_table_entries, layout_of};
+ghost use Rattle.qcow2_types.specs.Bytes.{Bytes, be, bytes_of, raw_entry, splice};
+ghost use Rattle.qcow2_types.specs.Words.{data_at, zeroes, unmapped, is_damaged, mapping_of, l1_entry_valid, table_offset, reftable_entry_valid, block_offset};
+ghost use Rattle.qcow2_types.specs.Header.{Fields, Header, header_of, cluster_size, entries_of_cluster, refcount_table_entries, layout_of};
 ghost use Rattle.qcow2_types.specs.Entries.{l2_table, l2_mapping};
 ghost use Rattle.qcow2_types.specs.Counts.{block_at, count, counter, counter_of, counter_bits, counters_of_block};
 ghost use Rattle.qcow2_types.specs.References.{structure, contents, of_mapping, of_copied, meets, refs};
-ghost use Rattle.qcow2_types.specs.Switched.{with_l1_table, with_reftable, with_refcount_table, with_size, newly_named, L1Switched, RefcountTableSwitched, SizeSwitched};
+ghost use Rattle.qcow2_types.specs.Switched.{with_l1_table, with_reftable, with_refcount_table, with_size, newly_referenced, L1Switched, RefcountTableSwitched, SizeSwitched};
 ghost use Rattle.qcow2_types.specs.Consistency.{IsConsistent};
 ghost use Rattle.qcow2_types.specs.Slots.{slot, Live};
 ghost use Rattle.qcow2_types.specs.Frames.{Outside};
@@ -75,7 +75,7 @@ pub fn mapping_a_free_cluster()
 /// A word of an L2 table can be any other that has a meaning, if then each cluster that is named is counted, and each that the
 /// structure or a copied word names is named once. What the old word named it names no more. The references of each cluster change only by
 /// what the old and the new word name.
-pub fn rewriting_a_word()
+pub fn rewriting_an_entry()
     ensures written { (f : Bytes) (h : Header) → IsConsistent f h → (i j : ℕ) → Live (l2_table f h.fields) h.fields i j
         → (w : ℕ) → w < 2 ^ 64 → IsFalse (is_damaged (mapping_of (layout_of h.fields) w))
         → ((c : ℕ) → refs f h.fields c + of_mapping h.fields (meets h.fields c) (mapping_of (layout_of h.fields) w)
@@ -102,8 +102,8 @@ pub fn writing_into_a_table()
         → TableWritten f g h i }
     ensures rewritten { (f : Bytes) (h : Header) → IsConsistent f h → (i : ℕ) → l2_table f h.fields i ≢ 0
         → (g : Bytes) (at n : ℕ) → Outside f g at n → l2_table f h.fields i ≤ at → at + n ≤ l2_table f h.fields i + cluster_size h.fields
-        → ((j : ℕ) → j < words_of_cluster h.fields → IsFalse
-        (is_damaged (mapping_of (layout_of h.fields) (word g (l2_table f h.fields i) j))))
+        → ((j : ℕ) → j < entries_of_cluster h.fields → IsFalse
+        (is_damaged (mapping_of (layout_of h.fields) (raw_entry g (l2_table f h.fields i) j))))
         → ((c : ℕ) → refs g h.fields c ≤ count f h.fields c)
         → ((c : ℕ) → 0 < structure f h.fields (meets h.fields c) + contents g h.fields (of_copied h.fields (meets h.fields c))
         → refs g h.fields c ≤ 1)
@@ -113,9 +113,9 @@ pub fn writing_into_a_table()
 /// A word of the L1 table that named no table can name a counted cluster of zeroes that nothing names.
 pub fn entering_a_table_of_zeroes()
     ensures { (f : Bytes) (h : Header) → IsConsistent f h → (i : ℕ) → i < h.fields.l1_entries → l2_table f h.fields i ≡ 0
-        → (w : ℕ) → w < 2 ^ 64 → IsTrue (l1_word_sound h.fields.cluster_bits w)
+        → (w : ℕ) → w < 2 ^ 64 → IsTrue (l1_entry_valid h.fields.cluster_bits w)
         → (c t : ℕ) → table_offset w ≡ t → t ≢ 0 → t ≡ c * cluster_size h.fields → refs f h.fields c ≡ 0 → 1 ≤ count f h.fields c
-        → ((j : ℕ) → j < words_of_cluster h.fields → word f t j ≡ 0)
+        → ((j : ℕ) → j < entries_of_cluster h.fields → raw_entry f t j ≡ 0)
         → TableEntered f (splice f (h.fields.l1_offset + 8 * i) (to_be_bytes w64 w)) h i c t }
 {}
 
@@ -124,15 +124,15 @@ pub fn entering_a_table_of_zeroes()
 /// meaning, each cluster that is named is counted, and each that the structure or a copied word names is named once, the image stays
 /// consistent, and guest clusters of other tables, or that have the same mapping in the new one, but perhaps for the copied mark, show
 /// the same.
-pub fn naming_another_table()
+pub fn linking_another_table()
     ensures replaced { (f : Bytes) (h : Header) → IsConsistent f h → (i : ℕ) → i < h.fields.l1_entries
-        → (w : ℕ) → w < 2 ^ 64 → IsTrue (l1_word_sound h.fields.cluster_bits w)
+        → (w : ℕ) → w < 2 ^ 64 → IsTrue (l1_entry_valid h.fields.cluster_bits w)
         → (c t : ℕ) → table_offset w ≡ t → t ≢ 0 → t ≡ c * cluster_size h.fields → refs f h.fields c ≡ 0
         → TableReplaced f (splice f (h.fields.l1_offset + 8 * i) (to_be_bytes w64 w)) h i t }
     ensures swapped { (f : Bytes) (h : Header) → IsConsistent f h → (i : ℕ) → i < h.fields.l1_entries
-        → (w : ℕ) → w < 2 ^ 64 → IsTrue (l1_word_sound h.fields.cluster_bits w)
+        → (w : ℕ) → w < 2 ^ 64 → IsTrue (l1_entry_valid h.fields.cluster_bits w)
         → (c t : ℕ) → table_offset w ≡ t → t ≢ 0 → t ≡ c * cluster_size h.fields → refs f h.fields c ≡ 0
-        → ((j : ℕ) → j < words_of_cluster h.fields → IsFalse (is_damaged (l2_mapping f h.fields t j)))
+        → ((j : ℕ) → j < entries_of_cluster h.fields → IsFalse (is_damaged (l2_mapping f h.fields t j)))
         → ((d : ℕ) → refs (splice f (h.fields.l1_offset + 8 * i) (to_be_bytes w64 w)) h.fields d ≤ count f h.fields d)
         → ((d : ℕ) → 0 < structure (splice f (h.fields.l1_offset + 8 * i) (to_be_bytes w64 w)) h.fields (meets h.fields d) + contents
         (splice f (h.fields.l1_offset + 8 * i) (to_be_bytes w64 w)) h.fields (of_copied h.fields (meets h.fields d))
@@ -156,7 +156,7 @@ pub fn block_write_sets_its_counts()
 /// own block or by the new one.
 pub fn entering_a_block()
     ensures { (f : Bytes) (h : Header) → IsConsistent f h → (i : ℕ) → i < refcount_table_entries h.fields → block_at f h.fields i ≡ 0
-        → (w : ℕ) → w < 2 ^ 64 → IsTrue (block_word_sound h.fields.cluster_bits w)
+        → (w : ℕ) → w < 2 ^ 64 → IsTrue (reftable_entry_valid h.fields.cluster_bits w)
         → (c t : ℕ) → block_offset w ≡ t → t ≢ 0 → t ≡ c * cluster_size h.fields → refs f h.fields c ≡ 0
         → (c / counters_of_block h.fields ≢ i → 1 ≤ count f h.fields c)
         → (c / counters_of_block h.fields ≡ i → 1 ≤ counter f h.fields t (c % counters_of_block h.fields))
@@ -168,8 +168,8 @@ pub fn entering_a_block()
 pub fn switching_the_l1_table()
     ensures { (f g : Bytes) (h : Header) → IsConsistent f h → (offset more : ℕ)
         → header_of true g ≡ Ok (with_l1_table h offset (h.fields.l1_entries + more)) → Outside f g 0 64
-        → ((i : ℕ) → i < h.fields.l1_entries → word f offset i ≡ word f h.fields.l1_offset i)
-        → ((i : ℕ) → h.fields.l1_entries ≤ i → i < h.fields.l1_entries + more → word f offset i ≡ 0)
+        → ((i : ℕ) → i < h.fields.l1_entries → raw_entry f offset i ≡ raw_entry f h.fields.l1_offset i)
+        → ((i : ℕ) → h.fields.l1_entries ≤ i → i < h.fields.l1_entries + more → raw_entry f offset i ≡ 0)
         → ((d : ℕ) → 0 < meets h.fields d offset ((h.fields.l1_entries + more) * 8) → (refs f h.fields d ≡ 0) × (1 ≤ count f h.fields d))
         → L1Switched f g h offset more }
 {}
@@ -180,10 +180,10 @@ pub fn switching_the_l1_table()
 pub fn switching_the_refcount_table()
     ensures { (f g : Bytes) (h : Header) → IsConsistent f h → (offset clusters : ℕ)
         → header_of true g ≡ Ok (with_refcount_table h offset clusters) → Outside f g 0 64
-        → ((i : ℕ) → i < clusters * words_of_cluster h.fields → IsTrue (block_word_sound h.fields.cluster_bits (word f offset i)))
+        → ((i : ℕ) → i < clusters * entries_of_cluster h.fields → IsTrue (reftable_entry_valid h.fields.cluster_bits (raw_entry f offset i)))
         → ((i : ℕ) → block_at f h.fields i ≢ 0 → block_at f (with_reftable h.fields offset clusters) i ≡ block_at f h.fields i)
-        → ((d : ℕ) → newly_named f h.fields offset clusters (meets h.fields d) ≤ 1)
-        → ((d : ℕ) → 0 < newly_named f h.fields offset clusters (meets h.fields d) → (refs f h.fields d ≡ 0)
+        → ((d : ℕ) → newly_referenced f h.fields offset clusters (meets h.fields d) ≤ 1)
+        → ((d : ℕ) → 0 < newly_referenced f h.fields offset clusters (meets h.fields d) → (refs f h.fields d ≡ 0)
         × (1 ≤ count f (with_reftable h.fields offset clusters) d))
         → RefcountTableSwitched f g h offset clusters }
 {}

@@ -12,30 +12,30 @@ ghost use Rattle.qcow2_types.specs.References.{contents, of_mapping, of_copied, 
 ghost use Rattle.qcow2_types.specs.Disk.{shown};
 ghost use Rattle.qcow2_types.specs.Slots.{slot, Live};
 ghost use Rattle.qcow2_types.specs.Frames.{ShowsAs};
-ghost use Rattle.qcow2_types.specs.Versions.{of_either, named, copied, NamedApart, SamePlaces, IsBetween, KeepsSlots, ChangesSlot, BlocksFirst, TablesFirst};
+ghost use Rattle.qcow2_types.specs.Versions.{of_either, references_in_either, copied, ReferencedOnce, SamePlaces, IsBetween, KeepsSlots, ChangesSlot, BlocksFirst, TablesFirst};
 
 /// A file x, each of whose words means what it does in the one version or in the other, names no cluster more often than the two
 /// together, each word counted once, and marks none as copied more often. With it in place of f the two name no cluster more often
 /// than before, and what was named once by the structure or as copied still is. It shows at each place what the one version or the
 /// other does, where it does so for each guest cluster. Where no word differs, the two name what f does.
 pub fn a_file_between_two_versions()
-    ensures references { (f x g : Bytes) (h : Fields) (c : ℕ) → IsBetween f x g h → refs x h c ≤ named f g h c }
-    ensures marks { (f x g : Bytes) (h : Fields) → IsBetween f x g h → (c : ℕ) → contents x h (of_copied h (meets h c)) ≤ copied f g h c }
-    ensures falls { (f x g : Bytes) (h : Fields) (c : ℕ) → IsBetween f x g h → named x g h c ≤ named f g h c }
-    ensures apart { (f x g : Bytes) (h : Fields) → IsBetween f x g h → NamedApart f g h → NamedApart x g h }
+    ensures references { (f x g : Bytes) (h : Fields) (c : ℕ) → IsBetween f x g h → refs x h c ≤ references_in_either f g h c }
+    ensures marks_failed { (f x g : Bytes) (h : Fields) → IsBetween f x g h → (c : ℕ) → contents x h (of_copied h (meets h c)) ≤ copied f g h c }
+    ensures falls { (f x g : Bytes) (h : Fields) (c : ℕ) → IsBetween f x g h → references_in_either x g h c ≤ references_in_either f g h c }
+    ensures apart { (f x g : Bytes) (h : Fields) → IsBetween f x g h → ReferencedOnce f g h → ReferencedOnce x g h }
     ensures shows { (f x g external : Bytes) (h : Fields) → ((guest : ℕ) → ShowsAs x f h guest ⊎ ShowsAs x g h guest)
         → (p : ℕ) (below : Value)
         → (shown x external h p below ≡ shown f external h p below) ⊎ (shown x external h p below ≡ shown g external h p below) }
     ensures clean { (f g : Bytes) (h : Fields) (c : ℕ) → ((i j : ℕ) → Live (l2_table f h) h i j → slot g h i j ≡ slot f h i j)
-        → named f g h c ≡ refs f h c }
+        → references_in_either f g h c ≡ refs f h c }
 {}
 
 /// Where one word in memory changes, what the two versions name changes by what the word names in either, and what the words in
 /// memory name by what it named and names.
-pub fn changing_a_word_in_memory()
+pub fn changing_an_entry_in_memory()
     ensures either { (f g new : Bytes) (h : Fields) (i j c : ℕ) → ChangesSlot f g new h i j
-        → named f new h c + of_either h (meets h c) (slot f h i j) (slot g h i j)
-        ≡ named f g h c + of_either h (meets h c) (slot f h i j) (slot new h i j) }
+        → references_in_either f new h c + of_either h (meets h c) (slot f h i j) (slot g h i j)
+        ≡ references_in_either f g h c + of_either h (meets h c) (slot f h i j) (slot new h i j) }
     ensures memory { (f g new : Bytes) (h : Fields) (i j c : ℕ) → SamePlaces f g h → SamePlaces f new h → ChangesSlot f g new h i j
         → refs new h c + of_mapping h (meets h c) (slot g h i j) ≡ refs g h c + of_mapping h (meets h c) (slot new h i j) }
 {}

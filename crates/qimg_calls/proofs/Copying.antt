@@ -9,29 +9,29 @@ use Rattle.imago_storage.specs.Steps.{write, IsIn, Stays, Changes, ToBytes, Unle
 use Rattle.imago_storage.specs.Causes.{PartlyDone}
 use Rattle.imago_storage.specs.declared.fault.Fault.{Fault}
 use Rattle.imago_storage.specs.declared.fault.Fault.TheVariants.{Failed, MissingData, Memory, ReadOnly}
-use Rattle.imago_access.specs.declared.seen.Seen.{Ghosts}
-use Rattle.imago_access.specs.Layer.{Layer, Fixed, IsLike}
+use Rattle.imago_access.specs.declared.driver_model.DriverModel.{Ghosts}
+use Rattle.imago_access.specs.Layer.{Layer, Fixed, KeepsLayerState}
 use Rattle.imago_access.specs.Layers.{chain}
 use Rattle.imago_access.specs.Chain.{at, Each}
 use Rattle.imago_access.specs.ChainCalls.{CallRefused, chain_refusal, chain_look_refusal, ChainFails, IsCarriedOut, IsDoneInPart, TakesNear}
 use Rattle.imago_access.specs.ChainLooks.{ChainReads}
-use Rattle.imago_access.specs.Files.{Pairs, IsLater, IsMild, WasNotCutOff, files, files_of}
-use Rattle.imago_access.specs.Going.{Looked, MarksSome}
-use Rattle.imago_access.specs.RunCalls.{MarksTop}
+use Rattle.imago_access.specs.Files.{Pairs, IsLater, IsNotResourceError, HadNoResourceError, files, files_of}
+use Rattle.imago_access.specs.Going.{LookupCall, MarksSomeFailed}
+use Rattle.imago_access.specs.RunCalls.{MarksTopFailed}
 use Rattle.imago_access.specs.Room.{IsApart}
-use Rattle.imago_access.specs.Running.{RanChain, below_ghosts, below_of, chain_disk}
-use Rattle.imago_access.specs.Refusals.{barrier}
+use Rattle.imago_access.specs.Running.{ChainRangeChange, below_ghosts, below_of, chain_disk}
+use Rattle.imago_access.specs.Refusals.{unusable_fault}
 use Rattle.imago_access.specs.Stops.{GivesBytes}
 use Rattle.imago_access.proofs.FilePairs.{pairs_append}
-use Rattle.imago_access.proofs.ImageCauses.{failed_behind}
+use Rattle.imago_access.proofs.ImageCauses.{failed_after}
 use Rattle.imago_access.proofs.Looking.{all_looked_same, all_looked_both, all_looked_weaker, chain_later, chain_same, chain_sees}
 use Rattle.imago_access.proofs.Marking.{marked_behind, top_behind}
 use Rattle.imago_access.proofs.Room.{room_same, takes_both, apart_wider}
 use Rattle.imago_access.proofs.Running.{ran_same, ran_both, ran_gives}
-use Rattle.qimg_calls.specs.Flattening.{Chains, HasByte, IsSoundPair, GivesRead, IsRangeCopied, IsRangeCopiedInPart, CopiesRange, CopiesDisk, CopyFails, Copies, CopyCause, MayCopy, PieceRefused, PieceStops}
+use Rattle.qimg_calls.specs.Flattening.{Chains, HasByte, IsSoundPair, GivesRead, IsRangeCopied, IsRangeCopiedInPart, CopiesRange, CopiesDisk, CopyFails, Copies, CopyCause, MayCopy, PieceRefused, PieceCrashImages}
 
 -- bytes that were read give what the source shows
-pub gives_read : {D St : Type 0} (g : Ghosts D St) (source : D × List D) (offset : ℕ) (bytes : List ℕ) → (Each g.sees (chain source) → Shows (chain_disk g.layer source).value offset bytes) → (p : ℕ) (v : Value) → GivesBytes offset bytes p v → GivesRead g source p v
+pub gives_read : {D St : Type 0} (g : Ghosts D St) (source : D × List D) (offset : ℕ) (bytes : List ℕ) → (Each g.coherent (chain source) → Shows (chain_disk g.layer source).value offset bytes) → (p : ℕ) (v : Value) → GivesBytes offset bytes p v → GivesRead g source p v
 gives_read g source offset bytes shown p v gave = (
   (slice_index bytes gave.0, gave.3),
   λ see. gave.3 ∙ sym (shown see gave.0 gave.1) ∙ ap (chain_disk g.layer source).value (sym gave.2),
@@ -119,14 +119,14 @@ open_then false false rest none = (refl, none)
 
 open_before : (failed missing failed' missing' : Bool) → (IsTrue failed → IsTrue failed') → missing' ≡ missing → (if failed' then Some Failed else if missing' then Some MissingData else None) ≡ None
     → (if failed then Some Failed else if missing then Some MissingData else None) ≡ None
-open_before false false failed' missing' still same none = refl
-open_before false true true true still same none = absurd (cc none)
-open_before false true false true still same none = absurd (cc none)
-open_before false true failed' false still same none = absurd (cc same)
-open_before true missing true missing' still same none = absurd (cc none)
-open_before true missing false missing' still same none = absurd (cc (still refl))
+open_before false false failed' missing' has_no_dirty_data same none = refl
+open_before false true true true has_no_dirty_data same none = absurd (cc none)
+open_before false true false true has_no_dirty_data same none = absurd (cc none)
+open_before false true failed' false has_no_dirty_data same none = absurd (cc same)
+open_before true missing true missing' has_no_dirty_data same none = absurd (cc none)
+open_before true missing false missing' has_no_dirty_data same none = absurd (cc (has_no_dirty_data refl))
 
-usable_before : (a b : Layer) → IsLike a b → barrier b ≡ None → barrier a ≡ None
+usable_before : (a b : Layer) → KeepsLayerState a b → unusable_fault b ≡ None → unusable_fault a ≡ None
 usable_before a b like = open_before a.failed a.fixed.missing b.failed b.fixed.missing like.failed (ap (λ (f : Fixed). f.missing) like.fixed)
 
 writable_then : (none writable : Bool) (rest : Option Fault) → (if none then None else if not writable then Some ReadOnly else rest) ≡ None → none ≡ false → IsTrue writable
@@ -142,7 +142,7 @@ none_at_once None told = refl
 none_at_once (Some f) told = absurd (told f refl)
 
 -- a layer that is like what it was, twice
-like_then : (a b c : Layer) → IsLike a b → IsLike b c → IsLike a c
+like_then : (a b c : Layer) → KeepsLayerState a b → KeepsLayerState b c → KeepsLayerState a c
 like_then a b c first second = record {
   fixed = second.fixed ∙ first.fixed;
   size = second.size ∙ first.size;
@@ -154,8 +154,8 @@ module _ {S P T Q : Type 0} (g : Ghosts S P) (h : Ghosts T Q) where
   pub copies_same : (offset : ℕ) (a : Chains S T) → Copies g h offset 0 (Ok tt) a a
   copies_same offset a = record {
     source = all_looked_same g ⊤ (chain a.0);
-    ran = ran_same h (below_ghosts h) ⊤ (GivesRead g a.0) a.1.0 a.1.1;
-    like = record { fixed = refl; size = refl; unspent = refl; failed = λ f. f };
+    range_change = ran_same h (below_ghosts h) ⊤ (GivesRead g a.0) a.1.0 a.1.1;
+    keeps_layer_state = record { fixed = refl; size = refl; unspent = refl; failed = λ f. f };
     room = λ intact whole. room_same h (λ _. ⊤) (IsApart (h.layer a.1.0).fixed.unit offset 0) a.1.0;
     copied = λ pair. record { size = refl; range = λ p inside. absurd (omega (arith, inside.0, inside.1)); others = λ p lt out. refl };
     failed = tt;
@@ -177,14 +177,14 @@ module _ {S P T Q : Type 0} (g : Ghosts S P) (h : Ghosts T Q) where
   -- .. behind others
   pub may_before : (a b : Chains S T) (end n size : ℕ) → Copies g h 0 end (Ok tt) a b → (0 < size → 0 < n) → MayCopy g h n b → MayCopy g h size a
   may_before a b end n size first some may = record {
-    source = usable_before (g.layer a.0.0) (g.layer b.0.0) first.source.0.like may.source;
-    target = usable_before (h.layer a.1.0) (h.layer b.1.0) first.like may.target;
-    writable = λ here. subst (λ (f : Fixed). IsTrue f.writable) first.like.fixed (may.writable (some here));
+    source = usable_before (g.layer a.0.0) (g.layer b.0.0) first.source.0.keeps_layer_state may.source;
+    target = usable_before (h.layer a.1.0) (h.layer b.1.0) first.keeps_layer_state may.target;
+    writable = λ here. subst (λ (f : Fixed). IsTrue f.writable) first.keeps_layer_state.fixed (may.writable (some here));
   }
 
   -- no room for a piece
   pub no_room : (a : Chains S T) → CopyFails g h a a Memory
-  no_room a = inl (record { cause = tt; marks = λ is. absurd (cc is); target = ran_same h (below_ghosts h) ⊤ (GivesRead g a.0) a.1.0 a.1.1 })
+  no_room a = inl (record { cause = tt; marks_failed = λ is. absurd (cc is); target = ran_same h (below_ghosts h) ⊤ (GivesRead g a.0) a.1.0 a.1.1 })
 
   pub no_room_cause : (a : Chains S T) → CopyCause g h a a Memory
   no_room_cause a = record {
@@ -194,7 +194,7 @@ module _ {S P T Q : Type 0} (g : Ghosts S P) (h : Ghosts T Q) where
     mid = a;
     before = copies_same 0 a;
     cause = inl tt;
-    rest = λ mild. absurd mild;
+    copied_in_part = λ not_resource_error. absurd not_resource_error;
   }
 
   -- all of a disk
@@ -206,8 +206,8 @@ module _ {S P T Q : Type 0} (g : Ghosts S P) (h : Ghosts T Q) where
   pub copies_wider : (fault : Fault) (offset n m : ℕ) (a b : Chains S T) → n ≤ m → Copies g h offset n (Err fault) a b → Copies g h offset m (Err fault) a b
   copies_wider fault offset n m a b fits part = record {
     source = part.source;
-    ran = part.ran;
-    like = part.like;
+    range_change = part.range_change;
+    keeps_layer_state = part.keeps_layer_state;
     room = λ intact whole.
         let unit = (h.layer a.1.0).fixed.unit in
         takes_both h (IsApart unit offset n) (λ _. ⊤) (IsApart unit offset m) a.1.0 b.1.0 b.1.0 (λ p apart. (apart_wider unit offset m offset n p (omega arith) (omega (arith, fits)) apart, tt))
@@ -217,58 +217,58 @@ module _ {S P T Q : Type 0} (g : Ghosts S P) (h : Ghosts T Q) where
   }
 
   -- a piece that is read, and written or not
-  pub copies_written : (result : Result Unit Fault) (old new : Chains S T) (offset : ℕ) (bytes : List ℕ) → Pairs (Looked g ⊤) (chain old.0) (chain new.0) → (Each g.sees (chain old.0) → Shows (chain_disk g.layer old.0).value offset bytes)
-      → RanChain h (WasNotCutOff result) (GivesBytes offset bytes) old.1 new.1 → IsLike (h.layer old.1.0) (h.layer new.1.0) → TakesNear h offset (length bytes) result old.1 new.1 → IsCarriedOut h (write offset bytes) result old.1 new.1
-      → IfErr result (ChainFails h old.1 new.1) → IfErr result (MarksTop h (below_ghosts h) old.1 new.1)
+  pub copies_written : (result : Result Unit Fault) (old new : Chains S T) (offset : ℕ) (bytes : List ℕ) → Pairs (LookupCall g ⊤) (chain old.0) (chain new.0) → (Each g.coherent (chain old.0) → Shows (chain_disk g.layer old.0).value offset bytes)
+      → ChainRangeChange h (HadNoResourceError result) (GivesBytes offset bytes) old.1 new.1 → KeepsLayerState (h.layer old.1.0) (h.layer new.1.0) → TakesNear h offset (length bytes) result old.1 new.1 → IsCarriedOut h (write offset bytes) result old.1 new.1
+      → IfErr result (ChainFails h old.1 new.1) → IfErr result (MarksTopFailed h (below_ghosts h) old.1 new.1)
       → Copies g h offset (length bytes) result old new
   copies_written (Ok unit) old new offset bytes looked shown ran like room ok failed marks = record {
     source = looked;
-    ran = ran_gives h (below_ghosts h) ⊤ (GivesBytes offset bytes) (GivesRead g old.0) old.1.0 new.1.0 old.1.1 new.1.1 (gives_read g old.0 offset bytes shown) ran;
-    like = like;
+    range_change = ran_gives h (below_ghosts h) ⊤ (GivesBytes offset bytes) (GivesRead g old.0) old.1.0 new.1.0 old.1.1 new.1.1 (gives_read g old.0 offset bytes shown) ran;
+    keeps_layer_state = like;
     room = room;
     copied = λ pair. written_copied (chain_disk g.layer old.0) (chain_disk h.layer old.1) (chain_disk h.layer new.1) offset bytes (shown pair.source) (ok pair.target);
     failed = tt;
   }
   copies_written (Err fault) old new offset bytes looked shown ran like room ok failed marks = record {
-    source = all_looked_weaker g ⊤ (IsMild fault) (chain old.0) (chain new.0) (λ x. tt) looked;
-    ran = ran_gives h (below_ghosts h) (IsMild fault) (GivesBytes offset bytes) (GivesRead g old.0) old.1.0 new.1.0 old.1.1 new.1.1 (gives_read g old.0 offset bytes shown) ran;
-    like = like;
+    source = all_looked_weaker g ⊤ (IsNotResourceError fault) (chain old.0) (chain new.0) (λ x. tt) looked;
+    range_change = ran_gives h (below_ghosts h) (IsNotResourceError fault) (GivesBytes offset bytes) (GivesRead g old.0) old.1.0 new.1.0 old.1.1 new.1.1 (gives_read g old.0 offset bytes shown) ran;
+    keeps_layer_state = like;
     room = room;
     copied = λ pair. tt;
-    failed = inr (record { cause = failed; marks = marks; source = looked });
+    failed = inr (record { cause = failed; marks_failed = marks; source = looked });
   }
 
   -- one that isn't read
-  pub copies_unread : (fault : Fault) (old : Chains S T) (new : S × List S) (offset n : ℕ) → Pairs (Looked g (IsMild fault)) (chain old.0) (chain new) → ChainFails g old.0 new fault → MarksSome g (chain old.0) (chain new) fault
+  pub copies_unread : (fault : Fault) (old : Chains S T) (new : S × List S) (offset n : ℕ) → Pairs (LookupCall g (IsNotResourceError fault)) (chain old.0) (chain new) → ChainFails g old.0 new fault → MarksSomeFailed g (chain old.0) (chain new) fault
       → Copies g h offset n (Err fault) old (new, old.1)
   copies_unread fault old new offset n looked failed marks = record {
     source = looked;
-    ran = ran_same h (below_ghosts h) (IsMild fault) (GivesRead g old.0) old.1.0 old.1.1;
-    like = record { fixed = refl; size = refl; unspent = refl; failed = λ f. f };
+    range_change = ran_same h (below_ghosts h) (IsNotResourceError fault) (GivesRead g old.0) old.1.0 old.1.1;
+    keeps_layer_state = record { fixed = refl; size = refl; unspent = refl; failed = λ f. f };
     room = λ intact whole. room_same h (λ _. ⊤) (IsApart (h.layer old.1.0).fixed.unit offset n) old.1.0;
     copied = λ pair. tt;
-    failed = inl (record { cause = failed; marks = marks; target = ran_same h (below_ghosts h) ⊤ (GivesRead g old.0) old.1.0 old.1.1 });
+    failed = inl (record { cause = failed; marks_failed = marks; target = ran_same h (below_ghosts h) ⊤ (GivesRead g old.0) old.1.0 old.1.1 });
   }
 
   -- why it isn't written
-  pub piece_unwritten : (result : Result Unit Fault) (old new : Chains S T) (offset : ℕ) (bytes : List ℕ) → (Each g.sees (chain old.0) → Shows (chain_disk g.layer old.0).value offset bytes) → CallRefused h (write offset bytes) result old.1 new.1
+  pub piece_unwritten : (result : Result Unit Fault) (old new : Chains S T) (offset : ℕ) (bytes : List ℕ) → (Each g.coherent (chain old.0) → Shows (chain_disk g.layer old.0).value offset bytes) → CallRefused h (write offset bytes) result old.1 new.1
       → PieceRefused g h offset (length bytes) result old new
   piece_unwritten (Ok unit) old new offset bytes shown cause pair = tt
   piece_unwritten (Err fault) old new offset bytes shown cause pair = inr (record { bytes = bytes; long = refl; shown = shown pair.source; cause = cause pair.target })
 
   -- what a piece leaves that is refused: one that isn't written, and one that isn't read
-  pub piece_part : (result : Result Unit Fault) (old new : Chains S T) (offset : ℕ) (bytes : List ℕ) → (Each g.sees (chain old.0) → Shows (chain_disk g.layer old.0).value offset bytes)
-      → IsDoneInPart h (write offset bytes) result old.1 new.1 → PieceStops g h offset (length bytes) result old new.1
+  pub piece_part : (result : Result Unit Fault) (old new : Chains S T) (offset : ℕ) (bytes : List ℕ) → (Each g.coherent (chain old.0) → Shows (chain_disk g.layer old.0).value offset bytes)
+      → IsDoneInPart h (write offset bytes) result old.1 new.1 → PieceCrashImages g h offset (length bytes) result old new.1
   piece_part (Ok unit) old new offset bytes shown part pair = tt
-  piece_part (Err fault) old new offset bytes shown part pair = λ mild.
-      written_part (chain_disk g.layer old.0) (chain_disk h.layer old.1) (chain_disk h.layer new.1) (below_of h.layer old.1) offset bytes (shown pair.source) (part pair.target mild)
+  piece_part (Err fault) old new offset bytes shown part pair = λ not_resource_error.
+      written_part (chain_disk g.layer old.0) (chain_disk h.layer old.1) (chain_disk h.layer new.1) (below_of h.layer old.1) offset bytes (shown pair.source) (part pair.target not_resource_error)
 
-  pub piece_same : (fault : Fault) (old : Chains S T) (offset n : ℕ) → PieceStops g h offset n (Err fault) old old.1
-  piece_same fault old offset n pair = λ mild. record { size = refl; range = λ p lt inside. inl refl; others = λ p lt out. refl }
+  pub piece_same : (fault : Fault) (old : Chains S T) (offset n : ℕ) → PieceCrashImages g h offset n (Err fault) old old.1
+  piece_same fault old offset n pair = λ not_resource_error. record { size = refl; range = λ p lt inside. inl refl; others = λ p lt out. refl }
 
-  module _ (safe_sees : (d : S) → g.safe d → g.sees d) where
+  module _ (well_formed_is_coherent : (d : S) → g.well_formed d → g.coherent d) where
     -- what a later part gives, seen from the source before
-    gives_before : (a b : S × List S) → Pairs (Looked g ⊤) (chain a) (chain b) → (p : ℕ) (v : Value) → GivesRead g b p v → GivesRead g a p v
+    gives_before : (a b : S × List S) → Pairs (LookupCall g ⊤) (chain a) (chain b) → (p : ℕ) (v : Value) → GivesRead g b p v → GivesRead g a p v
     gives_before a b looked p v gave = (
       gave.0,
       λ see. gave.1 (chain_sees g ⊤ (chain a) (chain b) tt see looked) ∙ ap (λ (ls : List Layer). at ls p) (chain_same g ⊤ (chain a) (chain b) tt see looked),
@@ -277,27 +277,27 @@ module _ {S P T Q : Type 0} (g : Ghosts S P) (h : Ghosts T Q) where
     pub pair_behind : (a b : Chains S T) (offset n : ℕ) → Copies g h offset n (Ok tt) a b → IsSoundPair g h a → IsSoundPair g h b
     pair_behind a b offset n first pair = record {
       source = chain_sees g ⊤ (chain a.0) (chain b.0) tt pair.source first.source;
-      target = first.ran.intact tt pair.target;
+      target = first.range_change.intact tt pair.target;
     }
 
     module _ (a b c : Chains S T) (offset n m : ℕ) (first : Copies g h offset n (Ok tt) a b) where
       later_target : Pairs IsLater (files_of h (chain a.1)) (files_of h (chain b.1))
-      later_target = pairs_append IsLater (files h a.1.0) (files h b.1.0) (files_of h a.1.1) (files_of h b.1.1) first.ran.went.later first.ran.looked.later
+      later_target = pairs_append IsLater (files h a.1.0) (files h b.1.0) (files_of h a.1.1) (files_of h b.1.1) first.range_change.mutating_call.counts_not_fallen first.range_change.lookup_call.counts_not_fallen
 
-      ran_behind : (whole : Type 0) → RanChain h whole (GivesRead g b.0) b.1 c.1 → RanChain h whole (GivesRead g a.0) a.1 c.1
-      ran_behind whole second = ran_both h (below_ghosts h) whole (GivesRead g a.0) (GivesRead g b.0) (GivesRead g a.0) a.1.0 b.1.0 c.1.0 a.1.1 b.1.1 c.1.1 (λ p v gave. gave) (gives_before a.0 b.0 first.source) first.ran second
+      ran_behind : (whole : Type 0) → ChainRangeChange h whole (GivesRead g b.0) b.1 c.1 → ChainRangeChange h whole (GivesRead g a.0) a.1 c.1
+      ran_behind whole second = ran_both h (below_ghosts h) whole (GivesRead g a.0) (GivesRead g b.0) (GivesRead g a.0) a.1.0 b.1.0 c.1.0 a.1.1 b.1.1 c.1.1 (λ p v gave. gave) (gives_before a.0 b.0 first.source) first.range_change second
 
       fails_behind : (fault : Fault) → CopyFails g h b c fault → CopyFails g h a c fault
       fails_behind fault fails = elim fails [
         | inl one ↦ inl (record {
-          cause = failed_behind (files_of g (chain a.0)) (files_of g (chain b.0)) (files_of g (chain c.0)) fault (chain_later g ⊤ (chain a.0) (chain b.0) first.source) one.cause;
-          marks = λ is. marked_behind g ⊤ (chain a.0) (chain b.0) (chain c.0) first.source (one.marks is);
+          cause = failed_after (files_of g (chain a.0)) (files_of g (chain b.0)) (files_of g (chain c.0)) fault (chain_later g ⊤ (chain a.0) (chain b.0) first.source) one.cause;
+          marks_failed = λ is. marked_behind g ⊤ (chain a.0) (chain b.0) (chain c.0) first.source (one.marks_failed is);
           target = ran_behind ⊤ one.target;
         })
         | inr two ↦ inr (record {
-          cause = failed_behind (files_of h (chain a.1)) (files_of h (chain b.1)) (files_of h (chain c.1)) fault later_target two.cause;
-          marks = top_behind h (below_ghosts h) a.1.0 b.1.0 c.1.0 a.1.1 b.1.1 c.1.1 fault first.ran.went.fixed (first.ran.went.faults tt) (first.ran.intact tt) two.marks;
-          source = all_looked_both g safe_sees ⊤ (chain a.0) (chain b.0) (chain c.0) first.source two.source;
+          cause = failed_after (files_of h (chain a.1)) (files_of h (chain b.1)) (files_of h (chain c.1)) fault later_target two.cause;
+          marks_failed = top_behind h (below_ghosts h) a.1.0 b.1.0 c.1.0 a.1.1 b.1.1 c.1.1 fault first.range_change.mutating_call.fixed (first.range_change.mutating_call.faults tt) (first.range_change.intact tt) two.marks_failed;
+          source = all_looked_both g well_formed_is_coherent ⊤ (chain a.0) (chain b.0) (chain c.0) first.source two.source;
         })
       ]
 
@@ -307,9 +307,9 @@ module _ {S P T Q : Type 0} (g : Ghosts S P) (h : Ghosts T Q) where
           takes_both h (IsApart unit offset n) (IsApart (h.layer b.1.0).fixed.unit (offset + n) m) (IsApart unit offset (n + m)) a.1.0 b.1.0 c.1.0
           (λ p apart. (
             apart_wider unit offset (n + m) offset n p (omega arith) (omega arith) apart,
-            subst (λ (f : Fixed). IsApart f.unit (offset + n) m p) (sym first.ran.went.fixed) (apart_wider unit offset (n + m) (offset + n) m p (omega arith) (omega arith) apart),
+            subst (λ (f : Fixed). IsApart f.unit (offset + n) m p) (sym first.range_change.mutating_call.fixed) (apart_wider unit offset (n + m) (offset + n) m p (omega arith) (omega arith) apart),
           ))
-          (first.room intact tt) (second.room (first.ran.intact tt intact) whole)
+          (first.room intact tt) (second.room (first.range_change.intact tt intact) whole)
 
       copied_behind : offset + n ≤ (h.layer a.1.0).size → IsSoundPair g h a → CopiesRange g h (offset + n) m b c.1 → CopiesRange g h offset (n + m) a c.1
       copied_behind fits pair second =
@@ -321,17 +321,17 @@ module _ {S P T Q : Type 0} (g : Ghosts S P) (h : Ghosts T Q) where
     pub copies_both : (result : Result Unit Fault) (a b c : Chains S T) (offset n m : ℕ) → offset + n ≤ (h.layer a.1.0).size → Copies g h offset n (Ok tt) a b → Copies g h (offset + n) m result b c
         → Copies g h offset (n + m) result a c
     copies_both (Ok unit) a b c offset n m fits first second = record {
-      source = all_looked_both g safe_sees ⊤ (chain a.0) (chain b.0) (chain c.0) first.source second.source;
-      ran = ran_behind a b c offset n m first ⊤ second.ran;
-      like = like_then (h.layer a.1.0) (h.layer b.1.0) (h.layer c.1.0) first.like second.like;
+      source = all_looked_both g well_formed_is_coherent ⊤ (chain a.0) (chain b.0) (chain c.0) first.source second.source;
+      range_change = ran_behind a b c offset n m first ⊤ second.range_change;
+      keeps_layer_state = like_then (h.layer a.1.0) (h.layer b.1.0) (h.layer c.1.0) first.keeps_layer_state second.keeps_layer_state;
       room = room_behind a b c offset n m first (Ok unit) second;
       copied = λ pair. copied_behind a b c offset n m first fits pair (second.copied (pair_behind a b offset n first pair));
       failed = tt;
     }
     copies_both (Err fault) a b c offset n m fits first second = record {
-      source = all_looked_both g safe_sees (IsMild fault) (chain a.0) (chain b.0) (chain c.0) first.source second.source;
-      ran = ran_behind a b c offset n m first (IsMild fault) second.ran;
-      like = like_then (h.layer a.1.0) (h.layer b.1.0) (h.layer c.1.0) first.like second.like;
+      source = all_looked_both g well_formed_is_coherent (IsNotResourceError fault) (chain a.0) (chain b.0) (chain c.0) first.source second.source;
+      range_change = ran_behind a b c offset n m first (IsNotResourceError fault) second.range_change;
+      keeps_layer_state = like_then (h.layer a.1.0) (h.layer b.1.0) (h.layer c.1.0) first.keeps_layer_state second.keeps_layer_state;
       room = room_behind a b c offset n m first (Err fault) second;
       copied = λ pair. tt;
       failed = fails_behind a b c offset n m first fault second.failed;

@@ -7,24 +7,24 @@ use Rattle.imago_storage.specs.State.{StorageState}
 use Rattle.imago_storage.specs.Steps.{Call}
 use Rattle.imago_storage.specs.declared.fault.Fault.{Fault}
 use Rattle.imago_storage.specs.declared.fault.Fault.TheVariants.{Failed, MissingData, Memory, Storage}
-use Rattle.imago_access.specs.declared.seen.Seen.{Ghosts}
+use Rattle.imago_access.specs.declared.driver_model.DriverModel.{Ghosts}
 use Rattle.imago_access.specs.declared.mapping.PreparedDataMapping.{PreparedDataMapping}
 use Rattle.imago_access.specs.ChainCalls.{ChainStays}
-use Rattle.imago_access.specs.Layer.{Layer, IsLike}
+use Rattle.imago_access.specs.Layer.{Layer, KeepsLayerState}
 use Rattle.imago_access.specs.Spending.{IsMine}
 use Rattle.imago_access.specs.Layers.{chain}
 use Rattle.imago_access.specs.Chain.{at, Each}
-use Rattle.imago_access.specs.Files.{Pairs, WasNotCutOff}
-use Rattle.imago_access.specs.Going.{Looked, LookedUnder, Went, KeepsSurplus}
+use Rattle.imago_access.specs.Files.{Pairs, HadNoResourceError}
+use Rattle.imago_access.specs.Going.{LookupCall, LookupCallBelow, MutatingCall, KeepsExcessRefcounts}
 use Rattle.imago_access.specs.Parts.{PlainCause}
-use Rattle.imago_access.specs.Refusals.{barrier}
-use Rattle.imago_access.specs.Running.{RanChain, IsBetween, IsIntactChain, below_ghosts, chain_disk}
-use Rattle.imago_access.specs.Stops.{Left, KeepsStopsTo, GivesNone}
+use Rattle.imago_access.specs.Refusals.{unusable_fault}
+use Rattle.imago_access.specs.Running.{ChainRangeChange, IsBetween, IsIntactChain, below_ghosts, chain_disk}
+use Rattle.imago_access.specs.Stops.{Left, KeepsCrashImagesTo, GivesNone}
 use Rattle.imago_access.proofs.Looking.{chain_same, chain_sees, chain_kept}
 use Rattle.imago_access.proofs.Stopping.{passes_weaker}
 use Rattle.qimg_calls.specs.Since.{Begun, most_size}
-use Rattle.qimg_calls.specs.Held.{IsKept, IsReady, holding, state_of}
-use Rattle.qimg_calls.specs.Leading.{Leads, ShowsBetween}
+use Rattle.qimg_calls.specs.Held.{MappingIsPrepared, IsReady, chain_with_mapping, state_of}
+use Rattle.qimg_calls.specs.Leading.{LeavesForNext, ShowsBetween}
 use Rattle.qimg_calls.specs.Moves.{RestsOn}
 use Rattle.qimg_calls.specs.declared.call.Call.{Call as CallMade}
 use Rattle.qimg_calls.specs.declared.call.Call.TheVariants as calls
@@ -34,11 +34,11 @@ abbrev pub ValuesBetween : (ℕ → Value → Type 0) → Disk → Disk → Type
 ValuesBetween gives old new = (p : ℕ) → p < new.size → ((p < old.size) × (new.value p ≡ old.value p)) ⊎ gives p (new.value p)
 
 -- a layer that has not failed can be used as before
-pub usable-by : (l k : Layer) → l.failed ≡ false → k.failed ≡ false → l.fixed ≡ k.fixed → barrier k ≡ None → barrier l ≡ None
+pub usable-by : (l k : Layer) → l.failed ≡ false → k.failed ≡ false → l.fixed ≡ k.fixed → unusable_fault k ≡ None → unusable_fault l ≡ None
 usable-by l k a b same was = rw (a) (rw (same) (rw (b) at was))
 
 -- a call that only an image that can't be used refuses mildly
-pub whole-ok : {T : Type 0} (layer : Layer) (olds news : List StorageState) (result : Result T Fault) → WasNotCutOff result → barrier layer ≡ None → IfErr result (PlainCause layer olds news) → IsOk result
+pub whole-ok : {T : Type 0} (layer : Layer) (olds news : List StorageState) (result : Result T Fault) → HadNoResourceError result → unusable_fault layer ≡ None → IfErr result (PlainCause layer olds news) → IsOk result
 whole-ok layer olds news (Ok x) whole usable why = refl
 whole-ok layer olds news (Err Failed) whole usable why = absurd (cc (why, usable))
 whole-ok layer olds news (Err MissingData) whole usable why = absurd (cc (why, usable))
@@ -54,7 +54,7 @@ between gives below old new size values p inside =
 
 -- stops of a call that keeps the size, and gives no more than the whole
 pub fewer-stops : {D St : Type 0} (g : Ghosts D St) (below : List Layer) (least most most' : ℕ) (gives more : ℕ → Value → Type 0) (old new : D) → most ≤ most'
-    → ((p : ℕ) (v : Value) → gives p v → more p v) → KeepsStopsTo g below least most gives old new → KeepsStopsTo g below 0 most' more old new
+    → ((p : ℕ) (v : Value) → gives p v → more p v) → KeepsCrashImagesTo g below least most gives old new → KeepsCrashImagesTo g below 0 most' more old new
 fewer-stops g below least most most' gives more old new high weaker stops =
     passes_weaker (Left below (g.layer old) (g.image old).bytes g.sound least most gives) (Left below (g.layer old) (g.image old).bytes g.sound 0 most' more) (g.image old) (g.image new)
     (λ f left. record {
@@ -70,105 +70,105 @@ fewer-stops g below least most most' gives more old new high weaker stops =
 
 module _ {D St : Type 0} (g : Ghosts D St) (old new : D × List D) (whole ok : Type 0) (call : Call) where
   -- a change of a range
-  pub ran-leads : (safe_runs : (d : D) → g.safe d → (g.layer d).failed ≡ false) (gives : ℕ → Value → Type 0) → RanChain g ok gives old new
+  pub ran-leads : (well_formed_is_usable : (d : D) → g.well_formed d → (g.layer d).failed ≡ false) (gives : ℕ → Value → Type 0) → ChainRangeChange g ok gives old new
       → (whole → IsReady g old → ok)
       → ((p : ℕ) (v : Value) → gives p v → Begun (map g.layer old.1) (chain_disk g.layer old) call p v)
       → (g.layer old.0).size ≤ most_size (chain_disk g.layer old) call
-      → Leads g whole call old new
-  ran-leads safe_runs gives ran done gave high =
-      let same : whole → IsReady g old → map g.layer new.1 ≡ map g.layer old.1 = λ w ready. (ran.looked.stays (done w ready) ready.intact.is_seen).0 in
+      → LeavesForNext g whole call old new
+  ran-leads well_formed_is_usable gives ran done gave high =
+      let same : whole → IsReady g old → map g.layer new.1 ≡ map g.layer old.1 = λ w ready. (ran.lookup_call.stays (done w ready) ready.intact.is_coherent).0 in
       record {
-        fixed = ran.went.fixed;
-        later = ran.went.later.0;
-        calm = λ w ready. (ran.went.faults (done w ready)).0;
-        surplus = λ w ready. ran.went.surplus (done w ready, ready.intact.is_seen) ready.intact.is_safe;
-        under = λ still. ran.looked.kept still;
+        fixed = ran.mutating_call.fixed;
+        counts_not_fallen = ran.mutating_call.counts_not_fallen.0;
+        no_change_refused = λ w ready. (ran.mutating_call.faults (done w ready)).0;
+        excess_refcount = λ w ready. ran.mutating_call.excess_refcount (done w ready, ready.intact.is_coherent) ready.intact.is_well_formed;
+        layers_below = λ has_no_dirty_data. ran.lookup_call.unchanged_but_faults has_no_dirty_data;
         below = same;
         ready = λ w ready.
             let intact = ran.intact (done w ready) ready.intact in
             record {
               intact = intact;
-              usable = (usable-by (g.layer new.0) (g.layer old.0) (safe_runs new.0 intact.is_safe) (safe_runs old.0 ready.intact.is_safe) ran.went.fixed ready.usable.0, subst (Each (λ l. barrier l ≡ None)) (sym (same w ready)) ready.usable.1);
-              still = (ran.looked.kept ready.still).1;
-              few = subst (λ ls. length ls + 1 < 2 ^ 64) (sym (same w ready)) ready.few;
+              usable = (usable-by (g.layer new.0) (g.layer old.0) (well_formed_is_usable new.0 intact.is_well_formed) (well_formed_is_usable old.0 ready.intact.is_well_formed) ran.mutating_call.fixed ready.usable.0, subst (Each (λ l. unusable_fault l ≡ None)) (sym (same w ready)) ready.usable.1);
+              has_no_dirty_data = (ran.lookup_call.unchanged_but_faults ready.has_no_dirty_data).1;
+              layers_bounded = subst (λ ls. length ls + 1 < 2 ^ 64) (sym (same w ready)) ready.layers_bounded;
             };
         shows = λ w ready. between (Begun (map g.layer old.1) (chain_disk g.layer old) call) (map g.layer old.1) (g.layer old.0) (g.layer new.0) ran.size
             (λ p inside. elim (ran.values (done w ready) ready.intact p inside) [ inl is ↦ inl is | inr gives_it ↦ inr (gave p _ gives_it) ]);
-        stops = λ ready. fewer-stops g (map g.layer old.1) (g.layer old.0).size (g.layer old.0).size (most_size (chain_disk g.layer old) call) gives (Begun (map g.layer old.1) (chain_disk g.layer old) call) old.0 new.0 high gave (ran.stops ready.intact);
+        crash_images = λ ready. fewer-stops g (map g.layer old.1) (g.layer old.0).size (g.layer old.0).size (most_size (chain_disk g.layer old) call) gives (Begun (map g.layer old.1) (chain_disk g.layer old) call) old.0 new.0 high gave (ran.crash_images ready.intact);
       }
 
   -- a look through the chain
-  pub look-leads : (safe_sees : (d : D) → g.safe d → g.sees d) → Pairs (Looked g ok) (chain old) (chain new) → (whole → ok)
-      → (g.layer old.0).size ≤ most_size (chain_disk g.layer old) call → Leads g whole call old new
-  look-leads safe_sees looked done high =
-      let top : whole → IsReady g old → g.layer new.0 ≡ g.layer old.0 = λ w ready. (looked.0.stays (done w) (safe_sees old.0 ready.intact.is_safe)).0 in
-      let same : whole → IsReady g old → map g.layer new.1 ≡ map g.layer old.1 = λ w ready. chain_same g ok old.1 new.1 (done w) ready.intact.is_seen looked.1 in
+  pub look-leads : (well_formed_is_coherent : (d : D) → g.well_formed d → g.coherent d) → Pairs (LookupCall g ok) (chain old) (chain new) → (whole → ok)
+      → (g.layer old.0).size ≤ most_size (chain_disk g.layer old) call → LeavesForNext g whole call old new
+  look-leads well_formed_is_coherent looked done high =
+      let top : whole → IsReady g old → g.layer new.0 ≡ g.layer old.0 = λ w ready. (looked.0.stays (done w) (well_formed_is_coherent old.0 ready.intact.is_well_formed)).0 in
+      let same : whole → IsReady g old → map g.layer new.1 ≡ map g.layer old.1 = λ w ready. chain_same g ok old.1 new.1 (done w) ready.intact.is_coherent looked.1 in
       record {
-        fixed = looked.0.like.fixed;
-        later = looked.0.later.0;
-        calm = λ w ready. (looked.0.faults (done w)).0;
-        surplus = λ w ready. looked.0.surplus (done w) ready.intact.is_safe;
-        under = λ still. chain_kept g ok old.1 new.1 still looked.1;
+        fixed = looked.0.keeps_layer_state.fixed;
+        counts_not_fallen = looked.0.counts_not_fallen.0;
+        no_change_refused = λ w ready. (looked.0.faults (done w)).0;
+        excess_refcount = λ w ready. looked.0.excess_refcount (done w) ready.intact.is_well_formed;
+        layers_below = λ has_no_dirty_data. chain_kept g ok old.1 new.1 has_no_dirty_data looked.1;
         below = same;
         ready = λ w ready. record {
           intact = record {
-            is_safe = looked.0.safely (done w) ready.intact.is_safe;
-            is_seen = chain_sees g ok old.1 new.1 (done w) ready.intact.is_seen looked.1;
+            is_well_formed = looked.0.safely (done w) ready.intact.is_well_formed;
+            is_coherent = chain_sees g ok old.1 new.1 (done w) ready.intact.is_coherent looked.1;
             backed = rw (top w ready) (rw (same w ready) ready.intact.backed);
             held = rw (top w ready) (rw (same w ready) ready.intact.held);
           };
           usable = rw (top w ready) (rw (same w ready) ready.usable);
-          still = (chain_kept g ok old.1 new.1 ready.still looked.1).1;
-          few = rw (same w ready) ready.few;
+          has_no_dirty_data = (chain_kept g ok old.1 new.1 ready.has_no_dirty_data looked.1).1;
+          layers_bounded = rw (same w ready) ready.layers_bounded;
         };
         shows = λ w ready p inside. inl (subst (λ (l : Layer). p < l.size) (top w ready) inside, ap (λ l. at (l ∷ map g.layer old.1) p) (top w ready));
-        stops = λ ready. fewer-stops g (map g.layer old.1) (g.layer old.0).size (g.layer old.0).size (most_size (chain_disk g.layer old) call) GivesNone (Begun (map g.layer old.1) (chain_disk g.layer old) call) old.0 new.0 high (λ p v none. absurd none)
-            (looked.0.stops ready.intact.is_safe (map g.layer old.1));
+        crash_images = λ ready. fewer-stops g (map g.layer old.1) (g.layer old.0).size (g.layer old.0).size (most_size (chain_disk g.layer old) call) GivesNone (Begun (map g.layer old.1) (chain_disk g.layer old) call) old.0 new.0 high (λ p v none. absurd none)
+            (looked.0.crash_images ready.intact.is_well_formed (map g.layer old.1));
       }
 
 module _ {D St : Type 0} (g : Ghosts D St) (old new : D × List D) (whole ok : Type 0) (call : Call) where
   -- a call whose values its step tells
-  pub step-leads : {w : Type 0} (safe_runs : (d : D) → g.safe d → (g.layer d).failed ≡ false) → Went g ok w old.0 new.0 → LookedUnder (below_ghosts g) ok old.1 new.1
+  pub step-leads : {w : Type 0} (well_formed_is_usable : (d : D) → g.well_formed d → (g.layer d).failed ≡ false) → MutatingCall g ok w old.0 new.0 → LookupCallBelow (below_ghosts g) ok old.1 new.1
       → (whole → IsReady g old → ok)
-      → (whole → IsReady g old → KeepsSurplus g old.0 new.0)
+      → (whole → IsReady g old → KeepsExcessRefcounts g old.0 new.0)
       → (whole → IsReady g old → IsIntactChain g new)
       → (whole → IsReady g old → ValuesBetween (Begun (map g.layer old.1) (chain_disk g.layer old) call) (chain_disk g.layer old) (chain_disk g.layer new))
-      → (IsReady g old → KeepsStopsTo g (map g.layer old.1) 0 (most_size (chain_disk g.layer old) call) (Begun (map g.layer old.1) (chain_disk g.layer old) call) old.0 new.0)
-      → Leads g whole call old new
-  step-leads safe_runs went looked done surplus intact values stops =
-      let same : whole → IsReady g old → map g.layer new.1 ≡ map g.layer old.1 = λ w ready. (looked.stays (done w ready) ready.intact.is_seen).0 in
+      → (IsReady g old → KeepsCrashImagesTo g (map g.layer old.1) 0 (most_size (chain_disk g.layer old) call) (Begun (map g.layer old.1) (chain_disk g.layer old) call) old.0 new.0)
+      → LeavesForNext g whole call old new
+  step-leads well_formed_is_usable mutating_call looked done excess_refcount intact values stops =
+      let same : whole → IsReady g old → map g.layer new.1 ≡ map g.layer old.1 = λ w ready. (looked.stays (done w ready) ready.intact.is_coherent).0 in
       record {
-        fixed = went.fixed;
-        later = went.later.0;
-        calm = λ w ready. (went.faults (done w ready)).0;
-        surplus = surplus;
-        under = λ still. looked.kept still;
+        fixed = mutating_call.fixed;
+        counts_not_fallen = mutating_call.counts_not_fallen.0;
+        no_change_refused = λ w ready. (mutating_call.faults (done w ready)).0;
+        excess_refcount = excess_refcount;
+        layers_below = λ has_no_dirty_data. looked.unchanged_but_faults has_no_dirty_data;
         below = same;
         ready = λ w ready.
             let now = intact w ready in
             record {
               intact = now;
-              usable = (usable-by (g.layer new.0) (g.layer old.0) (safe_runs new.0 now.is_safe) (safe_runs old.0 ready.intact.is_safe) went.fixed ready.usable.0, subst (Each (λ l. barrier l ≡ None)) (sym (same w ready)) ready.usable.1);
-              still = (looked.kept ready.still).1;
-              few = subst (λ ls. length ls + 1 < 2 ^ 64) (sym (same w ready)) ready.few;
+              usable = (usable-by (g.layer new.0) (g.layer old.0) (well_formed_is_usable new.0 now.is_well_formed) (well_formed_is_usable old.0 ready.intact.is_well_formed) mutating_call.fixed ready.usable.0, subst (Each (λ l. unusable_fault l ≡ None)) (sym (same w ready)) ready.usable.1);
+              has_no_dirty_data = (looked.unchanged_but_faults ready.has_no_dirty_data).1;
+              layers_bounded = subst (λ ls. length ls + 1 < 2 ^ 64) (sym (same w ready)) ready.layers_bounded;
             };
         shows = λ w ready p inside.
             subst (λ ls. ((p < (g.layer old.0).size) × (at (g.layer new.0 ∷ ls) p ≡ at (g.layer old.0 ∷ map g.layer old.1) p)) ⊎ Begun (map g.layer old.1) (chain_disk g.layer old) call p (at (g.layer new.0 ∷ ls) p))
             (same w ready) (values w ready p inside);
-        stops = stops;
+        crash_images = stops;
       }
 
 module _ {D St : Type 0} (g : Ghosts D St) where
   -- lookups in each layer are true
-  pub all-see : (safe_sees : (d : D) → g.safe d → g.sees d) (c : D × List D) → IsReady g c → Each g.sees (chain c)
-  all-see safe_sees c ready = (safe_sees c.0 ready.intact.is_safe, ready.intact.is_seen)
+  pub all-see : (well_formed_is_coherent : (d : D) → g.well_formed d → g.coherent d) (c : D × List D) → IsReady g c → Each g.coherent (chain c)
+  all-see well_formed_is_coherent c ready = (well_formed_is_coherent c.0 ready.intact.is_well_formed, ready.intact.is_coherent)
 
   pub fewer : (c : D × List D) → IsReady g c → length (chain c) < 2 ^ 64
-  fewer c ready = let same : length (map g.layer c.1) ≡ length c.1 = length-map c.1 g.layer in omega (arith, same, ready.few)
+  fewer c ready = let same : length (map g.layer c.1) ≡ length c.1 = length-map c.1 g.layer in omega (arith, same, ready.layers_bounded)
 
   module _ (old new : D × List D) (kept : Option (PreparedDataMapping St)) where
     -- a layer that is like what it was keeps its mapping
-    pub like-kept : IsLike (g.layer old.0) (g.layer new.0) → IsKept g (holding old kept) → IsKept g (holding new kept)
+    pub like-kept : KeepsLayerState (g.layer old.0) (g.layer new.0) → MappingIsPrepared g (chain_with_mapping old kept) → MappingIsPrepared g (chain_with_mapping new kept)
     like-kept like k = record {
       mine = mine-on (state_of kept) k.mine;
       free = λ none. rw (like.unspent) (k.free none);
@@ -178,15 +178,15 @@ module _ {D St : Type 0} (g : Ghosts D St) where
       mine-on (Some s) mine = (rw (like.fixed) mine.0, rw (like.unspent) mine.1)
 
   -- what each call rests on
-  pub ready-rests : (safe_sees : (d : D) → g.safe d → g.sees d) (call : CallMade) (c : D × List D) → IsReady g c → RestsOn g call c
-  ready-rests safe_sees (calls.Read offset n) c ready = all-see safe_sees c ready
-  ready-rests safe_sees (calls.GetMapping offset n) c ready = (all-see safe_sees c ready, fewer c ready)
-  ready-rests safe_sees (calls.GetShallowMapping offset n) c ready = all-see safe_sees c ready
-  ready-rests safe_sees call c ready = ready.intact
+  pub ready-rests : (well_formed_is_coherent : (d : D) → g.well_formed d → g.coherent d) (call : CallMade) (c : D × List D) → IsReady g c → RestsOn g call c
+  ready-rests well_formed_is_coherent (calls.Read offset n) c ready = all-see well_formed_is_coherent c ready
+  ready-rests well_formed_is_coherent (calls.GetMapping offset n) c ready = (all-see well_formed_is_coherent c ready, fewer c ready)
+  ready-rests well_formed_is_coherent (calls.GetShallowMapping offset n) c ready = all-see well_formed_is_coherent c ready
+  ready-rests well_formed_is_coherent call c ready = ready.intact
 
   -- a look leaves the disk as it was
-  pub looked-stays : (old new : D × List D) (whole : Type 0) → whole → Pairs (Looked g whole) (chain old) (chain new) → Each g.sees (chain old) → ChainStays g old new
-  looked-stays old new whole w looked sees =
-      let top = (looked.0.stays w sees.0).0 in
-      let same = chain_same g whole old.1 new.1 w sees.1 looked.1 in
+  pub looked-stays : (old new : D × List D) (whole : Type 0) → whole → Pairs (LookupCall g whole) (chain old) (chain new) → Each g.coherent (chain old) → ChainStays g old new
+  looked-stays old new whole w looked coherent =
+      let top = (looked.0.stays w coherent.0).0 in
+      let same = chain_same g whole old.1 new.1 w coherent.1 looked.1 in
       rw (top, same) (record { size = refl; value = λ p inside. refl; hold = λ p inside. refl })

@@ -3,31 +3,31 @@ use Rattle.std.proofs.lemmas.Bool.{cases_lt}
 use Rattle.std.proofs.lemmas.List.Elements.{All-weaker}
 use Rattle.std.proofs.Common.{◌≡◌, ◌⊎◌, inl, inr, ℕ, ◌+◌, ◌<◌, ◌≤◌, ◌^◌, ◌∷◌, ◌++◌, [], List, length, arith, refl, sym, subst, ap, ◌∙◌, true, false, suc}
 use Rattle.std.specs.Prelude.{Bool, Option, Some, None, is_some, is_none, IsTrue, map}
-use Rattle.imago_storage.specs.State.{StorageState, InStep, Rose}
-use Rattle.imago_storage.specs.Passing.{Passes}
-use Rattle.imago_storage.specs.Through.{StopsIn}
+use Rattle.imago_storage.specs.State.{StorageState, CrashImageIsBytes, HasRisen}
+use Rattle.imago_storage.specs.Passing.{UnrefusedCrashImages}
+use Rattle.imago_storage.specs.Through.{EachCrashImageIn}
 use Rattle.imago_storage.specs.Calls.{IsFaultless}
 use Rattle.imago_storage.specs.Steps.{Call as DiskCall}
 use Rattle.imago_storage.specs.declared.fault.Fault.TheVariants.{Memory, Storage, BadArgument}
-use Rattle.imago_access.specs.declared.seen.Seen.{Ghosts}
+use Rattle.imago_access.specs.declared.driver_model.DriverModel.{Ghosts}
 use Rattle.imago_access.specs.Layer.{IsFree}
 use Rattle.imago_access.specs.Chain.{Each}
-use Rattle.imago_access.specs.Files.{Pairs, IsLater, IsKept as IsKeptFile, files_of}
+use Rattle.imago_access.specs.Files.{Pairs, IsLater, UnchangedButMoreFaults as IsKeptFile, files_of}
 use Rattle.imago_access.specs.Running.{chain_disk, IsIntactChain}
 use Rattle.imago_access.specs.Stops.{IsCovered, IsWritten, Left}
 use Rattle.imago_access.proofs.FilePairs.{is_later_same, is_later_both, kept_all_same, kept_all_both}
 use Rattle.imago_access.proofs.Stopping.{here}
-use Rattle.imago_access.specs.Going.{KeepsSurplus}
+use Rattle.imago_access.specs.Going.{KeepsExcessRefcounts}
 use Rattle.qimg_calls.specs.declared.call.Call.{Call}
 use Rattle.qimg_calls.specs.declared.call.Call.TheVariants as calls
 use Rattle.qimg_calls.specs.declared.call.Answer.{Answer}
 use Rattle.qimg_calls.specs.declared.call.Answer.TheVariants as told
 use Rattle.qimg_calls.specs.Calls.{Either, GoesOn, is_out_of_place}
 use Rattle.qimg_calls.specs.Since.{Since, Begun, most_size, begun, flushed, LeftSince, IsSince}
-use Rattle.qimg_calls.specs.Held.{Holding, IsKept, IsReady, disk_call, state_of}
-use Rattle.qimg_calls.specs.Leading.{Leads}
-use Rattle.qimg_calls.specs.Making.{Makes, Answers, AnswersAll}
-use Rattle.qimg_calls.specs.Runs.{Moment, moment, since_behind, IsLeftBy, StatesSize, StandsSince, Made, Goes, Run, AllGoOn}
+use Rattle.qimg_calls.specs.Held.{ChainWithMapping, MappingIsPrepared, IsReady, disk_call, state_of}
+use Rattle.qimg_calls.specs.Leading.{LeavesForNext}
+use Rattle.qimg_calls.specs.Making.{CallOutcome, Answers, AnswersAll}
+use Rattle.qimg_calls.specs.Runs.{Moment, moment, since_after, IsLeftBy, StatesSize, HoldsSince, Made, ListStep, Run, AllGoOn}
 use Rattle.qimg_calls.proofs.Leading.{ready-rests}
 use Rattle.qimg_calls.proofs.Stops.{left-since, since-on, since-flushed}
 
@@ -39,17 +39,17 @@ goes-on-or (told.Refused fault) = inl tt
 goes-on-or answer = inl tt
 
 -- a count that has not risen isn't at its greatest value
-not-risen : (a b : ℕ) → a ≤ b → (Rose a b → ⊥) → b + 1 < 2 ^ 64
-not-risen a b later calm = elim (cases_lt (b + 1) (2 ^ 64)) [
+not-risen : (a b : ℕ) → a ≤ b → (HasRisen a b → ⊥) → b + 1 < 2 ^ 64
+not-risen a b later no_change_refused = elim (cases_lt (b + 1) (2 ^ 64)) [
   | inl fits ↦ fits
-  | inr full ↦ absurd (calm (record { kept = later; rose = λ fits. omega (arith, fits, full) }))
+  | inr full ↦ absurd (no_change_refused (record { not_fallen = later; rose = λ fits. omega (arith, fits, full) }))
 ]
 
 -- a count that is the same, and not at its greatest value, has not risen
-calm-then : (a b : ℕ) → b ≡ a → b + 1 < 2 ^ 64 → Rose a b → ⊥
+calm-then : (a b : ℕ) → b ≡ a → b + 1 < 2 ^ 64 → HasRisen a b → ⊥
 calm-then a b same room rose = omega (arith, same, rose.rose room)
 
-stops-in : (P Q : List ℕ → Type 0) (a b : StorageState) → ((f : List ℕ) → P f → Q f) → StopsIn P a b → StopsIn Q a b
+stops-in : (P Q : List ℕ → Type 0) (a b : StorageState) → ((f : List ℕ) → P f → Q f) → EachCrashImageIn P a b → EachCrashImageIn Q a b
 stops-in P Q a b weaker stops = record { files = stops.files; told = stops.told; each = All-weaker P Q weaker stops.files stops.each }
 
 pub either-cases : (b : Bool) (P Q : Type 0) → Either b P Q → ((b ≡ true) × P) ⊎ ((b ≡ false) × Q)
@@ -74,88 +74,88 @@ calm-both a b c first second = (second.0 ∙ first.0, second.1 ∙ first.1)
 
 module _ {D St : Type 0} (g : Ghosts D St) where
   -- which of the two stands behind a call
-  behind-or : (call : Call) (answer : Answer) (m : Moment D St) (new : Holding D St)
-      → (since_behind g call answer m new ≡ begun m.since (chain_disk g.layer m.now.drivers) (disk_call g m.now call))
-      ⊎ ((call ≡ calls.Flush) × (answer ≡ told.Done) × (state_of m.now.kept ≡ None) × (since_behind g call answer m new ≡ flushed (chain_disk g.layer new.drivers)))
-  behind-or calls.Flush told.Done m new = elim (none-or (state_of m.now.kept)) [
+  behind-or : (call : Call) (answer : Answer) (m : Moment D St) (new : ChainWithMapping D St)
+      → (since_after g call answer m new ≡ begun m.since (chain_disk g.layer m.now.drivers) (disk_call g m.now call))
+      ⊎ ((call ≡ calls.Flush) × (answer ≡ told.Done) × (state_of m.now.kept_mapping ≡ None) × (since_after g call answer m new ≡ flushed (chain_disk g.layer new.drivers)))
+  behind-or calls.Flush told.Done m new = elim (none-or (state_of m.now.kept_mapping)) [
     | inl none ↦ inr (refl, refl, none, rw (none) refl)
     | inr some ↦ inl (rw (some) refl)
   ]
   behind-or call answer m new = inl refl
 
   -- a flush with nothing prepared that is done leaves a file that means the disk
-  made-flush : (call : Call) (answer : Answer) (old new : Holding D St) → Makes g call answer old new → IsIntactChain g old.drivers → call ≡ calls.Flush → answer ≡ told.Done → IsFree (g.layer old.drivers.0)
+  made-flush : (call : Call) (answer : Answer) (old new : ChainWithMapping D St) → CallOutcome g call answer old new → IsIntactChain g old.drivers → call ≡ calls.Flush → answer ≡ told.Done → IsFree (g.layer old.drivers.0)
       → IsWritten g new.drivers.0
   made-flush call answer old new makes intact is_flush is_done none = (((rw (is_flush, is_done) at makes).moves intact).0.3.1 none).0
 
   -- what all calls keep, whatever they are answered
-  pub record Going (old new : Holding D St) : Type 0 where
+  pub record WritesBackCached (old new : ChainWithMapping D St) : Type 0 where
     pub fixed : (g.layer new.drivers.0).fixed ≡ (g.layer old.drivers.0).fixed
-    pub later : IsLater (g.image old.drivers.0) (g.image new.drivers.0)
-    pub under : Each g.still old.drivers.1 → Pairs IsKeptFile (files_of g old.drivers.1) (files_of g new.drivers.1) × Each g.still new.drivers.1
-    pub kept : IsKept g old → IsKept g new
+    pub counts_not_fallen : IsLater (g.image old.drivers.0) (g.image new.drivers.0)
+    pub layers_below : Each g.has_no_dirty_data old.drivers.1 → Pairs IsKeptFile (files_of g old.drivers.1) (files_of g new.drivers.1) × Each g.has_no_dirty_data new.drivers.1
+    pub kept : MappingIsPrepared g old → MappingIsPrepared g new
 
-  pub going-same : (old : Holding D St) → Going old old
-  going-same old = record { fixed = refl; later = is_later_same (g.image old.drivers.0); under = λ still. (kept_all_same (files_of g old.drivers.1), still); kept = λ k. k }
+  pub going-same : (old : ChainWithMapping D St) → WritesBackCached old old
+  going-same old = record { fixed = refl; counts_not_fallen = is_later_same (g.image old.drivers.0); layers_below = λ has_no_dirty_data. (kept_all_same (files_of g old.drivers.1), has_no_dirty_data); kept = λ k. k }
 
-  pub going-both : (a b c : Holding D St) → Going a b → Going b c → Going a c
+  pub going-both : (a b c : ChainWithMapping D St) → WritesBackCached a b → WritesBackCached b c → WritesBackCached a c
   going-both a b c first second = record {
     fixed = second.fixed ∙ first.fixed;
-    later = is_later_both (g.image a.drivers.0) (g.image b.drivers.0) (g.image c.drivers.0) first.later second.later;
-    under = λ still. let one = first.under still in let two = second.under one.1 in (kept_all_both (files_of g a.drivers.1) (files_of g b.drivers.1) (files_of g c.drivers.1) one.0 two.0, two.1);
+    counts_not_fallen = is_later_both (g.image a.drivers.0) (g.image b.drivers.0) (g.image c.drivers.0) first.counts_not_fallen second.counts_not_fallen;
+    layers_below = λ has_no_dirty_data. let one = first.layers_below has_no_dirty_data in let two = second.layers_below one.1 in (kept_all_both (files_of g a.drivers.1) (files_of g b.drivers.1) (files_of g c.drivers.1) one.0 two.0, two.1);
     kept = λ k. second.kept (first.kept k);
   }
 
-  pub going-made : (call : Call) (answer : Answer) (old new : Holding D St) → Makes g call answer old new → Going old new
-  going-made call answer old new makes = record { fixed = makes.leads.fixed; later = makes.leads.later; under = makes.leads.under; kept = makes.kept }
+  pub going-made : (call : Call) (answer : Answer) (old new : ChainWithMapping D St) → CallOutcome g call answer old new → WritesBackCached old new
+  going-made call answer old new makes = record { fixed = makes.leads.fixed; counts_not_fallen = makes.leads.counts_not_fallen; layers_below = makes.leads.layers_below; kept = makes.mapping_prepared }
 
-  pub going-one : (call : Call) (answer : Answer) (old new : Holding D St) → Answers g call answer old new → Going old new
-  going-one call answer old new answers = elim (either-cases (is_out_of_place (is_some old.kept) call) ((answer ≡ told.Refused BadArgument) × (new ≡ old)) (Makes g call answer old new) answers) [
-    | inl out ↦ subst (Going old) (sym out.1.1) (going-same old)
+  pub going-one : (call : Call) (answer : Answer) (old new : ChainWithMapping D St) → Answers g call answer old new → WritesBackCached old new
+  going-one call answer old new answers = elim (either-cases (is_out_of_place (is_some old.kept_mapping) call) ((answer ≡ told.Refused BadArgument) × (new ≡ old)) (CallOutcome g call answer old new) answers) [
+    | inl out ↦ subst (WritesBackCached old) (sym out.1.1) (going-same old)
     | inr made ↦ going-made call answer old new made.1
   ]
 
-  pub going-all : (list : List Call) (answers : List Answer) (old new : Holding D St) → AnswersAll g list answers old new → Going old new
-  going-all [] [] old new same = subst (Going old) (sym same) (going-same old)
+  pub going-all : (list : List Call) (answers : List Answer) (old new : ChainWithMapping D St) → AnswersAll g list answers old new → WritesBackCached old new
+  going-all [] [] old new same = subst (WritesBackCached old) (sym same) (going-same old)
   going-all (call ∷ list) (answer ∷ answers) old new all = going-both old all.0 new (going-one call answer old all.0 all.1) (going-all list answers all.0 new all.2)
   going-all [] (answer ∷ answers) old new all = absurd all
   going-all (call ∷ list) [] old new all = absurd all
 
-  pub as-many : (list : List Call) (answers : List Answer) (old new : Holding D St) → AnswersAll g list answers old new → length answers ≡ length list
+  pub as-many : (list : List Call) (answers : List Answer) (old new : ChainWithMapping D St) → AnswersAll g list answers old new → length answers ≡ length list
   as-many [] [] old new all = refl
   as-many (call ∷ list) (answer ∷ answers) old new all = ap suc (as-many list answers all.0 new all.2)
   as-many [] (answer ∷ answers) old new all = absurd all
   as-many (call ∷ list) [] old new all = absurd all
 
   -- one more call
-  pub all-then : (list : List Call) (answers : List Answer) (call : Call) (answer : Answer) (old mid new : Holding D St) → AnswersAll g list answers old mid → Answers g call answer mid new
+  pub all-then : (list : List Call) (answers : List Answer) (call : Call) (answer : Answer) (old mid new : ChainWithMapping D St) → AnswersAll g list answers old mid → Answers g call answer mid new
       → AnswersAll g (list ++ (call ∷ [])) (answers ++ (answer ∷ [])) old new
   all-then [] [] call answer old mid new same one = (new, subst (λ h. Answers g call answer h new) same one, refl)
   all-then (c ∷ cs) (a ∷ rest) call answer old mid new all one = (all.0, all.1, all-then cs rest call answer all.0 mid new all.2 one)
   all-then [] (a ∷ rest) call answer old mid new all one = absurd all
   all-then (c ∷ cs) [] call answer old mid new all one = absurd all
 
-  module _ (safe_sees : (d : D) → g.safe d → g.sees d) (safe_sound : (d : D) → g.safe d → IsCovered (g.layer d) g.sound (g.image d).bytes) where
+  module _ (well_formed_is_coherent : (d : D) → g.well_formed d → g.coherent d) (well_formed_is_sound : (d : D) → g.well_formed d → IsCovered (g.layer d) g.sound (g.image d).bytes) where
     -- what a stop in a call of the disk shows
-    stops-behind : (whole : Type 0) (does : DiskCall) (old new : D × List D) (since : Since) → Leads g whole does old new → IsReady g old → StatesSize g old → StandsSince g since old
-        → Passes (LeftSince (map g.layer old.1) (g.layer old.0).fixed g.sound (begun since (chain_disk g.layer old) does)) (g.image old.0) (g.image new.0)
-    stops-behind whole does old new since leads ready exact stands calm =
-        let one = leads.stops ready calm in
+    stops-behind : (whole : Type 0) (does : DiskCall) (old new : D × List D) (since : Since) → LeavesForNext g whole does old new → IsReady g old → StatesSize g old → HoldsSince g since old
+        → UnrefusedCrashImages (LeftSince (map g.layer old.1) (g.layer old.0).fixed g.sound (begun since (chain_disk g.layer old) does)) (g.image old.0) (g.image new.0)
+    stops-behind whole does old new since leads ready exact stands no_change_refused =
+        let one = leads.crash_images ready no_change_refused in
         let below = map g.layer old.1 in
         let entry = g.layer old.0 in
         let file = (g.image old.0).bytes in
-        let room : (g.image old.0).refusals + 1 < 2 ^ 64 = omega (arith, leads.later.1.refusals, not-risen (g.image old.0).refusals (g.image new.0).refusals leads.later.1.refusals calm) in (
+        let room : (g.image old.0).refusals + 1 < 2 ^ 64 = omega (arith, leads.counts_not_fallen.1.refusals, not-risen (g.image old.0).refusals (g.image new.0).refusals leads.counts_not_fallen.1.refusals no_change_refused) in (
           one.0,
           λ step tells keeps. stops-in (Left below entry file g.sound 0 (most_size (chain_disk g.layer old) does) (Begun below (chain_disk g.layer old) does))
               (LeftSince below entry.fixed g.sound (begun since (chain_disk g.layer old) does))
               (g.image old.0) (g.image new.0)
-              (λ f left. left-since below g.sound entry file since does (stands exact tells keeps room).1 (safe_sound old.0 ready.intact.is_safe).size exact f left)
+              (λ f left. left-since below g.sound entry file since does (stands exact tells keeps room).1 (well_formed_is_sound old.0 ready.intact.is_well_formed).size exact f left)
               (one.1 step tells keeps),
         )
 
     -- what stands behind one that wasn't cut off
-    pub stands-behind : (whole : Type 0) (does : DiskCall) (old new : D × List D) (since : Since) → Leads g whole does old new → IsReady g old → whole → StandsSince g since old
-        → StandsSince g (begun since (chain_disk g.layer old) does) new
+    pub stands-behind : (whole : Type 0) (does : DiskCall) (old new : D × List D) (since : Since) → LeavesForNext g whole does old new → IsReady g old → whole → HoldsSince g since old
+        → HoldsSince g (begun since (chain_disk g.layer old) does) new
     stands-behind whole does old new since leads ready on stands exact_then tells keeps room =
         let exact : StatesSize g old = rw (sym leads.fixed) exact_then in
         let a = g.image old.0 in
@@ -163,28 +163,28 @@ module _ {D St : Type 0} (g : Ghosts D St) where
         let below = map g.layer old.1 in
         let entry = g.layer old.0 in
         let left = LeftSince below entry.fixed g.sound (begun since (chain_disk g.layer old) does) in
-        let told_before : IsTrue a.shape.tells = rw (sym leads.later.0) tells in
-        let kept_before : IsTrue a.shape.keeps = rw (sym leads.later.0) keeps in
-        let same : b.refusals ≡ a.refusals = (leads.calm on ready).1 in
-        let calm : Rose a.refusals b.refusals → ⊥ = calm-then a.refusals b.refusals same room in
+        let told_before : IsTrue a.shape.tells = rw (sym leads.counts_not_fallen.0) tells in
+        let kept_before : IsTrue a.shape.keeps = rw (sym leads.counts_not_fallen.0) keeps in
+        let same : b.refusals ≡ a.refusals = (leads.no_change_refused on ready).1 in
+        let no_change_refused : HasRisen a.refusals b.refusals → ⊥ = calm-then a.refusals b.refusals same room in
         let stood = stands exact told_before kept_before (omega (arith, same, room)) in
-        let step : InStep a = λ _ _. stood.0 in
-        let passes = stops-behind whole does old new since leads ready exact stands calm in
-        let now : InStep b = passes.0 step in
-        let how = here left a b leads.later step now told_before kept_before (passes.1 step told_before kept_before) in (
+        let step : CrashImageIsBytes a = λ _ _. stood.0 in
+        let passes = stops-behind whole does old new since leads ready exact stands no_change_refused in
+        let now : CrashImageIsBytes b = passes.0 step in
+        let how = here left a b leads.counts_not_fallen step now told_before kept_before (passes.1 step told_before kept_before) in (
           now tells keeps,
           subst (λ ls. IsSince ls (g.layer new.0) b.bytes (begun since (chain_disk g.layer old) does)) (sym (leads.below on ready))
-              (since-on below g.sound entry a.bytes since does stood.1 (safe_sound old.0 ready.intact.is_safe).size (g.layer new.0) b.bytes leads.fixed (leads.shows on ready) how),
+              (since-on below g.sound entry a.bytes since does stood.1 (well_formed_is_sound old.0 ready.intact.is_well_formed).size (g.layer new.0) b.bytes leads.fixed (leads.shows on ready) how),
         )
 
     -- what a stop in a call of a list shows
-    stops-of : (call : Call) (answer : Answer) (old new : Holding D St) (since : Since) → Makes g call answer old new → IsReady g old.drivers → StatesSize g old.drivers → StandsSince g since old.drivers
-        → Passes (IsLeftBy g call (moment old since)) (g.image old.drivers.0) (g.image new.drivers.0)
+    stops-of : (call : Call) (answer : Answer) (old new : ChainWithMapping D St) (since : Since) → CallOutcome g call answer old new → IsReady g old.drivers → StatesSize g old.drivers → HoldsSince g since old.drivers
+        → UnrefusedCrashImages (IsLeftBy g call (moment old since)) (g.image old.drivers.0) (g.image new.drivers.0)
     stops-of call answer old new since makes = stops-behind (GoesOn answer) (disk_call g old call) old.drivers new.drivers since makes.leads
 
     -- what stands behind it
-    pub stands-next : (call : Call) (answer : Answer) (old new : Holding D St) (since : Since) → Makes g call answer old new → IsKept g old → IsReady g old.drivers → GoesOn answer → StandsSince g since old.drivers
-        → StandsSince g (since_behind g call answer (moment old since) new) new.drivers
+    pub stands-next : (call : Call) (answer : Answer) (old new : ChainWithMapping D St) (since : Since) → CallOutcome g call answer old new → MappingIsPrepared g old → IsReady g old.drivers → GoesOn answer → HoldsSince g since old.drivers
+        → HoldsSince g (since_after g call answer (moment old since) new) new.drivers
     stands-next call answer old new since makes is_kept ready on stands exact tells keeps room =
         let next = stands-behind (GoesOn answer) (disk_call g old call) old.drivers new.drivers since makes.leads ready on stands exact tells keeps room in
         let below = map g.layer new.drivers.1 in
@@ -198,93 +198,93 @@ module _ {D St : Type 0} (g : Ghosts D St) where
           ],
         )
 
-    made-of : (call : Call) (answer : Answer) (old new : Holding D St) (since : Since) → Makes g call answer old new → IsKept g old → IsReady g old.drivers → StandsSince g since old.drivers
-        → Made g call answer (moment old since) (moment new (since_behind g call answer (moment old since) new))
+    made-of : (call : Call) (answer : Answer) (old new : ChainWithMapping D St) (since : Since) → CallOutcome g call answer old new → MappingIsPrepared g old → IsReady g old.drivers → HoldsSince g since old.drivers
+        → Made g call answer (moment old since) (moment new (since_after g call answer (moment old since) new))
     made-of call answer old new since makes is_kept ready stands = record {
       fits = makes.fits;
-      at_once = makes.at_once;
+      early_outcome = makes.early_outcome;
       idle = λ nothing. makes.idle nothing ready.usable.0;
       room = λ on. makes.room ready.intact on;
       units = λ may was. makes.units ready.intact may was;
-      marks = makes.marks;
-      moves = makes.moves (ready-rests g safe_sees call old.drivers ready);
-      stops = λ exact. stops-of call answer old new since makes ready exact stands;
-      later = makes.leads.later;
+      marks_failed = makes.marks_failed;
+      moves = makes.moves (ready-rests g well_formed_is_coherent call old.drivers ready);
+      crash_images = λ exact. stops-of call answer old new since makes ready exact stands;
+      counts_not_fallen = makes.leads.counts_not_fallen;
       since = refl;
-      files = (makes.leads.under ready.still).0;
+      files = (makes.leads.layers_below ready.has_no_dirty_data).0;
       below = λ on. makes.leads.below on ready;
       fixed = makes.leads.fixed;
-      kept = makes.kept is_kept;
-      calm = λ on. makes.leads.calm on ready;
-      surplus = λ on. makes.leads.surplus on ready;
+      mapping_prepared = makes.mapping_prepared is_kept;
+      no_change_refused = λ on. makes.leads.no_change_refused on ready;
+      excess_refcount = λ on. makes.leads.excess_refcount on ready;
       ready = λ on. makes.leads.ready on ready;
     }
 
     -- what a list of calls does, from the drivers before to those behind
-    pub record Ran (list : List Call) (answers : List Answer) (old new : Holding D St) (since : Since) : Type 0 where
+    pub record RangeChange (list : List Call) (answers : List Answer) (old new : ChainWithMapping D St) (since : Since) : Type 0 where
       pub last : Moment D St
       pub run : Run g list answers (moment old since) last
       pub from : IsLater (g.image old.drivers.0) (g.image last.now.drivers.0)
-      pub later : IsLater (g.image last.now.drivers.0) (g.image new.drivers.0)
-      pub calm : AllGoOn answers → IsFaultless (g.image old.drivers.0) (g.image new.drivers.0)
-      pub surplus : AllGoOn answers → KeepsSurplus g old.drivers.0 new.drivers.0
-      pub ends : AllGoOn answers → (last.now ≡ new) × IsReady g new.drivers × StandsSince g last.since new.drivers
+      pub counts_not_fallen : IsLater (g.image last.now.drivers.0) (g.image new.drivers.0)
+      pub no_change_refused : AllGoOn answers → IsFaultless (g.image old.drivers.0) (g.image new.drivers.0)
+      pub excess_refcount : AllGoOn answers → KeepsExcessRefcounts g old.drivers.0 new.drivers.0
+      pub ends : AllGoOn answers → (last.now ≡ new) × IsReady g new.drivers × HoldsSince g last.since new.drivers
 
-    ran-none : (old : Holding D St) (since : Since) → IsReady g old.drivers → StandsSince g since old.drivers → Ran [] [] old old since
+    ran-none : (old : ChainWithMapping D St) (since : Since) → IsReady g old.drivers → HoldsSince g since old.drivers → RangeChange [] [] old old since
     ran-none old since ready stands = record {
       last = moment old since;
       run = refl;
       from = is_later_same (g.image old.drivers.0);
-      later = is_later_same (g.image old.drivers.0);
-      calm = λ _. (refl, refl);
-      surplus = λ _ c. refl;
+      counts_not_fallen = is_later_same (g.image old.drivers.0);
+      no_change_refused = λ _. (refl, refl);
+      excess_refcount = λ _ c. refl;
       ends = λ _. (refl, ready, stands);
     }
 
-    pub ran-all : (list : List Call) (answers : List Answer) (old new : Holding D St) (since : Since) → AnswersAll g list answers old new → IsKept g old → IsReady g old.drivers → StandsSince g since old.drivers
-        → Ran list answers old new since
-    ran-all [] [] old new since same is_kept ready stands = subst (λ (h : Holding D St). Ran [] [] old h since) (sym same) (ran-none old since ready stands)
+    pub ran-all : (list : List Call) (answers : List Answer) (old new : ChainWithMapping D St) (since : Since) → AnswersAll g list answers old new → MappingIsPrepared g old → IsReady g old.drivers → HoldsSince g since old.drivers
+        → RangeChange list answers old new since
+    ran-all [] [] old new since same is_kept ready stands = subst (λ (h : ChainWithMapping D St). RangeChange [] [] old h since) (sym same) (ran-none old since ready stands)
     ran-all [] (answer ∷ answers) old new since all is_kept ready stands = absurd all
     ran-all (call ∷ list) [] old new since all is_kept ready stands = absurd all
     ran-all (call ∷ list) (answer ∷ answers) old new since all is_kept ready stands =
         let mid = all.0 in
-        let out = is_out_of_place (is_some old.kept) call in
-        elim (either-cases out ((answer ≡ told.Refused BadArgument) × (mid ≡ old)) (Makes g call answer old mid) all.1) [
+        let out = is_out_of_place (is_some old.kept_mapping) call in
+        elim (either-cases out ((answer ≡ told.Refused BadArgument) × (mid ≡ old)) (CallOutcome g call answer old mid) all.1) [
           | inl is ↦
-              let rest = ran-all list answers mid new since all.2 (subst (IsKept g) (sym is.1.1) is_kept) (subst (λ (h : Holding D St). IsReady g h.drivers) (sym is.1.1) ready) (subst (λ (h : Holding D St). StandsSince g since h.drivers) (sym is.1.1) stands) in
-              let goes : Goes g call answer (moment old since) (moment mid since) = either-true out ((answer ≡ told.Refused BadArgument) × (moment mid since ≡ moment old since)) (Made g call answer (moment old since) (moment mid since)) is.0 (is.1.0, ap (λ h. moment h since) is.1.1) in
+              let rest = ran-all list answers mid new since all.2 (subst (MappingIsPrepared g) (sym is.1.1) is_kept) (subst (λ (h : ChainWithMapping D St). IsReady g h.drivers) (sym is.1.1) ready) (subst (λ (h : ChainWithMapping D St). HoldsSince g since h.drivers) (sym is.1.1) stands) in
+              let goes : ListStep g call answer (moment old since) (moment mid since) = either-true out ((answer ≡ told.Refused BadArgument) × (moment mid since ≡ moment old since)) (Made g call answer (moment old since) (moment mid since)) is.0 (is.1.0, ap (λ h. moment h since) is.1.1) in
               record {
                 last = rest.last;
                 run = (moment mid since, goes, (λ _. rest.run), rest.from);
-                from = subst (λ (h : Holding D St). IsLater (g.image h.drivers.0) (g.image rest.last.now.drivers.0)) (is.1.1) rest.from;
-                later = rest.later;
-                calm = λ every. subst (λ (h : Holding D St). IsFaultless (g.image h.drivers.0) (g.image new.drivers.0)) (is.1.1) (rest.calm every.1);
-                surplus = λ every. subst (λ (h : Holding D St). KeepsSurplus g h.drivers.0 new.drivers.0) (is.1.1) (rest.surplus every.1);
+                from = subst (λ (h : ChainWithMapping D St). IsLater (g.image h.drivers.0) (g.image rest.last.now.drivers.0)) (is.1.1) rest.from;
+                counts_not_fallen = rest.counts_not_fallen;
+                no_change_refused = λ every. subst (λ (h : ChainWithMapping D St). IsFaultless (g.image h.drivers.0) (g.image new.drivers.0)) (is.1.1) (rest.no_change_refused every.1);
+                excess_refcount = λ every. subst (λ (h : ChainWithMapping D St). KeepsExcessRefcounts g h.drivers.0 new.drivers.0) (is.1.1) (rest.excess_refcount every.1);
                 ends = λ every. rest.ends every.1;
               }
           | inr is ↦
               let makes = is.1 in
-              let next = since_behind g call answer (moment old since) mid in
-              let goes : Goes g call answer (moment old since) (moment mid next) = either-false out ((answer ≡ told.Refused BadArgument) × (moment mid next ≡ moment old since)) (Made g call answer (moment old since) (moment mid next)) is.0 (made-of call answer old mid since makes is_kept ready stands) in
+              let next = since_after g call answer (moment old since) mid in
+              let goes : ListStep g call answer (moment old since) (moment mid next) = either-false out ((answer ≡ told.Refused BadArgument) × (moment mid next ≡ moment old since)) (Made g call answer (moment old since) (moment mid next)) is.0 (made-of call answer old mid since makes is_kept ready stands) in
               elim (goes-on-or answer) [
                 | inl on ↦
-                    let rest = ran-all list answers mid new next all.2 (makes.kept is_kept) (makes.leads.ready on ready) (stands-next call answer old mid since makes is_kept ready on stands) in
+                    let rest = ran-all list answers mid new next all.2 (makes.mapping_prepared is_kept) (makes.leads.ready on ready) (stands-next call answer old mid since makes is_kept ready on stands) in
                     record {
                       last = rest.last;
                       run = (moment mid next, goes, (λ _. rest.run), rest.from);
-                      from = is_later_both (g.image old.drivers.0) (g.image mid.drivers.0) (g.image rest.last.now.drivers.0) makes.leads.later rest.from;
-                      later = rest.later;
-                      calm = λ every. calm-both (g.image old.drivers.0) (g.image mid.drivers.0) (g.image new.drivers.0) (makes.leads.calm every.0 ready) (rest.calm every.1);
-                      surplus = λ every n. rest.surplus every.1 n ∙ makes.leads.surplus every.0 ready n;
+                      from = is_later_both (g.image old.drivers.0) (g.image mid.drivers.0) (g.image rest.last.now.drivers.0) makes.leads.counts_not_fallen rest.from;
+                      counts_not_fallen = rest.counts_not_fallen;
+                      no_change_refused = λ every. calm-both (g.image old.drivers.0) (g.image mid.drivers.0) (g.image new.drivers.0) (makes.leads.no_change_refused every.0 ready) (rest.no_change_refused every.1);
+                      excess_refcount = λ every n. rest.excess_refcount every.1 n ∙ makes.leads.excess_refcount every.0 ready n;
                       ends = λ every. rest.ends every.1;
                     }
                 | inr off ↦ record {
                   last = moment mid next;
                   run = (moment mid next, goes, (λ on. absurd (off on)), is_later_same (g.image mid.drivers.0));
-                  from = makes.leads.later;
-                  later = (going-all list answers mid new all.2).later;
-                  calm = λ every. absurd (off every.0);
-                  surplus = λ every. absurd (off every.0);
+                  from = makes.leads.counts_not_fallen;
+                  counts_not_fallen = (going-all list answers mid new all.2).counts_not_fallen;
+                  no_change_refused = λ every. absurd (off every.0);
+                  excess_refcount = λ every. absurd (off every.0);
                   ends = λ every. absurd (off every.0);
                 }
               ]

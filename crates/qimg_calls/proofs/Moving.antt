@@ -5,25 +5,25 @@ use Rattle.imago_storage.specs.State.{StorageState}
 use Rattle.imago_storage.specs.Steps.{done}
 use Rattle.imago_storage.specs.declared.fault.Fault.{Fault}
 use Rattle.imago_storage.specs.declared.fault.Fault.TheVariants.{Failed, Memory, MissingData, Storage}
-use Rattle.imago_access.specs.declared.seen.Seen.{Ghosts}
-use Rattle.imago_access.specs.ChainCalls.{ChainFails, ChainSteps, ChainStays, IfMild}
+use Rattle.imago_access.specs.declared.driver_model.DriverModel.{Ghosts}
+use Rattle.imago_access.specs.ChainCalls.{ChainFails, ChainSteps, ChainStays, UnlessResourceError}
 use Rattle.imago_access.specs.Failing.{Fails}
 use Rattle.imago_access.specs.Layer.{IsFree, Layer}
 use Rattle.imago_access.specs.Parts.{PlainCause}
-use Rattle.imago_access.specs.Refusals.{barrier}
+use Rattle.imago_access.specs.Refusals.{unusable_fault}
 use Rattle.imago_access.specs.Stops.{IsCounted, IsWritten}
-use Rattle.imago_access.specs.Files.{ImageCause, WasNotCutOff, files, files_of}
+use Rattle.imago_access.specs.Files.{ImageCause, HadNoResourceError, files, files_of}
 use Rattle.imago_access.proofs.ImageCauses.{failed_left}
 use Rattle.qimg_calls.specs.declared.call.Call.{Call}
 use Rattle.qimg_calls.specs.declared.call.Answer.TheVariants as told
 use Rattle.qimg_calls.specs.Calls.{Fits, GoesOn, IfRefused, WasDone, tells_something}
-use Rattle.qimg_calls.specs.Held.{Holding, disk_call}
+use Rattle.qimg_calls.specs.Held.{ChainWithMapping, disk_call}
 use Rattle.qimg_calls.specs.Making.{done_or_refused}
-use Rattle.qimg_calls.specs.Moves.{Moves, KeepsMapping, Names, Refuses, Leaves, TopStays}
+use Rattle.qimg_calls.specs.Moves.{CallEffect, KeepsMapping, Names, Refuses, Leaves, TopStays}
 use Rattle.qimg_calls.proofs.Leading.{whole-ok}
 
 -- an answer that goes on is that of a call that was not cut off
-pub not-cut : (result : Result Unit Fault) → GoesOn (done_or_refused result) → WasNotCutOff result
+pub not-cut : (result : Result Unit Fault) → GoesOn (done_or_refused result) → HadNoResourceError result
 not-cut (Ok unit) on = tt
 not-cut (Err fault) on = on
 
@@ -31,13 +31,13 @@ pub nothing-named : (result : Result Unit Fault) → OnOk result ⊤
 nothing-named (Ok unit) = tt
 nothing-named (Err fault) = tt
 
-pub told-moves : {D St : Type 0} (g : Ghosts D St) (call : Call) (result : Result Unit Fault) (old new : Holding D St)
+pub told-moves : {D St : Type 0} (g : Ghosts D St) (call : Call) (result : Result Unit Fault) (old new : ChainWithMapping D St)
     → KeepsMapping g call (done_or_refused result) old new
     → OnOk result (ChainSteps g (disk_call g old call) done old.drivers new.drivers) → OnOk result (Names g call told.Done old.drivers new.drivers)
-    → IfErr result (λ fault. Refuses g call fault old new) → IfMild result (Leaves g call old new)
-    → Moves g call (done_or_refused result) old new
+    → IfErr result (λ fault. Refuses g call fault old new) → UnlessResourceError result (Leaves g call old new)
+    → CallEffect g call (done_or_refused result) old new
 told-moves g call (Ok unit) old new keeps steps names refuses leaves = ((done, refl, steps, names), keeps)
-told-moves g call (Err fault) old new keeps steps names refuses leaves = (refuses, λ mild. (leaves mild, keeps))
+told-moves g call (Err fault) old new keeps steps names refuses leaves = (refuses, λ not_resource_error. (leaves not_resource_error, keeps))
 
 -- the answer of a call that tells nothing fits it
 pub told-fits : (call : Call) (result : Result Unit Fault) → IsFalse (tells_something call) → Fits call (done_or_refused result)
@@ -88,9 +88,9 @@ plainly-refused g old new (Err fault) why = top-failed g old new fault (plain-fa
 
 -- where the top can be used, a flush is refused for want of memory and for a fault of a storage alone
 pub refused-stays : {D St : Type 0} (g : Ghosts D St) (old new : D × List D) (olds news : List StorageState) (result : Result Unit Fault) → IfErr result (PlainCause (g.layer old.0) olds news)
-    → IfMild result (barrier (g.layer old.0) ≡ None → ChainStays g old new)
+    → UnlessResourceError result (unusable_fault (g.layer old.0) ≡ None → ChainStays g old new)
 refused-stays g old new olds news (Ok unit) why = tt
-refused-stays g old new olds news (Err fault) why = λ mild usable. absurd (cc (whole-ok {T = Unit} (g.layer old.0) olds news (Err fault) mild usable why))
+refused-stays g old new olds news (Err fault) why = λ not_resource_error usable. absurd (cc (whole-ok {T = Unit} (g.layer old.0) olds news (Err fault) not_resource_error usable why))
 
 pub flush-names : {D St : Type 0} (g : Ghosts D St) (old new : D × List D) (result : Result Unit Fault) → OnOk result (TopStays g old new)
     → (IsFree (g.layer old.0) → OnOk result (IsWritten g new.0)) → (IsFree (g.layer old.0) → OnOk result (IsCounted g new.0))
@@ -112,7 +112,7 @@ pub layer-stays : {D St : Type 0} (g : Ghosts D St) (old new : D × List D) → 
 layer-stays g old new below same = rw (below, same) (record { size = refl; value = λ p inside. refl; hold = λ p inside. refl })
 
 -- a refusal that leaves the layer leaves the disk
-pub same-stays : {D St : Type 0} (g : Ghosts D St) (old new : D × List D) (result : Result Unit Fault) → new.1 ≡ old.1 → IfMild result (TopStays g old new)
-    → IfMild result (TopStays g old new × ChainStays g old new)
+pub same-stays : {D St : Type 0} (g : Ghosts D St) (old new : D × List D) (result : Result Unit Fault) → new.1 ≡ old.1 → UnlessResourceError result (TopStays g old new)
+    → UnlessResourceError result (TopStays g old new × ChainStays g old new)
 same-stays g old new (Ok unit) below same = tt
-same-stays g old new (Err fault) below same = λ mild. (same mild, layer-stays g old new below (same mild))
+same-stays g old new (Err fault) below same = λ not_resource_error. (same not_resource_error, layer-stays g old new below (same not_resource_error))

@@ -7,8 +7,8 @@ use Rattle.imago_storage.specs.Disk.{Value, Disk}
 use Rattle.imago_storage.specs.Steps.{Step, Stays, Growth, grow, shrink, done}
 use Rattle.imago_storage.specs.declared.fault.Fault.{Fault}
 use Rattle.imago_storage.specs.declared.fault.Fault.TheVariants.{ReadOnly, MissingData, Failed}
-use Rattle.imago_access.specs.declared.seen.Seen.{Ghosts}
-use Rattle.imago_access.specs.ChainCalls.{IfMild}
+use Rattle.imago_access.specs.declared.driver_model.DriverModel.{Ghosts}
+use Rattle.imago_access.specs.ChainCalls.{UnlessResourceError}
 use Rattle.imago_access.specs.Layer.{Layer}
 use Rattle.imago_access.specs.ResizeCalls.{Resizes}
 use Rattle.qimg_calls.specs.Calls.{GoesOn}
@@ -35,29 +35,29 @@ below first second is = grind (arith, nat_tests)
 pub resize-refused : {D St : Type 0} (g : Ghosts D St) (first second : ℕ) (result : Result Unit Fault) (old new : D) (f : Fault) → Resizes g first second result old new
     → resize_refusal (g.layer old) (ltb second first) ≡ Some f → IsErrOf result f
 resize-refused g first second result old new f resizes = let layer = g.layer old in
-    refused-then layer.failed layer.fixed.missing (ltb second first) layer.fixed.writable result f resizes.at_once.refused (λ usable alters locked. (resizes.read_only usable (below first second alters) locked).0)
+    refused-then layer.failed layer.fixed.missing (ltb second first) layer.fixed.writable result f resizes.early_outcome.refused (λ usable alters locked. (resizes.read_only usable (below first second alters) locked).0)
 
 -- a disk that stays shows what it did
 pub stays-between : (gives : ℕ → Value → Type 0) (old new : Disk) → Stays old new → ValuesBetween gives old new
 stays-between gives old new stays p inside = let was : p < old.size = omega (arith, inside, stays.size) in inl (was, stays.value p was)
 
 pub grown-between : (under : ℕ → Value) (below : List Layer) (old new : Disk) (size : ℕ) (fill : Growth) (result : Result Unit Fault) → GoesOn (done_or_refused result)
-    → OnOk result (Step under old (grow size fill) done new) → IfMild result (Stays old new) → ValuesBetween (Begun below old (grow size fill)) old new
+    → OnOk result (Step under old (grow size fill) done new) → UnlessResourceError result (Stays old new) → ValuesBetween (Begun below old (grow size fill)) old new
 grown-between under below old new size fill (Ok unit) on step stays p inside = elim step [
   | inl same ↦ stays-between (Begun below old (grow size fill)) old new same.1 p inside
   | inr more ↦ elim (cases_lt p old.size) [
-    | inl lt ↦ inl (lt, more.1.kept p lt)
+    | inl lt ↦ inl (lt, more.1.prefix_unchanged p lt)
     | inr ge ↦ inr ge
   ]
 ]
 grown-between under below old new size fill (Err fault) on step stays p inside = stays-between (Begun below old (grow size fill)) old new (stays on) p inside
 
 pub shrunk-between : (under : ℕ → Value) (below : List Layer) (old new : Disk) (size : ℕ) (result : Result Unit Fault) → GoesOn (done_or_refused result)
-    → OnOk result (Step under old (shrink size) done new) → IfMild result (Stays old new) → ValuesBetween (Begun below old (shrink size)) old new
+    → OnOk result (Step under old (shrink size) done new) → UnlessResourceError result (Stays old new) → ValuesBetween (Begun below old (shrink size)) old new
 shrunk-between under below old new size (Ok unit) on step stays p inside = elim step [
   | inl same ↦ stays-between (Begun below old (shrink size)) old new same.1 p inside
   | inr less ↦ elim (cases_lt p old.size) [
-    | inl lt ↦ inl (lt, less.1.kept p (omega (arith, inside, less.1.new_size)))
+    | inl lt ↦ inl (lt, less.1.prefix_unchanged p (omega (arith, inside, less.1.new_size)))
     | inr ge ↦ absurd (less.0 (omega (arith, inside, less.1.new_size, ge)))
   ]
 ]

@@ -2,13 +2,13 @@
 use Rattle.std.proofs.Common.{◌≡◌, ◌⊎◌, inl, inr, ℕ, ◌<◌, List, arith, refl}
 use Rattle.std.specs.Prelude.{Bool, true, false, not, Option, Some, None, is_some, is_none, IsSome}
 use Rattle.imago_storage.specs.Disk.{Value, Disk, Hold, free, held}
-use Rattle.imago_storage.specs.Steps.{Step, Settles, commit, cancel, done}
+use Rattle.imago_storage.specs.Steps.{Step, CommitsValue, commit, cancel, done}
 use Rattle.imago_storage.specs.declared.fault.Fault.{Fault}
 use Rattle.imago_storage.specs.declared.fault.Fault.TheVariants.{Failed, Foreign, MissingData, ReadOnly}
-use Rattle.imago_access.specs.declared.seen.Seen.{Ghosts}
-use Rattle.imago_access.specs.Files.{IsMild}
+use Rattle.imago_access.specs.declared.driver_model.DriverModel.{Ghosts}
+use Rattle.imago_access.specs.Files.{IsNotResourceError}
 use Rattle.imago_access.specs.Spending.{GivenBack, IsMine, IsForeignTo, IsSpending, Spends}
-use Rattle.imago_access.specs.Refusals.{barrier}
+use Rattle.imago_access.specs.Refusals.{unusable_fault}
 use Rattle.imago_access.specs.Layer.{Layer, Held, loose, beside, inside, hold_of, IsFree}
 use Rattle.imago_access.specs.Stops.{MayTake as MayTakeHeld}
 use Rattle.qimg_calls.specs.Since.{Begun, MayTake}
@@ -26,7 +26,7 @@ held-gives (inside copied None false) v gave = absurd gave
 held-gives (beside b) v gave = absurd gave
 held-gives loose v gave = absurd gave
 
-settled : (h : Hold) (was is : Value) → Settles h was is → (is ≡ was) ⊎ MayTake h is
+settled : (h : Hold) (was is : Value) → CommitsValue h was is → (is ≡ was) ⊎ MayTake h is
 settled free was is same = inl same
 settled (held (Some b) announced) was is byte = inr byte
 settled (held None true) was is (inl same) = inl same
@@ -51,17 +51,17 @@ free-then g None old new some none was = rw (none refl) (was refl)
 free-then g (Some s) old new some none was = some refl
 
 -- a commit that has spent its mapping isn't refused mildly, where the image is safe
-pub not-spent : {D St : Type 0} (g : Ghosts D St) (state : Option St) (old new : Layer) (safe : Type 0) (fault : Fault) → IsMine g state old → safe → IsMild fault
-    → IsSome state → Spends g state old new (IsFree new × (safe → IsMild fault → ⊥)) → ⊥
-not-spent g None old new safe fault mine is mild some spends = absurd (cc some)
-not-spent g (Some s) old new safe fault mine is mild some spends = (spends.1 mine.1).1 is mild
+pub not-spent : {D St : Type 0} (g : Ghosts D St) (state : Option St) (old new : Layer) (well_formed : Type 0) (fault : Fault) → IsMine g state old → well_formed → IsNotResourceError fault
+    → IsSome state → Spends g state old new (IsFree new × (well_formed → IsNotResourceError fault → ⊥)) → ⊥
+not-spent g None old new well_formed fault mine is not_resource_error some spends = absurd (cc some)
+not-spent g (Some s) old new well_formed fault mine is not_resource_error some spends = (spends.1 mine.1).1 is not_resource_error
 
 pub spent-free : {D St : Type 0} (g : Ghosts D St) (state : Option St) (old new : Layer) (P : Type 0) → IsMine g state old → IsSome state → Spends g state old new (IsFree new × P) → IsFree new
 spent-free g None old new P mine some spends = absurd (cc some)
 spent-free g (Some s) old new P mine some spends = (spends.1 mine.1).0
 
 -- a mapping without state isn't given back by a layer that can be used
-pub not-given-back : {S : Type 0} (tag : S → ℕ) (state : Option S) (layer : Layer) (fault : Fault) → state ≡ None → barrier layer ≡ None → GivenBack tag state layer fault → ⊥
+pub not-given-back : {S : Type 0} (tag : S → ℕ) (state : Option S) (layer : Layer) (fault : Fault) → state ≡ None → unusable_fault layer ≡ None → GivenBack tag state layer fault → ⊥
 not-given-back tag None layer Failed none usable back = absurd (cc (back, usable))
 not-given-back tag None layer MissingData none usable back = absurd (cc (back, usable))
 not-given-back tag None layer fault none usable back = back

@@ -4,19 +4,19 @@ use Rattle.std.specs.Prelude.{◌∷◌, Result, map}
 use Rattle.imago_storage.specs.Disk.{Value, byte}
 use Rattle.imago_storage.specs.Steps.{write}
 use Rattle.imago_storage.specs.declared.fault.Fault.{Fault}
-use Rattle.imago_access.specs.declared.seen.Seen.{Ghosts}
+use Rattle.imago_access.specs.declared.driver_model.DriverModel.{Ghosts}
 use Rattle.imago_access.specs.Chain.{at, Each}
-use Rattle.imago_access.specs.Files.{WasNotCutOff}
+use Rattle.imago_access.specs.Files.{HadNoResourceError}
 use Rattle.imago_access.specs.Layers.{chain}
-use Rattle.imago_access.specs.Running.{RanChain, chain_disk}
+use Rattle.imago_access.specs.Running.{ChainRangeChange, chain_disk}
 use Rattle.imago_access.specs.Stops.{GivesBytes, IsCovered, Left}
 use Rattle.imago_access.proofs.Stopping.{left_weaker, passes_weaker}
-use Rattle.qimg_calls.specs.Flattening.{AreBytesOf, Chains, GivesRead, StandsBehind}
+use Rattle.qimg_calls.specs.Flattening.{AreBytesOf, Chains, GivesRead, HoldsAfter}
 use Rattle.qimg_calls.proofs.Leading.{ran-leads}
 use Rattle.qimg_calls.proofs.Lists.{stands-behind}
 
 -- what a copy gives at a place of the disk, a write of the source's bytes gives
-gives_written : {D St : Type 0} (g : Ghosts D St) (source : D × List D) (bytes : List ℕ) → Each g.sees (chain source) → AreBytesOf (chain_disk g.layer source) bytes
+gives_written : {D St : Type 0} (g : Ghosts D St) (source : D × List D) (bytes : List ℕ) → Each g.coherent (chain source) → AreBytesOf (chain_disk g.layer source) bytes
     → (p : ℕ) (v : Value) → p < (g.layer source.0).size → GivesRead g source p v → GivesBytes 0 bytes p v
 gives_written g source bytes see are p v inside gave =
     let b = gave.0.0 in
@@ -25,27 +25,27 @@ gives_written g source bytes see are p v inside gave =
 
 -- a call of the chain gives no more than what is given at places of its disk
 ran_inside : {D St : Type 0} (g : Ghosts D St) (whole : Type 0) (gives more : ℕ → Value → Type 0) (old new : D × List D) → ((p : ℕ) (v : Value) → p < (g.layer old.0).size → gives p v → more p v)
-    → RanChain g whole gives old new → RanChain g whole more old new
+    → ChainRangeChange g whole gives old new → ChainRangeChange g whole more old new
 ran_inside g whole gives more old new weaker ran =
     let below = map g.layer old.1 in
     let layer = g.layer old.0 in
     let file = (g.image old.0).bytes in
     record {
       size = ran.size;
-      went = ran.went;
-      looked = ran.looked;
+      mutating_call = ran.mutating_call;
+      lookup_call = ran.lookup_call;
       intact = ran.intact;
       values = λ w i p inside. elim (ran.values w i p inside) [ inl same ↦ inl same | inr gave ↦ inr (weaker p (at (g.layer new.0 ∷ below) p) inside gave) ];
-      stops = λ i. passes_weaker (Left below layer file g.sound layer.size layer.size gives) (Left below layer file g.sound layer.size layer.size more) (g.image old.0) (g.image new.0)
-          (left_weaker below g.sound layer file layer.size layer.size gives more (λ p v inside gave. inr (inr (weaker p v inside gave)))) (ran.stops i);
+      crash_images = λ i. passes_weaker (Left below layer file g.sound layer.size layer.size gives) (Left below layer file g.sound layer.size layer.size more) (g.image old.0) (g.image new.0)
+          (left_weaker below g.sound layer file layer.size layer.size gives more (λ p v inside gave. inr (inr (weaker p v inside gave)))) (ran.crash_images i);
     }
 
-pub copy_stands : {S P T Q : Type 0} (g : Ghosts S P) (h : Ghosts T Q) (safe_sees : (d : T) → h.safe d → h.sees d)
-    (safe_sound : (d : T) → h.safe d → IsCovered (h.layer d) h.sound (h.image d).bytes) (safe_runs : (d : T) → h.safe d → (h.layer d).failed ≡ false)
-    (result : Result Unit Fault) (old : Chains S T) (new : T × List T) → (h.layer old.1.0).size ≡ (g.layer old.0.0).size → RanChain h (WasNotCutOff result) (GivesRead g old.0) old.1 new
-    → StandsBehind g h result old new
-copy_stands g h safe_sees safe_sound safe_runs result old new as_long ran since bytes see are ready stands whole =
-    let written = ran_inside h (WasNotCutOff result) (GivesRead g old.0) (GivesBytes 0 bytes) old.1 new
+pub copy_stands : {S P T Q : Type 0} (g : Ghosts S P) (h : Ghosts T Q) (well_formed_is_coherent : (d : T) → h.well_formed d → h.coherent d)
+    (well_formed_is_sound : (d : T) → h.well_formed d → IsCovered (h.layer d) h.sound (h.image d).bytes) (well_formed_is_usable : (d : T) → h.well_formed d → (h.layer d).failed ≡ false)
+    (result : Result Unit Fault) (old : Chains S T) (new : T × List T) → (h.layer old.1.0).size ≡ (g.layer old.0.0).size → ChainRangeChange h (HadNoResourceError result) (GivesRead g old.0) old.1 new
+    → HoldsAfter g h result old new
+copy_stands g h well_formed_is_coherent well_formed_is_sound well_formed_is_usable result old new as_long ran since bytes see are ready stands whole =
+    let written = ran_inside h (HadNoResourceError result) (GivesRead g old.0) (GivesBytes 0 bytes) old.1 new
     (λ p v inside gave. gives_written g old.0 bytes see are p v (omega (arith, inside, as_long)) gave) ran in
-    let leads = ran-leads h old.1 new (WasNotCutOff result) (WasNotCutOff result) (write 0 bytes) safe_runs (GivesBytes 0 bytes) written (λ w i. w) (λ p v gave. gave) (omega arith) in
-    (leads.ready whole ready, stands-behind h safe_sees safe_sound (WasNotCutOff result) (write 0 bytes) old.1 new since leads ready whole stands)
+    let leads = ran-leads h old.1 new (HadNoResourceError result) (HadNoResourceError result) (write 0 bytes) well_formed_is_usable (GivesBytes 0 bytes) written (λ w i. w) (λ p v gave. gave) (omega arith) in
+    (leads.ready whole ready, stands-behind h well_formed_is_coherent well_formed_is_sound (HadNoResourceError result) (write 0 bytes) old.1 new since leads ready whole stands)

@@ -2,7 +2,7 @@
 use Rattle.std.specs.Prelude.{⊤, Bool, false, true, not, ◌&&◌, IsFalse, Option, Some, None}
 use Rattle.imago_storage.specs.declared.fault.Fault.{Fault}
 use Rattle.imago_storage.specs.Steps.{Answer as DiskAnswer, done, bytes_read, run, found, prepared}
-use Rattle.imago_access.specs.Files.{IsMild}
+use Rattle.imago_access.specs.Files.{IsNotResourceError}
 use Rattle.imago_access.specs.Kinds.{kind_of, deep_kind_of}
 use Rattle.qimg_calls.specs.declared.call.Call.{Call}
 use Rattle.qimg_calls.specs.declared.call.Call.TheVariants as calls
@@ -69,7 +69,7 @@ said call answer = None
 
 -- neither want of memory nor a storage that failed cut it off
 abbrev pub GoesOn : Answer → Type 0
-GoesOn (told.Refused fault) = IsMild fault
+GoesOn (told.Refused fault) = IsNotResourceError fault
 GoesOn answer = ⊤
 
 -- it wasn't refused

@@ -3,18 +3,18 @@ use Rattle.std.specs.Prelude.{◌≡◌, ◌⊎◌, ⊤, ℕ, ◌*◌, ◌-◌, 
 use Rattle.imago_storage.specs.Disk.{Value, byte, Disk, Shows}
 use Rattle.imago_storage.specs.Steps.{IsIn, IsOut, write}
 use Rattle.imago_storage.specs.declared.fault.Fault.{Fault}
-use Rattle.imago_access.specs.declared.seen.Seen.{Ghosts}
-use Rattle.imago_access.specs.Layer.{IsLike}
+use Rattle.imago_access.specs.declared.driver_model.DriverModel.{Ghosts}
+use Rattle.imago_access.specs.Layer.{KeepsLayerState}
 use Rattle.imago_access.specs.Layers.{chain}
 use Rattle.imago_access.specs.Chain.{at, Each, unit_of_chain}
-use Rattle.imago_access.specs.ChainCalls.{ChainFails, IfMild, OwnCause, TakesNear}
-use Rattle.imago_access.specs.Files.{IsMild, Pairs, WasNotCutOff, files_of}
-use Rattle.imago_access.specs.Going.{Looked, MarksSome}
-use Rattle.imago_access.specs.Refusals.{barrier, ReadCause}
-use Rattle.imago_access.specs.RunCalls.{MarksTop}
-use Rattle.imago_access.specs.Running.{RanChain, IsIntactChain, below_ghosts, chain_disk}
+use Rattle.imago_access.specs.ChainCalls.{ChainFails, UnlessResourceError, OwnCause, TakesNear}
+use Rattle.imago_access.specs.Files.{IsNotResourceError, Pairs, HadNoResourceError, files_of}
+use Rattle.imago_access.specs.Going.{LookupCall, MarksSomeFailed}
+use Rattle.imago_access.specs.Refusals.{unusable_fault, ReadCause}
+use Rattle.imago_access.specs.RunCalls.{MarksTopFailed}
+use Rattle.imago_access.specs.Running.{ChainRangeChange, IsIntactChain, below_ghosts, chain_disk}
 use Rattle.qimg_calls.specs.Held.{IsReady}
-use Rattle.qimg_calls.specs.Runs.{StandsSince}
+use Rattle.qimg_calls.specs.Runs.{HoldsSince}
 use Rattle.qimg_calls.specs.Since.{Since, begun}
 
 -- the drivers of two chains: of a source, and of a target
@@ -23,7 +23,7 @@ Chains S T = (S × List S) × (T × List T)
 
 -- Lookups in the source are true, and the target is as promises on its values rest on.
 pub record IsSoundPair {S P T Q : Type 0} (g : Ghosts S P) (h : Ghosts T Q) (chains : Chains S T) : Type 0 where
-  pub source : Each g.sees (chain chains.0)
+  pub source : Each g.coherent (chain chains.0)
   pub target : IsIntactChain h chains.1
 
 -- it is a byte, and no place that can't be read
@@ -32,13 +32,13 @@ HasByte v = (b : ℕ) × (v ≡ byte b)
 
 -- What a copy of so many bytes takes: both chains can be used, and the target was opened for writing if there is anything to write.
 pub record MayCopy {S P T Q : Type 0} (g : Ghosts S P) (h : Ghosts T Q) (n : ℕ) (chains : Chains S T) : Type 0 where
-  pub source : barrier (g.layer chains.0.0) ≡ None
-  pub target : barrier (h.layer chains.1.0) ≡ None
+  pub source : unusable_fault (g.layer chains.0.0) ≡ None
+  pub target : unusable_fault (h.layer chains.1.0) ≡ None
   pub writable : 0 < n → IsTrue (h.layer chains.1.0).fixed.writable
 
 -- what a copy may give at a place: a byte, which is the source's where lookups in the source are true
 abbrev pub GivesRead : {D St : Type 0} → Ghosts D St → D × List D → ℕ → Value → Type 0
-GivesRead g source p v = HasByte v × (Each g.sees (chain source) → v ≡ (chain_disk g.layer source).value p)
+GivesRead g source p v = HasByte v × (Each g.coherent (chain source) → v ≡ (chain_disk g.layer source).value p)
 
 -- The places of a range have a byte in the source, which the target shows now, and every other place of the target shows what it did.
 pub record IsRangeCopied (source old new : Disk) (offset n : ℕ) : Type 0 where
@@ -67,14 +67,14 @@ CopiesDisk g h old new = ((h.layer old.1.0).size ≡ (g.layer old.0.0).size) × 
 -- A read of the source was refused, of every image; nothing has cut the target off.
 pub record SourceFails {S P T Q : Type 0} (g : Ghosts S P) (h : Ghosts T Q) (old new : Chains S T) (fault : Fault) : Type 0 where
   pub cause : ChainFails g old.0 new.0 fault
-  pub marks : MarksSome g (chain old.0) (chain new.0) fault
-  pub target : RanChain h ⊤ (GivesRead g old.0) old.1 new.1
+  pub marks_failed : MarksSomeFailed g (chain old.0) (chain new.0) fault
+  pub target : ChainRangeChange h ⊤ (GivesRead g old.0) old.1 new.1
 
 -- A write of the target was refused, of every image; nothing has cut the source off.
 pub record TargetFails {S P T Q : Type 0} (g : Ghosts S P) (h : Ghosts T Q) (old new : Chains S T) (fault : Fault) : Type 0 where
   pub cause : ChainFails h old.1 new.1 fault
-  pub marks : MarksTop h (below_ghosts h) old.1 new.1 fault
-  pub source : Pairs (Looked g ⊤) (chain old.0) (chain new.0)
+  pub marks_failed : MarksTopFailed h (below_ghosts h) old.1 new.1 fault
+  pub source : Pairs (LookupCall g ⊤) (chain old.0) (chain new.0)
 
 abbrev pub CopyFails : {S P T Q : Type 0} → Ghosts S P → Ghosts T Q → Chains S T → Chains S T → Fault → Type 0
 CopyFails g h old new fault = SourceFails g h old new fault ⊎ TargetFails g h old new fault
@@ -83,9 +83,9 @@ CopyFails g h old new fault = SourceFails g h old new fault ⊎ TargetFails g h 
 -- that ends well has given all of the range.
 pub record Copies {S P T Q : Type 0} (g : Ghosts S P) (h : Ghosts T Q) (offset n : ℕ) (result : Result Unit Fault)
     (old new : Chains S T) : Type 0 where
-  pub source : Pairs (Looked g (WasNotCutOff result)) (chain old.0) (chain new.0)
-  pub ran : RanChain h (WasNotCutOff result) (GivesRead g old.0) old.1 new.1
-  pub like : IsLike (h.layer old.1.0) (h.layer new.1.0)
+  pub source : Pairs (LookupCall g (HadNoResourceError result)) (chain old.0) (chain new.0)
+  pub range_change : ChainRangeChange h (HadNoResourceError result) (GivesRead g old.0) old.1 new.1
+  pub keeps_layer_state : KeepsLayerState (h.layer old.1.0) (h.layer new.1.0)
   pub room : TakesNear h offset n result old.1 new.1
   pub copied : IsSoundPair g h old → OnOk result (CopiesRange g h offset n old new.1)
   pub failed : IfErr result (CopyFails g h old new)
@@ -110,8 +110,8 @@ abbrev pub PieceRefused : {S P T Q : Type 0} → Ghosts S P → Ghosts T Q → �
 PieceRefused g h offset n result old new = IsSoundPair g h old → IfErr result (PieceCause g h offset n old new)
 
 -- a piece that is refused, and not cut off, is copied in part
-abbrev pub PieceStops : {S P T Q : Type 0} → Ghosts S P → Ghosts T Q → ℕ → ℕ → Result Unit Fault → Chains S T → T × List T → Type 0
-PieceStops g h offset n result old new = IsSoundPair g h old → IfMild result (CopiesInPart g h offset n old new)
+abbrev pub PieceCrashImages : {S P T Q : Type 0} → Ghosts S P → Ghosts T Q → ℕ → ℕ → Result Unit Fault → Chains S T → T × List T → Type 0
+PieceCrashImages g h offset n result old new = IsSoundPair g h old → UnlessResourceError result (CopiesInPart g h offset n old new)
 
 -- a piece of a disk: from a multiple of 65,536 bytes on so many bytes, or those up to the disk's end
 pub record IsPiece (size offset n : ℕ) : Type 0 where
@@ -129,7 +129,7 @@ pub record CopyCause {S P T Q : Type 0} (g : Ghosts S P) (h : Ghosts T Q) (old n
   pub mid : Chains S T
   pub before : Copies g h 0 offset (Ok tt) old mid
   pub cause : PieceCause g h offset n mid new fault
-  pub rest : IsMild fault → CopiesInPart g h offset n mid new.1
+  pub copied_in_part : IsNotResourceError fault → CopiesInPart g h offset n mid new.1
 
 abbrev pub CopyRefused : {S P T Q : Type 0} → Ghosts S P → Ghosts T Q → Result Unit Fault → Chains S T → Chains S T → Type 0
 CopyRefused g h result old new = IsSoundPair g h old → IfErr result (CopyCause g h old new)
@@ -141,7 +141,7 @@ pub record AreBytesOf (disk : Disk) (bytes : List ℕ) : Type 0 where
 
 -- What stands behind a copy that wasn't cut off: the target is as promises on calls rest on, and shows what it may since the last flush,
 -- as if a write of the source's bytes had begun.
-abbrev pub StandsBehind : {S P T Q : Type 0} → Ghosts S P → Ghosts T Q → Result Unit Fault → Chains S T → T × List T → Type 0
-StandsBehind g h result old new = (since : Since) (bytes : List ℕ) → Each g.sees (chain old.0)
-    → AreBytesOf (chain_disk g.layer old.0) bytes → IsReady h old.1 → StandsSince h since old.1 → WasNotCutOff result
-    → IsReady h new × StandsSince h (begun since (chain_disk h.layer old.1) (write 0 bytes)) new
+abbrev pub HoldsAfter : {S P T Q : Type 0} → Ghosts S P → Ghosts T Q → Result Unit Fault → Chains S T → T × List T → Type 0
+HoldsAfter g h result old new = (since : Since) (bytes : List ℕ) → Each g.coherent (chain old.0)
+    → AreBytesOf (chain_disk g.layer old.0) bytes → IsReady h old.1 → HoldsSince h since old.1 → HadNoResourceError result
+    → IsReady h new × HoldsSince h (begun since (chain_disk h.layer old.1) (write 0 bytes)) new

@@ -1,13 +1,13 @@
 -- A chain with the mapping that is kept, and what calls of it rest on.
 use Rattle.std.specs.Prelude.{◌≡◌, ◌+◌, ◌<◌, ◌^◌, List, length, map, Option, Some, None, is_some}
 use Rattle.imago_storage.specs.Steps.{Call as DiskCall, read, write, write_zeroes, discard_to_zero, discard_to_any, discard_to_backing, prepare, cancel, ensure, write_mapped, lookup, flush, sync, grow, shrink}
-use Rattle.imago_access.specs.declared.seen.Seen.{Ghosts}
+use Rattle.imago_access.specs.declared.driver_model.DriverModel.{Ghosts}
 use Rattle.imago_access.specs.declared.mapping.PreparedDataMapping.{PreparedDataMapping}
 use Rattle.imago_access.specs.Layer.{IsFree}
 use Rattle.imago_access.specs.Layers.{chain}
 use Rattle.imago_access.specs.Chain.{Each}
 use Rattle.imago_access.specs.ChainCalls.{commit_of}
-use Rattle.imago_access.specs.Refusals.{barrier}
+use Rattle.imago_access.specs.Refusals.{unusable_fault}
 use Rattle.imago_access.specs.Resizes.{fill_of}
 use Rattle.imago_access.specs.Running.{IsIntactChain}
 use Rattle.imago_access.specs.Spending.{IsMine, is_own}
@@ -15,12 +15,12 @@ use Rattle.qimg_calls.specs.declared.call.Call.{Call}
 use Rattle.qimg_calls.specs.declared.call.Call.TheVariants as calls
 
 -- the drivers of a chain, the top first, and the mapping that is prepared in it and not yet spent, if one is kept
-pub record Holding (D St : Type 0) : Type 0 where
+pub record ChainWithMapping (D St : Type 0) : Type 0 where
   pub drivers : D × List D
-  pub kept : Option (PreparedDataMapping St)
+  pub kept_mapping : Option (PreparedDataMapping St)
 
-abbrev pub holding : {D St : Type 0} → D × List D → Option (PreparedDataMapping St) → Holding D St
-holding drivers kept = record { drivers = drivers; kept = kept }
+abbrev pub chain_with_mapping : {D St : Type 0} → D × List D → Option (PreparedDataMapping St) → ChainWithMapping D St
+chain_with_mapping drivers kept = record { drivers = drivers; kept_mapping = kept }
 
 -- the state of the mapping that is kept, if one is and has state
 abbrev pub state_of : {St : Type 0} → Option (PreparedDataMapping St) → Option St
@@ -28,19 +28,19 @@ state_of None = None
 state_of (Some m) = m.state
 
 -- the mapping that is kept is the one that the top driver has prepared, and where none is kept that has state none is
-pub record IsKept {D St : Type 0} (g : Ghosts D St) (h : Holding D St) : Type 0 where
-  pub mine : IsMine g (state_of h.kept) (g.layer h.drivers.0)
-  pub free : state_of h.kept ≡ None → IsFree (g.layer h.drivers.0)
+pub record MappingIsPrepared {D St : Type 0} (g : Ghosts D St) (h : ChainWithMapping D St) : Type 0 where
+  pub mine : IsMine g (state_of h.kept_mapping) (g.layer h.drivers.0)
+  pub free : state_of h.kept_mapping ≡ None → IsFree (g.layer h.drivers.0)
 
 -- What promises on values and on stops rest on: the chain is intact, each of its layers can be used, and nothing waits below the top.
 pub record IsReady {D St : Type 0} (g : Ghosts D St) (c : D × List D) : Type 0 where
   pub intact : IsIntactChain g c
-  pub usable : Each (λ l. barrier l ≡ None) (map g.layer (chain c))
-  pub still : Each g.still c.1
-  pub few : length (map g.layer c.1) + 1 < 2 ^ 64
+  pub usable : Each (λ l. unusable_fault l ≡ None) (map g.layer (chain c))
+  pub has_no_dirty_data : Each g.has_no_dirty_data c.1
+  pub layers_bounded : length (map g.layer c.1) + 1 < 2 ^ 64
 
 -- the call as one of the disk
-abbrev pub disk_call : {D St : Type 0} → Ghosts D St → Holding D St → Call → DiskCall
+abbrev pub disk_call : {D St : Type 0} → Ghosts D St → ChainWithMapping D St → Call → DiskCall
 disk_call g h (calls.Read offset n) = read offset n
 disk_call g h (calls.Write offset bytes) = write offset bytes.items
 disk_call g h (calls.WriteZeroes offset n) = write_zeroes offset n
@@ -48,8 +48,8 @@ disk_call g h (calls.DiscardToZero offset n) = discard_to_zero offset n
 disk_call g h (calls.DiscardToAny offset n) = discard_to_any offset n
 disk_call g h (calls.DiscardToBacking offset n) = discard_to_backing offset n
 disk_call g h (calls.PrepareDataMapping offset n overwrite) = prepare offset n overwrite
-disk_call g h calls.CommitDataMapping = commit_of g (state_of h.kept) h.drivers
-disk_call g h calls.Cancel = cancel (is_some (state_of h.kept)) (is_own g.tag (state_of h.kept) (g.layer h.drivers.0))
+disk_call g h calls.CommitDataMapping = commit_of g (state_of h.kept_mapping) h.drivers
+disk_call g h calls.Cancel = cancel (is_some (state_of h.kept_mapping)) (is_own g.tag (state_of h.kept_mapping) (g.layer h.drivers.0))
 disk_call g h (calls.EnsureDataMapping offset n overwrite) = ensure offset n overwrite
 disk_call g h (calls.WriteMapped guest place bytes) = write_mapped guest bytes.items
 disk_call g h (calls.GetMapping offset n) = lookup offset n

@@ -3,13 +3,13 @@ use Rattle.std.specs.Prelude.{◌≡◌, ◌⊎◌, ℕ, ◌<◌, List, ◌∷�
 use Rattle.imago_storage.specs.Calls.{IsFaultless}
 use Rattle.imago_storage.specs.Disk.{Value}
 use Rattle.imago_storage.specs.Steps.{Call}
-use Rattle.imago_access.specs.declared.seen.Seen.{Ghosts}
+use Rattle.imago_access.specs.declared.driver_model.DriverModel.{Ghosts}
 use Rattle.imago_access.specs.Layer.{Layer}
 use Rattle.imago_access.specs.Chain.{at, Each}
-use Rattle.imago_access.specs.Files.{Pairs, IsKept as IsKeptFile, IsLater, files_of}
+use Rattle.imago_access.specs.Files.{Pairs, UnchangedButMoreFaults as IsKeptFile, IsLater, files_of}
 use Rattle.imago_access.specs.Running.{chain_disk}
-use Rattle.imago_access.specs.Stops.{KeepsStopsTo}
-use Rattle.imago_access.specs.Going.{KeepsSurplus}
+use Rattle.imago_access.specs.Stops.{KeepsCrashImagesTo}
+use Rattle.imago_access.specs.Going.{KeepsExcessRefcounts}
 use Rattle.qimg_calls.specs.Since.{Begun, most_size}
 use Rattle.qimg_calls.specs.Held.{IsReady}
 
@@ -19,16 +19,16 @@ ShowsBetween gives below old new = (p : ℕ) → p < new.size
     → ((p < old.size) × (at (new ∷ below) p ≡ at (old ∷ below) p)) ⊎ gives p (at (new ∷ below) p)
 
 -- What a call of a chain leaves, where `whole` says that it was not cut off by want of memory or by a storage that failed.
-pub record Leads {D St : Type 0} (g : Ghosts D St) (whole : Type 0) (call : Call) (old new : D × List D) : Type 0 where
+pub record LeavesForNext {D St : Type 0} (g : Ghosts D St) (whole : Type 0) (call : Call) (old new : D × List D) : Type 0 where
   pub fixed : (g.layer new.0).fixed ≡ (g.layer old.0).fixed
-  pub later : IsLater (g.image old.0) (g.image new.0)
-  pub calm : whole → IsReady g old → IsFaultless (g.image old.0) (g.image new.0)
-  pub surplus : whole → IsReady g old → KeepsSurplus g old.0 new.0
+  pub counts_not_fallen : IsLater (g.image old.0) (g.image new.0)
+  pub no_change_refused : whole → IsReady g old → IsFaultless (g.image old.0) (g.image new.0)
+  pub excess_refcount : whole → IsReady g old → KeepsExcessRefcounts g old.0 new.0
   -- no file below changes
-  pub under : Each g.still old.1 → Pairs IsKeptFile (files_of g old.1) (files_of g new.1) × Each g.still new.1
+  pub layers_below : Each g.has_no_dirty_data old.1 → Pairs IsKeptFile (files_of g old.1) (files_of g new.1) × Each g.has_no_dirty_data new.1
   pub below : whole → IsReady g old → map g.layer new.1 ≡ map g.layer old.1
   pub ready : whole → IsReady g old → IsReady g new
   pub shows : whole → IsReady g old
       → ShowsBetween (Begun (map g.layer old.1) (chain_disk g.layer old) call) (map g.layer old.1) (g.layer old.0) (g.layer new.0)
-  pub stops : IsReady g old → KeepsStopsTo g (map g.layer old.1) 0 (most_size (chain_disk g.layer old) call)
+  pub crash_images : IsReady g old → KeepsCrashImagesTo g (map g.layer old.1) 0 (most_size (chain_disk g.layer old) call)
       (Begun (map g.layer old.1) (chain_disk g.layer old) call) old.0 new.0

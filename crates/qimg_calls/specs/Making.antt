@@ -2,40 +2,40 @@
 use Rattle.std.specs.Prelude.{◌≡◌, List, [], ◌∷◌, is_some, IsFalse, Option, Some, None, MatchOption, Result, Ok, Err}
 use Rattle.imago_storage.specs.declared.fault.Fault.{Fault}
 use Rattle.imago_storage.specs.declared.fault.Fault.TheVariants.{BadArgument}
-use Rattle.imago_access.specs.declared.seen.Seen.{Ghosts}
+use Rattle.imago_access.specs.declared.driver_model.DriverModel.{Ghosts}
 use Rattle.imago_access.specs.declared.mapping.PreparedDataMapping.{PreparedDataMapping}
 use Rattle.imago_access.specs.ChainCalls.{ChainFails, WontDecline}
-use Rattle.imago_access.specs.Refusals.{barrier}
+use Rattle.imago_access.specs.Refusals.{unusable_fault}
 use Rattle.imago_access.specs.Running.{IsIntactChain}
 use Rattle.qimg_calls.specs.declared.call.Call.{Call}
 use Rattle.qimg_calls.specs.declared.call.Call.TheVariants as calls
 use Rattle.qimg_calls.specs.declared.call.Answer.{Answer}
 use Rattle.qimg_calls.specs.declared.call.Answer.TheVariants as told
 use Rattle.qimg_calls.specs.Calls.{Either, Fits, GoesOn, IfRefused, WasDone, is_of_mapping, is_out_of_place}
-use Rattle.qimg_calls.specs.Held.{Holding, holding, IsKept, disk_call}
-use Rattle.qimg_calls.specs.Leading.{Leads}
-use Rattle.qimg_calls.specs.Marking.{MarksRefused}
-use Rattle.qimg_calls.specs.Moves.{IsIdle, Moves, RestsOn, refusal_at_once}
+use Rattle.qimg_calls.specs.Held.{ChainWithMapping, chain_with_mapping, MappingIsPrepared, disk_call}
+use Rattle.qimg_calls.specs.Leading.{LeavesForNext}
+use Rattle.qimg_calls.specs.Marking.{MarksRefusedFailed}
+use Rattle.qimg_calls.specs.Moves.{IsIdle, CallEffect, RestsOn, refusal_at_once}
 use Rattle.qimg_calls.specs.RoomTaken.{LeavesRoomFor, SettlesUnits}
 
 -- The answer fits the call, which is refused at once where it has to be and done where it has nothing to do, moves the disk, takes and
 -- gives up room as it may, marks an image that failed, and leaves what the next one rests on; and what is kept is still the mapping that
 -- is prepared. Over every chain, sound or not, it is refused by a number that calls of images answer, and for a storage's fault only where
 -- one has failed. A mapping is always given up.
-pub record Makes {D St : Type 0} (g : Ghosts D St) (call : Call) (answer : Answer) (old new : Holding D St) : Type 0 where
+pub record CallOutcome {D St : Type 0} (g : Ghosts D St) (call : Call) (answer : Answer) (old new : ChainWithMapping D St) : Type 0 where
   pub fits : Fits call answer
-  pub at_once : (f : Fault) → refusal_at_once g call old ≡ Some f → answer ≡ told.Refused f
-  pub idle : IsIdle g call old → barrier (g.layer old.drivers.0) ≡ None → WasDone answer
-  pub moves : RestsOn g call old.drivers → Moves g call answer old new
+  pub early_outcome : (f : Fault) → refusal_at_once g call old ≡ Some f → answer ≡ told.Refused f
+  pub idle : IsIdle g call old → unusable_fault (g.layer old.drivers.0) ≡ None → WasDone answer
+  pub moves : RestsOn g call old.drivers → CallEffect g call answer old new
   pub room : IsIntactChain g old.drivers → GoesOn answer → LeavesRoomFor g call old.drivers.0 new.drivers.0
   pub units : IsIntactChain g old.drivers → WontDecline g (disk_call g old call) old.drivers → WasDone answer
       → SettlesUnits g call old.drivers.0 new.drivers.0
-  pub marks : IfRefused answer (MarksRefused g call old.drivers new.drivers)
+  pub marks_failed : IfRefused answer (MarksRefusedFailed g call old.drivers new.drivers)
   pub failed : IfRefused answer (ChainFails g old.drivers new.drivers)
-  pub cancels : call ≡ calls.Cancel → WasDone answer × (new.kept ≡ None)
-  pub leads : Leads g (GoesOn answer) (disk_call g old call) old.drivers new.drivers
-  pub kept : IsKept g old → IsKept g new
-  pub same : IsFalse (is_of_mapping call) → new.kept ≡ old.kept
+  pub cancels : call ≡ calls.Cancel → WasDone answer × (new.kept_mapping ≡ None)
+  pub leads : LeavesForNext g (GoesOn answer) (disk_call g old call) old.drivers new.drivers
+  pub mapping_prepared : MappingIsPrepared g old → MappingIsPrepared g new
+  pub same : IsFalse (is_of_mapping call) → new.kept_mapping ≡ old.kept_mapping
 
 -- what a call is answered with that answers nothing else
 abbrev pub done_or_refused : Result Unit Fault → Answer
@@ -45,33 +45,33 @@ done_or_refused (Err fault) = told.Refused fault
 -- a call that may be made whatever is kept
 abbrev pub MakesBeside : {D St : Type 0} → Ghosts D St → Call → Answer → D × List D → D × List D → Type 0
 MakesBeside {D} {St} g call answer old new =
-    (kept : Option (PreparedDataMapping St)) → IsKept g (holding old kept) → Makes g call answer (holding old kept) (holding new kept)
+    (kept : Option (PreparedDataMapping St)) → MappingIsPrepared g (chain_with_mapping old kept) → CallOutcome g call answer (chain_with_mapping old kept) (chain_with_mapping new kept)
 
 -- a call that is made where nothing is kept
 abbrev pub MakesAlone : {D St : Type 0} → Ghosts D St → Call → Answer → D × List D → D × List D → Type 0
-MakesAlone g call answer old new = Makes g call answer (holding old None) (holding new None)
+MakesAlone g call answer old new = CallOutcome g call answer (chain_with_mapping old None) (chain_with_mapping new None)
 
 -- one call of a list: out of place it isn't made, and all is as it was
-abbrev pub Answers : {D St : Type 0} → Ghosts D St → Call → Answer → Holding D St → Holding D St → Type 0
+abbrev pub Answers : {D St : Type 0} → Ghosts D St → Call → Answer → ChainWithMapping D St → ChainWithMapping D St → Type 0
 Answers g call answer old new =
-    Either (is_out_of_place (is_some old.kept) call) ((answer ≡ told.Refused BadArgument) × (new ≡ old)) (Makes g call answer old new)
+    Either (is_out_of_place (is_some old.kept_mapping) call) ((answer ≡ told.Refused BadArgument) × (new ≡ old)) (CallOutcome g call answer old new)
 
-abbrev pub AnswersAll : {D St : Type 0} → Ghosts D St → List Call → List Answer → Holding D St → Holding D St → Type 0
+abbrev pub AnswersAll : {D St : Type 0} → Ghosts D St → List Call → List Answer → ChainWithMapping D St → ChainWithMapping D St → Type 0
 AnswersAll g [] [] old new = new ≡ old
 AnswersAll {D} {St} g (call ∷ calls) (answer ∷ answers) old new =
-    (mid : Holding D St) × Answers g call answer old mid × AnswersAll g calls answers mid new
+    (mid : ChainWithMapping D St) × Answers g call answer old mid × AnswersAll g calls answers mid new
 AnswersAll g _ _ old new = ⊥
 
 -- The mapping that is kept is cancelled, and nothing is asked of the top's file.
-abbrev pub CancelsKept : {D St : Type 0} → Ghosts D St → Holding D St → D × List D → Type 0
-CancelsKept g h new = MatchOption h.kept (new ≡ h.drivers)
-    (λ m. Makes g calls.Cancel told.Done h (holding new None) × (g.image new.0 ≡ g.image h.drivers.0))
+abbrev pub CancelsKept : {D St : Type 0} → Ghosts D St → ChainWithMapping D St → D × List D → Type 0
+CancelsKept g h new = MatchOption h.kept_mapping (new ≡ h.drivers)
+    (λ m. CallOutcome g calls.Cancel told.Done h (chain_with_mapping new None) × (g.image new.0 ≡ g.image h.drivers.0))
 
 -- A list of calls is made with nothing kept at first, and what is kept at its end is given up.
 abbrev pub MadeAll : {D St : Type 0} → Ghosts D St → List Call → List Answer → D × List D → D × List D → Type 0
 MadeAll {D} {St} g list answers old new =
-    (last : Holding D St) × AnswersAll g list answers (holding old None) last × CancelsKept g last new
+    (last : ChainWithMapping D St) × AnswersAll g list answers (chain_with_mapping old None) last × CancelsKept g last new
 
 -- a list of calls that is made with nothing kept before it and behind it
 abbrev pub AnswersAlone : {D St : Type 0} → Ghosts D St → List Call → List Answer → D × List D → D × List D → Type 0
-AnswersAlone g list answers old new = AnswersAll g list answers (holding old None) (holding new None)
+AnswersAlone g list answers old new = AnswersAll g list answers (chain_with_mapping old None) (chain_with_mapping new None)

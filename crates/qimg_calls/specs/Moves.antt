@@ -3,20 +3,20 @@ use Rattle.std.specs.Prelude.{◌≡◌, true, ◌<◌, ◌≤◌, ◌^◌, ◌&
 use Rattle.imago_storage.specs.Steps.{Answer as DiskAnswer, shrink}
 use Rattle.imago_storage.specs.declared.fault.Fault.{Fault}
 use Rattle.imago_storage.specs.declared.fault.Fault.TheVariants.{ReadOnly, MissingData, Failed}
-use Rattle.imago_access.specs.declared.seen.Seen.{Ghosts}
+use Rattle.imago_access.specs.declared.driver_model.DriverModel.{Ghosts}
 use Rattle.imago_access.specs.declared.mapping.Mapping.{Mapping}
 use Rattle.imago_access.specs.declared.mapping.Mapping.TheVariants as deep
 use Rattle.imago_access.specs.declared.mapping.PreparedDataMapping.{PreparedDataMapping}
 use Rattle.imago_access.specs.Layer.{Layer, IsFree}
 use Rattle.imago_access.specs.Layers.{chain}
 use Rattle.imago_access.specs.Chain.{at, unit_of_chain, Each}
-use Rattle.imago_access.specs.ChainCalls.{ChainSteps, ChainPartly, ChainStays, chain_refusal, chain_look_refusal, ChainCause, OwnCause, ChainMappedCause, CanWriteRun, KeepsHomes, IsMappedFor}
+use Rattle.imago_access.specs.ChainCalls.{ChainSteps, ChainPartly, ChainStays, chain_refusal, chain_look_refusal, ChainCause, OwnCause, ChainMappedCause, CanWriteRun, KeepsWritableLocations, IsMappedFor}
 use Rattle.imago_access.specs.Failing.{RefusesLookup, RefusesFlush}
-use Rattle.imago_access.specs.Files.{Pairs, IsKept, files, files_of, IsMild}
-use Rattle.imago_access.specs.Mappings.{DeepNames, DeepNamesHome, DeepNamesWritable, DeepStates, IsDeepBelow, IsHomeRun, IsOneOf, IsThere, LooksIn, NamesRoomIn, States, stored_at}
+use Rattle.imago_access.specs.Files.{Pairs, UnchangedButMoreFaults, files, files_of, IsNotResourceError}
+use Rattle.imago_access.specs.Mappings.{DeepNames, DeepReportsWritable, DeepNamesWritable, DeepReportsExplicitZero, IsDeepBelow, IsWritableRun, IsOneOf, IsThere, LooksIn, ReportsAllocationIn, ReportsExplicitZero, stored_at}
 use Rattle.imago_access.specs.Parts.{GrowthCause, ShrinkCause}
 use Rattle.imago_access.specs.PreparingCalls.{nowhere}
-use Rattle.imago_access.specs.Refusals.{ReadCause, DeepLookCause, barrier}
+use Rattle.imago_access.specs.Refusals.{ReadCause, DeepLookCause, unusable_fault}
 use Rattle.imago_access.specs.Running.{IsIntactChain}
 use Rattle.imago_access.specs.Spending.{commit_refusal}
 use Rattle.imago_access.specs.Stops.{IsCounted, IsWritten}
@@ -25,7 +25,7 @@ use Rattle.qimg_calls.specs.declared.call.Call.TheVariants as calls
 use Rattle.qimg_calls.specs.declared.call.Answer.{Answer}
 use Rattle.qimg_calls.specs.declared.call.Answer.TheVariants as told
 use Rattle.qimg_calls.specs.Calls.{said}
-use Rattle.qimg_calls.specs.Held.{Holding, disk_call, state_of}
+use Rattle.qimg_calls.specs.Held.{ChainWithMapping, disk_call, state_of}
 
 -- the top shows, holds and maps what it did
 abbrev pub TopStays : {D St : Type 0} → Ghosts D St → D × List D → D × List D → Type 0
@@ -46,23 +46,23 @@ abbrev pub Names : {D St : Type 0} → Ghosts D St → Call → Answer → D × 
 Names g (calls.Read offset n) answer old new = TopStays g old new
 Names g (calls.GetMapping offset asked) (told.Mapped mapping n) old new =
     DeepNames (map g.layer (chain old)) (at (map g.layer (chain old))) (stored_at g (chain new)) offset n mapping
-    × DeepNamesHome (g.layer old.0) offset asked mapping
+    × DeepReportsWritable (g.layer old.0) offset asked mapping
     × TopStays g old new
     × NamesOneThere g offset asked mapping old
-    × DeepStates (g.stated old.0) offset (mapping, n)
+    × DeepReportsExplicitZero (g.explicit_zero old.0) offset (mapping, n)
 Names g (calls.GetShallowMapping offset asked) (told.Shallow mapping n) old new =
     LooksIn g offset asked old.0 new.0 (mapping, n)
     × TopStays g old new
     × IsOneOf (length (files g old.0)) mapping
-    × NamesRoomIn g offset old.0 (mapping, n)
-    × States (g.stated old.0) offset (mapping, n)
+    × ReportsAllocationIn g offset old.0 (mapping, n)
+    × ReportsExplicitZero (g.explicit_zero old.0) offset (mapping, n)
 Names g (calls.EnsureDataMapping offset asked overwrite) (told.Mapped mapping n) old new =
-    IsHomeRun (g.layer new.0) offset mapping n × (asked ≡ 0 → (mapping ≡ deep.Raw 0 0 0 true) × (n ≡ 0))
+    IsWritableRun (g.layer new.0) offset mapping n × (asked ≡ 0 → (mapping ≡ deep.Raw 0 0 0 true) × (n ≡ 0))
 Names g (calls.WriteMapped guest place bytes) told.Done old new =
-    IsMappedFor (g.layer old.0) guest place (length bytes.items) × ((g.layer new.0).home ≡ (g.layer old.0).home)
-Names g calls.CommitDataMapping told.Done old new = KeepsHomes (g.layer old.0) (g.layer new.0)
+    IsMappedFor (g.layer old.0) guest place (length bytes.items) × ((g.layer new.0).writable_location ≡ (g.layer old.0).writable_location)
+Names g calls.CommitDataMapping told.Done old new = KeepsWritableLocations (g.layer old.0) (g.layer new.0)
 Names g calls.Flush told.Done old new = TopStays g old new × (IsFree (g.layer old.0) → IsWritten g new.0 × IsCounted g new.0)
-Names g calls.Sync told.Done old new = TopStays g old new × Pairs IsKept (files g old.0) (files g new.0)
+Names g calls.Sync told.Done old new = TopStays g old new × Pairs UnchangedButMoreFaults (files g old.0) (files g new.0)
 Names g call answer old new = ⊤
 
 -- the mapping that an answer tells of
@@ -74,24 +74,24 @@ pub record IsTold {St : Type 0} (m : PreparedDataMapping St) (storage place n : 
 
 -- What becomes of the mapping that is kept: one that is prepared is kept, with its places writable where it says, one that is committed or
 -- cancelled is spent, and else it stays. The mapping of an empty range has no length and no state, and is at the start of the storage 0.
-abbrev pub KeepsMapping : {D St : Type 0} → Ghosts D St → Call → Answer → Holding D St → Holding D St → Type 0
+abbrev pub KeepsMapping : {D St : Type 0} → Ghosts D St → Call → Answer → ChainWithMapping D St → ChainWithMapping D St → Type 0
 KeepsMapping {D} {St} g (calls.PrepareDataMapping offset asked overwrite) (told.Prepared storage place n state) old new =
     (m : PreparedDataMapping St)
-    × (new.kept ≡ Some m)
+    × (new.kept_mapping ≡ Some m)
     × IsTold m storage place n state
     × CanWriteRun (g.layer new.drivers.0) offset m
     × (asked ≡ 0 → m ≡ nowhere)
-KeepsMapping g calls.CommitDataMapping told.Done old new = new.kept ≡ None
-KeepsMapping g calls.Cancel told.Done old new = new.kept ≡ None
-KeepsMapping g call answer old new = new.kept ≡ old.kept
+KeepsMapping g calls.CommitDataMapping told.Done old new = new.kept_mapping ≡ None
+KeepsMapping g calls.Cancel told.Done old new = new.kept_mapping ≡ None
+KeepsMapping g call answer old new = new.kept_mapping ≡ old.kept_mapping
 
 -- a call that was done is a step of the disk
-abbrev pub Does : {D St : Type 0} → Ghosts D St → Call → Answer → Holding D St → Holding D St → Type 0
+abbrev pub Does : {D St : Type 0} → Ghosts D St → Call → Answer → ChainWithMapping D St → ChainWithMapping D St → Type 0
 Does g call answer old new = (says : DiskAnswer) × (said call answer ≡ Some says)
     × ChainSteps g (disk_call g old call) says old.drivers new.drivers × Names g call answer old.drivers new.drivers
 
 -- why it is refused
-abbrev pub Refuses : {D St : Type 0} → Ghosts D St → Call → Fault → Holding D St → Holding D St → Type 0
+abbrev pub Refuses : {D St : Type 0} → Ghosts D St → Call → Fault → ChainWithMapping D St → ChainWithMapping D St → Type 0
 Refuses g (calls.Read offset n) fault old new = let layers = map g.layer (chain old.drivers) in
     ReadCause layers (at layers) (unit_of_chain layers) offset n (files_of g (chain old.drivers)) (files_of g (chain new.drivers)) fault
 Refuses g (calls.GetMapping offset n) fault old new = let layers = map g.layer (chain old.drivers) in
@@ -113,7 +113,7 @@ Refuses g call fault old new = OwnCause g (disk_call g old call) old.drivers new
 
 -- What a refusal leaves that isn't for want of memory or a storage's fault: a write, a zeroing or a discard may be done in part, and any
 -- other call leaves the disk as it was, a flush and a sync where the top can be used. A look and a `WriteMapped` leave the top as it was.
-abbrev pub Leaves : {D St : Type 0} → Ghosts D St → Call → Holding D St → Holding D St → Type 0
+abbrev pub Leaves : {D St : Type 0} → Ghosts D St → Call → ChainWithMapping D St → ChainWithMapping D St → Type 0
 Leaves g (calls.Write offset bytes) old new = ChainPartly g (disk_call g old (calls.Write offset bytes)) old.drivers new.drivers
 Leaves g (calls.WriteZeroes offset n) old new = ChainPartly g (disk_call g old (calls.WriteZeroes offset n)) old.drivers new.drivers
 Leaves g (calls.DiscardToZero offset n) old new = ChainPartly g (disk_call g old (calls.DiscardToZero offset n)) old.drivers new.drivers
@@ -124,27 +124,27 @@ Leaves g (calls.Read offset n) old new = TopStays g old.drivers new.drivers × C
 Leaves g (calls.GetMapping offset n) old new = TopStays g old.drivers new.drivers × ChainStays g old.drivers new.drivers
 Leaves g (calls.GetShallowMapping offset n) old new = TopStays g old.drivers new.drivers × ChainStays g old.drivers new.drivers
 Leaves g (calls.WriteMapped guest place bytes) old new = TopStays g old.drivers new.drivers × ChainStays g old.drivers new.drivers
-Leaves g calls.Flush old new = barrier (g.layer old.drivers.0) ≡ None → ChainStays g old.drivers new.drivers
-Leaves g calls.Sync old new = barrier (g.layer old.drivers.0) ≡ None → ChainStays g old.drivers new.drivers
+Leaves g calls.Flush old new = unusable_fault (g.layer old.drivers.0) ≡ None → ChainStays g old.drivers new.drivers
+Leaves g calls.Sync old new = unusable_fault (g.layer old.drivers.0) ≡ None → ChainStays g old.drivers new.drivers
 Leaves g call old new = ChainStays g old.drivers new.drivers
 
 -- What a call does: it is a step of the disk, or is refused for a cause and leaves what is said where it wasn't cut off, by want of memory
 -- or a storage's fault.
-abbrev pub Moves : {D St : Type 0} → Ghosts D St → Call → Answer → Holding D St → Holding D St → Type 0
-Moves g call (told.Refused fault) old new =
-    Refuses g call fault old new × (IsMild fault → Leaves g call old new × KeepsMapping g call (told.Refused fault) old new)
-Moves g call answer old new = Does g call answer old new × KeepsMapping g call answer old new
+abbrev pub CallEffect : {D St : Type 0} → Ghosts D St → Call → Answer → ChainWithMapping D St → ChainWithMapping D St → Type 0
+CallEffect g call (told.Refused fault) old new =
+    Refuses g call fault old new × (IsNotResourceError fault → Leaves g call old new × KeepsMapping g call (told.Refused fault) old new)
+CallEffect g call answer old new = Does g call answer old new × KeepsMapping g call answer old new
 
 -- What it rests on that a call moves the disk so: for one that only looks, that lookups are true, and for any other, that the chain is
 -- intact.
 abbrev pub RestsOn : {D St : Type 0} → Ghosts D St → Call → D × List D → Type 0
-RestsOn g (calls.Read offset n) c = Each g.sees (chain c)
-RestsOn g (calls.GetMapping offset n) c = Each g.sees (chain c) × (length (chain c) < 2 ^ 64)
-RestsOn g (calls.GetShallowMapping offset n) c = Each g.sees (chain c)
+RestsOn g (calls.Read offset n) c = Each g.coherent (chain c)
+RestsOn g (calls.GetMapping offset n) c = Each g.coherent (chain c) × (length (chain c) < 2 ^ 64)
+RestsOn g (calls.GetShallowMapping offset n) c = Each g.coherent (chain c)
 RestsOn g call c = IsIntactChain g c
 
 -- the call has nothing to do: its range is empty, its size is the disk's or on the other side of it, or the mapping has no state
-abbrev pub IsIdle : {D St : Type 0} → Ghosts D St → Call → Holding D St → Type 0
+abbrev pub IsIdle : {D St : Type 0} → Ghosts D St → Call → ChainWithMapping D St → Type 0
 IsIdle g (calls.Read offset n) h = n ≡ 0
 IsIdle g (calls.Write offset bytes) h = length bytes.items ≡ 0
 IsIdle g (calls.WriteZeroes offset n) h = n ≡ 0
@@ -158,7 +158,7 @@ IsIdle g (calls.GetMapping offset n) h = n ≡ 0
 IsIdle g (calls.GetShallowMapping offset n) h = n ≡ 0
 IsIdle g (calls.ResizeGrow size mode) h = size ≤ (g.layer h.drivers.0).size
 IsIdle g (calls.ResizeShrink size) h = (g.layer h.drivers.0).size ≤ size
-IsIdle g calls.CommitDataMapping h = state_of h.kept ≡ None
+IsIdle g calls.CommitDataMapping h = state_of h.kept_mapping ≡ None
 IsIdle g call h = ⊥
 
 -- the first cause why a resize is refused before anything is done, by whether it alters the disk
@@ -170,7 +170,7 @@ resize_refusal layer alters =
     else None
 
 -- the first cause why a call is refused before anything is done, by the order of causes
-abbrev pub refusal_at_once : {D St : Type 0} → Ghosts D St → Call → Holding D St → Option Fault
+abbrev pub refusal_at_once : {D St : Type 0} → Ghosts D St → Call → ChainWithMapping D St → Option Fault
 refusal_at_once g (calls.Read offset n) h = chain_look_refusal g h.drivers offset n
 refusal_at_once g (calls.Write offset bytes) h = chain_refusal g h.drivers offset (length bytes.items)
 refusal_at_once g (calls.WriteZeroes offset n) h = chain_refusal g h.drivers offset n
@@ -180,8 +180,8 @@ refusal_at_once g (calls.DiscardToBacking offset n) h = chain_refusal g h.driver
 refusal_at_once g (calls.PrepareDataMapping offset n overwrite) h = chain_refusal g h.drivers offset n
 refusal_at_once g (calls.EnsureDataMapping offset n overwrite) h = chain_refusal g h.drivers offset n
 refusal_at_once g (calls.WriteMapped guest place bytes) h = chain_refusal g h.drivers guest (length bytes.items)
-refusal_at_once g calls.CommitDataMapping h = commit_refusal g (state_of h.kept) (g.layer h.drivers.0)
+refusal_at_once g calls.CommitDataMapping h = commit_refusal g (state_of h.kept_mapping) (g.layer h.drivers.0)
 refusal_at_once g calls.Cancel h = None
 refusal_at_once g (calls.ResizeGrow size mode) h = let top = g.layer h.drivers.0 in resize_refusal top (ltb top.size size)
 refusal_at_once g (calls.ResizeShrink size) h = let top = g.layer h.drivers.0 in resize_refusal top (ltb size top.size)
-refusal_at_once g call h = barrier (g.layer h.drivers.0)
+refusal_at_once g call h = unusable_fault (g.layer h.drivers.0)

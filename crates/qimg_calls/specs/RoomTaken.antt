@@ -1,8 +1,8 @@
 -- What a call of a list makes of the room that the top layer has allocated.
 use Rattle.std.specs.Prelude.{⊤, length}
 use Rattle.imago_storage.specs.Steps.{IsOut}
-use Rattle.imago_access.specs.declared.seen.Seen.{Ghosts}
-use Rattle.imago_access.specs.Room.{GivesUp, IsApart, IsGivenUp, IsZeroed, LeavesRoom, Takes}
+use Rattle.imago_access.specs.declared.driver_model.DriverModel.{Ghosts}
+use Rattle.imago_access.specs.Room.{GivesUp, IsApart, IsGivenUp, IsZeroed, LeavesAllocation, Takes}
 use Rattle.qimg_calls.specs.declared.call.Call.{Call}
 use Rattle.qimg_calls.specs.declared.call.Call.TheVariants as calls
 
@@ -11,7 +11,7 @@ use Rattle.qimg_calls.specs.declared.call.Call.TheVariants as calls
 abbrev pub LeavesRoomFor : {D St : Type 0} → Ghosts D St → Call → D → D → Type 0
 LeavesRoomFor g (calls.Write offset bytes) old new = Takes g (IsApart (g.layer old).fixed.unit offset (length bytes.items)) old new
 LeavesRoomFor g (calls.WriteZeroes offset n) old new = Takes g (IsApart (g.layer old).fixed.unit offset n) old new
-LeavesRoomFor g (calls.DiscardToZero offset n) old new = LeavesRoom g (IsOut offset n) (IsApart (g.layer old).fixed.unit offset n) old new
+LeavesRoomFor g (calls.DiscardToZero offset n) old new = LeavesAllocation g (IsOut offset n) (IsApart (g.layer old).fixed.unit offset n) old new
 LeavesRoomFor g (calls.DiscardToAny offset n) old new = GivesUp g offset n old new
 LeavesRoomFor g (calls.DiscardToBacking offset n) old new = GivesUp g offset n old new
 LeavesRoomFor g call old new = ⊤
@@ -19,7 +19,7 @@ LeavesRoomFor g call old new = ⊤
 -- what one that is done makes of each whole unit of its range, where the top driver doesn't decline that: it is zeroed, or given up
 abbrev pub SettlesUnits : {D St : Type 0} → Ghosts D St → Call → D → D → Type 0
 SettlesUnits g (calls.WriteZeroes offset n) old new = IsZeroed (g.zeroed new) (g.layer old).fixed.unit (g.layer old).size offset n
-SettlesUnits g (calls.DiscardToZero offset n) old new = IsGivenUp (g.vacant new) (g.layer old).fixed.unit (g.layer old).size offset n
-SettlesUnits g (calls.DiscardToAny offset n) old new = IsGivenUp (g.vacant new) (g.layer old).fixed.unit (g.layer old).size offset n
-SettlesUnits g (calls.DiscardToBacking offset n) old new = IsGivenUp (g.vacant new) (g.layer old).fixed.unit (g.layer old).size offset n
+SettlesUnits g (calls.DiscardToZero offset n) old new = IsGivenUp (g.unallocated new) (g.layer old).fixed.unit (g.layer old).size offset n
+SettlesUnits g (calls.DiscardToAny offset n) old new = IsGivenUp (g.unallocated new) (g.layer old).fixed.unit (g.layer old).size offset n
+SettlesUnits g (calls.DiscardToBacking offset n) old new = IsGivenUp (g.unallocated new) (g.layer old).fixed.unit (g.layer old).size offset n
 SettlesUnits g call old new = ⊤

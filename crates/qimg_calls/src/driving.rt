@@ -3,11 +3,11 @@
 ghost use Rattle.std.specs.Prelude.{◌≡◌, ◌≤◌, ◌<◌, [], None, length, IfOk, IfErr, OnOk, OnErr, IsOkUnless, take, vec_capacity};
 ghost use Rattle.imago_access.specs.Layer.{IsFree};
 ghost use Rattle.imago_access.specs.Chain.{Each};
-ghost use Rattle.imago_access.specs.Files.{Pairs, IsKept as IsKeptFile, files_of};
+ghost use Rattle.imago_access.specs.Files.{Pairs, UnchangedButMoreFaults as IsKeptFile, files_of};
 ghost use Rattle.qimg_calls.specs.Since.{Since};
-ghost use Rattle.qimg_calls.specs.Held.{holding, IsKept, IsReady};
+ghost use Rattle.qimg_calls.specs.Held.{chain_with_mapping, MappingIsPrepared, IsReady};
 ghost use Rattle.qimg_calls.specs.Making.{Answers, AnswersAll, CancelsKept, MadeAll};
-ghost use Rattle.qimg_calls.specs.Runs.{CutShort, Driven, StandsSince};
+ghost use Rattle.qimg_calls.specs.Runs.{CutShort, Driven, HoldsSince};
 
 use crate::call::{Answer, Call};
 use crate::making::{Kept, cancel, make};
@@ -37,16 +37,16 @@ pub fn drive<D: FormatDriverInstance>(
     calls: &[Call],
 ) -> Result<Vec<Answer>, Fault>
     requires free { IsFree (D.layer chain.old.0) }
-    ensures headline { (since : Since) → IsReady D.Seen chain.old → StandsSince D.Seen since chain.old
-        → IfOk result (λ answers. Driven D.Seen since calls.now answers.items chain.old chain.new) }
-    ensures made { IfOk result (λ answers. MadeAll D.Seen calls.now answers.items chain.old chain.new) }
-    ensures cut_short { IfErr result (λ _. CutShort D.Seen calls.now chain.old chain.new) }
+    ensures headline { (since : Since) → IsReady D.DriverModel chain.old → HoldsSince D.DriverModel since chain.old
+        → IfOk result (λ answers. Driven D.DriverModel since calls.now answers.items chain.old chain.new) }
+    ensures made { IfOk result (λ answers. MadeAll D.DriverModel calls.now answers.items chain.old chain.new) }
+    ensures cut_short { IfErr result (λ _. CutShort D.DriverModel calls.now chain.old chain.new) }
     ensures each { IfOk result (λ answers. length answers.items ≡ length calls.now) }
     ensures refused { IsOkUnless result Fault.Memory }
     ensures free { IsFree (D.layer chain.new.0) }
     ensures fixed { (D.layer chain.new.0).fixed ≡ (D.layer chain.old.0).fixed }
-    ensures below { Each D.still chain.old.1
-        → Pairs IsKeptFile (files_of D.Seen chain.old.1) (files_of D.Seen chain.new.1) × Each D.still chain.new.1 }
+    ensures below { Each D.has_no_dirty_data chain.old.1
+        → Pairs IsKeptFile (files_of D.DriverModel chain.old.1) (files_of D.DriverModel chain.new.1) × Each D.has_no_dirty_data chain.new.1 }
 {
     let mut answers = match Vec::with_capacity(alloc, calls.len()) {
         Ok(answers) => answers,
@@ -60,8 +60,8 @@ pub fn drive<D: FormatDriverInstance>(
 
 /// Gives up the mapping that is kept, if one is.
 fn give_up<D: FormatDriverInstance>(chain: &mut FormatAccess<D>, kept: Kept<D::State>)
-    requires kept { IsKept D.Seen (holding chain.old kept) }
-    ensures { CancelsKept D.Seen (holding chain.old kept) chain.new }
+    requires mapping_prepared { MappingIsPrepared D.DriverModel (chain_with_mapping chain.old kept) }
+    ensures { CancelsKept D.DriverModel (chain_with_mapping chain.old kept) chain.new }
 {
     if let Some(mapping) = kept {
         cancel(chain, mapping);
@@ -75,9 +75,9 @@ fn answer<D: FormatDriverInstance>(
     kept: Kept<D::State>,
     call: &Call,
 ) -> (Result<Answer, AllocError>, Kept<D::State>)
-    requires kept { IsKept D.Seen (holding chain.old kept) }
-    ensures answered { IfOk result.0 (λ answer. Answers D.Seen call.now answer (holding chain.old kept) (holding chain.new result.1)) }
-    ensures none { IfErr result.0 (λ _. holding chain.new result.1 ≡ holding chain.old kept) }
+    requires mapping_prepared { MappingIsPrepared D.DriverModel (chain_with_mapping chain.old kept) }
+    ensures answered { IfOk result.0 (λ answer. Answers D.DriverModel call.now answer (chain_with_mapping chain.old kept) (chain_with_mapping chain.new result.1)) }
+    ensures none { IfErr result.0 (λ _. chain_with_mapping chain.new result.1 ≡ chain_with_mapping chain.old kept) }
 {
     if call.is_out_of_place(kept.is_some()) {
         return (Ok(Answer::Refused(Fault::BadArgument)), kept);
@@ -95,12 +95,12 @@ fn make_all<D: FormatDriverInstance>(
     requires free { IsFree (D.layer chain.old.0) }
     requires empty { answers.old.items ≡ [] }
     requires room { length calls.now ≤ vec_capacity answers.old }
-    ensures kept { IsKept D.Seen (holding chain.new result.1) }
-    ensures ok { OnOk result.0 (AnswersAll D.Seen calls.now answers.new.items (holding chain.old None) (holding chain.new result.1)) }
+    ensures mapping_prepared { MappingIsPrepared D.DriverModel (chain_with_mapping chain.new result.1) }
+    ensures ok { OnOk result.0 (AnswersAll D.DriverModel calls.now answers.new.items (chain_with_mapping chain.old None) (chain_with_mapping chain.new result.1)) }
     ensures fewer { IfErr result.0 (λ _. length answers.new.items < length calls.now) }
     ensures memory { IsOkUnless result.0 Fault.Memory }
-    ensures err { OnErr result.0 (AnswersAll D.Seen (take (length answers.new.items) calls.now) answers.new.items
-        (holding chain.old None) (holding chain.new result.1)) }
+    ensures err { OnErr result.0 (AnswersAll D.DriverModel (take (length answers.new.items) calls.now) answers.new.items
+        (chain_with_mapping chain.old None) (chain_with_mapping chain.new result.1)) }
 {
     let mut kept = None;
     for call in calls {

@@ -1,13 +1,13 @@
 // A copy of one chain's disk into another's. `qemu-img convert -n` makes such a copy. imago has no call for it.
 ghost use Rattle.std.specs.Prelude.{◌≡◌, ◌≢◌, ◌≤◌, ◌+◌, length, OnOk, IfErr, IsErrOf};
 ghost use Rattle.imago_storage.specs.declared.fault.Fault.TheVariants.{BadArgument};
-ghost use Rattle.imago_access.specs.Layer.{IsFree, IsLike};
+ghost use Rattle.imago_access.specs.Layer.{IsFree, KeepsLayerState};
 ghost use Rattle.imago_access.specs.Layers.{chain};
 ghost use Rattle.imago_access.specs.ChainCalls.{TakesNear};
-ghost use Rattle.imago_access.specs.Files.{Pairs, WasNotCutOff};
-ghost use Rattle.imago_access.specs.Going.{Looked};
-ghost use Rattle.imago_access.specs.Running.{RanChain};
-ghost use Rattle.qimg_calls.specs.Flattening.{Copies, CopiesDisk, CopyFails, CopyRefused, GivesRead, IsSoundPair, MayCopy, PieceRefused, PieceStops, StandsBehind};
+ghost use Rattle.imago_access.specs.Files.{Pairs, HadNoResourceError};
+ghost use Rattle.imago_access.specs.Going.{LookupCall};
+ghost use Rattle.imago_access.specs.Running.{ChainRangeChange};
+ghost use Rattle.qimg_calls.specs.Flattening.{Copies, CopiesDisk, CopyFails, CopyRefused, GivesRead, IsSoundPair, MayCopy, PieceRefused, PieceCrashImages, HoldsAfter};
 
 use imago_access::{FormatAccess, FormatDriverInstance};
 use imago_storage::Fault;
@@ -26,10 +26,10 @@ fn copy_piece<S: FormatDriverInstance, T: FormatDriverInstance>(
 ) -> Result<(), Fault>
     requires free { IsFree (T.layer target.old.0) }
     requires inside { offset + length buf.old ≤ (S.layer source.old.0).size }
-    ensures copies { Copies S.Seen T.Seen offset (length buf.old) result (source.old, target.old) (source.new, target.new) }
-    ensures usable { OnOk result (MayCopy S.Seen T.Seen (length buf.old) (source.old, target.old)) }
-    ensures cause { PieceRefused S.Seen T.Seen offset (length buf.old) result (source.old, target.old) (source.new, target.new) }
-    ensures part { PieceStops S.Seen T.Seen offset (length buf.old) result (source.old, target.old) target.new }
+    ensures copies { Copies S.DriverModel T.DriverModel offset (length buf.old) result (source.old, target.old) (source.new, target.new) }
+    ensures usable { OnOk result (MayCopy S.DriverModel T.DriverModel (length buf.old) (source.old, target.old)) }
+    ensures cause { PieceRefused S.DriverModel T.DriverModel offset (length buf.old) result (source.old, target.old) (source.new, target.new) }
+    ensures part { PieceCrashImages S.DriverModel T.DriverModel offset (length buf.old) result (source.old, target.old) target.new }
 {
     source.read(alloc, buf, offset)?;
     target.write(alloc, buf, offset)
@@ -46,9 +46,9 @@ fn copy_all<S: FormatDriverInstance, T: FormatDriverInstance>(
     requires free { IsFree (T.layer target.old.0) }
     requires same { (T.layer target.old.0).size ≡ (S.layer source.old.0).size }
     requires room { length buf.old ≡ 65536 }
-    ensures copies { Copies S.Seen T.Seen 0 (S.layer source.old.0).size result (source.old, target.old) (source.new, target.new) }
-    ensures usable { OnOk result (MayCopy S.Seen T.Seen (S.layer source.old.0).size (source.old, target.old)) }
-    ensures cause { CopyRefused S.Seen T.Seen result (source.old, target.old) (source.new, target.new) }
+    ensures copies { Copies S.DriverModel T.DriverModel 0 (S.layer source.old.0).size result (source.old, target.old) (source.new, target.new) }
+    ensures usable { OnOk result (MayCopy S.DriverModel T.DriverModel (S.layer source.old.0).size (source.old, target.old)) }
+    ensures cause { CopyRefused S.DriverModel T.DriverModel result (source.old, target.old) (source.new, target.new) }
 {
     let size = source.size();
     let mut done = 0;
@@ -85,21 +85,21 @@ pub fn flatten<S: FormatDriverInstance, T: FormatDriverInstance>(
     target: &mut FormatAccess<T>,
 ) -> Result<(), Fault>
     requires free { IsFree (T.layer target.old.0) }
-    ensures copied { IsSoundPair S.Seen T.Seen (source.old, target.old)
-        → OnOk result (CopiesDisk S.Seen T.Seen (source.old, target.old) target.new) }
-    ensures ran { RanChain T.Seen (WasNotCutOff result) (GivesRead S.Seen source.old) target.old target.new }
-    ensures source { Pairs (Looked S.Seen (WasNotCutOff result)) (chain source.old) (chain source.new) }
-    ensures like { IsLike (T.layer target.old.0) (T.layer target.new.0) }
-    ensures room { TakesNear T.Seen 0 (S.layer source.old.0).size result target.old target.new }
+    ensures copied { IsSoundPair S.DriverModel T.DriverModel (source.old, target.old)
+        → OnOk result (CopiesDisk S.DriverModel T.DriverModel (source.old, target.old) target.new) }
+    ensures range_change { ChainRangeChange T.DriverModel (HadNoResourceError result) (GivesRead S.DriverModel source.old) target.old target.new }
+    ensures source { Pairs (LookupCall S.DriverModel (HadNoResourceError result)) (chain source.old) (chain source.new) }
+    ensures keeps_layer_state { KeepsLayerState (T.layer target.old.0) (T.layer target.new.0) }
+    ensures room { TakesNear T.DriverModel 0 (S.layer source.old.0).size result target.old target.new }
     ensures unequal { (T.layer target.old.0).size ≢ (S.layer source.old.0).size
         → IsErrOf result BadArgument × (source.new ≡ source.old) × (target.new ≡ target.old) }
-    ensures usable { OnOk result (MayCopy S.Seen T.Seen (S.layer source.old.0).size (source.old, target.old)) }
+    ensures usable { OnOk result (MayCopy S.DriverModel T.DriverModel (S.layer source.old.0).size (source.old, target.old)) }
     ensures failed { (T.layer target.old.0).size ≡ (S.layer source.old.0).size
-        → IfErr result (CopyFails S.Seen T.Seen (source.old, target.old) (source.new, target.new)) }
+        → IfErr result (CopyFails S.DriverModel T.DriverModel (source.old, target.old) (source.new, target.new)) }
     ensures cause { (T.layer target.old.0).size ≡ (S.layer source.old.0).size
-        → CopyRefused S.Seen T.Seen result (source.old, target.old) (source.new, target.new) }
+        → CopyRefused S.DriverModel T.DriverModel result (source.old, target.old) (source.new, target.new) }
     ensures since { (T.layer target.old.0).size ≡ (S.layer source.old.0).size
-        → StandsBehind S.Seen T.Seen result (source.old, target.old) target.new }
+        → HoldsAfter S.DriverModel T.DriverModel result (source.old, target.old) target.new }
 {
     if target.size() != source.size() {
         return Err(Fault::BadArgument);

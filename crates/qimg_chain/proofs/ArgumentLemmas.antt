@@ -93,10 +93,10 @@ layers-more words rest left taken layer before is = record {
     front = is.words_are ∙ ap (λ behind. format_word layer.format ∷ layer.path ∷ behind) is.extras_are.words_are
 
     next : (more : List AskedLayer) → rest ≡ flat_map layer_words more → (others : List AskedLayer) × (left ≡ flat_map layer_words others)
-    next [] same = let none : format_word layer.format ∷ layer.path ∷ is.behind ≡ [] = sym is.words_are ∙ same in absurd (cc)
+    next [] same = let none : format_word layer.format ∷ layer.path ∷ is.words_after ≡ [] = sym is.words_are ∙ same in absurd (cc)
     next (one ∷ more) same =
-        let both : format_word layer.format ∷ layer.path ∷ is.behind ≡ layer_words one ++ flat_map layer_words more = sym is.words_are ∙ same in
-        let behind : is.behind ≡ flat_map extra_words one.extras ++ flat_map layer_words more = cc in
+        let both : format_word layer.format ∷ layer.path ∷ is.words_after ≡ layer_words one ++ flat_map layer_words more = sym is.words_are ∙ same in
+        let behind : is.words_after ≡ flat_map extra_words one.extras ++ flat_map layer_words more = cc in
         (more, is.extras_are.leaves one.extras more behind)
 
 -- the words end, or the rest isn't layers: so the words are these layers, or none

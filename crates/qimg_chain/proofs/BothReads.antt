@@ -18,7 +18,7 @@ module _ (files : List FileBytes) (disk : Disk) (offset : ℕ) (plain buffer : L
       → i < length plain → slice_index buffer i ≡ slice_index plain i
   same_byte means holds shows i less inside = elim (cases_lt (offset + i) disk.size) [
     | inl within ↦ byte_is (slice_index buffer i) (slice_index plain i) (sym (holds.below i less within) ∙ means.value (offset + i) ∙ shows i inside)
-    | inr behind ↦ byte_is (slice_index buffer i) (slice_index plain i) (ap byte (holds.past i less behind)
+    | inr behind ↦ byte_is (slice_index buffer i) (slice_index plain i) (ap byte (holds.past_crash_images i less behind)
         ∙ sym (past_size files (offset + i) (omega (arith, behind, means.size))) ∙ shows i inside)
   ]
 

@@ -3,22 +3,22 @@ use Rattle.std.proofs.Common.{◌≡◌, ◌+◌, ◌++◌, ◌∙◌, ℕ, List
 use Rattle.std.specs.Prelude.{Result, Ok, Err, Some, None, OnOk, IfOk, IfErr, max}
 use Rattle.imago_storage.specs.Steps.{IsIn}
 use Rattle.imago_storage.specs.declared.fault.Fault.{Fault}
-use Rattle.imago_access.specs.declared.seen.Seen.{Ghosts}
-use Rattle.imago_access.specs.declared.seen.SeenBelow.{Ghosts as GhostsBelow}
+use Rattle.imago_access.specs.declared.driver_model.DriverModel.{Ghosts}
+use Rattle.imago_access.specs.declared.driver_model.LayersBelowModel.{Ghosts as GhostsBelow}
 use Rattle.imago_access.specs.declared.format.PreallocateMode.{PreallocateMode}
 use Rattle.imago_access.specs.declared.mapping.PreparedDataMapping.{PreparedDataMapping}
 use Rattle.imago_access.specs.Chain.{at}
 use Rattle.imago_access.specs.Changes.{Asked, Prepared, Run}
-use Rattle.imago_access.specs.Files.{WasNotCutOff, files}
+use Rattle.imago_access.specs.Files.{HadNoResourceError, files}
 use Rattle.imago_access.specs.Parts.{IsPartOf, IsUncutPart, announces, PartCause, DeclinableCause}
 use Rattle.imago_access.specs.PartCalls.{IsFor, PartCall, ensures_zero, discards_to_zero, discards_to_any, discards_to_backing, LeavesPart, IsDone, DoesPart, PartGives, PartRefused}
 use Rattle.imago_access.specs.PreparingCalls.{Prepares, RunRefused, nowhere, WritesMapped, WritingRefused}
 use Rattle.imago_access.specs.ResizeCalls.{Resizes, Grows, GrowthRefused, Shrinks, ShrinkRefused}
 use Rattle.imago_access.specs.Room.{IsUncutAt}
-use Rattle.imago_access.specs.Refusals.{barrier}
+use Rattle.imago_access.specs.Refusals.{unusable_fault}
 use Rattle.imago_access.specs.Spending.{run_of}
 use Rattle.imago_access.specs.Stops.{GivesNone, GivesBytes, GivesPast, GivesBelowPast}
-use Rattle.qimg_chain.proofs.SeenThrough.{through, IsKind, began_on_ok, begun, stops, leaves, unchanged, at_once, marks, marks_over, went}
+use Rattle.qimg_chain.proofs.SeenThrough.{through, IsKind, began_on_ok, begun, stops, leaves, unchanged, early_outcome, marks, marks_over, mutating_call}
 
 pub on_ok_weaker : {T F : Type 0} (result : Result T F) (P Q : Type 0) → (P → Q) → OnOk result P → OnOk result Q
 on_ok_weaker (Ok x) P Q more holds = more holds
@@ -71,23 +71,23 @@ module _ {D E St Su : Type 0} {f : D → E} {h : Ghosts E Su} {g : Ghosts D St} 
     ok = d.ok;
     err = d.err;
     reach = d.reach;
-    given = λ safe. given call result (d.given safe);
-    room = λ safe whole. leaves_part call offset n (d.room safe whole);
-    like = d.like;
-    went = went kind a b (WasNotCutOff result) (WasNotCutOff result) d.went;
-    began = λ e call now part whole.
-        begun kind a b (λ x c. IsPartOf c offset n → h.began x c (f b)) (λ x c is inside. d.began x c is inside whole) e call now part;
-    stops = λ safe below told. stops kind a b below _ _ (PartGives call below offset n) (d.stops safe below told);
+    given = λ well_formed. given call result (d.given well_formed);
+    room = λ well_formed whole. leaves_part call offset n (d.room well_formed whole);
+    keeps_layer_state = d.keeps_layer_state;
+    mutating_call = mutating_call kind a b (HadNoResourceError result) (HadNoResourceError result) d.mutating_call;
+    stays_begun = λ e call now part whole.
+        begun kind a b (λ x c. IsPartOf c offset n → h.began x c (f b)) (λ x c is inside. d.stays_begun x c is inside whole) e call now part;
+    crash_images = λ well_formed below told. stops kind a b below _ _ (PartGives call below offset n) (d.crash_images well_formed below told);
   }
 
   pub part_refused : (part : PartCall) (offset n : ℕ) (result : Result (ℕ × ℕ) Fault) → PartRefused part (through f h g) offset n result a b
       → PartRefused part h offset n result (f a) (f b)
   part_refused part offset n result r = record {
     failed = r.failed;
-    marks = marks kind a b result r.marks;
-    cause = λ safe below.
+    marks_failed = marks kind a b result r.marks_failed;
+    cause = λ well_formed below.
         begun kind a b (λ x call. IsPartOf call offset n → IsFor part call → IfErr result (DeclinableCause below (h.layer (f a)) offset n (h.own_cause x below call) (files h (f a)) (files h (f b))))
-        (λ d call now inside is_for. r.cause safe below d call now inside is_for);
+        (λ d call now inside is_for. r.cause well_formed below d call now inside is_for);
   }
 
   -- ---- Mappings.
@@ -96,42 +96,42 @@ module _ {D E St Su : Type 0} {f : D → E} {h : Ghosts E Su} {g : Ghosts D St} 
       → RunRefused h u asked result (f a, x) (f b, y)
   run_refused u x y asked result r = record {
     failed = r.failed;
-    marks = marks_over kind a b result r.marks;
-    cause = λ safe sees.
+    marks_failed = marks_over kind a b result r.marks_failed;
+    cause = λ well_formed coherent.
         begun kind a b (λ e call. IsUncutPart (h.layer (f a)) call asked.offset asked.length → Some asked.overwrite ≡ announces call
-        → IfErr result (PartCause (u.under x) (h.layer (f a)) asked.offset asked.length (h.own_cause e (u.under x) call) (files h (f a) ++ u.files_under x) (files h (f b) ++ u.files_under y)))
-        (λ d call now part same. r.cause safe sees d call now part same);
+        → IfErr result (PartCause (u.layers_below x) (h.layer (f a)) asked.offset asked.length (h.own_cause e (u.layers_below x) call) (files h (f a) ++ u.files_of_layers_below x) (files h (f b) ++ u.files_of_layers_below y)))
+        (λ d call now part same. r.cause well_formed coherent d call now part same);
   }
 
   -- a refused preparation
   pub prepares_err : {B : Type 0} (u : GhostsBelow B) (x y : B) (asked : Asked) (e : Fault) → Prepares (through f h g) u asked (Err e) (a, x) (b, y) → Prepares h u asked (Err e) (f a, x) (f b, y)
   prepares_err u x y asked e p = let r = run_refused u x y asked (Err e) p.refused in record {
-    ok = λ safe sees. tt;
+    ok = λ well_formed coherent. tt;
     err = p.err;
-    uncut = λ safe sees. tt;
-    near = λ safe sees. tt;
-    room = λ safe sees whole. leaves kind a b _ _ (p.room safe sees whole);
-    stops = λ safe sees. stops kind a b (u.under x) _ _ GivesNone (p.stops safe sees);
-    went = went kind a b _ _ p.went;
-    began = λ e call now part whole.
-        begun kind a b (λ z c. IsPartOf c asked.offset asked.length → h.began z c (f b)) (λ z c is inside. p.began z c is inside whole) e call now part;
-    refused = record { failed = r.failed; marks = r.marks; cause = r.cause };
+    uncut = λ well_formed coherent. tt;
+    no_range_overflow = λ well_formed coherent. tt;
+    room = λ well_formed coherent whole. leaves kind a b _ _ (p.room well_formed coherent whole);
+    crash_images = λ well_formed coherent. stops kind a b (u.layers_below x) _ _ GivesNone (p.crash_images well_formed coherent);
+    mutating_call = mutating_call kind a b _ _ p.mutating_call;
+    stays_begun = λ e call now part whole.
+        begun kind a b (λ z c. IsPartOf c asked.offset asked.length → h.began z c (f b)) (λ z c is inside. p.stays_begun z c is inside whole) e call now part;
+    refused = record { failed = r.failed; marks_failed = r.marks_failed; cause = r.cause };
   }
 
   -- one that answers the same run
   pub prepares_ok : {B : Type 0} (u : GhostsBelow B) (x y : B) (asked : Asked) (m : PreparedDataMapping St) (n : PreparedDataMapping Su) → run_of g m ≡ run_of h n
       → Prepares (through f h g) u asked (Ok m) (a, x) (b, y) → Prepares h u asked (Ok n) (f a, x) (f b, y)
   prepares_ok u x y asked m n same p = record {
-    ok = λ safe sees. subst (λ (r : Run). Prepared (at (u.under x)) (h.layer (f a)) (h.layer (f b)) asked r) same (p.ok safe sees);
-    err = λ safe sees. tt;
-    uncut = λ safe sees. subst (λ (r : Run). IsUncutAt (h.layer (f a)).fixed.unit (h.layer (f a)).size asked.offset asked.length (asked.offset + r.length)) same (p.uncut safe sees);
-    near = p.near;
-    room = λ safe sees whole. leaves kind a b _ _ (p.room safe sees whole);
-    stops = λ safe sees. stops kind a b (u.under x) _ _ GivesNone (p.stops safe sees);
-    went = went kind a b _ _ p.went;
-    began = λ e call now part whole.
-        begun kind a b (λ z c. IsPartOf c asked.offset asked.length → h.began z c (f b)) (λ z c is inside. p.began z c is inside whole) e call now part;
-    refused = record { failed = tt; marks = tt; cause = λ safe sees e call now part over. tt };
+    ok = λ well_formed coherent. subst (λ (r : Run). Prepared (at (u.layers_below x)) (h.layer (f a)) (h.layer (f b)) asked r) same (p.ok well_formed coherent);
+    err = λ well_formed coherent. tt;
+    uncut = λ well_formed coherent. subst (λ (r : Run). IsUncutAt (h.layer (f a)).fixed.unit (h.layer (f a)).size asked.offset asked.length (asked.offset + r.length)) same (p.uncut well_formed coherent);
+    no_range_overflow = p.no_range_overflow;
+    room = λ well_formed coherent whole. leaves kind a b _ _ (p.room well_formed coherent whole);
+    crash_images = λ well_formed coherent. stops kind a b (u.layers_below x) _ _ GivesNone (p.crash_images well_formed coherent);
+    mutating_call = mutating_call kind a b _ _ p.mutating_call;
+    stays_begun = λ e call now part whole.
+        begun kind a b (λ z c. IsPartOf c asked.offset asked.length → h.began z c (f b)) (λ z c is inside. p.stays_begun z c is inside whole) e call now part;
+    refused = record { failed = tt; marks_failed = tt; cause = λ well_formed coherent e call now part over. tt };
   }
 
   pub prepares : {B : Type 0} (u : GhostsBelow B) (x y : B) (asked : Asked) (result : Result (PreparedDataMapping St) Fault) (answer : Result (PreparedDataMapping Su) Fault)
@@ -145,17 +145,17 @@ module _ {D E St Su : Type 0} {f : D → E} {h : Ghosts E Su} {g : Ghosts D St} 
   writes_mapped guest place bytes result w = record {
     mapped = w.mapped;
     empty = w.empty;
-    like = w.like;
+    keeps_layer_state = w.keeps_layer_state;
     ok = w.ok;
     err = w.err;
-    room = λ safe whole. leaves kind a b _ _ (w.room safe whole);
-    stops = λ safe below. stops kind a b below _ _ (GivesBytes guest bytes) (w.stops safe below);
-    went = went kind a b _ _ w.went;
-    began = began_on_ok kind a b result w.began;
+    room = λ well_formed whole. leaves kind a b _ _ (w.room well_formed whole);
+    crash_images = λ well_formed below. stops kind a b below _ _ (GivesBytes guest bytes) (w.crash_images well_formed below);
+    mutating_call = mutating_call kind a b _ _ w.mutating_call;
+    stays_begun = began_on_ok kind a b result w.stays_begun;
   }
 
   pub writing_refused : (guest place n : ℕ) (result : Result Unit Fault) → WritingRefused (through f h g) guest place n result a b → WritingRefused h guest place n result (f a) (f b)
-  writing_refused guest place n result r = record { failed = r.failed; marks = marks kind a b result r.marks; cause = r.cause }
+  writing_refused guest place n result r = record { failed = r.failed; marks_failed = marks kind a b result r.marks_failed; cause = r.cause }
 
   -- ---- Resizes.
 
@@ -163,7 +163,7 @@ module _ {D E St Su : Type 0} {f : D → E} {h : Ghosts E Su} {g : Ghosts D St} 
   resizes first second result r = record {
     nothing = r.nothing;
     free = r.free;
-    at_once = at_once kind a b (barrier (h.layer (f a))) _ result r.at_once;
+    early_outcome = early_outcome kind a b (unusable_fault (h.layer (f a))) _ result r.early_outcome;
     read_only = λ can less closed. let is = r.read_only can less closed in (is.0, unchanged kind a b is.1);
   }
 
@@ -172,21 +172,21 @@ module _ {D E St Su : Type 0} {f : D → E} {h : Ghosts E Su} {g : Ghosts D St} 
   grows u x y size mode result r = record {
     ok = r.ok;
     err = r.err;
-    stops = λ safe sees. stops kind a b (u.under x) _ (max (h.layer (f a)).size size) (GivesPast (h.layer (f a)).size) (r.stops safe sees);
-    went = went kind a b _ _ r.went;
+    crash_images = λ well_formed coherent. stops kind a b (u.layers_below x) _ (max (h.layer (f a)).size size) (GivesPast (h.layer (f a)).size) (r.crash_images well_formed coherent);
+    mutating_call = mutating_call kind a b _ _ r.mutating_call;
   }
 
   pub growth_refused : {B : Type 0} (u : GhostsBelow B) (x y : B) (size : ℕ) (mode : PreallocateMode) (result : Result Unit Fault) → GrowthRefused (through f h g) u size mode result (a, x) (b, y)
       → GrowthRefused h u size mode result (f a, x) (f b, y)
-  growth_refused u x y size mode result r = record { failed = r.failed; marks = marks_over kind a b result r.marks; cause = r.cause }
+  growth_refused u x y size mode result r = record { failed = r.failed; marks_failed = marks_over kind a b result r.marks_failed; cause = r.cause }
 
   pub shrinks : (size : ℕ) (result : Result Unit Fault) → Shrinks (through f h g) size result a b → Shrinks h size result (f a) (f b)
   shrinks size result r = record {
     ok = r.ok;
     err = r.err;
-    stops = λ safe below backed. stops kind a b below size _ (GivesBelowPast below size) (r.stops safe below backed);
-    went = went kind a b _ _ r.went;
+    crash_images = λ well_formed below backed. stops kind a b below size _ (GivesBelowPast below size) (r.crash_images well_formed below backed);
+    mutating_call = mutating_call kind a b _ _ r.mutating_call;
   }
 
   pub shrink_refused : (size : ℕ) (result : Result Unit Fault) → ShrinkRefused (through f h g) size result a b → ShrinkRefused h size result (f a) (f b)
-  shrink_refused size result r = record { failed = r.failed; marks = marks kind a b result r.marks; cause = r.cause }
+  shrink_refused size result r = record { failed = r.failed; marks_failed = marks kind a b result r.marks_failed; cause = r.cause }

@@ -9,12 +9,12 @@ use Rattle.imago_storage.specs.View.{view_state}
 use Rattle.imago_storage.specs.declared.fault.Fault.{Fault}
 use Rattle.imago_storage.specs.declared.fault.Fault.TheVariants.{Memory, Storage}
 use Rattle.imago_storage.specs.declared.storage.Storage.{Ghosts as StorageGhosts}
-use Rattle.imago_storage.proofs.Failing.{at_rest}
+use Rattle.imago_storage.proofs.Failing.{all_flushed}
 use Rattle.imago_access.specs.Chain.{Each}
 use Rattle.imago_access.specs.Files.{SomeRose, files, files_of}
 use Rattle.imago_access.specs.declared.format.Format.{Format}
 use Rattle.imago_access.specs.declared.format.Format.TheVariants.{Qcow2, Raw, Vmdk}
-use Rattle.imago_access.specs.declared.seen.Seen.{Ghosts}
+use Rattle.imago_access.specs.declared.driver_model.DriverModel.{Ghosts}
 use Rattle.imago_formats.specs.Descriptor.{descriptor_of}
 use Rattle.imago_formats.proofs.SaidFaults.{never_storage}
 use Rattle.qcow2_types.specs.Bytes.{bytes_of}
@@ -25,9 +25,9 @@ use Rattle.qimg_chain.specs.FileLayers.{asked_of, said_of}
 use Rattle.qimg_chain.specs.FileMeanings.{FileBytes, files_bytes}
 use Rattle.qimg_chain.specs.FurtherFiles.{WhyNotFurther}
 use Rattle.qimg_chain.specs.PlainReads.{NoFileFails, NotPlainlyRead, RefusesRange, SomeFileMayFail}
-use Rattle.qimg_chain.specs.Refusals.{FirstCause, IsCutOff, WhyNotLayers, misplaced}
+use Rattle.qimg_chain.specs.Refusals.{FirstCause, HadResourceError, WhyNotLayers, misplaced}
 use Rattle.qimg_chain.proofs.Narrowing.{not_of_value}
-use Rattle.qimg_chain.specs.contracts.chain.image_driver.ImageDriverSeen.TheImpl as image_seen
+use Rattle.qimg_chain.specs.contracts.chain.image_driver.ImageDriverDriverModel.TheImpl as image_seen
 use Rattle.qimg_chain.specs.declared.chain.image_driver.ImageDriver.TheVariants as variant
 
 -- bytes that are lent never fail
@@ -40,14 +40,14 @@ abbrev AtRest : List StorageState → Type 0
 AtRest ss = Each (λ s. s.faults ≡ 0) ss
 
 none_rose : (olds news : List StorageState) → AtRest olds → AtRest news → SomeRose olds news → ⊥
-none_rose [] news resting rested rose = rose
-none_rose (old ∷ olds) [] resting rested rose = rose
-none_rose (old ∷ olds) (new ∷ news) resting rested (inl rose) = at_rest old.faults new.faults resting.0 rested.0 rose
-none_rose (old ∷ olds) (new ∷ news) resting rested (inr rose) = none_rose olds news resting.1 rested.1 rose
+none_rose [] news flushed_metadata rested rose = rose
+none_rose (old ∷ olds) [] flushed_metadata rested rose = rose
+none_rose (old ∷ olds) (new ∷ news) flushed_metadata rested (inl rose) = all_flushed old.faults new.faults flushed_metadata.0 rested.0 rose
+none_rose (old ∷ olds) (new ∷ news) flushed_metadata rested (inr rose) = none_rose olds news flushed_metadata.1 rested.1 rose
 
 both_rest : (xs ys : List StorageState) → AtRest xs → AtRest ys → AtRest (xs ++ ys)
-both_rest [] ys resting rested = rested
-both_rest (x ∷ xs) ys resting rested = (resting.0, both_rest xs ys resting.1 rested)
+both_rest [] ys flushed_metadata rested = rested
+both_rest (x ∷ xs) ys flushed_metadata rested = (flushed_metadata.0, both_rest xs ys flushed_metadata.1 rested)
 
 all_rest : {S : Type 0} (state : S → StorageState) → NeverFails state → (files : List S) → AtRest (map state files)
 all_rest state never [] = tt
@@ -118,12 +118,12 @@ module _ {S : Type 0} (state : S → StorageState) where
   -- ---- Files of which none ever fails.
 
   module _ (never : NeverFails state) where
-    by_memory : (fault : Fault) → IsCutOff state fault → fault ≡ Memory
+    by_memory : (fault : Fault) → HadResourceError state fault → fault ≡ Memory
     by_memory fault (inl memory) = memory
     by_memory fault (inr failed) = absurd (failed.1 never)
 
     -- they aren't opened for want of memory or for a cause that they give,
-    pub unopened : (writable : Bool) (files : List (ChainFile S)) (fault : Fault) → IsCutOff state fault ⊎ FirstCause state writable files fault
+    pub unopened : (writable : Bool) (files : List (ChainFile S)) (fault : Fault) → HadResourceError state fault ⊎ FirstCause state writable files fault
         → (fault ≢ Storage) × ((fault ≡ Memory) ⊎ FirstCause state writable files fault)
     unopened writable files fault (inl cut) = let memory = by_memory fault cut in (λ is. absurd (not_memory (sym is ∙ memory)), inl memory)
     unopened writable files fault (inr first) = (λ is. first_never writable files (subst (FirstCause state writable files) is first), inr first)

@@ -66,13 +66,13 @@ module _ {S : Type 0} (state : S → StorageState) where
   pub taken_first : (files left : List (String Global × S)) (name : List ℕ) (taken : S) → TakesFirst files name taken left
       → first_named name (map (extra_bytes state) files) ≡ (state taken).bytes
   taken_first files left name taken t =
-      ap (λ xs. first_named name (map (extra_bytes state) xs)) t.where_is ∙ first_is name t.given taken t.behind t.before t.named t.first
+      ap (λ xs. first_named name (map (extra_bytes state) xs)) t.where_is ∙ first_is name t.given taken t.files_after t.before t.named t.first
 
   pub left_is : (files left : List (String Global × S)) (name : List ℕ) (taken : S) → TakesFirst files name taken left
       → without_first name (map (extra_bytes state) files) ≡ map (extra_bytes state) left
   left_is files left name taken t =
-      ap (λ xs. without_first name (map (extra_bytes state) xs)) t.where_is ∙ rest_is name t.given taken t.behind t.before t.named t.first
-      ∙ ap (λ xs. map (extra_bytes state) xs) (sym t.rest)
+      ap (λ xs. without_first name (map (extra_bytes state) xs)) t.where_is ∙ rest_is name t.given taken t.files_after t.before t.named t.first
+      ∙ ap (λ xs. map (extra_bytes state) xs) (sym t.others_left)
 
   named_at : (names rest : List (List ℕ)) (name : List ℕ) (k : ℕ) → drop k names ≡ name ∷ rest → slice_index_or names k [] ≡ name
   named_at names rest name k at =

@@ -50,17 +50,17 @@ module _ {S : Type 0} where
   taken_once : (files left left' : List (String Global × S)) (name : List ℕ) (one other : S) → TakesFirst files name one left
       → TakesFirst files name other left' → (one ≡ other) × (left ≡ left')
   taken_once files left left' name one other t u =
-      let same = parts_once name t.before u.before t.behind u.behind (t.given, one) (u.given, other) t.first u.first t.named u.named
+      let same = parts_once name t.before u.before t.files_after u.files_after (t.given, one) (u.given, other) t.first u.first t.named u.named
       (sym t.where_is ∙ u.where_is) in
-      (ap (λ (f : String Global × S). f.1) same.0, t.rest ∙ same.1 ∙ sym u.rest)
+      (ap (λ (f : String Global × S). f.1) same.0, t.others_left ∙ same.1 ∙ sym u.others_left)
 
   taken_there : (files left : List (String Global × S)) (name : List ℕ) (one : S) → TakesFirst files name one left → All (IsOther name) files → ⊥
   taken_there files left name one t others =
-      let behind = (t.given, one) ∷ t.behind in
+      let behind = (t.given, one) ∷ t.files_after in
       let parted : All (IsOther name) (t.before ++ behind) = All-same (IsOther name) (t.before ++ behind) files (sym t.where_is) others in
       let last : All (IsOther name) behind = All-same (IsOther name) behind (drop (length t.before) (t.before ++ behind))
       (sym (drop_at t.before behind (length t.before) refl)) (All-drop (IsOther name) (length t.before) (t.before ++ behind) parted) in
-      All-head (IsOther name) (t.given, one) t.behind last t.named
+      All-head (IsOther name) (t.given, one) t.files_after last t.named
 
   each_once : (names : List (List ℕ)) (files : List (String Global × S)) (ones others : List S) → TakesEach files names ones → TakesEach files names others
       → ones ≡ others

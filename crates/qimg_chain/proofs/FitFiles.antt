@@ -4,7 +4,7 @@ use Rattle.std.specs.Prelude.{◌&&◌, IsTrue, is_some}
 use Rattle.std.proofs.lemmas.Bool.{and_parts}
 use Rattle.std.proofs.lemmas.List.Elements.{All-nil}
 use Rattle.imago_storage.specs.MemStorage.{mem_state}
-use Rattle.imago_storage.specs.State.{InStep, StorageState}
+use Rattle.imago_storage.specs.State.{CrashImageIsBytes, StorageState}
 use Rattle.imago_storage.specs.declared.memory.MemStorage.{MemStorage}
 use Rattle.imago_access.specs.declared.format.Format.TheVariants.{Qcow2, Raw}
 use Rattle.qcow2_types.specs.Bytes.{Bytes, bytes_of}
@@ -63,8 +63,8 @@ module _ {S : Type 0} (state : S → StorageState) where
         others = rw (is.none) (All-nil (λ other. IsTrue (state other.1).shape.keeps));
       }
 
-  pub logged-step : (file : ChainFile S) → IsLoggedImage state file → OfTop (λ f. InStep (state f.image)) (file ∷ [])
-  logged-step file is = subst InStep (sym is.logged) (λ tells keeps. refl)
+  pub logged-step : (file : ChainFile S) → IsLoggedImage state file → OfTop (λ f. CrashImageIsBytes (state f.image)) (file ∷ [])
+  logged-step file is = subst CrashImageIsBytes (sym is.logged) (λ tells keeps. refl)
 
 -- ---- Files in memory.
 

@@ -6,15 +6,15 @@ use Rattle.imago_storage.specs.Disk.{Value, byte}
 use Rattle.imago_storage.specs.State.{StorageState}
 use Rattle.imago_storage.specs.declared.fault.Fault.TheVariants.{BadArgument}
 use Rattle.imago_access.specs.Chain.{Each, at, disk_of}
-use Rattle.imago_access.specs.Files.{IsKept, Pairs, files_of}
-use Rattle.imago_access.specs.Going.{KeepsSurplus}
+use Rattle.imago_access.specs.Files.{UnchangedButMoreFaults, Pairs, files_of}
+use Rattle.imago_access.specs.Going.{KeepsExcessRefcounts}
 use Rattle.imago_access.specs.Layer.{Fixed, Layer, IsFree, through, unmapped}
 use Rattle.imago_access.specs.Stops.{IsCounted, IsMeant, IsWritten}
-use Rattle.imago_access.specs.declared.seen.Seen.{Ghosts}
+use Rattle.imago_access.specs.declared.driver_model.DriverModel.{Ghosts}
 use Rattle.imago_access.proofs.FilePairs.{kept_all_both, kept_all_same}
 use Rattle.qimg_calls.specs.Calls.{Either, GoesOn, is_out_of_place}
-use Rattle.qimg_calls.specs.Held.{holding, state_of}
-use Rattle.qimg_calls.specs.Runs.{AllGoOn, Goes, Made, Moment, Run, moment}
+use Rattle.qimg_calls.specs.Held.{chain_with_mapping, state_of}
+use Rattle.qimg_calls.specs.Runs.{AllGoOn, ListStep, Made, Moment, Run, moment}
 use Rattle.qimg_calls.specs.Since.{Since}
 use Rattle.qimg_calls.specs.declared.call.Answer.{Answer}
 use Rattle.qimg_calls.specs.declared.call.Answer.TheVariants as told
@@ -76,22 +76,22 @@ module _ {D St : Type 0} (g : Ghosts D St) (names : D → ℕ → List ℕ) wher
   -- What never changes of the top, what its clusters are counted beyond names, the layers below, and their files.
   record Keeps (opened : D × List D) (m : Moment D St) : Type 0 where
     fixed : (g.layer m.now.drivers.0).fixed ≡ (g.layer opened.0).fixed
-    surplus : KeepsSurplus g opened.0 m.now.drivers.0
+    excess_refcount : KeepsExcessRefcounts g opened.0 m.now.drivers.0
     below : map g.layer m.now.drivers.1 ≡ map g.layer opened.1
-    files : Pairs IsKept (files_of g opened.1) (files_of g m.now.drivers.1)
+    files : Pairs UnchangedButMoreFaults (files_of g opened.1) (files_of g m.now.drivers.1)
 
   keeps-made : (opened : D × List D) (call : Call) (answer : Answer) (old new : Moment D St) → GoesOn answer → Made g call answer old new
       → Keeps opened old → Keeps opened new
   keeps-made opened call answer old new on made keeps = record {
     fixed = made.fixed ∙ keeps.fixed;
-    surplus = λ c. made.surplus on c ∙ keeps.surplus c;
+    excess_refcount = λ c. made.excess_refcount on c ∙ keeps.excess_refcount c;
     below = made.below on ∙ keeps.below;
     files = kept_all_both (files_of g opened.1) (files_of g old.now.drivers.1) (files_of g new.now.drivers.1) keeps.files made.files;
   }
 
-  keeps-one : (opened : D × List D) (call : Call) (answer : Answer) (old new : Moment D St) → GoesOn answer → Goes g call answer old new
+  keeps-one : (opened : D × List D) (call : Call) (answer : Answer) (old new : Moment D St) → GoesOn answer → ListStep g call answer old new
       → Keeps opened old → Keeps opened new
-  keeps-one opened call answer old new on goes keeps = either-way (is_out_of_place (is_some old.now.kept) call) _ _ goes (Keeps opened new)
+  keeps-one opened call answer old new on goes keeps = either-way (is_out_of_place (is_some old.now.kept_mapping) call) _ _ goes (Keeps opened new)
       (λ out. subst (Keeps opened) (sym out.1) keeps) (λ made. keeps-made opened call answer old new on made keeps)
 
   -- ---- Behind a flush.
@@ -102,16 +102,16 @@ module _ {D St : Type 0} (g : Ghosts D St) (names : D → ℕ → List ℕ) wher
   flush-made true answer old new goes = goes
   flush-made false answer old new goes = goes
 
-  module _ (finds : (d : D) → g.safe d → FindsByNames g names d) (opened : D × List D)
+  module _ (finds : (d : D) → g.well_formed d → FindsByNames g names d) (opened : D × List D)
       (places : AreInPlace (map g.layer (opened.0 ∷ opened.1)))
       (shows : (p : ℕ) → at (map g.layer opened.1) p ≡ value_of (map (driver_bytes g names) opened.1) p) (counted : IsCounted g opened.0) where
-    means-behind : (old new : Moment D St) → Keeps opened old → Made g calls.Flush told.Done old new → state_of old.now.kept ≡ None
+    means-behind : (old new : Moment D St) → Keeps opened old → Made g calls.Flush told.Done old new → state_of old.now.kept_mapping ≡ None
         → FilesMeanDisk g names opened new.now.drivers
     means-behind old new keeps made none =
         let now = new.now.drivers in
         let kept = keeps-made opened calls.Flush told.Done old new tt made keeps in
         let stays : g.layer now.0 ≡ g.layer old.now.drivers.0 = made.moves.0.3.0 in
-        let free : IsFree (g.layer now.0) = made.kept.free (ap state_of made.moves.1 ∙ none) in
+        let free : IsFree (g.layer now.0) = made.mapping_prepared.free (ap state_of made.moves.1 ∙ none) in
         let flushed = made.moves.0.3.1 (subst IsFree stays free) in
         let written : IsWritten g now.0 = flushed.0 in
         let same : (p : ℕ) → at (map g.layer now.1) p ≡ value_of (map (driver_bytes g names) opened.1) p =
@@ -121,10 +121,10 @@ module _ {D St : Type 0} (g : Ghosts D St) (names : D → ℕ → List ℕ) wher
         (shows-below (map g.layer opened.1) (g.layer opened.0) (g.layer now.0) places.0 kept.fixed p) in
         record {
           means = written-over (g.layer now.0) (map g.layer now.1) (g.image now.0).bytes (driver_bytes g names now.0)
-              (map (driver_bytes g names) opened.1) written (finds now.0 (made.ready tt).intact.is_safe) same backed;
+              (map (driver_bytes g names) opened.1) written (finds now.0 (made.ready tt).intact.is_well_formed) same backed;
           below = kept.files;
           fixed = kept.fixed;
-          leaks = λ c. sym (flushed.1 c) ∙ (kept.surplus c ∙ counted c);
+          leaks = λ c. sym (flushed.1 c) ∙ (kept.excess_refcount c ∙ counted c);
         }
 
     flushes : (list : List Call) (answers : List Answer) (old last : Moment D St) (place : ℕ) → Keeps opened old
@@ -136,14 +136,14 @@ module _ {D St : Type 0} (g : Ghosts D St) (names : D → ℕ → List ℕ) wher
         let mid = run.0 in
         let is_flush : call ≡ calls.Flush = cc is in
         let is_done : answer ≡ told.Done = cc done in
-        let goes = subst (λ (a : Answer). Goes g calls.Flush a old mid) is_done
-        (subst (λ (c : Call). Goes g c answer old mid) is_flush run.1) in
-        let made = flush-made (is_some old.now.kept) told.Done old mid goes in record {
+        let goes = subst (λ (a : Answer). ListStep g calls.Flush a old mid) is_done
+        (subst (λ (c : Call). ListStep g c answer old mid) is_flush run.1) in
+        let made = flush-made (is_some old.now.kept_mapping) told.Done old mid goes in record {
           before = old;
-          behind = mid;
+          moment_after = mid;
           run = refl;
           made = made;
-          rest = run.2 (subst GoesOn (sym is_done) tt);
+          run_after = run.2 (subst GoesOn (sym is_done) tt);
           means = means-behind old mid keeps made;
         }
     flushes (call ∷ list) (answer ∷ answers) old last (suc place) keeps run is done on =
@@ -151,10 +151,10 @@ module _ {D St : Type 0} (g : Ghosts D St) (names : D → ℕ → List ℕ) wher
         let later = flushes list answers mid last place (keeps-one opened call answer old mid on.0 run.1 keeps) (run.2 on.0) is done on.1 in
         record {
           before = later.before;
-          behind = later.behind;
+          moment_after = later.moment_after;
           run = (mid, run.1, (λ _. later.run), later-run g (take place list) (take place answers) mid later.before later.run);
           made = later.made;
-          rest = later.rest;
+          run_after = later.run_after;
           means = later.means;
         }
 
@@ -165,12 +165,12 @@ module _ {D St : Type 0} (g : Ghosts D St) (names : D → ℕ → List ℕ) wher
 
   -- Each flush in a list of calls over a chain that was opened so.
   pub each-flush : {S : Type 0} (state : S → StorageState) (writable : Bool) (number : ℕ) (files : List (ChainFile S)) (since : Since)
-      (list : List Call) (answers : List Answer) (opened : D × List D) (last : Moment D St) → ((d : D) → g.safe d → FindsByNames g names d)
-      → IsChainOf g names state writable number files opened → Run g list answers (moment (holding opened None) since) last
-      → EachFlushMeans g names opened list answers (moment (holding opened None) since) last
+      (list : List Call) (answers : List Answer) (opened : D × List D) (last : Moment D St) → ((d : D) → g.well_formed d → FindsByNames g names d)
+      → IsChainOf g names state writable number files opened → Run g list answers (moment (chain_with_mapping opened None) since) last
+      → EachFlushMeans g names opened list answers (moment (chain_with_mapping opened None) since) last
   each-flush state writable number files since list answers opened last finds is run place is_flush is_done on =
-      let start = moment (holding opened None) since in
-      let keeps : Keeps opened start = record { fixed = refl; surplus = λ c. refl; below = refl; files = kept_all_same (files_of g opened.1) } in
+      let start = moment (chain_with_mapping opened None) since in
+      let keeps : Keeps opened start = record { fixed = refl; excess_refcount = λ c. refl; below = refl; files = kept_all_same (files_of g opened.1) } in
       flushes finds opened is.places (below-shown state writable number files opened is)
       (opened-counted state writable number files opened is) list answers start last place keeps run is_flush
       is_done on

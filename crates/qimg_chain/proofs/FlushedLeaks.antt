@@ -7,7 +7,7 @@ use Rattle.imago_access.specs.declared.format.Format.TheVariants as format
 use Rattle.qcow2_image.specs.ImageLayer.{qcow2_leaks}
 use Rattle.qcow2_image.proofs.SameLeaks.{files-alike}
 use Rattle.qimg_chain.specs.FlushedFiles.{LeaksWhatItDid}
-use Rattle.qimg_chain.specs.contracts.chain.image_driver.ImageDriverSeen.TheImpl as image_seen
+use Rattle.qimg_chain.specs.contracts.chain.image_driver.ImageDriverDriverModel.TheImpl as image_seen
 use Rattle.qimg_chain.specs.declared.chain.image_driver.ImageDriver.{ImageDriver}
 use Rattle.qimg_chain.specs.declared.chain.image_driver.ImageDriver.TheVariants as variant
 

@@ -10,7 +10,7 @@ use Rattle.imago_storage.specs.State.{StorageState}
 use Rattle.imago_storage.specs.Through.{round_up}
 use Rattle.imago_storage.specs.declared.fault.Fault.{Fault}
 use Rattle.imago_storage.specs.declared.fault.Fault.TheVariants.{MissingData, Memory}
-use Rattle.imago_access.specs.Refusals.{barrier}
+use Rattle.imago_access.specs.Refusals.{unusable_fault}
 use Rattle.imago_access.specs.declared.format.Format.TheVariants.{Vmdk}
 use Rattle.imago_formats.specs.Descriptor.{descriptor_of}
 use Rattle.imago_formats.specs.DescriptorView.{kept_extents, kept_names, source_with}
@@ -65,7 +65,7 @@ module _ {S : Type 0} (names : List (List ℕ)) where
   taken : (handed left : Extras S) (files : List S) → OpensNext Answers names ([], handed) (files, left) → length names ≤ length files
       → TakesEach handed.files.items names files
   taken handed left files opens all =
-      let same : files ≡ opens.opened = opens.behind in
+      let same : files ≡ opens.opened = opens.appended in
       subst (λ (fs : List S). TakesEach handed.files.items names fs) (sym same)
       (opened_taken 0 handed left opens.opened opens.given (omega (arith, all, ap length same)))
 
@@ -78,7 +78,7 @@ module _ {S : Type 0} (names : List (List ℕ)) where
     where
       missing : All (IsOther (get_or names (length files) [])) stops.before.files.items → LacksOne handed.files.items names
       missing others =
-          let same : files ≡ stops.opens.opened = stops.opens.behind in
+          let same : files ≡ stops.opens.opened = stops.opens.appended in
           opened_lacks 0 handed stops.before stops.opens.opened stops.opens.given (omega (arith, stops.left, ap length same))
           (subst (λ (n : ℕ). All (IsOther (get_or names n [])) stops.before.files.items) (omega (arith, ap length same)) others)
 
@@ -121,14 +121,14 @@ not_missing true none = absurd (cc none)
 not_missing false none = refl
 
 enough : (extents : List (Extent (String Global))) (image : StorageState) (files : List StorageState)
-    → barrier (vmdk_layer extents image files) ≡ None → files_asked extents ≤ length files
+    → unusable_fault (vmdk_layer extents image files) ≡ None → files_asked extents ≤ length files
 enough extents image files usable = grind (arith, nat_tests, not_missing (ltb (length files) (files_asked extents)) usable)
 
 -- ---- An image's files.
 
 module _ {S : Type 0} (state : S → StorageState) (image : StorageState) (handed left : Extras S) where
   pub has_files : (extents : List (Extent (String Global))) (files : List S) → descriptor_of image.bytes ≡ Ok (kept_extents extents)
-      → OpensNext Answers (kept_names extents) ([], handed) (files, left) → barrier (vmdk_layer extents image (map state files)) ≡ None
+      → OpensNext Answers (kept_names extents) ([], handed) (files, left) → unusable_fault (vmdk_layer extents image (map state files)) ≡ None
       → ReadsReach extents image (map state files) → HasFurther state Vmdk image handed.files.items (map state files)
   has_files extents files means opens usable reach =
       let there : length (kept_names extents) ≤ length files =

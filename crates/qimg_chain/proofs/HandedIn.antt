@@ -29,7 +29,7 @@ use Rattle.qimg_chain.specs.FileMeanings.{file_meaning, files_bytes, meaning_as,
 use Rattle.qimg_chain.specs.FilesByName.{qcow2_through, same_extents, same_size, sized}
 use Rattle.qimg_chain.specs.FlushedFiles.{HandedMeanToo, ShowDisk, with_image}
 use Rattle.qimg_chain.specs.FurtherFiles.{HasFurther}
-use Rattle.qimg_chain.specs.contracts.chain.image_driver.ImageDriverSeen.TheImpl as image_seen
+use Rattle.qimg_chain.specs.contracts.chain.image_driver.ImageDriverDriverModel.TheImpl as image_seen
 use Rattle.qimg_chain.specs.declared.chain.image_driver.ImageDriver.{ImageDriver}
 use Rattle.qimg_chain.specs.declared.chain.image_driver.ImageDriver.TheVariants as variant
 use Rattle.qimg_chain.proofs.FilesShown.{over}
@@ -97,16 +97,16 @@ module _ (R : RattleType) (st : Ghosts R.Denot) (sd : mir.Syntax.Dict) (dd : mir
       → HasFurther st.state f before handed ((image_seen.ghosts R st sd dd).extras d)
       → ShowsFile ((image_seen.ghosts R st sd dd).layer d) (handed-as f before handed)
   image-shown format.Raw writable number before handed (variant.Raw d) opened has = record {
-    size = opened.size_is ∙ ap (λ (bytes : List ℕ). length bytes) opened.kept.0.bytes;
-    cell = λ p below inside backed. ap (λ (bytes : List ℕ). byte (slice_index bytes p)) opened.kept.0.bytes;
+    size = opened.size_is ∙ ap (λ (bytes : List ℕ). length bytes) opened.unchanged_but_faults.0.bytes;
+    cell = λ p below inside backed. ap (λ (bytes : List ℕ). byte (slice_index bytes p)) opened.unchanged_but_faults.0.bytes;
   }
   image-shown format.Qcow2 writable number before handed (variant.Qcow2 d) opened has =
       let bytes = (st.state d.tables.file.image).bytes in record {
         size = opened.size_is ∙ sized d.mode.backing (bytes_of bytes) (header_of false (bytes_of bytes))
-            ∙ ap (λ b. (qcow2_meaning unmapped b).size) opened.kept.0.bytes;
+            ∙ ap (λ b. (qcow2_meaning unmapped b).size) opened.unchanged_but_faults.0.bytes;
         cell = λ p below inside backed. ap (λ c. through c below) (sym (opened.meant.cell p inside))
             ∙ qcow2_through d.mode.backing bytes p below backed
-            ∙ ap (λ b. through ((qcow2_meaning unmapped b).cell p) below) opened.kept.0.bytes;
+            ∙ ap (λ b. through ((qcow2_meaning unmapped b).cell p) below) opened.unchanged_but_faults.0.bytes;
       }
   image-shown format.Vmdk writable number before handed (variant.Vmdk d) opened has =
       let image = st.state d.image in
@@ -119,10 +119,10 @@ module _ (R : RattleType) (st : Ghosts R.Denot) (sd : mir.Syntax.Dict) (dd : mir
       let agrees = subst (λ (r : Result (List (Extent (List ℕ))) Fault). (j q : ℕ) → 1 ≤ j → j < 1 + length (names_said r)
       → in_files j q ≡ byte_at (before.bytes ∷ taken_for (names_said r) (map (extra_bytes st.state) handed)) j q) (sym has.1) agree in
       record {
-        size = opened.size_is ∙ ap (λ b. (meaning_of (descriptor_of b) in_files).size) opened.kept.0.bytes
+        size = opened.size_is ∙ ap (λ b. (meaning_of (descriptor_of b) in_files).size) opened.unchanged_but_faults.0.bytes
             ∙ same_size in_files found (descriptor_of before.bytes);
         cell = λ p below inside backed. ap (λ c. through c below) (sym (opened.meant.cell p inside)
-            ∙ ap (λ b. (meaning_of (descriptor_of b) in_files).cell p) opened.kept.0.bytes
+            ∙ ap (λ b. (meaning_of (descriptor_of b) in_files).cell p) opened.unchanged_but_faults.0.bytes
             ∙ same_extents in_files found (descriptor_of before.bytes) p agrees);
       }
   image-shown format.Raw writable number before handed (variant.Qcow2 d) opened has = absurd (cc opened.format_is)

@@ -7,25 +7,25 @@ use Rattle.imago_storage.specs.Steps.{Call}
 use Rattle.imago_storage.specs.declared.storage.Storage.{Ghosts}
 use Rattle.imago_access.specs.declared.format.Format.TheVariants as format
 use Rattle.imago_access.specs.Building.{IsOpened}
-use Rattle.imago_access.specs.Files.{IsKept, keep_all}
+use Rattle.imago_access.specs.Files.{UnchangedButMoreFaults, keep_all}
 use Rattle.imago_access.specs.Layer.{IsFree, loose}
-use Rattle.imago_access.specs.Refusals.{barrier}
+use Rattle.imago_access.specs.Refusals.{unusable_fault}
 use Rattle.imago_formats.specs.Descriptor.{descriptor_of}
 use Rattle.imago_formats.specs.DescriptorView.{kept_extents}
 use Rattle.imago_formats.specs.VmdkLaws.{as_stated, said_still, written}
 use Rattle.imago_formats.specs.declared.raw.Raw.{Raw}
 use Rattle.imago_formats.specs.declared.vmdk.driver.Vmdk.{Vmdk}
-use Rattle.imago_formats.specs.contracts.raw.RawSeen.TheImpl as raw_seen
-use Rattle.imago_formats.specs.contracts.vmdk.driver.VmdkSeen.TheImpl as vmdk_seen
+use Rattle.imago_formats.specs.contracts.raw.RawDriverModel.TheImpl as raw_seen
+use Rattle.imago_formats.specs.contracts.vmdk.driver.VmdkDriverModel.TheImpl as vmdk_seen
 use Rattle.qcow2_types.specs.Bytes.{bytes_of}
 use Rattle.qcow2_types.specs.Consistency.{Consistent}
 use Rattle.qcow2_image.specs.HeldHomes.{free_loose}
 use Rattle.qcow2_image.specs.Unspent.{holding_in}
 use Rattle.qcow2_image.specs.declared.qcow2.Qcow2.{Qcow2}
-use Rattle.qcow2_image.specs.contracts.qcow2.Qcow2Seen.TheImpl as qcow2_seen
+use Rattle.qcow2_image.specs.contracts.qcow2.Qcow2DriverModel.TheImpl as qcow2_seen
 use Rattle.qimg_chain.specs.Chains.{IsSoundAs}
 use Rattle.qimg_chain.specs.ImageDrivers.{began_as}
-use Rattle.qimg_chain.specs.contracts.chain.image_driver.ImageDriverSeen.TheImpl as image_seen
+use Rattle.qimg_chain.specs.contracts.chain.image_driver.ImageDriverDriverModel.TheImpl as image_seen
 use Rattle.qimg_chain.specs.declared.chain.image_driver.ImageDriver.{ImageDriver}
 use Rattle.qimg_chain.specs.declared.chain.image_driver.ImageDriver.TheVariants as variant
 use Rattle.qimg_chain.proofs.SeenThrough.{IsKind}
@@ -91,9 +91,9 @@ module _ (R : RattleType) (st : Ghosts R.Denot) (sd : mir.Syntax.Dict) (dd : mir
   consistent_so (variant.Qcow2 d) f is sound = sound
 
   -- a VMDK image just opened
-  pub vmdk_opened : (writable : Bool) (before : StorageState) (d : Vmdk R.Denot) → writable ≡ false → IsKept before (st.state d.image) → descriptor_of before.bytes ≡ Ok (kept_extents d.disk.extents.items)
-      → barrier ((vmdk_seen.ghosts R st sd dd).layer d) ≡ None → (vmdk_seen.ghosts R st sd dd).sees d → IsOpened (image_seen.ghosts R st sd dd) format.Vmdk writable 0 before (variant.Vmdk d)
-  vmdk_opened writable before d closed kept means usable sees =
+  pub vmdk_opened : (writable : Bool) (before : StorageState) (d : Vmdk R.Denot) → writable ≡ false → UnchangedButMoreFaults before (st.state d.image) → descriptor_of before.bytes ≡ Ok (kept_extents d.disk.extents.items)
+      → unusable_fault ((vmdk_seen.ghosts R st sd dd).layer d) ≡ None → (vmdk_seen.ghosts R st sd dd).coherent d → IsOpened (image_seen.ghosts R st sd dd) format.Vmdk writable 0 before (variant.Vmdk d)
+  vmdk_opened writable before d closed kept means usable coherent =
       let said = said_still before (st.state d.image) d.disk.extents.items kept means in
       let files = map st.state d.files.items in
       record {
@@ -103,11 +103,11 @@ module _ (R : RattleType) (st : Ghosts R.Denot) (sd : mir.Syntax.Dict) (dd : mir
         size_is = as_stated d.disk.extents.items (st.state d.image) files said;
         meant = written d.disk.extents.items (st.state d.image) files said;
         counted = λ c. refl;
-        kept = kept;
+        unchanged_but_faults = kept;
         free = refl;
         usable = usable;
-        sees = sees;
-        still = tt;
-        lasting = tt;
-        safe = λ keeps sound. (keeps, sees, said);
+        coherent = coherent;
+        has_no_dirty_data = tt;
+        stays_stable = tt;
+        well_formed = λ keeps sound. (keeps, coherent, said);
       }

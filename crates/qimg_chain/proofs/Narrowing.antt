@@ -9,10 +9,10 @@ use Rattle.imago_storage.specs.declared.fault.Fault.{Fault}
 use Rattle.imago_storage.proofs.Rounding.{round_up_part, round_up_whole}
 use Rattle.imago_storage.specs.declared.fault.Fault.TheVariants.{Barred, DamagedTable, Failed, Memory, MissingData, RangeOverflow, Storage}
 use Rattle.imago_access.specs.Chain.{at, unit_of_chain}
-use Rattle.imago_access.specs.Files.{IsMild, SomeRose}
+use Rattle.imago_access.specs.Files.{IsNotResourceError, SomeRose}
 use Rattle.imago_access.specs.Layer.{Layer}
 use Rattle.imago_access.specs.Refusals.{ReadCause, SomeUnusable}
-use Rattle.imago_access.specs.declared.seen.Seen.{Ghosts}
+use Rattle.imago_access.specs.declared.driver_model.DriverModel.{Ghosts}
 use Rattle.qimg_core.specs.Plain.{IsFirstFault, value_fault}
 use Rattle.qimg_chain.specs.PlainReads.{HasFault, IsNarrowed, IsOfPlace, NotReadInOrder, SomeFileMayFail}
 
@@ -38,10 +38,10 @@ near_end unit k aligned high = elim (cases_lt 0 (k % unit)) [
 ]
 
 -- such a fault cuts nothing off
-pub mild : (fault : Fault) → IsOfPlace fault → IsMild fault
-mild Barred place = tt
-mild DamagedTable place = tt
-mild fault place = absurd place
+pub not_resource_error : (fault : Fault) → IsOfPlace fault → IsNotResourceError fault
+not_resource_error Barred place = tt
+not_resource_error DamagedTable place = tt
+not_resource_error fault place = absurd place
 
 -- the cause of a refusal, by layers that are the same
 pub moved : (ls layers : List Layer) (begin m : ℕ) (olds news : List StorageState) (fault : Fault) → ls ≡ layers

@@ -5,20 +5,20 @@ use Rattle.std.specs.declared.string.String.{String}
 use Rattle.std.specs.declared.alloc.Global.{Global}
 use Rattle.std.proofs.lemmas.List.{drop_at, take_at}
 use Rattle.std.proofs.lemmas.List.Elements.{All-append, All-drop, All-head, All-same, All-tail, All-take}
-use Rattle.imago_storage.specs.State.{InStep, Shape, StorageState}
+use Rattle.imago_storage.specs.State.{CrashImageIsBytes, Shape, StorageState}
 use Rattle.imago_access.specs.declared.format.Format.{Format}
 use Rattle.imago_access.specs.declared.format.Format.TheVariants.{Qcow2, Raw, Vmdk}
-use Rattle.imago_access.specs.declared.seen.Seen.{Ghosts}
+use Rattle.imago_access.specs.declared.driver_model.DriverModel.{Ghosts}
 use Rattle.imago_access.specs.Building.{IsOpened}
 use Rattle.imago_access.specs.Chain.{Each, IsBacked, at}
 use Rattle.imago_access.specs.Files.{keep_all}
 use Rattle.imago_access.specs.Layer.{Cell, IsFree, Layer, loose, own, unmapped}
 use Rattle.imago_access.specs.Layers.{chain}
-use Rattle.imago_access.specs.Refusals.{barrier}
+use Rattle.imago_access.specs.Refusals.{unusable_fault}
 use Rattle.imago_access.specs.Running.{chain_disk}
 use Rattle.imago_access.proofs.Running.{intact_free}
 use Rattle.qimg_calls.specs.Held.{IsReady}
-use Rattle.qimg_calls.specs.Runs.{StandsSince}
+use Rattle.qimg_calls.specs.Runs.{HoldsSince}
 use Rattle.qimg_calls.specs.Since.{flushed}
 use Rattle.qimg_calls.proofs.Stops.{since-flushed}
 use Rattle.qimg_core.specs.declared.plain.ChainFile.{ChainFile}
@@ -55,14 +55,14 @@ module _ {S : Type 0} (P : S → Type 0) where
       → P taken × All (λ (f : String Global × S). P f.1) left
   taken_has files left name taken all t =
       let Q = λ (f : String Global × S). P f.1 in
-      let behind = (t.given, taken) ∷ t.behind in
+      let behind = (t.given, taken) ∷ t.files_after in
       let parted : All Q (t.before ++ behind) = All-same Q (t.before ++ behind) files (sym t.where_is) all in
       let first : All Q t.before = All-same Q t.before (take (length t.before) (t.before ++ behind))
       (sym (take_at t.before behind (length t.before) refl)) (All-take Q (length t.before) (t.before ++ behind) parted) in
       let last : All Q behind = All-same Q behind (drop (length t.before) (t.before ++ behind))
       (sym (drop_at t.before behind (length t.before) refl)) (All-drop Q (length t.before) (t.before ++ behind) parted) in (
-        All-head Q (t.given, taken) t.behind last,
-        All-same Q left (t.before ++ t.behind) t.rest (All-append Q t.before t.behind first (All-tail Q (t.given, taken) t.behind last)),
+        All-head Q (t.given, taken) t.files_after last,
+        All-same Q left (t.before ++ t.files_after) t.others_left (All-append Q t.before t.files_after first (All-tail Q (t.given, taken) t.files_after last)),
       )
 
 module _ {S : Type 0} (state : S → StorageState) where
@@ -123,7 +123,7 @@ module _ {S D St : Type 0} (g : Ghosts D St) (state : S → StorageState) where
   each P has writable number [] (d ∷ ds) are = absurd are
   each P has writable number (file ∷ files) [] are = absurd are
 
-  usable : (ds : List D) → Each (λ d. barrier (g.layer d) ≡ None) ds → Each (λ l. barrier l ≡ None) (map g.layer ds)
+  usable : (ds : List D) → Each (λ d. unusable_fault (g.layer d) ≡ None) ds → Each (λ l. unusable_fault l ≡ None) (map g.layer ds)
   usable [] can = tt
   usable (d ∷ ds) can = (can.0, usable ds can.1)
 
@@ -137,22 +137,22 @@ module _ {S D St : Type 0} (g : Ghosts D St) (state : S → StorageState) where
       → AreLayers g state writable number (file ∷ files) (chain c) → IsFree (g.layer c.0)
   free writable number file files c are = are.0.opened.free
 
-  pub still : (writable : Bool) (number : ℕ) (file : ChainFile S) (files : List (ChainFile S)) (c : D × List D)
-      → AreLayers g state writable number (file ∷ files) (chain c) → Each g.still c.1
-  still writable number file files c are = each g.still (λ f w n b d o. o.still) false 0 files c.1 are.1
+  pub has_no_dirty_data : (writable : Bool) (number : ℕ) (file : ChainFile S) (files : List (ChainFile S)) (c : D × List D)
+      → AreLayers g state writable number (file ∷ files) (chain c) → Each g.has_no_dirty_data c.1
+  has_no_dirty_data writable number file files c are = each g.has_no_dirty_data (λ f w n b d o. o.has_no_dirty_data) false 0 files c.1 are.1
 
   -- a driver of a file that may be the top is as a sound image has to be
-  safe : ((d : D) → (g.layer d).fixed.keeps ≡ keep_all (g.image d) (g.extras d))
+  well_formed : ((d : D) → (g.layer d).fixed.keeps ≡ keep_all (g.image d) (g.extras d))
       → ((d : D) (f : List ℕ) → IsSoundAs (g.layer d).fixed.format f → g.sound (g.layer d).fixed.kind f)
-      → (writable : Bool) (number : ℕ) (file : ChainFile S) (d : D) → IsLayerOf g state writable number file d → IsFit state file → g.safe d
-  safe keeps_so sound_so writable number file d is fit =
-      let kept = is.opened.kept.0 in
+      → (writable : Bool) (number : ℕ) (file : ChainFile S) (d : D) → IsLayerOf g state writable number file d → IsFit state file → g.well_formed d
+  well_formed keeps_so sound_so writable number file d is fit =
+      let kept = is.opened.unchanged_but_faults.0 in
       let own_keeps : IsTrue (g.image d).shape.keeps = subst (λ (s : Shape). IsTrue s.keeps) (sym kept.shape) fit.keeps in
       let keeps = further_keep state file.format (state file.image) (g.image d) file.extras.items (g.extras d) fit.others is.layer.has own_keeps in
       let sound : IsSoundAs (g.layer d).fixed.format (g.image d).bytes =
       subst (λ (f : Format). IsSoundAs f (g.image d).bytes) (sym is.opened.format_is)
       (subst (λ (f : List ℕ). IsSoundAs file.format f) (sym kept.bytes) fit.sound) in
-      is.opened.safe (subst (λ (b : Bool). IsTrue b) (sym (keeps_so d)) keeps) (sound_so d (g.image d).bytes sound)
+      is.opened.well_formed (subst (λ (b : Bool). IsTrue b) (sym (keeps_so d)) keeps) (sound_so d (g.image d).bytes sound)
 
   pub ready : ((d : D) → IsFree (g.layer d) → (p : ℕ) → (g.layer d).held p ≡ loose) → ((d : D) → (g.layer d).fixed.keeps ≡ keep_all (g.image d) (g.extras d))
       → ((d : D) (f : List ℕ) → IsSoundAs (g.layer d).fixed.format f → g.sound (g.layer d).fixed.kind f)
@@ -161,22 +161,22 @@ module _ {S D St : Type 0} (g : Ghosts D St) (state : S → StorageState) where
       → OfTop (IsFit state) (file ∷ files) → IsReady g c
   ready free_loose keeps_so sound_so writable number file files few c are places fit = record {
     intact = record {
-      is_safe = safe keeps_so sound_so writable number file c.0 are.0 fit;
-      is_seen = each g.sees (λ f w n b d o. o.sees) false 0 files c.1 are.1;
+      is_well_formed = well_formed keeps_so sound_so writable number file c.0 are.0 fit;
+      is_coherent = each g.coherent (λ f w n b d o. o.coherent) false 0 files c.1 are.1;
       backed = backed (map g.layer c.1) (g.layer c.0) places.0;
       held = intact_free g.layer free_loose (at (map g.layer c.1)) c.0 are.0.opened.free;
     };
-    usable = (are.0.opened.usable, usable c.1 (each (λ d. barrier (g.layer d) ≡ None) (λ f w n b d o. o.usable) false 0 files c.1 are.1));
-    still = still writable number file files c are;
-    few = omega (arith, few, as_many false 0 files c.1 are.1);
+    usable = (are.0.opened.usable, usable c.1 (each (λ d. unusable_fault (g.layer d) ≡ None) (λ f w n b d o. o.usable) false 0 files c.1 are.1));
+    has_no_dirty_data = has_no_dirty_data writable number file files c are;
+    layers_bounded = omega (arith, few, as_many false 0 files c.1 are.1);
   }
 
   pub stands : (writable : Bool) (number : ℕ) (file : ChainFile S) (files : List (ChainFile S)) (c : D × List D)
-      → AreLayers g state writable number (file ∷ files) (chain c) → OfTop (λ f. InStep (state f.image)) (file ∷ files)
-      → StandsSince g (flushed (chain_disk g.layer c)) c
+      → AreLayers g state writable number (file ∷ files) (chain c) → OfTop (λ f. CrashImageIsBytes (state f.image)) (file ∷ files)
+      → HoldsSince g (flushed (chain_disk g.layer c)) c
   stands writable number file files c are step exact tells keeps room =
-      let kept = are.0.opened.kept.0 in
+      let kept = are.0.opened.unchanged_but_faults.0 in
       let same = step (subst (λ (s : Shape). IsTrue s.tells) kept.shape tells) (subst (λ (s : Shape). IsTrue s.keeps) kept.shape keeps) in (
-        kept.stop ∙ same ∙ sym kept.bytes,
+        kept.crash_image ∙ same ∙ sym kept.bytes,
         since-flushed (map g.layer c.1) (g.layer c.0) (g.image c.0).bytes are.0.opened.meant,
       )

@@ -8,19 +8,19 @@ use Rattle.imago_storage.specs.declared.fault.Fault.{Fault}
 use Rattle.imago_storage.specs.declared.fault.Fault.TheVariants.{Memory, RangeOverflow, Storage}
 use Rattle.imago_access.specs.Chain.{Each}
 use Rattle.imago_access.specs.Refusals.{SomeUnusable}
-use Rattle.imago_access.specs.declared.seen.Seen.{Ghosts}
+use Rattle.imago_access.specs.declared.driver_model.DriverModel.{Ghosts}
 use Rattle.qimg_core.specs.Plain.{IsFirstFault, value_fault}
 use Rattle.qimg_core.specs.declared.plain.ChainFile.{ChainFile}
 use Rattle.qimg_chain.specs.Chains.{AreLayers}
 use Rattle.qimg_chain.specs.FileMeanings.{FileBytes, IsDiskOf, files_bytes, size_of, value_of}
 use Rattle.qimg_chain.specs.PlainReads.{IsOutOfReach, IsPlainlyRead, NotPlainlyRead, NotReadInOrder, SomeFileMayFail}
-use Rattle.qimg_chain.specs.Refusals.{FormChain, IsCutOff}
+use Rattle.qimg_chain.specs.Refusals.{FormChain, HadResourceError}
 
 module _ {S D St : Type 0} (g : Ghosts D St) (state : S → StorageState) where
   -- lookups in each layer just opened are true
-  pub seen : (writable : Bool) (number : ℕ) (files : List (ChainFile S)) (ds : List D) → AreLayers g state writable number files ds → Each g.sees ds
+  pub seen : (writable : Bool) (number : ℕ) (files : List (ChainFile S)) (ds : List D) → AreLayers g state writable number files ds → Each g.coherent ds
   seen writable number [] [] are = tt
-  seen writable number (file ∷ files) (d ∷ ds) are = (are.0.opened.sees, seen false 0 files ds are.1)
+  seen writable number (file ∷ files) (d ∷ ds) are = (are.0.opened.coherent, seen false 0 files ds are.1)
   seen writable number [] (d ∷ ds) are = absurd are
   seen writable number (file ∷ files) [] are = absurd are
 
@@ -71,7 +71,7 @@ module _ {S : Type 0} (state : S → StorageState) (files : List (ChainFile S)) 
 
   refused_range : {D St : Type 0} (g : Ghosts D St) → (SomeFileMayFail g → MayFail state) → (disk : Disk) (inside n : ℕ) (fault : Fault) → IsDiskOf disk (files_bytes state files) → inside ≡ min (size_of (files_bytes state files) - offset) n
       → NotReadInOrder g disk.value offset inside fault
-      → IsCutOff state fault ⊎ (IsFirstFault (value_of (files_bytes state files)) offset n fault ⊎ (IsOutOfReach (files_bytes state files) offset n × (fault ≡ RangeOverflow)))
+      → HadResourceError state fault ⊎ (IsFirstFault (value_of (files_bytes state files)) offset n fault ⊎ (IsOutOfReach (files_bytes state files) offset n × (fault ≡ RangeOverflow)))
   refused_range g fails disk inside n Memory means is why = inl (inl refl)
   refused_range g fails disk inside n Storage means is why = inl (inr (refl, fails why))
   refused_range g fails disk inside n RangeOverflow means is why = inr (inr ((omega (arith, is, why.0), omega (arith, is, why.0), omega (arith, is, why.0, why.1)), refl))

@@ -15,7 +15,7 @@ use Rattle.qcow2_types.specs.Bytes.{bytes_of}
 use Rattle.qcow2_image.specs.Opening.{WhyNotOpened}
 use Rattle.qimg_core.specs.declared.plain.ChainFile.{ChainFile}
 use Rattle.qimg_chain.specs.FileLayers.{IsLayer, WhyNotAs, asked_of, is_unmapped, said_of}
-use Rattle.qimg_chain.specs.Refusals.{FirstCause, IsCutOff, WhyNotLayers, misplaced}
+use Rattle.qimg_chain.specs.Refusals.{FirstCause, HadResourceError, WhyNotLayers, misplaced}
 use Rattle.qimg_chain.specs.declared.chain.extras.Extras.{Extras}
 use Rattle.qimg_chain.proofs.FurtherTaken.{Answers, lacks_files}
 
@@ -39,14 +39,14 @@ vmdk_said false bytes extents closed means = ap (asked_of (λ (xs : List (Extent
 
 module _ {S : Type 0} (state : S → StorageState) where
   vmdk_unread : (writable : Bool) (image : StorageState) (handed : List (String Global × S)) (e : Fault) → Unread state writable (descriptor_of image.bytes) e
-      → IsCutOff state e ⊎ WhyNotAs state Vmdk writable image handed e
+      → HadResourceError state e ⊎ WhyNotAs state Vmdk writable image handed e
   vmdk_unread true image handed e why = inr (inl (ap Err (sym why)))
   vmdk_unread false image handed e (inl memory) = inl (inl memory)
   vmdk_unread false image handed e (inr (inl failed)) = inl (inr failed)
   vmdk_unread false image handed e (inr (inr said)) = inr (inl (ap (asked_of (λ (xs : List (Extent (List ℕ))). false)) said))
 
   pub vmdk_refused : (writable : Bool) (image : StorageState) (handed left : Extras S) (e : Fault) → NotBuilt state Answers writable image handed left e
-      → IsCutOff state e ⊎ WhyNotAs state Vmdk writable image handed.files.items e
+      → HadResourceError state e ⊎ WhyNotAs state Vmdk writable image handed.files.items e
   vmdk_refused writable image handed left e (inl unread) = vmdk_unread writable image handed.files.items e unread.1
   vmdk_refused writable image handed left e (inr why) = elim (lacks_files state image handed left e why.1) [
     | inl memory ↦ inl (inl memory)
@@ -58,16 +58,16 @@ module _ {S : Type 0} (state : S → StorageState) where
 module _ {S : Type 0} (state : S → StorageState) (writable : Bool) (file : ChainFile S) (below : List (ChainFile S)) where
   -- the first of files is out of its place, or one below it is refused
   pub at_place : (e : Fault) (named : Bool) (further : List StorageState) → IsLayer state writable file named further → misplaced named below ≡ Some e
-      → IsCutOff state e ⊎ WhyNotLayers state writable (file ∷ below) e
+      → HadResourceError state e ⊎ WhyNotLayers state writable (file ∷ below) e
   at_place e named further is out = inr (inr (inl (named, further, is, out)))
 
   pub at_below : (e : Fault) (named : Bool) (further : List StorageState) → IsLayer state writable file named further → misplaced named below ≡ None
-      → IsCutOff state e ⊎ WhyNotLayers state false below e → IsCutOff state e ⊎ WhyNotLayers state writable (file ∷ below) e
+      → HadResourceError state e ⊎ WhyNotLayers state false below e → HadResourceError state e ⊎ WhyNotLayers state writable (file ∷ below) e
   at_below e named further is here (inl cut) = inl cut
   at_below e named further is here (inr why) = inr (inr (inr ((named, further, is, here), why)))
 
-  pub first_of : length (file ∷ below) ≤ 64 → (e : Fault) → IsCutOff state e ⊎ WhyNotLayers state writable (file ∷ below) e
-      → IsCutOff state e ⊎ FirstCause state writable (file ∷ below) e
+  pub first_of : length (file ∷ below) ≤ 64 → (e : Fault) → HadResourceError state e ⊎ WhyNotLayers state writable (file ∷ below) e
+      → HadResourceError state e ⊎ FirstCause state writable (file ∷ below) e
   first_of few e (inl cut) = inl cut
   first_of few e (inr why) = inr (inr (few, why))
 
@@ -81,7 +81,7 @@ upper_placed named next below names = rw names refl
 -- ---- Why a qcow2 image is refused.
 
 pub qcow2_refused : {S : Type 0} (state : S → StorageState) (writable : Bool) (image : StorageState) (handed : List (String Global × S)) (e : Fault)
-    → WhyNotOpened state writable (bytes_of image.bytes) e → IsCutOff state e ⊎ WhyNotAs state Qcow2 writable image handed e
+    → WhyNotOpened state writable (bytes_of image.bytes) e → HadResourceError state e ⊎ WhyNotAs state Qcow2 writable image handed e
 qcow2_refused state writable image handed Memory why = inl (inl refl)
 qcow2_refused state writable image handed Storage why = inl (inr (refl, why))
 qcow2_refused state writable image handed e why = inr (inl (ap (asked_of (λ H. is_some H.backing_name)) why))

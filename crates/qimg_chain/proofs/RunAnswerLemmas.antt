@@ -16,18 +16,18 @@ same-finding f e finding same is = subst (λ bytes. IsFinding bytes finding) sam
 -- what is found in a copy that can't fail is found in the file
 pub unsound : (copy after image : StorageState) (finding : CheckFault) → file copy ≡ file image → copy.faults ≡ 0 → after.faults ≡ 0
     → Found copy after (IsFinding (file copy)) finding → IsUnsoundBy (file image) finding
-unsound copy after image found.Header same none still is = same-finding _ _ header same is.0
-unsound copy after image found.Snapshots same none still is = same-finding _ _ snapshots same is.0
-unsound copy after image found.External same none still is = same-finding _ _ external same is.0
-unsound copy after image found.Table same none still is = same-finding _ _ table same is.0
-unsound copy after image (found.SharedTable c) same none still is = same-finding _ _ (shared_table c) same is.0
-unsound copy after image (found.FalseCopied c) same none still is = same-finding _ _ (false_copied c) same is.0
-unsound copy after image (found.UnderCounted c) same none still is = same-finding _ _ (under_counted c) same is.0
-unsound copy after image found.Memory same none still is = tt
-unsound copy after image found.Storage same none still is =
-    let more : after.faults + 1 < 2 ^ 64 = omega (arith, still) in
+unsound copy after image found.Header same none has_no_dirty_data is = same-finding _ _ header same is.0
+unsound copy after image found.Snapshots same none has_no_dirty_data is = same-finding _ _ snapshots same is.0
+unsound copy after image found.External same none has_no_dirty_data is = same-finding _ _ external same is.0
+unsound copy after image found.Table same none has_no_dirty_data is = same-finding _ _ table same is.0
+unsound copy after image (found.SharedTable c) same none has_no_dirty_data is = same-finding _ _ (shared_table c) same is.0
+unsound copy after image (found.FalseCopied c) same none has_no_dirty_data is = same-finding _ _ (false_copied c) same is.0
+unsound copy after image (found.UnderCounted c) same none has_no_dirty_data is = same-finding _ _ (under_counted c) same is.0
+unsound copy after image found.Memory same none has_no_dirty_data is = tt
+unsound copy after image found.Storage same none has_no_dirty_data is =
+    let more : after.faults + 1 < 2 ^ 64 = omega (arith, has_no_dirty_data) in
     let rose : copy.faults < after.faults = is.rose more in
-    absurd (omega (arith, none, still, rose))
+    absurd (omega (arith, none, has_no_dirty_data, rose))
 
 -- what was written over the front of a buffer, which is all of it
 pub front_of : (n : ℕ) (xs ys : List ℕ) → n ≡ length xs → take n (xs ++ ys) ≡ xs

@@ -3,11 +3,11 @@ use Rattle.std.proofs.Common.{◌≡◌, inl, inr, ℕ, List, [], ◌∷◌, ref
 use Rattle.std.specs.Prelude.{None, Some, IsTrue}
 use Rattle.imago_storage.specs.declared.fault.Fault.{Fault}
 use Rattle.imago_storage.specs.declared.fault.Fault.TheVariants.{Memory}
-use Rattle.imago_access.specs.declared.seen.Seen.{Ghosts}
+use Rattle.imago_access.specs.declared.driver_model.DriverModel.{Ghosts}
 use Rattle.qimg_calls.specs.Making.{AnswersAlone}
 use Rattle.qimg_calls.specs.declared.call.Call.{Call}
 use Rattle.qimg_calls.specs.declared.call.Answer.{Answer as CallAnswer}
-use Rattle.qimg_calls.specs.Held.{holding}
+use Rattle.qimg_calls.specs.Held.{chain_with_mapping}
 use Rattle.qimg_chain.specs.RunAnswers.{Answered, IsShort, TellsLine}
 use Rattle.qimg_chain.specs.RunCalls.{IsCallOf, TellsCall, Turn, asks_for_call, one, told_of, unmade}
 use Rattle.qimg_chain.specs.declared.script.answer.Answer.{Answer}
@@ -33,7 +33,7 @@ told-line g names line call said answer old new asks short is made tells = recor
 }
 
 pub unmade-line : {D St : Type 0} (g : Ghosts D St) (names : D → ℕ → List ℕ) (line : Line) (answer : Answer) (old new : D × List D) → new ≡ old → TellsLine g names line unmade answer old → Answered g names line answer old new
-unmade-line {D} {St} g names line answer old new same tells = record { turn = unmade; made = ap (λ (c : D × List D). holding {St = St} c None) same; tells = tells }
+unmade-line {D} {St} g names line answer old new same tells = record { turn = unmade; made = ap (λ (c : D × List D). chain_with_mapping {St = St} c None) same; tells = tells }
 
 pub no-room : {D St : Type 0} (g : Ghosts D St) (names : D → ℕ → List ℕ) (line : Line) (fault : Fault) (old new : D × List D) → IsTrue (asks_for_call line) → IsShort line → (fault ≡ Memory) × (new ≡ old) → Answered g names line (told.Refused fault) old new
 no-room g names line fault old new asks short not_made = unmade-line g names line (told.Refused fault) old new not_made.1

@@ -71,7 +71,7 @@ read-all (Some bytes) left rest room less texts saved r read =
     let seen : read.bytes ≡ take_through 10 (take (room + 1) r.rest) = rw (r.left_is) at read.are in
     record {
       before = r.before;
-      rest = r.rest;
+      remainder = r.rest;
       parts = r.parts;
       first = r.first;
       short = omega (arith, r.size);
@@ -86,12 +86,12 @@ read-more (Some bytes) left rest room less texts taken r read =
     let one = next-line bytes read.bytes left room less texts r read.are read.fits in
     record {
       before = r.before;
-      rest = r.rest;
+      remainder = r.rest;
       parts = r.parts;
       first = r.first;
       short = omega (arith, r.size);
       ends = (
-        some r.rest read.next.text read.next.rest (rw (one.0) at read.next.first),
+        some r.rest read.next.text read.next.remainder (rw (one.0) at read.next.first),
         omega (arith, length-append r.before (take_through 10 r.rest), ap length one.0, r.size, read.fits),
       );
     }
@@ -120,4 +120,4 @@ pub read-cut : (input left : Option (List ℕ)) (room n : ℕ) (texts : List (Li
     → IfSome input (λ bytes. AreAnswered (Err fault) bytes texts)
 read-cut None left room n texts fault so_far cut = tt
 read-cut (Some bytes) left room n texts fault r cut =
-    record { before = r.before; rest = r.rest; parts = r.parts; first = r.first; short = omega (arith, r.size); ends = cut.between r.before r.rest }
+    record { before = r.before; remainder = r.rest; parts = r.parts; first = r.first; short = omega (arith, r.size); ends = cut.between r.before r.rest }

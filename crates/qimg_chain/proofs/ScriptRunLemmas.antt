@@ -5,12 +5,12 @@ use mathlib.Core.List.{append_assoc}
 use Rattle.std.specs.Prelude.{map, Option, Some, None, IfSome, OnOk, Result, Ok, Err}
 use Rattle.std.specs.Io.KnownBytes.{Appends}
 use Rattle.imago_storage.specs.declared.fault.Fault.{Fault}
-use Rattle.imago_access.specs.declared.seen.Seen.{Ghosts}
+use Rattle.imago_access.specs.declared.driver_model.DriverModel.{Ghosts}
 use Rattle.imago_access.specs.Layer.{IsFree}
 use Rattle.imago_access.specs.Stops.{IsCovered}
 use Rattle.qimg_calls.specs.Held.{IsReady}
 use Rattle.qimg_calls.specs.Making.{AnswersAlone}
-use Rattle.qimg_calls.specs.Runs.{Driven, StandsSince}
+use Rattle.qimg_calls.specs.Runs.{Driven, HoldsSince}
 use Rattle.qimg_calls.specs.Since.{Since}
 use Rattle.qimg_calls.proofs.Alone.{alone-both, driven-alone}
 use Rattle.qimg_chain.specs.declared.run.fault.RunFault.{RunFault}
@@ -29,8 +29,8 @@ text r = r.text
 
 -- what a script's run over these drivers rests on
 pub record MayBegin {D St : Type 0} (g : Ghosts D St) (old : D × List D) : Type 0 where
-  pub safe_sees : (d : D) → g.safe d → g.sees d
-  pub safe_sound : (d : D) → g.safe d → IsCovered (g.layer d) g.sound (g.image d).bytes
+  pub well_formed_is_coherent : (d : D) → g.well_formed d → g.coherent d
+  pub well_formed_is_sound : (d : D) → g.well_formed d → IsCovered (g.layer d) g.sound (g.image d).bytes
   pub free : IsFree (g.layer old.0)
 
 -- So many lines of a script were read and made, by the bytes that its reader had and has left, and by how many of them may still be read.
@@ -66,18 +66,18 @@ all-written (Err run_fault.Lines) before after replies all = all
 -- the last answer isn't told, by this fault: for want of memory nothing of it is written
 pub last-untold : (result : Result (Option (List ℕ)) RunFault) (fault : RunFault) (before mid after : Option (List ℕ)) (told : List Reply) (last : Reply) →
     IsTellingFault fault → result ≡ Err fault → (fault ≡ run_fault.Memory → after ≡ mid) → Appends before mid (text_of told) → AreWritten result before after (told ++ last ∷ [])
-last-untold result fault before mid after told last telling is quiet all = rw (is) (at fault telling quiet)
+last-untold result fault before mid after told last telling is guest_unchanged all = rw (is) (at fault telling guest_unchanged)
   where
     at : (fault : RunFault) → IsTellingFault fault → (fault ≡ run_fault.Memory → after ≡ mid) → AreWritten (Err fault) before after (told ++ last ∷ [])
-    at run_fault.Write telling quiet = tt
-    at run_fault.Memory telling quiet = inr (record {
+    at run_fault.Write telling guest_unchanged = tt
+    at run_fault.Memory telling guest_unchanged = inr (record {
       told = told;
       last = last;
       are = refl;
-      written = subst (λ known. Appends before known (text_of told)) (sym (quiet refl)) all;
+      written = subst (λ known. Appends before known (text_of told)) (sym (guest_unchanged refl)) all;
     })
-    at run_fault.Read telling quiet = absurd telling
-    at run_fault.Lines telling quiet = absurd telling
+    at run_fault.Read telling guest_unchanged = absurd telling
+    at run_fault.Lines telling guest_unchanged = absurd telling
 
 pub append-none : (known : Option (List ℕ)) → Appends known known []
 append-none None = tt
@@ -113,9 +113,9 @@ module _ {D St : Type 0} (g : Ghosts D St) (names : D → ℕ → List ℕ) wher
 
   -- what the calls of all lines do
   driven-all : (replies : List Reply) (old new : D × List D) (saved : Option (List ℕ)) (since : Since) → MayBegin g old
-      → RunsAll g names replies (standing old None) (standing new saved) → IsReady g old → StandsSince g since old → Driven g since (calls_of replies) (answers_of replies) old new
+      → RunsAll g names replies (standing old None) (standing new saved) → IsReady g old → HoldsSince g since old → Driven g since (calls_of replies) (answers_of replies) old new
   driven-all replies old new saved since rests runs ready stands =
-      driven-alone g rests.safe_sees rests.safe_sound (calls_of replies) (answers_of replies) old new since (alone-all replies (standing old None) (standing new saved) runs) rests.free ready stands
+      driven-alone g rests.well_formed_is_coherent rests.well_formed_is_sound (calls_of replies) (answers_of replies) old new since (alone-all replies (standing old None) (standing new saved) runs) rests.free ready stands
 
   pub ran-none : (input left before : Option (List ℕ)) (old : D × List D) → MayBegin g old → ReadSoFar input left most_bytes []
       → RanSoFar g names (record { input = input; left = left; room = most_bytes; before = before; after = before }) 0 old (standing old None)
@@ -141,7 +141,7 @@ made-then {g = g} {names = names} {input = input} {left = left} {room = room} {c
       replies = made.replies ++ r ∷ [];
       runs = runs-then g names made.replies r (standing old None) now new made.runs one.1;
       read = subst (ReadSoFar input next less) (sym (map-then made.replies r))
-          (read-then input left next room less (map text made.replies) read.bytes first.text first.rest made.read read.are read.drops read.fits first.first);
+          (read-then input left next room less (map text made.replies) read.bytes first.text first.remainder made.read read.are read.drops read.fits first.first);
       counted = length-then made.replies r count made.counted;
     }
 
@@ -171,7 +171,7 @@ scripted {g = g} {names = names} {io = io} {old = old} {new = new} {saved = save
   count = subst (IsAnswerCount result) (sym ran.made.counted) counts;
   lines = all (map text ran.made.replies) ran.made.read;
   written = all-written result io.before io.after ran.made.replies ran.written;
-  kept = kept;
+  saved_returned = kept;
 }
 
 -- the same, where it ends early for a fault that is no limit of lines
@@ -186,13 +186,13 @@ scripted-cut {g = g} {names = names} {input = input} {left = left} {room = room}
   count = rw (is) (subst (IsAnswerCount (Err fault)) (sym made.counted) cut.count);
   lines = rw (is) (read-cut input left room count (map text made.replies) fault made.read cut);
   written = written;
-  kept = rw (is) tt;
+  saved_returned = rw (is) tt;
 }
 
 within-limits : (saved : Option (List ℕ)) (input : Option (List ℕ)) (texts : List (List ℕ)) → IfSome input (λ bytes. AreAnswered (Ok saved) bytes texts)
     → IfSome input (λ bytes. AreAnswered (Err run_fault.Memory) bytes texts)
 within-limits saved None texts all = tt
-within-limits saved (Some bytes) texts all = record { before = all.before; rest = all.rest; parts = all.parts; first = all.first; short = all.short; ends = tt }
+within-limits saved (Some bytes) texts all = record { before = all.before; remainder = all.remainder; parts = all.parts; first = all.first; short = all.short; ends = tt }
 
 -- what a script did that ended, where there is no memory to hand on what it kept
 pub scripted-uncopied : {D St : Type 0} {g : Ghosts D St} {names : D → ℕ → List ℕ} {input before after : Option (List ℕ)} {old new : D × List D} {saved : Option (List ℕ)}
@@ -205,5 +205,5 @@ scripted-uncopied {input = input} {saved = saved} ran = record {
   count = ran.count;
   lines = within-limits saved input (map text ran.replies) ran.lines;
   written = inl ran.written;
-  kept = tt;
+  saved_returned = tt;
 }

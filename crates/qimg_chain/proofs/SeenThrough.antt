@@ -6,14 +6,14 @@ use Rattle.imago_storage.specs.State.{StorageState}
 use Rattle.imago_storage.specs.Steps.{Call}
 use Rattle.imago_storage.specs.declared.fault.Fault.{Fault}
 use Rattle.imago_storage.specs.declared.fault.Fault.TheVariants.{Memory, Storage}
-use Rattle.imago_access.specs.declared.seen.Seen.{Ghosts}
+use Rattle.imago_access.specs.declared.driver_model.DriverModel.{Ghosts}
 use Rattle.imago_access.specs.declared.format.Format.{Format}
 use Rattle.imago_access.specs.Building.{IsOpened}
 use Rattle.imago_access.specs.Layer.{Layer}
 use Rattle.imago_access.specs.FileReads.{FilesRead}
-use Rattle.imago_access.specs.Going.{AtOnce, IsKnown, IsSpared, IsUnchanged, Looked, Marks, MarksOver, Went, WentAnew}
-use Rattle.imago_access.specs.Room.{LeavesRoom}
-use Rattle.imago_access.specs.Stops.{KeepsStopsTo, Left, GivesNone}
+use Rattle.imago_access.specs.Going.{EarlyOutcome, IsKnown, IsLeftUntouched, IsUnchanged, LookupCall, MarksFailed, MarksFailedOver, MutatingCall, ReloadingCall}
+use Rattle.imago_access.specs.Room.{LeavesAllocation}
+use Rattle.imago_access.specs.Stops.{KeepsCrashImagesTo, Left, GivesNone}
 use Rattle.imago_access.proofs.Stopping.{passes_weaker}
 
 -- what contracts see of a driver of one kind, by what they see of it as one of several: all but its mappings, and which files are sound
@@ -22,16 +22,16 @@ through f h g = record {
   layer = λ d. h.layer (f d);
   image = λ d. h.image (f d);
   extras = λ d. h.extras (f d);
-  sees = λ d. h.sees (f d);
-  safe = λ d. h.safe (f d);
-  still = λ d. h.still (f d);
-  lasts = λ d. h.lasts (f d);
-  surplus = λ d. h.surplus (f d);
-  vacant = λ d. h.vacant (f d);
-  has_room = λ d. h.has_room (f d);
+  coherent = λ d. h.coherent (f d);
+  well_formed = λ d. h.well_formed (f d);
+  has_no_dirty_data = λ d. h.has_no_dirty_data (f d);
+  stable = λ d. h.stable (f d);
+  excess_refcount = λ d. h.excess_refcount (f d);
+  unallocated = λ d. h.unallocated (f d);
+  has_allocation = λ d. h.has_allocation (f d);
   zeroed = λ d. h.zeroed (f d);
-  stated = λ d. h.stated (f d);
-  claim = g.claim;
+  explicit_zero = λ d. h.explicit_zero (f d);
+  mapping_id = g.mapping_id;
   tag = g.tag;
   sound = g.sound;
   began = λ d call now. h.began (f d) call (f now);
@@ -64,14 +64,14 @@ module _ {D E St Su : Type 0} {f : D → E} {h : Ghosts E Su} {g : Ghosts D St} 
   began_ok (Ok x) each = on each
   began_ok (Err e) each = tt
 
-  pub stops : (below : List Layer) (least most : ℕ) (gives : ℕ → Value → Type 0) → KeepsStopsTo (through f h g) below least most gives a b → KeepsStopsTo h below least most gives (f a) (f b)
+  pub stops : (below : List Layer) (least most : ℕ) (gives : ℕ → Value → Type 0) → KeepsCrashImagesTo (through f h g) below least most gives a b → KeepsCrashImagesTo h below least most gives (f a) (f b)
   stops below least most gives keeps =
       passes_weaker (Left below (h.layer (f a)) (h.image (f a)).bytes g.sound least most gives) (Left below (h.layer (f a)) (h.image (f a)).bytes h.sound least most gives) (h.image (f a)) (h.image (f b))
       (λ file left. record { is_sound = kind.sound a file left.is_sound; size = left.size; no_longer = left.no_longer; shows = left.shows })
       keeps
 
-  pub leaves : (left spared : ℕ → Type 0) → LeavesRoom (through f h g) left spared a b → LeavesRoom h left spared (f a) (f b)
-  leaves left spared l = record { kept = l.kept; free = l.free; zeroes = l.zeroes }
+  pub leaves : (left spared : ℕ → Type 0) → LeavesAllocation (through f h g) left spared a b → LeavesAllocation h left spared (f a) (f b)
+  leaves left spared l = record { stays_allocated = l.stays_allocated; free = l.free; zeroes = l.zeroes }
 
   pub known : IsKnown (through f h g) a b → IsKnown h (f a) (f b)
   known k = record { seen = k.seen; safely = k.safely }
@@ -83,86 +83,86 @@ module _ {D E St Su : Type 0} {f : D → E} {h : Ghosts E Su} {g : Ghosts D St} 
     seen = u.seen;
     safely = u.safely;
     stilled = u.stilled;
-    lasting = u.lasting;
-    surplus = u.surplus;
-    room = λ safe. leaves _ _ (u.room safe);
-    began = on u.began;
+    stays_stable = u.stays_stable;
+    excess_refcount = u.excess_refcount;
+    room = λ well_formed. leaves _ _ (u.room well_formed);
+    stays_begun = on u.stays_begun;
   }
 
-  pub spared : IsSpared (through f h g) a b → IsSpared h (f a) (f b)
-  spared s = record { known = known s.known; kept = s.kept; stilled = s.stilled; room = λ safe. leaves _ _ (s.room safe); began = on s.began }
+  pub spared : IsLeftUntouched (through f h g) a b → IsLeftUntouched h (f a) (f b)
+  spared s = record { known = known s.known; unchanged_but_faults = s.unchanged_but_faults; stilled = s.stilled; room = λ well_formed. leaves _ _ (s.room well_formed); stays_begun = on s.stays_begun }
 
   -- the answer may be that of another call, which is refused by the same and succeeds where this one does
   pub at_once_as : {T U : Type 0} (refusal : Option Fault) (nothing : Type 0) (result : Result T Fault) (answer : Result U Fault)
       → ((e : Fault) → IsErrOf result e → IsErrOf answer e) → (IsOk result → IsOk answer)
-      → AtOnce (through f h g) refusal nothing result a b → AtOnce h refusal nothing answer (f a) (f b)
+      → EarlyOutcome (through f h g) refusal nothing result a b → EarlyOutcome h refusal nothing answer (f a) (f b)
   at_once_as refusal nothing result answer err ok once = record {
     refused = λ e is. err e (once.refused e is);
     idle = λ none can. ok (once.idle none can);
     unchanged = λ why. unchanged (once.unchanged why);
   }
 
-  pub at_once : {T : Type 0} (refusal : Option Fault) (nothing : Type 0) (result : Result T Fault) → AtOnce (through f h g) refusal nothing result a b → AtOnce h refusal nothing result (f a) (f b)
-  at_once refusal nothing result once = at_once_as refusal nothing result result (λ e is. is) (λ is. is) once
+  pub early_outcome : {T : Type 0} (refusal : Option Fault) (nothing : Type 0) (result : Result T Fault) → EarlyOutcome (through f h g) refusal nothing result a b → EarlyOutcome h refusal nothing result (f a) (f b)
+  early_outcome refusal nothing result once = at_once_as refusal nothing result result (λ e is. is) (λ is. is) once
 
-  pub at_once_ok : {T U : Type 0} (refusal : Option Fault) (nothing : Type 0) (m : T) (n : U) → AtOnce (through f h g) refusal nothing (Ok m) a b → AtOnce h refusal nothing (Ok n) (f a) (f b)
+  pub at_once_ok : {T U : Type 0} (refusal : Option Fault) (nothing : Type 0) (m : T) (n : U) → EarlyOutcome (through f h g) refusal nothing (Ok m) a b → EarlyOutcome h refusal nothing (Ok n) (f a) (f b)
   at_once_ok refusal nothing m n once = at_once_as refusal nothing (Ok m) (Ok n) (λ e is. absurd (cc is)) (λ is. refl) once
 
-  pub at_once_err : {T U : Type 0} (refusal : Option Fault) (nothing : Type 0) (e : Fault) → AtOnce {T = T} (through f h g) refusal nothing (Err e) a b → AtOnce {T = U} h refusal nothing (Err e) (f a) (f b)
+  pub at_once_err : {T U : Type 0} (refusal : Option Fault) (nothing : Type 0) (e : Fault) → EarlyOutcome {T = T} (through f h g) refusal nothing (Err e) a b → EarlyOutcome {T = U} h refusal nothing (Err e) (f a) (f b)
   at_once_err refusal nothing e once = at_once_as refusal nothing (Err e) (Err e) (λ x is. let same : e ≡ x = cc is in ap Err same) (λ is. absurd (cc is)) once
 
-  spared_or : (P : Type 0) → P ⊎ IsSpared (through f h g) a b → P ⊎ IsSpared h (f a) (f b)
+  spared_or : (P : Type 0) → P ⊎ IsLeftUntouched (through f h g) a b → P ⊎ IsLeftUntouched h (f a) (f b)
   spared_or P (inl p) = inl p
   spared_or P (inr s) = inr (spared s)
 
-  pub marks : {T : Type 0} (result : Result T Fault) → IfErr result (Marks (through f h g) a b) → IfErr result (Marks h (f a) (f b))
+  pub marks : {T : Type 0} (result : Result T Fault) → IfErr result (MarksFailed (through f h g) a b) → IfErr result (MarksFailed h (f a) (f b))
   marks (Ok x) m = tt
   marks (Err e) m = one e m where
-    one : (e : Fault) → Marks (through f h g) a b e → Marks h (f a) (f b) e
+    one : (e : Fault) → MarksFailed (through f h g) a b e → MarksFailed h (f a) (f b) e
     one Memory m = λ marked. spared_or (IsTrue (h.layer (f b)).failed) (m marked)
     one Storage m = m
     one e m = tt
 
-  pub marks_over : {T : Type 0} (result : Result T Fault) → IfErr result (MarksOver (through f h g) a b) → IfErr result (MarksOver h (f a) (f b))
+  pub marks_over : {T : Type 0} (result : Result T Fault) → IfErr result (MarksFailedOver (through f h g) a b) → IfErr result (MarksFailedOver h (f a) (f b))
   marks_over (Ok x) m = tt
   marks_over (Err e) m = one e m where
-    one : (e : Fault) → MarksOver (through f h g) a b e → MarksOver h (f a) (f b) e
+    one : (e : Fault) → MarksFailedOver (through f h g) a b e → MarksFailedOver h (f a) (f b) e
     one Memory m = λ marked. spared_or (IsTrue (h.layer (f b)).failed) (m marked)
     one Storage m = λ marked. let both = m marked in (both.0, spared_or (IsTrue (h.layer (f b)).failed) both.1)
     one e m = tt
 
-  pub looked : (whole : Type 0) → Looked (through f h g) whole a b → Looked h whole (f a) (f b)
+  pub looked : (whole : Type 0) → LookupCall (through f h g) whole a b → LookupCall h whole (f a) (f b)
   looked whole l = record {
-    like = l.like;
-    later = l.later;
+    keeps_layer_state = l.keeps_layer_state;
+    counts_not_fallen = l.counts_not_fallen;
     faults = l.faults;
     stays = l.stays;
     safely = l.safely;
     cut = elim (l.cut) [ inl failed ↦ inl failed | inr k ↦ inr (known k) ];
-    lasting = l.lasting;
-    surplus = l.surplus;
-    kept = l.kept;
-    stops = λ safe below. stops below (h.layer (f a)).size (h.layer (f a)).size GivesNone (l.stops safe below);
+    stays_stable = l.stays_stable;
+    excess_refcount = l.excess_refcount;
+    unchanged_but_faults = l.unchanged_but_faults;
+    crash_images = λ well_formed below. stops below (h.layer (f a)).size (h.layer (f a)).size GivesNone (l.crash_images well_formed below);
   }
 
-  pub went : (ok whole : Type 0) → Went (through f h g) ok whole a b → Went h ok whole (f a) (f b)
-  went ok whole w = record { fixed = w.fixed; failed = w.failed; later = w.later; faults = w.faults; safely = w.safely; lasting = w.lasting; surplus = w.surplus }
+  pub mutating_call : (ok whole : Type 0) → MutatingCall (through f h g) ok whole a b → MutatingCall h ok whole (f a) (f b)
+  mutating_call ok whole w = record { fixed = w.fixed; failed = w.failed; counts_not_fallen = w.counts_not_fallen; faults = w.faults; safely = w.safely; stays_stable = w.stays_stable; excess_refcount = w.excess_refcount }
 
-  pub anew : (ok whole : Type 0) → WentAnew (through f h g) ok whole a b → WentAnew h ok whole (f a) (f b)
-  anew ok whole w = record { fixed = w.fixed; failed = w.failed; later = w.later; faults = w.faults; safely = w.safely; lasting = w.lasting }
+  pub anew : (ok whole : Type 0) → ReloadingCall (through f h g) ok whole a b → ReloadingCall h ok whole (f a) (f b)
+  anew ok whole w = record { fixed = w.fixed; failed = w.failed; counts_not_fallen = w.counts_not_fallen; faults = w.faults; safely = w.safely; stays_stable = w.stays_stable }
 
   pub read : (whole : Type 0) → FilesRead (through f h g) whole a b → FilesRead h whole (f a) (f b)
   read whole r = record {
     layer = r.layer;
-    kept = r.kept;
+    unchanged_but_faults = r.unchanged_but_faults;
     faults = r.faults;
     seen = r.seen;
     safely = r.safely;
     stilled = r.stilled;
-    lasting = r.lasting;
-    surplus = r.surplus;
-    room = λ safe. leaves _ _ (r.room safe);
-    began = on r.began;
+    stays_stable = r.stays_stable;
+    excess_refcount = r.excess_refcount;
+    room = λ well_formed. leaves _ _ (r.room well_formed);
+    stays_begun = on r.stays_begun;
   }
 
 -- a driver just opened
@@ -175,11 +175,11 @@ opened kind format writable number before d o = record {
   size_is = o.size_is;
   meant = record { size = o.meant.size; exactly = o.meant.exactly; cell = o.meant.cell };
   counted = o.counted;
-  kept = o.kept;
+  unchanged_but_faults = o.unchanged_but_faults;
   free = o.free;
   usable = o.usable;
-  sees = o.sees;
-  still = o.still;
-  lasting = o.lasting;
-  safe = λ keeps sound. o.safe keeps (kind.sound_for d _ sound);
+  coherent = o.coherent;
+  has_no_dirty_data = o.has_no_dirty_data;
+  stays_stable = o.stays_stable;
+  well_formed = λ keeps sound. o.well_formed keeps (kind.sound_for d _ sound);
 }

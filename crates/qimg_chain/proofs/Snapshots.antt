@@ -14,9 +14,9 @@ use Rattle.imago_storage.specs.State.{StorageState, IsAlignment}
 use Rattle.imago_storage.specs.Calls.{IsFaultless}
 use Rattle.imago_storage.specs.declared.fault.Fault.{Fault}
 use Rattle.imago_storage.specs.declared.fault.Fault.TheVariants.{RangeOverflow, Memory, Storage}
-use Rattle.imago_access.specs.declared.seen.Seen.{Ghosts}
+use Rattle.imago_access.specs.declared.driver_model.DriverModel.{Ghosts}
 use Rattle.imago_access.specs.FileReads.{file_bytes_in, files_at, FilesRead, FileReadCause}
-use Rattle.imago_access.specs.Files.{AreRead, IsMild, OverflowsIn, Pairs, WasNotCutOff, byte_in, files, files_of}
+use Rattle.imago_access.specs.Files.{AreRead, IsNotResourceError, OverflowsIn, Pairs, HadNoResourceError, byte_in, files, files_of}
 use Rattle.imago_access.specs.Refusals.{IsOfStorages}
 use Rattle.imago_access.proofs.FilePairs.{faultless_all_both, some_rose_behind}
 use Rattle.imago_access.proofs.FileReads.{all_read_looked, fits_at}
@@ -30,10 +30,10 @@ length_map f [] = refl
 length_map f (x ∷ xs) = let rest = length_map f xs in omega (arith, rest)
 
 -- what is so unless a call was cut off, of one whose fault a `?` passes on
-pub passed_mildly : {T : Type 0} (result : Result T Fault) (fault : Fault) → IsErrAnd result (λ e. e ≡ fault) → (P : Type 0 → Type 0) → P (IsMild fault) → P (WasNotCutOff result)
+pub passed_mildly : {T : Type 0} (result : Result T Fault) (fault : Fault) → IsErrAnd result (λ e. e ≡ fault) → (P : Type 0 → Type 0) → P (IsNotResourceError fault) → P (HadNoResourceError result)
 passed_mildly {T} result fault is_err P holds =
     let p = err_from_is_err_and result is_err in
-    subst (λ (r : Result T Fault). P (WasNotCutOff r)) (sym p.1) (subst (λ (e : Fault). P (IsMild e)) (sym p.2) holds)
+    subst (λ (r : Result T Fault). P (HadNoResourceError r)) (sym p.1) (subst (λ (e : Fault). P (IsNotResourceError e)) (sym p.2) holds)
 
 -- ---- The bytes of one file.
 
@@ -180,12 +180,12 @@ module _ {D St : Type 0} (g : Ghosts D St) where
   copy_cause aligned storages olds news layer file n e low why = absurd why
 
   -- no storage failed in reads that weren't cut off
-  pub calm : (olds news : List D) → Pairs (FilesRead g ⊤) olds news → Pairs IsFaultless (files_of g olds) (files_of g news)
-  calm olds news read = chain_faults g ⊤ olds news tt (all_read_looked g ⊤ olds news read)
+  pub no_change_refused : (olds news : List D) → Pairs (FilesRead g ⊤) olds news → Pairs IsFaultless (files_of g olds) (files_of g news)
+  no_change_refused olds news read = chain_faults g ⊤ olds news tt (all_read_looked g ⊤ olds news read)
 
   -- behind such reads
   pub cause_behind : (olds mids news : List D) (e : Fault) → Pairs (FilesRead g ⊤) olds mids → WhyNotCopied (files_of g mids) (files_of g news) e → WhyNotCopied (files_of g olds) (files_of g news) e
-  cause_behind olds mids news Memory read why = faultless_all_both (files_of g olds) (files_of g mids) (files_of g news) (calm olds mids read) why
+  cause_behind olds mids news Memory read why = faultless_all_both (files_of g olds) (files_of g mids) (files_of g news) (no_change_refused olds mids read) why
   cause_behind olds mids news Storage read why =
       some_rose_behind (files_of g olds) (files_of g mids) (files_of g news) (chain_later g ⊤ olds mids (all_read_looked g ⊤ olds mids read)) why
   cause_behind olds mids news e read why = absurd why

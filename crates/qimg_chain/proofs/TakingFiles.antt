@@ -17,10 +17,10 @@ pub takes : {S : Type 0} (files left : List (String Global × S)) (name : List �
     → left ≡ take i files ++ drop (i + 1) files → TakesFirst files name found.1 left
 takes files left name i found inside at named others rest = record {
   before = take i files;
-  behind = drop (i + 1) files;
+  files_after = drop (i + 1) files;
   given = found.0;
   where_is = parts files i found inside at;
   named = named;
   first = others;
-  rest = rest;
+  others_left = rest;
 }

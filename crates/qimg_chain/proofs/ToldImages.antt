@@ -3,7 +3,7 @@ use Rattle.std.proofs.Common.{◌≡◌, ◌∙◌, ℕ, List, [], ◌∷◌, ar
 use Rattle.std.specs.Prelude.{Bool, IsTrue}
 use Rattle.imago_storage.specs.State.{Shape, StorageState}
 use Rattle.imago_access.specs.declared.format.Format.TheVariants.{Qcow2}
-use Rattle.imago_access.specs.declared.seen.Seen.{Ghosts}
+use Rattle.imago_access.specs.declared.driver_model.DriverModel.{Ghosts}
 use Rattle.imago_access.specs.Files.{keep_all}
 use Rattle.imago_access.specs.Layer.{IsFree, loose}
 use Rattle.imago_access.specs.Running.{chain_disk}
@@ -12,7 +12,7 @@ use Rattle.qcow2_types.specs.Consistency.{Consistent}
 use Rattle.qimg_calls.specs.Since.{flushed}
 use Rattle.qimg_core.specs.declared.plain.ChainFile.{ChainFile}
 use Rattle.qimg_chain.specs.Chains.{IsSoundAs}
-use Rattle.qimg_chain.specs.ToldStops.{AreLoggedFiles, OpensTelling, StopsConsistent}
+use Rattle.qimg_chain.specs.ToldStops.{AreLoggedFiles, OpensTelling, CrashImagesConsistent}
 use Rattle.qimg_chain.proofs.FitFiles.{logged-fits, logged-step}
 use Rattle.qimg_chain.proofs.Opened.{ready, stands}
 use Rattle.qimg_chain.proofs.ToldStops.{stops-in, stops-told}
@@ -26,7 +26,7 @@ module _ {S D St : Type 0} (g : Ghosts D St) (state : S → StorageState) (free_
   opens-telling writable number (file ∷ below) are c opened =
       let is = are.1 in
       let top = opened.layers.0.opened in
-      let kept = top.kept.0 in
+      let kept = top.unchanged_but_faults.0 in
       let shape = kept.shape ∙ ap (λ (s : StorageState). s.shape) is.logged in
       let refusals = kept.refusals ∙ ap (λ (s : StorageState). s.refusals) is.logged in
       record {
@@ -39,7 +39,7 @@ module _ {S D St : Type 0} (g : Ghosts D St) (state : S → StorageState) (free_
       }
 
   pub stops-consistent : ((d : D) (f : List ℕ) → (g.layer d).fixed.format ≡ Qcow2 → g.sound (g.layer d).fixed.kind f → Consistent (bytes_of f))
-      → (writable : Bool) (number : ℕ) (files : List (ChainFile S)) → AreLoggedFiles state writable files → StopsConsistent g state writable number files
+      → (writable : Bool) (number : ℕ) (files : List (ChainFile S)) → AreLoggedFiles state writable files → CrashImagesConsistent g state writable number files
   stops-consistent consistent_so writable number [] are list answers c new opened driven on = absurd are.1
   stops-consistent consistent_so writable number (file ∷ below) are list answers c new opened driven on =
       let since = flushed (chain_disk g.layer c) in

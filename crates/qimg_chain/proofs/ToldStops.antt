@@ -2,26 +2,26 @@
 use Rattle.std.proofs.Common.{◌≡◌, ◌+◌, ◌<◌, ℕ, zero, suc, List, [], ◌∷◌, arith, refl, sym, subst, ap, take}
 use Rattle.std.specs.Prelude.{◌^◌, Bool, true, false, IsTrue, MatchOption, Option, Some, None, is_some}
 use Rattle.std.proofs.lemmas.List.Elements.{All-weaker}
-use Rattle.imago_storage.specs.State.{InStep, Rose, Shape, StorageState}
-use Rattle.imago_storage.specs.Passing.{Passes}
-use Rattle.imago_storage.specs.Through.{StopsIn}
+use Rattle.imago_storage.specs.State.{CrashImageIsBytes, HasRisen, Shape, StorageState}
+use Rattle.imago_storage.specs.Passing.{UnrefusedCrashImages}
+use Rattle.imago_storage.specs.Through.{EachCrashImageIn}
 use Rattle.imago_storage.proofs.Composing.{no_stops}
 use Rattle.imago_access.specs.ChainCalls.{ChainCancels}
 use Rattle.imago_access.specs.Files.{IsLater}
 use Rattle.imago_access.specs.Layer.{Fixed}
 use Rattle.imago_access.specs.declared.mapping.PreparedDataMapping.{PreparedDataMapping}
-use Rattle.imago_access.specs.declared.seen.Seen.{Ghosts}
+use Rattle.imago_access.specs.declared.driver_model.DriverModel.{Ghosts}
 use Rattle.imago_access.proofs.FilePairs.{is_later_both, is_later_same}
 use Rattle.imago_access.proofs.Stopping.{passes_both}
 use Rattle.qimg_calls.specs.Calls.{Either, GoesOn, is_out_of_place}
-use Rattle.qimg_calls.specs.Held.{holding}
-use Rattle.qimg_calls.specs.Runs.{AllGoOn, Goes, IsLeftBy, Made, Moment, Run, StatesSize, moment}
+use Rattle.qimg_calls.specs.Held.{chain_with_mapping}
+use Rattle.qimg_calls.specs.Runs.{AllGoOn, ListStep, IsLeftBy, Made, Moment, Run, StatesSize, moment}
 use Rattle.qimg_calls.specs.Since.{Since}
 use Rattle.qimg_calls.specs.declared.call.Call.{Call}
 use Rattle.qimg_calls.specs.declared.call.Answer.{Answer}
 use Rattle.qimg_chain.specs.ToldStops.{GoesOnTelling, IsLeftIn, TellsAll, TellsRun}
 
-pub stops-in : (P Q : List ℕ → Type 0) (a b : StorageState) → ((f : List ℕ) → P f → Q f) → StopsIn P a b → StopsIn Q a b
+pub stops-in : (P Q : List ℕ → Type 0) (a b : StorageState) → ((f : List ℕ) → P f → Q f) → EachCrashImageIn P a b → EachCrashImageIn Q a b
 stops-in P Q a b weaker stops = record { files = stops.files; told = stops.told; each = All-weaker P Q weaker stops.files stops.each }
 
 pub either-way : (b : Bool) (P Q : Type 0) → Either b P Q → (R : Type 0) → (P → R) → (Q → R) → R
@@ -36,28 +36,28 @@ module _ {D St : Type 0} (g : Ghosts D St) where
   -- ---- One call.
 
   -- it isn't made, or it is
-  by-case : (P : Moment D St → Type 0) (call : Call) (answer : Answer) (old new : Moment D St) → Goes g call answer old new
+  by-case : (P : Moment D St → Type 0) (call : Call) (answer : Answer) (old new : Moment D St) → ListStep g call answer old new
       → P old → (Made g call answer old new → P new) → P new
   by-case P call answer old new goes none made =
-      either-way (is_out_of_place (is_some old.now.kept) call) _ _ goes (P new) (λ out. subst P (sym out.1) none) made
+      either-way (is_out_of_place (is_some old.now.kept_mapping) call) _ _ goes (P new) (λ out. subst P (sym out.1) none) made
 
-  later-one : (call : Call) (answer : Answer) (old new : Moment D St) → Goes g call answer old new → IsLater (image old) (image new)
+  later-one : (call : Call) (answer : Answer) (old new : Moment D St) → ListStep g call answer old new → IsLater (image old) (image new)
   later-one call answer old new goes =
-      by-case (λ m. IsLater (image old) (image m)) call answer old new goes (is_later_same (image old)) (λ made. made.later)
+      by-case (λ m. IsLater (image old) (image m)) call answer old new goes (is_later_same (image old)) (λ made. made.counts_not_fallen)
 
-  fixed-one : (call : Call) (answer : Answer) (old new : Moment D St) → Goes g call answer old new
+  fixed-one : (call : Call) (answer : Answer) (old new : Moment D St) → ListStep g call answer old new
       → (g.layer new.now.drivers.0).fixed ≡ (g.layer old.now.drivers.0).fixed
   fixed-one call answer old new goes =
       by-case (λ m. (g.layer m.now.drivers.0).fixed ≡ (g.layer old.now.drivers.0).fixed) call answer old new goes refl (λ made. made.fixed)
 
-  none-passes : (P : List ℕ → Type 0) (a : StorageState) → Passes P a a
-  none-passes P a calm = (λ step. step, no_stops P a a refl refl)
+  none-passes : (P : List ℕ → Type 0) (a : StorageState) → UnrefusedCrashImages P a a
+  none-passes P a no_change_refused = (λ step. step, no_stops P a a refl refl)
 
-  passes-one : (call : Call) (answer : Answer) (old new : Moment D St) → StatesSize g old.now.drivers → Goes g call answer old new
-      → Passes (IsLeftBy g call old) (image old) (image new)
+  passes-one : (call : Call) (answer : Answer) (old new : Moment D St) → StatesSize g old.now.drivers → ListStep g call answer old new
+      → UnrefusedCrashImages (IsLeftBy g call old) (image old) (image new)
   passes-one call answer old new sized goes =
-      by-case (λ m. Passes (IsLeftBy g call old) (image old) (image m)) call answer old new goes
-      (none-passes (IsLeftBy g call old) (image old)) (λ made. made.stops sized)
+      by-case (λ m. UnrefusedCrashImages (IsLeftBy g call old) (image old) (image m)) call answer old new goes
+      (none-passes (IsLeftBy g call old) (image old)) (λ made. made.crash_images sized)
 
   -- ---- A list of them.
 
@@ -77,7 +77,7 @@ module _ {D St : Type 0} (g : Ghosts D St) where
   left-first call list answer answers old f left =
       (record { before = zero; call = call; entry = old; is_call = refl; run = refl; left = left }, left.is_sound)
 
-  left-later : (call : Call) (list : List Call) (answer : Answer) (answers : List Answer) (old mid : Moment D St) → Goes g call answer old mid
+  left-later : (call : Call) (list : List Call) (answer : Answer) (answers : List Answer) (old mid : Moment D St) → ListStep g call answer old mid
       → (f : List ℕ) → Leaves list answers mid f → Leaves (call ∷ list) (answer ∷ answers) old f
   left-later call list answer answers old mid goes f left = (
     record {
@@ -97,9 +97,9 @@ module _ {D St : Type 0} (g : Ghosts D St) where
   )
 
   passes-run : (list : List Call) (answers : List Answer) (old new : Moment D St) → StatesSize g old.now.drivers → AllGoOn answers → Run g list answers old new
-      → Passes (Leaves list answers old) (image old) (image new)
+      → UnrefusedCrashImages (Leaves list answers old) (image old) (image new)
   passes-run [] [] old new sized on same =
-      subst (λ (m : Moment D St). Passes (Leaves [] [] old) (image old) (image m)) (sym same) (none-passes (Leaves [] [] old) (image old))
+      subst (λ (m : Moment D St). UnrefusedCrashImages (Leaves [] [] old) (image old) (image m)) (sym same) (none-passes (Leaves [] [] old) (image old))
   passes-run (call ∷ list) (answer ∷ answers) old new sized on run =
       let mid = run.0 in
       let sized_then = subst (λ (x : Fixed). IsTrue x.exact) (sym (fixed-one call answer old mid run.1)) sized in
@@ -117,37 +117,37 @@ module _ {D St : Type 0} (g : Ghosts D St) where
 
   -- each file that a stop in the list leaves
   pub stops-told : (since : Since) (list : List Call) (answers : List Answer) (old new : D × List D) → GoesOnTelling g since list answers old new
-      → StopsIn (Leaves list answers (moment (holding old None) since)) (g.image old.0) (g.image new.0)
+      → EachCrashImageIn (Leaves list answers (moment (chain_with_mapping old None) since)) (g.image old.0) (g.image new.0)
   stops-told since list answers old new goes =
       let a = g.image old.0 in
       let b = g.image new.0 in
-      let start = moment (holding old None) since in
+      let start = moment (chain_with_mapping old None) since in
       let t = goes.telling in
       let last = goes.driven.last in
-      let same : b ≡ image last = ended last.now.kept last.now.drivers new (goes.driven.ends goes.on) in
-      let passes : Passes (Leaves list answers start) a b =
-      subst (λ (s : StorageState). Passes (Leaves list answers start) a s) (sym same) (passes-run list answers start last t.sized goes.on goes.driven.run) in
-      let refusals = (goes.driven.calm goes.on).1 in
-      let calm : Rose a.refusals b.refusals → ⊥ = λ r. omega (arith, refusals, r.rose (omega (arith, refusals, t.room))) in
-      (passes calm).1 (λ _ _. (t.stands t.sized t.tells t.keeps t.room).0) t.tells t.keeps
+      let same : b ≡ image last = ended last.now.kept_mapping last.now.drivers new (goes.driven.ends goes.on) in
+      let passes : UnrefusedCrashImages (Leaves list answers start) a b =
+      subst (λ (s : StorageState). UnrefusedCrashImages (Leaves list answers start) a s) (sym same) (passes-run list answers start last t.sized goes.on goes.driven.run) in
+      let refusals = (goes.driven.no_change_refused goes.on).1 in
+      let no_change_refused : HasRisen a.refusals b.refusals → ⊥ = λ r. omega (arith, refusals, r.rose (omega (arith, refusals, t.room))) in
+      (passes no_change_refused).1 (λ _ _. (t.stands t.sized t.tells t.keeps t.room).0) t.tells t.keeps
 
   -- ---- The same in their order.
 
   -- what one call tells, and that the next one may be told, too
   abbrev Tells : Call → Moment D St → Moment D St → Type 0
-  Tells call old m = StopsIn (IsLeftBy g call old) (image old) (image m) × (InStep (image old) → InStep (image m)) × ((image m).refusals ≡ (image old).refusals)
+  Tells call old m = EachCrashImageIn (IsLeftBy g call old) (image old) (image m) × (CrashImageIsBytes (image old) → CrashImageIsBytes (image m)) × ((image m).refusals ≡ (image old).refusals)
 
-  tells-one : (call : Call) (answer : Answer) (old new : Moment D St) → StatesSize g old.now.drivers → GoesOn answer → InStep (image old)
-      → IsTrue (image old).shape.tells → IsTrue (image old).shape.keeps → (image old).refusals + 1 < 2 ^ 64 → Goes g call answer old new → Tells call old new
+  tells-one : (call : Call) (answer : Answer) (old new : Moment D St) → StatesSize g old.now.drivers → GoesOn answer → CrashImageIsBytes (image old)
+      → IsTrue (image old).shape.tells → IsTrue (image old).shape.keeps → (image old).refusals + 1 < 2 ^ 64 → ListStep g call answer old new → Tells call old new
   tells-one call answer old new sized on step tells keeps room goes =
       by-case (Tells call old) call answer old new goes
-      (no_stops (IsLeftBy g call old) (image old) (image old) refl refl step tells keeps, (λ still. still), refl)
+      (no_stops (IsLeftBy g call old) (image old) (image old) refl refl step tells keeps, (λ has_no_dirty_data. has_no_dirty_data), refl)
       (λ made.
-      let calm = made.calm on in
-      let passes = made.stops sized (λ r. omega (arith, calm.1, r.rose (omega (arith, calm.1, room)))) in
-      (passes.1 step tells keeps, passes.0, calm.1))
+      let no_change_refused = made.no_change_refused on in
+      let passes = made.crash_images sized (λ r. omega (arith, no_change_refused.1, r.rose (omega (arith, no_change_refused.1, room)))) in
+      (passes.1 step tells keeps, passes.0, no_change_refused.1))
 
-  tells-run : (list : List Call) (answers : List Answer) (old new : Moment D St) → StatesSize g old.now.drivers → AllGoOn answers → InStep (image old)
+  tells-run : (list : List Call) (answers : List Answer) (old new : Moment D St) → StatesSize g old.now.drivers → AllGoOn answers → CrashImageIsBytes (image old)
       → IsTrue (image old).shape.tells → IsTrue (image old).shape.keeps → (image old).refusals + 1 < 2 ^ 64 → Run g list answers old new → TellsRun g list answers old new
   tells-run [] [] old new sized on step tells keeps room same = same
   tells-run (call ∷ list) (answer ∷ answers) old new sized on step tells keeps room run =
@@ -165,12 +165,12 @@ module _ {D St : Type 0} (g : Ghosts D St) where
   tells-run (call ∷ list) [] old new sized on step tells keeps room run = absurd run
 
   pub in-order : (since : Since) (list : List Call) (answers : List Answer) (old new : D × List D) → GoesOnTelling g since list answers old new
-      → TellsAll g list answers (moment (holding old None) since) new
+      → TellsAll g list answers (moment (chain_with_mapping old None) since) new
   in-order since list answers old new goes =
       let t = goes.telling in
       let last = goes.driven.last in (
         last,
-        tells-run list answers (moment (holding old None) since) last t.sized goes.on (λ _ _. (t.stands t.sized t.tells t.keeps t.room).0) t.tells t.keeps t.room
+        tells-run list answers (moment (chain_with_mapping old None) since) last t.sized goes.on (λ _ _. (t.stands t.sized t.tells t.keeps t.room).0) t.tells t.keeps t.room
             goes.driven.run,
-        ended last.now.kept last.now.drivers new (goes.driven.ends goes.on),
+        ended last.now.kept_mapping last.now.drivers new (goes.driven.ends goes.on),
       )

@@ -87,6 +87,6 @@ AreNoFile words = (name path : List ℕ) (behind : List (List ℕ)) → words �
 
 -- The words are a layer and the rest: where they are layers, the rest is the others.
 pub record IsLayer (words : List (List ℕ)) (layer : AskedLayer) (rest : List (List ℕ)) : Type 0 where
-  pub behind : List (List ℕ)
-  pub words_are : words ≡ format_word layer.format ∷ layer.path ∷ behind
-  pub extras_are : IsExtras behind layer.extras rest
+  pub words_after : List (List ℕ)
+  pub words_are : words ≡ format_word layer.format ∷ layer.path ∷ words_after
+  pub extras_are : IsExtras words_after layer.extras rest

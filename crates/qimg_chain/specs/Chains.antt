@@ -5,7 +5,7 @@ use Rattle.imago_access.specs.Building.{IsOpened}
 use Rattle.imago_access.specs.Layer.{Layer, unmapped}
 use Rattle.imago_access.specs.declared.format.Format.{Format}
 use Rattle.imago_access.specs.declared.format.Format.TheVariants.{Qcow2}
-use Rattle.imago_access.specs.declared.seen.Seen.{Ghosts}
+use Rattle.imago_access.specs.declared.driver_model.DriverModel.{Ghosts}
 use Rattle.qcow2_types.specs.Bytes.{bytes_of}
 use Rattle.qcow2_types.specs.Consistency.{Consistent}
 use Rattle.qimg_core.specs.declared.plain.ChainFile.{ChainFile}

@@ -14,12 +14,12 @@ IsOther name file = string_bytes file.0 ≡ name → ⊥
 pub record TakesFirst {S : Type 0} (files : List (String Global × S)) (name : List ℕ) (taken : S)
     (left : List (String Global × S)) : Type 0 where
   pub before : List (String Global × S)
-  pub behind : List (String Global × S)
+  pub files_after : List (String Global × S)
   pub given : String Global
-  pub where_is : files ≡ before ++ ((given, taken) ∷ behind)
+  pub where_is : files ≡ before ++ ((given, taken) ∷ files_after)
   pub named : string_bytes given ≡ name
   pub first : All (IsOther name) before
-  pub rest : left ≡ before ++ behind
+  pub others_left : left ≡ before ++ files_after
 
 -- What is answered for a name, and which files are left then: where none has the name, nothing is taken.
 abbrev pub IsTaken : {S : Type 0} → List (String Global × S) → List ℕ → Result S Fault → List (String Global × S) → Type 0

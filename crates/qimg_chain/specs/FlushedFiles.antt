@@ -3,11 +3,11 @@ use Rattle.std.specs.Prelude.{◌≡◌, ◌≢◌, ◌<◌, ◌≤◌, ℕ, suc
 use Rattle.imago_storage.specs.Disk.{Disk}
 use Rattle.imago_storage.specs.State.{StorageState}
 use Rattle.imago_access.specs.Chain.{Each}
-use Rattle.imago_access.specs.Files.{IsKept, Pairs, files_of}
+use Rattle.imago_access.specs.Files.{UnchangedButMoreFaults, Pairs, files_of}
 use Rattle.imago_access.specs.Layers.{chain}
 use Rattle.imago_access.specs.Running.{chain_disk}
 use Rattle.imago_access.specs.declared.format.Format.TheVariants.{Qcow2, Vmdk}
-use Rattle.imago_access.specs.declared.seen.Seen.{Ghosts}
+use Rattle.imago_access.specs.declared.driver_model.DriverModel.{Ghosts}
 use Rattle.qcow2_types.specs.Bytes.{bytes_of}
 use Rattle.qcow2_types.specs.Consistency.{IsConsistent, leaks}
 use Rattle.qcow2_types.specs.Header.{Header}
@@ -43,7 +43,7 @@ pub record ShowDisk (states_size : Bool) (disk : Disk) (files : List FileBytes) 
 -- often each cluster of the top's file is counted beyond what names it, which is what leaks.
 pub record FilesMeanDisk {D St : Type 0} (g : Ghosts D St) (names : D → ℕ → List ℕ) (opened now : D × List D) : Type 0 where
   pub means : ShowDisk (g.layer now.0).fixed.exact (chain_disk g.layer now) (files_now g names opened now)
-  pub below : Pairs IsKept (files_of g opened.1) (files_of g now.1)
+  pub below : Pairs UnchangedButMoreFaults (files_of g opened.1) (files_of g now.1)
   pub fixed : (g.layer now.0).fixed ≡ (g.layer opened.0).fixed
   pub leaks : (c : ℕ) → (g.layer now.0).fixed.leaks (g.image now.0).bytes c ≡ (g.layer opened.0).fixed.leaks (g.image opened.0).bytes c
 
@@ -76,11 +76,11 @@ LeaksWhatItDid {D} g names = (opened now : D × List D) (H K : Header) → Files
 pub record FlushesAt {D St : Type 0} (g : Ghosts D St) (names : D → ℕ → List ℕ) (opened : D × List D) (list : List Call)
     (answers : List Answer) (start last : Moment D St) (place : ℕ) : Type 0 where
   pub before : Moment D St
-  pub behind : Moment D St
+  pub moment_after : Moment D St
   pub run : Run g (take place list) (take place answers) start before
-  pub made : Made g calls.Flush told.Done before behind
-  pub rest : Run g (drop (suc place) list) (drop (suc place) answers) behind last
-  pub means : state_of before.now.kept ≡ None → FilesMeanDisk g names opened behind.now.drivers
+  pub made : Made g calls.Flush told.Done before moment_after
+  pub run_after : Run g (drop (suc place) list) (drop (suc place) answers) moment_after last
+  pub means : state_of before.now.kept_mapping ≡ None → FilesMeanDisk g names opened moment_after.now.drivers
 
 -- each flush of a list that was done, where no call before it was cut off
 abbrev pub EachFlushMeans : {D St : Type 0} → Ghosts D St → (D → ℕ → List ℕ) → D × List D → List Call → List Answer → Moment D St

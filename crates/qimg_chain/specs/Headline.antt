@@ -7,7 +7,7 @@ use Rattle.imago_storage.specs.declared.memory.MemStorage.{MemStorage}
 use Rattle.imago_access.specs.Chain.{Each}
 use Rattle.imago_access.specs.Layers.{chain}
 use Rattle.imago_access.specs.Running.{chain_disk}
-use Rattle.imago_access.specs.declared.seen.Seen.{Ghosts}
+use Rattle.imago_access.specs.declared.driver_model.DriverModel.{Ghosts}
 use Rattle.qimg_calls.specs.Runs.{Driven}
 use Rattle.qimg_calls.specs.Since.{flushed}
 use Rattle.qimg_core.specs.declared.plain.ChainFile.{ChainFile}

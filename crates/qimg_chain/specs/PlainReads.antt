@@ -6,11 +6,11 @@ use Rattle.imago_storage.specs.declared.fault.Fault.{Fault}
 use Rattle.imago_storage.specs.declared.fault.Fault.TheVariants.{Barred, DamagedTable, Memory, RangeOverflow, Storage}
 use Rattle.imago_access.specs.Chain.{Each}
 use Rattle.imago_access.specs.Files.{files}
-use Rattle.imago_access.specs.declared.seen.Seen.{Ghosts}
+use Rattle.imago_access.specs.declared.driver_model.DriverModel.{Ghosts}
 use Rattle.qimg_core.specs.Plain.{IsFirstFault, value_fault}
 use Rattle.qimg_core.specs.declared.plain.ChainFile.{ChainFile}
 use Rattle.qimg_chain.specs.FileMeanings.{FileBytes, files_bytes, size_of, value_of}
-use Rattle.qimg_chain.specs.Refusals.{FirstCause, FormChain, IsCutOff}
+use Rattle.qimg_chain.specs.Refusals.{FirstCause, FormChain, HadResourceError}
 
 -- no file of a driver of this kind ever fails
 abbrev pub NoFileFails : {D St : Type 0} → Ghosts D St → Type 0
@@ -60,7 +60,7 @@ RefusesRange files offset n fault =
 -- the range's own sake.
 abbrev pub NotPlainlyRead : {S : Type 0} → (S → StorageState) → List (ChainFile S) → (offset n : ℕ) → Fault → Type 0
 NotPlainlyRead state files offset n fault =
-    IsCutOff state fault
+    HadResourceError state fault
     ⊎ (FirstCause state false files fault ⊎ (FormChain state false files × RefusesRange (files_bytes state files) offset n fault))
 
 -- The files are opened for reading, the range's end fits 64 bits, and the buffer holds what their disk shows.

@@ -7,8 +7,8 @@ use Rattle.qimg_core.specs.declared.plain.ChainFile.{ChainFile}
 use Rattle.qimg_chain.specs.FileLayers.{IsLayer, WhyNotLayer}
 
 -- memory was wanting, or a storage failed, of a kind that may
-abbrev pub IsCutOff : {S : Type 0} → (S → StorageState) → Fault → Type 0
-IsCutOff state fault = (fault ≡ Memory) ⊎ ((fault ≡ Storage) × MayFail state)
+abbrev pub HadResourceError : {S : Type 0} → (S → StorageState) → Fault → Type 0
+HadResourceError state fault = (fault ≡ Memory) ⊎ ((fault ≡ Storage) × MayFail state)
 
 -- Why a file is out of its place, by whether it names a layer below and by the files behind it.
 abbrev pub misplaced : {F : Type 0} → Bool → List F → Option Fault

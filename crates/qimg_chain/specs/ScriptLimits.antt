@@ -28,8 +28,8 @@ EndsBetween (Err fault) before rest = ⊤
 -- The lines of a script that are run, by its bytes: its first ones, which have no more bytes with their ends than a script has at most.
 pub record AreAnswered (result : Result (Option (List ℕ)) RunFault) (bytes : List ℕ) (texts : List (List ℕ)) : Type 0 where
   pub before : List ℕ
-  pub rest : List ℕ
-  pub parts : bytes ≡ before ++ rest
-  pub first : lines bytes ≡ texts ++ lines rest
+  pub remainder : List ℕ
+  pub parts : bytes ≡ before ++ remainder
+  pub first : lines bytes ≡ texts ++ lines remainder
   pub short : length before ≤ most_bytes
-  pub ends : EndsBetween result before rest
+  pub ends : EndsBetween result before remainder

@@ -22,8 +22,8 @@ IsTakenAs text taken = IfOk taken (IsLine text) × IfErr taken (NotLine text)
 -- the first text of some bytes is taken so
 pub record IsFirst (bytes : List ℕ) (result : Result Line Fault) : Type 0 where
   pub text : List ℕ
-  pub rest : List ℕ
-  pub first : lines bytes ≡ text ∷ lines rest
+  pub remainder : List ℕ
+  pub first : lines bytes ≡ text ∷ lines remainder
   pub taken : IsTakenAs text result
 
 -- what comes next in a script, by the bytes of its next line: what its text is taken as, or nothing where there is no line

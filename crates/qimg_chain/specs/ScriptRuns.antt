@@ -3,10 +3,10 @@ use Rattle.std.specs.Prelude.{◌≡◌, ◌⊎◌, ⊤, ℕ, List, [], ◌∷�
 use Rattle.std.specs.Global.{Global}
 use Rattle.std.specs.Io.KnownBytes.{Appends}
 use Rattle.imago_storage.specs.declared.fault.Fault.{Fault}
-use Rattle.imago_access.specs.declared.seen.Seen.{Ghosts}
+use Rattle.imago_access.specs.declared.driver_model.DriverModel.{Ghosts}
 use Rattle.qimg_calls.specs.Held.{IsReady}
 use Rattle.qimg_calls.specs.Making.{AnswersAlone}
-use Rattle.qimg_calls.specs.Runs.{Driven, StandsSince}
+use Rattle.qimg_calls.specs.Runs.{Driven, HoldsSince}
 use Rattle.qimg_calls.specs.Since.{Since}
 use Rattle.qimg_calls.specs.declared.call.Call.{Call}
 use Rattle.qimg_calls.specs.declared.call.Answer.{Answer as CallAnswer}
@@ -53,7 +53,7 @@ pub record RunsNothing {D St : Type 0} (g : Ghosts D St) (r : Reply) (old new : 
   pub why : NotLine r.text fault
   pub none : r.turn ≡ unmade
   pub answered : r.answer ≡ told.Refused fault
-  pub kept : new.saved ≡ old.saved
+  pub saved_unchanged : new.saved ≡ old.saved
 
 pub record Replies {D St : Type 0} (g : Ghosts D St) (names : D → ℕ → List ℕ) (r : Reply) (old new : Standing D) : Type 0 where
   pub made : AnswersAlone g r.turn.list r.turn.answers old.drivers new.drivers
@@ -124,10 +124,10 @@ pub record Scripted {D St : Type 0} (g : Ghosts D St) (names : D → ℕ → Lis
   pub replies : List Reply
   pub saved : Option (List ℕ)
   pub runs : RunsAll g names replies (standing old None) (standing new saved)
-  pub driven : (since : Since) → IsReady g old → StandsSince g since old → Driven g since (calls_of replies) (answers_of replies) old new
+  pub driven : (since : Since) → IsReady g old → HoldsSince g since old → Driven g since (calls_of replies) (answers_of replies) old new
   -- its lines are the first that the reader has, all of them where it ends, as many as a script has at most; and its text is their answers
   pub count : IsAnswerCount result (length replies)
   pub lines : IfSome input (λ bytes. AreAnswered result bytes (map (λ (r : Reply). r.text) replies))
   pub written : AreWritten result before after replies
   -- where the script is run to its end, the bytes that the last `save` kept are handed on, if one was done
-  pub kept : OnOk result (result ≡ Ok saved)
+  pub saved_returned : OnOk result (result ≡ Ok saved)

@@ -8,7 +8,7 @@ use Rattle.imago_storage.specs.declared.fault.Fault.TheVariants.{Memory, Storage
 use Rattle.imago_access.specs.FileReads.{file_bytes_in}
 use Rattle.imago_access.specs.Files.{Pairs, SomeRose}
 use Rattle.imago_access.specs.declared.format.Format.{Format}
-use Rattle.imago_access.specs.declared.seen.Seen.{Ghosts}
+use Rattle.imago_access.specs.declared.driver_model.DriverModel.{Ghosts}
 use Rattle.qimg_chain.specs.FileMeanings.{FileBytes, with_names}
 use Rattle.qimg_chain.specs.declared.chain.snapshots.LayerNames.{LayerNames}
 

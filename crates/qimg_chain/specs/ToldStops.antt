@@ -3,16 +3,16 @@ use Rattle.std.specs.Prelude.{◌≡◌, ℕ, ◌+◌, ◌<◌, ◌^◌, Bool, L
 use Rattle.imago_storage.specs.Log.{telling}
 use Rattle.imago_storage.specs.MemStorage.{memory}
 use Rattle.imago_storage.specs.State.{StorageState}
-use Rattle.imago_storage.specs.Through.{StopsIn}
+use Rattle.imago_storage.specs.Through.{EachCrashImageIn}
 use Rattle.imago_access.specs.Layers.{chain}
 use Rattle.imago_access.specs.Running.{chain_disk}
 use Rattle.imago_access.specs.declared.format.Format.TheVariants.{Qcow2}
-use Rattle.imago_access.specs.declared.seen.Seen.{Ghosts}
+use Rattle.imago_access.specs.declared.driver_model.DriverModel.{Ghosts}
 use Rattle.qcow2_types.specs.Bytes.{bytes_of}
 use Rattle.qcow2_types.specs.Consistency.{Consistent, IsConsistent}
 use Rattle.qcow2_types.specs.Header.{Header}
 use Rattle.qimg_calls.specs.Held.{IsReady}
-use Rattle.qimg_calls.specs.Runs.{AllGoOn, Driven, Goes, IsLeftBy, Moment, Run, StandsSince, StatesSize}
+use Rattle.qimg_calls.specs.Runs.{AllGoOn, Driven, ListStep, IsLeftBy, Moment, Run, HoldsSince, StatesSize}
 use Rattle.qimg_calls.specs.Since.{Since, flushed}
 use Rattle.qimg_calls.specs.declared.call.Call.{Call}
 use Rattle.qimg_calls.specs.declared.call.Answer.{Answer}
@@ -24,7 +24,7 @@ use Rattle.qimg_chain.specs.Refusals.{FormChain}
 -- top's file states the size of its disk; and its storage tells its stops, keeps what is written, and can count one more refused change.
 pub record TellsStops {D St : Type 0} (g : Ghosts D St) (since : Since) (c : D × List D) : Type 0 where
   pub ready : IsReady g c
-  pub stands : StandsSince g since c
+  pub stands : HoldsSince g since c
   pub sized : StatesSize g c
   pub tells : IsTrue (g.image c.0).shape.tells
   pub keeps : IsTrue (g.image c.0).shape.keeps
@@ -44,8 +44,8 @@ pub record IsLeftIn {D St : Type 0} (g : Ghosts D St) (list : List Call) (answer
 -- leave then.
 abbrev pub TellsRun : {D St : Type 0} → Ghosts D St → List Call → List Answer → Moment D St → Moment D St → Type 0
 TellsRun g [] [] old new = new ≡ old
-TellsRun {D} {St} g (call ∷ calls) (answer ∷ answers) old new = (mid : Moment D St) × Goes g call answer old mid
-    × StopsIn (IsLeftBy g call old) (g.image old.now.drivers.0) (g.image mid.now.drivers.0) × TellsRun g calls answers mid new
+TellsRun {D} {St} g (call ∷ calls) (answer ∷ answers) old new = (mid : Moment D St) × ListStep g call answer old mid
+    × EachCrashImageIn (IsLeftBy g call old) (g.image old.now.drivers.0) (g.image mid.now.drivers.0) × TellsRun g calls answers mid new
 TellsRun g _ _ old new = ⊥
 
 -- the same of a list behind which a chain stands: nothing is asked of the top's file at its end
@@ -90,7 +90,7 @@ OpensTelling {D = D} g state writable number files =
     (c : D × List D) → IsOpenedOver g state writable number files c → TellsStops g (flushed (chain_disk g.layer c)) c
 
 -- Each file that a stop leaves in a list of calls over it is a consistent image, where no call is cut off.
-abbrev pub StopsConsistent : {S D St : Type 0} → Ghosts D St → (S → StorageState) → Bool → ℕ → List (ChainFile S) → Type 0
-StopsConsistent {D = D} g state writable number files = (list : List Call) (answers : List Answer) (c new : D × List D)
+abbrev pub CrashImagesConsistent : {S D St : Type 0} → Ghosts D St → (S → StorageState) → Bool → ℕ → List (ChainFile S) → Type 0
+CrashImagesConsistent {D = D} g state writable number files = (list : List Call) (answers : List Answer) (c new : D × List D)
     → IsOpenedOver g state writable number files c → Driven g (flushed (chain_disk g.layer c)) list answers c new → AllGoOn answers
-    → StopsIn (λ f. Consistent (bytes_of f)) (g.image c.0) (g.image new.0)
+    → EachCrashImageIn (λ f. Consistent (bytes_of f)) (g.image c.0) (g.image new.0)

@@ -50,7 +50,7 @@ fn format_of(word: &str) -> Option<Format>
 /// The name and the path of the file that the words at this place give a layer, if they give one.
 fn file_at<'a>(words: &[&'a str], at: usize) -> Option<(&'a str, &'a str)>
     requires inside { at ≤ length words.now }
-    ensures few { IfSome result (λ r. at + 3 ≤ length words.now) }
+    ensures within_words { IfSome result (λ r. at + 3 ≤ length words.now) }
     ensures file { MatchOption result (AreNoFile (words_from at words.now))
         (λ r. words_from at words.now ≡ codes "file" ∷ r.0.now ∷ r.1.now ∷ words_from (at + 3) words.now) }
 {
@@ -66,7 +66,7 @@ fn file_at<'a>(words: &[&'a str], at: usize) -> Option<(&'a str, &'a str)>
 /// The files that the words give a layer from this place on: each by three words.
 fn parse_extras(alloc: Global, words: &[&str], at: usize) -> Result<Vec<(String, String)>, Fault>
     requires inside { at ≤ length words.now }
-    ensures few { IfOk result (λ r. at + 3 * length r.items ≤ length words.now) }
+    ensures within_words { IfOk result (λ r. at + 3 * length r.items ≤ length words.now) }
     ensures taken { IfOk result (λ r. IsExtras (words_from at words.now) (map extra_of r.items)
         (words_from (at + 3 * length r.items) words.now)) }
     ensures err { IsOkUnless result Fault.Memory }
@@ -83,7 +83,7 @@ fn parse_extras(alloc: Global, words: &[&str], at: usize) -> Result<Vec<(String,
 /// The layer that the words at this place ask for, with all files that they give it.
 fn parse_layer(alloc: Global, words: &[&str], at: usize) -> Result<LayerArgument, Fault>
     requires inside { at < length words.now }
-    ensures few { IfOk result (λ r. at + 2 + 3 * length r.extras.items ≤ length words.now) }
+    ensures within_words { IfOk result (λ r. at + 2 + 3 * length r.extras.items ≤ length words.now) }
     ensures ok { IfOk result (λ r. IsLayer (words_from at words.now) (layer_of r)
         (words_from (at + 2 + 3 * length r.extras.items) words.now)) }
     ensures err { IfErr result (SayNoLayers (words_from at words.now)) }
@@ -107,7 +107,7 @@ fn parse_layer(alloc: Global, words: &[&str], at: usize) -> Result<LayerArgument
 fn parse_layers(alloc: Global, words: &[&str], from: usize) -> Result<Vec<LayerArgument>, Fault>
     requires inside { from ≤ length words.now }
     ensures ok { IfOk result (λ r. words_from from words.now ≡ flat_map layer_words (map layer_of r.items)) }
-    ensures some { IfOk result (λ r. 0 < length r.items) }
+    ensures nonempty { IfOk result (λ r. 0 < length r.items) }
     ensures err { IfErr result (AskForNone (words_from from words.now)) }
 {
     let mut layers = Vec::new(alloc);

@@ -6,15 +6,15 @@ ghost use Rattle.imago_access.specs.Running.{chain_disk};
 ghost use Rattle.imago_access.specs.declared.format.Format.TheVariants.{Qcow2, Raw};
 ghost use Rattle.imago_storage.specs.Log.{log_state};
 ghost use Rattle.imago_storage.specs.MemStorage.{mem_state};
-ghost use Rattle.imago_storage.specs.State.{InStep};
-ghost use Rattle.imago_storage.specs.Through.{StopsIn};
+ghost use Rattle.imago_storage.specs.State.{CrashImageIsBytes};
+ghost use Rattle.imago_storage.specs.Through.{EachCrashImageIn};
 ghost use Rattle.imago_storage.specs.declared.fault.Fault.{Fault};
 ghost use Rattle.imago_storage.specs.declared.log.LogStorage.{LogStorage};
 ghost use Rattle.imago_storage.specs.declared.memory.MemStorage.{MemStorage};
 ghost use Rattle.qcow2_types.specs.Bytes.{bytes_of};
 ghost use Rattle.qcow2_types.specs.Consistency.{IsConsistent};
 ghost use Rattle.qcow2_types.specs.Header.{Header};
-ghost use Rattle.qimg_calls.specs.Held.{holding};
+ghost use Rattle.qimg_calls.specs.Held.{chain_with_mapping};
 ghost use Rattle.qimg_calls.specs.Runs.{Driven, moment};
 ghost use Rattle.qimg_calls.specs.Since.{Since, flushed};
 ghost use Rattle.qimg_calls.specs.declared.call.Answer.{Answer};
@@ -29,12 +29,12 @@ ghost use Rattle.qimg_chain.specs.PlainReads.{IsPlainlyRead};
 ghost use Rattle.qimg_chain.specs.Refusals.{FirstCause, FormChain};
 ghost use Rattle.qimg_chain.specs.Script.{IsLine};
 ghost use Rattle.qimg_chain.specs.ScriptRuns.{answers_of, calls_of};
-ghost use Rattle.qimg_chain.specs.ToldStops.{AreLoggedFiles, GoesOnTelling, IsLeftIn, IsLoggedAlone, OpensTelling, StopsConsistent, TellsAll};
+ghost use Rattle.qimg_chain.specs.ToldStops.{AreLoggedFiles, GoesOnTelling, IsLeftIn, IsLoggedAlone, OpensTelling, CrashImagesConsistent, TellsAll};
 ghost use Rattle.qimg_chain.specs.declared.run.fault.RunFault.{RunFault};
 ghost use Rattle.qimg_chain.specs.declared.script.line.Line.{Line};
 
 use crate::chain::{ImageDriver, NamesFiles};
-use imago_access::{FormatDriverInstance, Seen};
+use imago_access::{DriverModel, FormatDriverInstance};
 use imago_storage::{LogStorage, MemStorage, Storage};
 
 /// A text is one line of a script at most: whatever spelling a line has, no other line has it too.
@@ -80,9 +80,9 @@ pub fn a_consistent_image_may_be_written()
 pub fn a_plain_read_and_a_read_agree<S: Storage, T: Storage, D: FormatDriverInstance>()
     ensures agree { (files : List (ChainFile S)) (others : List (ChainFile T)) (old new : D × List D) (offset n : ℕ) (plain buf : List ℕ)
         → files_bytes S.state files ≡ files_bytes T.state others → IsDiskOf (chain_disk D.layer old) (files_bytes T.state others)
-        → IsPlainlyRead S.state files offset n plain → length plain ≡ n → ChainReads D.Seen offset n buf old new → buf ≡ plain }
+        → IsPlainlyRead S.state files offset n plain → length plain ≡ n → ChainReads D.DriverModel offset n buf old new → buf ≡ plain }
     ensures again { (files : List (ChainFile T)) (old new : D × List D) (offset n : ℕ) (buf : List ℕ)
-        → IsDiskOf (chain_disk D.layer old) (files_bytes T.state files) → ChainReads D.Seen offset n buf old new
+        → IsDiskOf (chain_disk D.layer old) (files_bytes T.state files) → ChainReads D.DriverModel offset n buf old new
         → IsDiskOf (chain_disk D.layer new) (files_bytes T.state files) }
 {}
 
@@ -90,64 +90,64 @@ pub fn a_plain_read_and_a_read_agree<S: Storage, T: Storage, D: FormatDriverInst
 /// its disk by themselves: the top's as they then are, over those below as they were at opening, which haven't changed. Each cluster of the
 /// top's file is counted beyond what names it as often as it was at opening. So it is of a chain
 /// as `open_chain` opens it and `qimg_calls::drive` drives it, and of each flush in a script, as `run_files` says what is run.
-pub fn files_mean_the_disk_behind_a_flush<S: Storage, D: NamesFiles>()
+pub fn files_mean_the_disk_after_a_flush<S: Storage, D: NamesFiles>()
     ensures list { (writable : Bool) (number : ℕ) (files : List (ChainFile S)) (since : Since) (list : List Call) (answers : List Answer)
-        (opened new : D × List D) (driven : Driven D.Seen since list answers opened new)
-        → IsChainOf D.Seen D.names S.state writable number files opened
-        → EachFlushMeans D.Seen D.names opened list answers (moment (holding opened None) since) driven.last }
+        (opened new : D × List D) (driven : Driven D.DriverModel since list answers opened new)
+        → IsChainOf D.DriverModel D.names S.state writable number files opened
+        → EachFlushMeans D.DriverModel D.names opened list answers (moment (chain_with_mapping opened None) since) driven.last }
     ensures script { (what : ToOpen) (input before after : Option (List ℕ)) (result : Result (Option (List ℕ)) RunFault)
-        (ran : RunFrom D.Seen D.names what input before after result) (fit : OfTop (IsFit mem_state) what.files)
-        → let replies = ran.scripted.replies in let start = moment (holding ran.opened None) (flushed (chain_disk D.layer ran.opened)) in
-        EachFlushMeans D.Seen D.names ran.opened (calls_of replies) (answers_of replies) start (ran.headline fit).last }
+        (ran : RunFrom D.DriverModel D.names what input before after result) (fit : OfTop (IsFit mem_state) what.files)
+        → let replies = ran.scripted.replies in let start = moment (chain_with_mapping ran.opened None) (flushed (chain_disk D.layer ran.opened)) in
+        EachFlushMeans D.DriverModel D.names ran.opened (calls_of replies) (answers_of replies) start (ran.headline fit).last }
 {}
 
 /// Wherever the files of a chain of images mean its disk so, those do that were handed in, with the bytes that the top's now has. A VMDK
 /// top is taken with its further files by the names by which it asks for them.
 pub fn files_handed_in_mean_the_disk_too<S: Storage>()
-    ensures { HandedMeanToo ⟦<ImageDriver<S> as Seen>⟧ ⟦<ImageDriver<S> as NamesFiles>⟧.names S.state }
+    ensures { HandedMeanToo ⟦<ImageDriver<S> as DriverModel>⟧ ⟦<ImageDriver<S> as NamesFiles>⟧.names S.state }
 {}
 
 /// Where the files of a chain of images mean its disk so, a qcow2 top that is consistent leaks what it did as the chain was opened.
 pub fn a_qcow2_top_leaks_what_it_did<S: Storage>()
-    ensures { LeaksWhatItDid ⟦<ImageDriver<S> as Seen>⟧ ⟦<ImageDriver<S> as NamesFiles>⟧.names }
+    ensures { LeaksWhatItDid ⟦<ImageDriver<S> as DriverModel>⟧ ⟦<ImageDriver<S> as NamesFiles>⟧.names }
 {}
 
 /// Over a chain that tells its stops each file that a stop leaves in a list of calls, none of them cut off, is one that its call may leave
 /// then, as `qimg_calls::drive` says, and is sound. No premise is left: of such a chain's stops that clause isn't empty.
-pub fn stops_in_a_list_are_those_of_its_calls<D: FormatDriverInstance>()
+pub fn crash_images_of_a_list_are_those_of_its_calls<D: FormatDriverInstance>()
     ensures left { (since : Since) (list : List Call) (answers : List Answer) (old new : D × List D)
-        → GoesOnTelling D.Seen since list answers old new
-        → StopsIn (IsLeftIn D.Seen list answers (moment (holding old None) since)) (D.image old.0) (D.image new.0) }
+        → GoesOnTelling D.DriverModel since list answers old new
+        → EachCrashImageIn (IsLeftIn D.DriverModel list answers (moment (chain_with_mapping old None) since)) (D.image old.0) (D.image new.0) }
     ensures in_order { (since : Since) (list : List Call) (answers : List Answer) (old new : D × List D)
-        → GoesOnTelling D.Seen since list answers old new → TellsAll D.Seen list answers (moment (holding old None) since) new }
+        → GoesOnTelling D.DriverModel since list answers old new → TellsAll D.DriverModel list answers (moment (chain_with_mapping old None) since) new }
     ensures sound { (since : Since) (list : List Call) (answers : List Answer) (old new : D × List D)
-        → GoesOnTelling D.Seen since list answers old new
-        → StopsIn (D.sound (D.layer old.0).fixed.kind) (D.image old.0) (D.image new.0) }
+        → GoesOnTelling D.DriverModel since list answers old new
+        → EachCrashImageIn (D.sound (D.layer old.0).fixed.kind) (D.image old.0) (D.image new.0) }
 {}
 
 /// A consistent qcow2 image in a storage that begins to tell its stops over new memory opens as a chain that tells them.
-fn an_image_opens_telling_its_stops<S: Storage>()
+fn an_image_opens_reporting_crash_images<S: Storage>()
     ensures formed { (writable : Bool) (file : ChainFile S) → IsLoggedAlone S.state file
-        → FormChain S.state writable (file ∷ []) × OfTop (IsFit S.state) (file ∷ []) × OfTop (λ f. InStep (S.state f.image)) (file ∷ []) }
-    ensures telling { let d = ⟦<ImageDriver<S> as Seen>⟧ in (writable : Bool) (number : ℕ) (files : List (ChainFile S))
+        → FormChain S.state writable (file ∷ []) × OfTop (IsFit S.state) (file ∷ []) × OfTop (λ f. CrashImageIsBytes (S.state f.image)) (file ∷ []) }
+    ensures telling { let d = ⟦<ImageDriver<S> as DriverModel>⟧ in (writable : Bool) (number : ℕ) (files : List (ChainFile S))
         → AreLoggedFiles S.state writable files → OpensTelling d S.state writable number files }
-    ensures stops { let d = ⟦<ImageDriver<S> as Seen>⟧ in (writable : Bool) (number : ℕ) (files : List (ChainFile S))
-        → AreLoggedFiles S.state writable files → StopsConsistent d S.state writable number files }
+    ensures crash_images { let d = ⟦<ImageDriver<S> as DriverModel>⟧ in (writable : Bool) (number : ℕ) (files : List (ChainFile S))
+        → AreLoggedFiles S.state writable files → CrashImagesConsistent d S.state writable number files }
 {}
 
 /// Files that form a chain with a consistent qcow2 image on top, in a new `LogStorage` over new memory, open by `open_chain` as one that
 /// tells its stops. So each file that a stop leaves in a list of calls over it, none of them cut off, is a consistent image. Such an image
 /// that names no backing file is a chain by itself.
-pub fn an_image_on_a_log_opens_telling_its_stops()
+pub fn an_image_on_a_log_opens_reporting_crash_images()
     ensures formed { (writable : Bool) (file : ChainFile (LogStorage MemStorage)) → IsLoggedAlone (log_state mem_state) file
         → FormChain (log_state mem_state) writable (file ∷ []) × OfTop (IsFit (log_state mem_state)) (file ∷ [])
-        × OfTop (λ f. InStep (log_state mem_state f.image)) (file ∷ []) }
-    ensures telling { let d = ⟦<ImageDriver<LogStorage<MemStorage>> as Seen>⟧ in
+        × OfTop (λ f. CrashImageIsBytes (log_state mem_state f.image)) (file ∷ []) }
+    ensures telling { let d = ⟦<ImageDriver<LogStorage<MemStorage>> as DriverModel>⟧ in
         (writable : Bool) (number : ℕ) (files : List (ChainFile (LogStorage MemStorage)))
         → AreLoggedFiles (log_state mem_state) writable files → OpensTelling d (log_state mem_state) writable number files }
-    ensures stops { let d = ⟦<ImageDriver<LogStorage<MemStorage>> as Seen>⟧ in
+    ensures crash_images { let d = ⟦<ImageDriver<LogStorage<MemStorage>> as DriverModel>⟧ in
         (writable : Bool) (number : ℕ) (files : List (ChainFile (LogStorage MemStorage)))
-        → AreLoggedFiles (log_state mem_state) writable files → StopsConsistent d (log_state mem_state) writable number files }
+        → AreLoggedFiles (log_state mem_state) writable files → CrashImagesConsistent d (log_state mem_state) writable number files }
 {
-    an_image_opens_telling_its_stops::<LogStorage<MemStorage>>()
+    an_image_opens_reporting_crash_images::<LogStorage<MemStorage>>()
 }

@@ -44,7 +44,7 @@ fn answer_to<D: FormatDriverInstance<Storage = MemStorage> + NamesFiles>(
     requires free { IsFree (D.layer chain.old.0) }
     ensures free { IsFree (D.layer chain.new.0) }
     ensures replied { (text : List ℕ) → IsTakenAs text taken → (turn : Turn)
-        × Replies D.Seen D.names (reply text turn result) (standing chain.old (kept_of (D.image chain.old.0).bytes saved.old))
+        × Replies D.DriverModel D.names (reply text turn result) (standing chain.old (kept_of (D.image chain.old.0).bytes saved.old))
         (standing chain.new (kept_of (D.image chain.new.0).bytes saved.new)) }
 {
     match taken {
@@ -57,7 +57,7 @@ fn answer_to<D: FormatDriverInstance<Storage = MemStorage> + NamesFiles>(
 fn tell<W: Write>(alloc: Global, writer: &mut W, answer: &Answer) -> Result<(), RunFault>
     ensures ok { OnOk result (Appends (W.contents writer.old) (W.contents writer.new) (answer_text answer.now ++ 10 ∷ [])) }
     ensures err { IfErr result IsTellingFault }
-    ensures quiet { IfErr result (λ fault. fault ≡ RunFault.Memory → W.contents writer.new ≡ W.contents writer.old) }
+    ensures guest_unchanged { IfErr result (λ fault. fault ≡ RunFault.Memory → W.contents writer.new ≡ W.contents writer.old) }
 {
     let line = answer.to_line(alloc)?;
     match writer.write_all(&line) {
@@ -75,7 +75,7 @@ fn run_lines<
     requires free { IsFree (D.layer chain.old.0) }
     ensures free { IsFree (D.layer chain.new.0) }
     ensures scripted { let ended = ending (kept_of (D.image chain.new.0).bytes) result in
-        Scripted D.Seen D.names (R.remaining reader) (W.contents writer.old) (W.contents writer.new) ended chain.old chain.new }
+        Scripted D.DriverModel D.names (R.remaining reader) (W.contents writer.old) (W.contents writer.new) ended chain.old chain.new }
 {
     let mut input = reader.take(MOST_BYTES + 1);
     let mut line = Vec::new(alloc);
@@ -108,7 +108,7 @@ pub fn run<R: BufRead + Drop, W: Write, D: FormatDriverInstance<Storage = MemSto
 ) -> Result<Option<Vec<u8>>, RunFault>
     requires free { IsFree (D.layer chain.old.0) }
     ensures free { IsFree (D.layer chain.new.0) }
-    ensures scripted { Scripted D.Seen D.names (R.remaining reader) (W.contents writer.old) (W.contents writer.new)
+    ensures scripted { Scripted D.DriverModel D.names (R.remaining reader) (W.contents writer.old) (W.contents writer.new)
         (ending items_of result) chain.old chain.new }
 {
     let saved = run_lines(alloc, reader, writer, chain)?;

@@ -1,6 +1,6 @@
 -- What the checker answers, and what its parts find.
 use Rattle.std.specs.Prelude.{◌≡◌, ℕ, IsTrue, IsFalse, Err, List, Any, Option}
-use Rattle.imago_storage.specs.State.{StorageState, Rose}
+use Rattle.imago_storage.specs.State.{StorageState, HasRisen}
 use Rattle.imago_storage.specs.declared.fault.Fault.{Fault}
 use Rattle.imago_storage.specs.declared.fault.Fault.TheVariants as fault
 use Rattle.qcow2_types.specs.Bytes.{Bytes}
@@ -23,7 +23,7 @@ Found old new P (SharedTable c) = P (shared_table c) × (new.faults ≡ old.faul
 Found old new P (FalseCopied c) = P (false_copied c) × (new.faults ≡ old.faults)
 Found old new P (UnderCounted c) = P (under_counted c) × (new.faults ≡ old.faults)
 Found old new P Memory = new.faults ≡ old.faults
-Found old new P Storage = Rose old.faults new.faults
+Found old new P Storage = HasRisen old.faults new.faults
 
 -- The finding is this verdict on the file.
 abbrev pub IsFinding : Bytes → Finding → Type 0

@@ -3,14 +3,14 @@ use Rattle.std.specs.Prelude.{◌≡◌, ◌≢◌, ℕ, ◌+◌, ◌*◌, ◌<�
 use Rattle.std.specs.Int.{div_ceil}
 use Rattle.std.specs.List.{sum_by, filter, range_with_len}
 use Rattle.qcow2_types.specs.Bytes.{Bytes}
-use Rattle.qcow2_types.specs.Words.{Mapping, mapping_of, is_place}
+use Rattle.qcow2_types.specs.Words.{Mapping, mapping_of, is_cluster_offset}
 use Rattle.qcow2_types.specs.Header.{Fields, Feature, Header, header_of, cluster_size, layout_of, refcount_table_entries}
 use Rattle.qcow2_types.specs.Entries.{l2_table, l1_table_sound}
 use Rattle.qcow2_types.specs.Counts.{block_at, count, counters_of_block, refcount_table_sound}
 use Rattle.qcow2_types.specs.References.{meets, of_cluster, of_mapping, of_copied, structure, contents}
 use Rattle.qcow2_types.specs.Consistency.{is_under_counted, leaks_below}
 use Rattle.qcow2_metadata.specs.Blocks.{Block}
-use Rattle.qimg_core.specs.Names.{Total, named_by, structure_part, mapped_part, copied_part}
+use Rattle.qimg_core.specs.Names.{Total, referenced_by, structure_part, mapped_part, copied_part}
 use Rattle.qimg_core.specs.declared.check.names.Tallies.{Tallies}
 
 -- The header that loads for writing is this one, but for the names of feature bits.
@@ -19,9 +19,9 @@ HasHeader f header = (names : List Feature) × (header_of true f ≡ Ok (record 
 
 -- this is what the image names, for each cluster
 pub record Tells (f : Bytes) (h : Fields) (names : Tallies) : Type 0 where
-  pub structure : (c : ℕ) → named_by structure_part c names ≡ structure f h (meets h c)
-  pub mapped : (c : ℕ) → named_by mapped_part c names ≡ contents f h (of_mapping h (meets h c))
-  pub copied : (c : ℕ) → named_by copied_part c names ≡ contents f h (of_copied h (meets h c))
+  pub structure : (c : ℕ) → referenced_by structure_part c names ≡ structure f h (meets h c)
+  pub mapped : (c : ℕ) → referenced_by mapped_part c names ≡ contents f h (of_mapping h (meets h c))
+  pub copied : (c : ℕ) → referenced_by copied_part c names ≡ contents f h (of_copied h (meets h c))
 
 -- the places of the L2 tables that the words of the L1 table name, in their order
 unfoldable pub tables_of : Bytes → Fields → List ℕ
@@ -49,18 +49,18 @@ structure_over h tables blocks weight =
     + sum_over (of_cluster h weight) tables
 
 -- what these words mean, summed
-unfoldable pub words_over : Fields → (Mapping → ℕ) → List ℕ → ℕ
-words_over h of words = sum_by (λ w. of (mapping_of (layout_of h) w)) words
+unfoldable pub entries_over : Fields → (Mapping → ℕ) → List ℕ → ℕ
+entries_over h of raw_entries = sum_by (λ w. of (mapping_of (layout_of h) w)) raw_entries
 
 -- each of these places is one of a cluster
 abbrev pub AreTables : ℕ → List ℕ → Type 0
-AreTables cluster_bits places = All (λ place. IsTrue (is_place cluster_bits place)) places
+AreTables cluster_bits places = All (λ place. IsTrue (is_cluster_offset cluster_bits place)) places
 
 -- These are the places of the blocks; those that are missing at the end are 0.
 pub record IsBlocks (f : Bytes) (h : Fields) (blocks : List ℕ) : Type 0 where
   pub each : (i : ℕ) → slice_index blocks i ≡ block_at f h i
-  pub few : length blocks ≤ refcount_table_entries h
-  pub placed : (i : ℕ) → IsTrue (is_place h.cluster_bits (slice_index blocks i))
+  pub count_bounded : length blocks ≤ refcount_table_entries h
+  pub placed : (i : ℕ) → IsTrue (is_cluster_offset h.cluster_bits (slice_index blocks i))
 
 -- All the blocks that there are stand before this index, and one of them just before it.
 pub record IsBlocksEnd (blocks : List ℕ) (end : ℕ) : Type 0 where

@@ -6,8 +6,8 @@ use Rattle.qcow2_types.specs.Header.{Fields}
 use Rattle.qcow2_types.specs.References.{of_cluster, of_mapping, of_copied, of_table}
 use Rattle.qimg_core.specs.declared.check.names.Times.{Times}
 use Rattle.qimg_core.specs.declared.check.names.Tallies.{Tallies}
-use Rattle.qimg_core.specs.Names.{Adds, nothing_named}
-use Rattle.qimg_core.specs.CheckParts.{sum_over, start_over, structure_over, words_over}
+use Rattle.qimg_core.specs.Names.{Adds, nothing_referenced}
+use Rattle.qimg_core.specs.CheckParts.{sum_over, start_over, structure_over, entries_over}
 
 -- a range of bytes, so often
 abbrev pub AddsRange : Fields → Tallies → Tallies → (first length : ℕ) → Times → Type 0
@@ -16,32 +16,32 @@ AddsRange h old new first length times = Adds h old new (λ w. times.structure *
 
 -- the clusters at these places, as parts of the structure
 abbrev pub AddsPlaces : Fields → Tallies → Tallies → List ℕ → Type 0
-AddsPlaces h old new places = Adds h old new (λ w. sum_over (of_cluster h w) places) nothing_named nothing_named
+AddsPlaces h old new places = Adds h old new (λ w. sum_over (of_cluster h w) places) nothing_referenced nothing_referenced
 
 -- the first cluster, the L1 table and the refcount table
 abbrev pub AddsStart : Fields → Tallies → Tallies → Type 0
-AddsStart h old new = Adds h old new (λ w. start_over h w) nothing_named nothing_named
+AddsStart h old new = Adds h old new (λ w. start_over h w) nothing_referenced nothing_referenced
 
 -- the structure, by the places of its L2 tables and blocks
 abbrev pub AddsStructure : Fields → Tallies → Tallies → (tables blocks : List ℕ) → Type 0
-AddsStructure h old new tables blocks = Adds h old new (λ w. structure_over h tables blocks w) nothing_named nothing_named
+AddsStructure h old new tables blocks = Adds h old new (λ w. structure_over h tables blocks w) nothing_referenced nothing_referenced
 
 -- what a word of an L2 table names, so often
 abbrev pub AddsMapping : Fields → ℕ → Tallies → Tallies → Mapping → Type 0
-AddsMapping h times old new mapping = Adds h old new nothing_named (λ w. times * of_mapping h w mapping) (λ w.
+AddsMapping h times old new mapping = Adds h old new nothing_referenced (λ w. times * of_mapping h w mapping) (λ w.
     times * of_copied h w mapping)
 
 -- what these words name
-abbrev pub AddsWords : Fields → ℕ → Tallies → Tallies → List ℕ → Type 0
-AddsWords h times old new words = Adds h old new nothing_named (λ w. times * words_over h (of_mapping h w) words) (λ w.
-    times * words_over h (of_copied h w) words)
+abbrev pub AddsRawEntries : Fields → ℕ → Tallies → Tallies → List ℕ → Type 0
+AddsRawEntries h times old new raw_entries = Adds h old new nothing_referenced (λ w. times * entries_over h (of_mapping h w) raw_entries) (λ w.
+    times * entries_over h (of_copied h w) raw_entries)
 
 -- what the L2 table at a place names
 abbrev pub AddsTable : Bytes → Fields → ℕ → Tallies → Tallies → ℕ → Type 0
-AddsTable f h times old new place = Adds h old new nothing_named (λ w. times * of_table f h (of_mapping h w) place) (λ w.
+AddsTable f h times old new place = Adds h old new nothing_referenced (λ w. times * of_table f h (of_mapping h w) place) (λ w.
     times * of_table f h (of_copied h w) place)
 
 -- what those at these places name, each once for each time that its place stands there
 abbrev pub AddsTables : Bytes → Fields → Tallies → Tallies → List ℕ → Type 0
-AddsTables f h old new places = Adds h old new nothing_named (λ w. sum_over (of_table f h (of_mapping h w)) places) (λ w.
+AddsTables f h old new places = Adds h old new nothing_referenced (λ w. sum_over (of_table f h (of_mapping h w)) places) (λ w.
     sum_over (of_table f h (of_copied h w)) places)

@@ -81,8 +81,8 @@ unfoldable pub times_at : Tallies → ℕ → Times
 times_at names c = together (cell_at names.cells.items c) (other_at names.others c)
 
 -- one part of it
-abbrev pub named_by : (Times → ℕ) → ℕ → Tallies → ℕ
-named_by part c names = part (times_at names c)
+abbrev pub referenced_by : (Times → ℕ) → ℕ → Tallies → ℕ
+referenced_by part c names = part (times_at names c)
 
 -- no cluster is named
 abbrev pub TellsNothing : Tallies → Type 0
@@ -93,16 +93,16 @@ abbrev pub Total : Type 0
 Total = Weight → ℕ
 
 -- nothing
-abbrev pub nothing_named : Total
-nothing_named w = 0
+abbrev pub nothing_referenced : Total
+nothing_referenced w = 0
 
 -- A cell can count so often.
 abbrev pub FitsCell : Times → Type 0
 FitsCell n = (n.structure < 2 ^ 8) × (n.mapped < 2 ^ 16) × (n.copied < 2 ^ 8)
 
 -- The lists name no cluster that has a cell and is named no more often than that can count.
-abbrev pub SparesLists : Tallies → Type 0
-SparesLists names = (c : ℕ) → c < length names.cells.items → FitsCell (times_at names c) → other_at names.others c ≡ no_times
+abbrev pub ListsOnlyOverflow : Tallies → Type 0
+ListsOnlyOverflow names = (c : ℕ) → c < length names.cells.items → FitsCell (times_at names c) → other_at names.others c ≡ no_times
 
 -- as many cells as before
 abbrev pub KeepsCells : Tallies → Tallies → Type 0
@@ -110,11 +110,11 @@ KeepsCells old new = length new.cells.items ≡ length old.cells.items
 
 -- these sums are entered, for each cluster
 pub record Adds (h : Fields) (old new : Tallies) (of_structure of_mapped of_copies : Total) : Type 0 where
-  pub structure : (c : ℕ) → named_by structure_part c new ≡ named_by structure_part c old + of_structure (meets h c)
-  pub mapped : (c : ℕ) → named_by mapped_part c new ≡ named_by mapped_part c old + of_mapped (meets h c)
-  pub copied : (c : ℕ) → named_by copied_part c new ≡ named_by copied_part c old + of_copies (meets h c)
+  pub structure : (c : ℕ) → referenced_by structure_part c new ≡ referenced_by structure_part c old + of_structure (meets h c)
+  pub mapped : (c : ℕ) → referenced_by mapped_part c new ≡ referenced_by mapped_part c old + of_mapped (meets h c)
+  pub copied : (c : ℕ) → referenced_by copied_part c new ≡ referenced_by copied_part c old + of_copies (meets h c)
   pub cells : KeepsCells old new
-  pub spares : SparesLists old → SparesLists new
+  pub spares : ListsOnlyOverflow old → ListsOnlyOverflow new
 
 -- 1 for the clusters from low up to end, else 0
 abbrev pub is_between : ℕ → ℕ → ℕ → ℕ
@@ -122,11 +122,11 @@ is_between low end c = if nat_le low c && nat_lt c end then 1 else 0
 
 -- so much is entered for each of these clusters
 pub record AddsClusters (old new : Tallies) (low end : ℕ) (times : Times) : Type 0 where
-  pub structure : (c : ℕ) → named_by structure_part c new ≡ named_by structure_part c old + times.structure * is_between low end c
-  pub mapped : (c : ℕ) → named_by mapped_part c new ≡ named_by mapped_part c old + times.mapped * is_between low end c
-  pub copied : (c : ℕ) → named_by copied_part c new ≡ named_by copied_part c old + times.copied * is_between low end c
+  pub structure : (c : ℕ) → referenced_by structure_part c new ≡ referenced_by structure_part c old + times.structure * is_between low end c
+  pub mapped : (c : ℕ) → referenced_by mapped_part c new ≡ referenced_by mapped_part c old + times.mapped * is_between low end c
+  pub copied : (c : ℕ) → referenced_by copied_part c new ≡ referenced_by copied_part c old + times.copied * is_between low end c
   pub cells : KeepsCells old new
-  pub spares : SparesLists old → SparesLists new
+  pub spares : ListsOnlyOverflow old → ListsOnlyOverflow new
 
 -- two together
 pub record IsSum (one other sum : Times) : Type 0 where

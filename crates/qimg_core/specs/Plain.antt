@@ -1,8 +1,8 @@
 -- What the bytes of an image file show, what a read of them alone answers, and why it is refused.
 use Rattle.std.specs.Prelude.{◌≡◌, ◌⊎◌, ℕ, ◌+◌, ◌-◌, ◌*◌, ◌/◌, ◌%◌, ◌^◌, ◌<◌, ◌≤◌, min, false, not, nat_le, List, [], ◌∷◌, length, slice_index, map, Option, Some, None, Result, Ok, Err, MatchResult}
 use Rattle.std.specs.Option.{is_some}
-use Rattle.imago_storage.specs.State.{StorageState, Rose}
-use Rattle.imago_storage.specs.Calls.{Kept}
+use Rattle.imago_storage.specs.State.{StorageState, HasRisen}
+use Rattle.imago_storage.specs.Calls.{UnchangedButFaults}
 use Rattle.imago_storage.specs.Disk.{Value, byte, barred, damaged_place}
 use Rattle.imago_storage.specs.declared.fault.Fault.{Fault}
 use Rattle.imago_storage.specs.declared.fault.Fault.TheVariants.{RangeOverflow, DamagedTable, Unsupported, Barred, MissingBelow, Memory, Storage}
@@ -43,7 +43,7 @@ pub record IsFirstFault (value : ℕ → Value) (offset n : ℕ) (fault : Fault)
 -- Why n values aren't read: want of memory, a fault of the storage, or the first that can't be.
 abbrev pub NotShown : (ℕ → Value) → StorageState → StorageState → ℕ → ℕ → Fault → Type 0
 NotShown value old new offset n Memory = new.faults ≡ old.faults
-NotShown value old new offset n Storage = Rose old.faults new.faults
+NotShown value old new offset n Storage = HasRisen old.faults new.faults
 NotShown value old new offset n fault = IsFirstFault value offset n fault × (new.faults ≡ old.faults)
 
 -- the value at place p of a guest cluster with this mapping, in an image of clusters of 2^bits bytes that holds its data, with
@@ -55,20 +55,20 @@ mapped_value f bits mapping p = shown_by mapping (λ cluster. byte (f (cluster *
 abbrev pub table_value : Bytes → TableValue → ℕ → Value
 table_value f table p =
     let bits = table.layout.cluster_bits in
-    mapped_value f bits (mapping_of table.layout (slice_index table.words (p / 2 ^ bits % l2_entries bits))) p
+    mapped_value f bits (mapping_of table.layout (slice_index table.raw_entries (p / 2 ^ bits % l2_entries bits))) p
 
 -- the value at place p of an image whose header has these fields, with nothing below
 unfoldable pub image_value : Bytes → Fields → ℕ → Value
 image_value f h p = shown f (λ _. 0) h p (byte 0)
 
 -- These words name the L2 tables of the image; those that are missing at the end name none.
-pub record NamesTables (f : Bytes) (h : Fields) (words : List ℕ) : Type 0 where
-  pub each : (i : ℕ) → l2_table f h i ≡ table_offset (slice_index words i)
+pub record NamesTables (f : Bytes) (h : Fields) (raw_entries : List ℕ) : Type 0 where
+  pub each : (i : ℕ) → l2_table f h i ≡ table_offset (slice_index raw_entries i)
 
 -- why the L1 table isn't loaded: want of memory, a fault of the storage, or a word without a meaning
 abbrev pub NoL1 : StorageState → StorageState → Fields → Fault → Type 0
 NoL1 old new h Memory = new.faults ≡ old.faults
-NoL1 old new h Storage = Rose old.faults new.faults
+NoL1 old new h Storage = HasRisen old.faults new.faults
 NoL1 old new h DamagedTable = (l1_table_sound (file old) h ≡ false) × (new.faults ≡ old.faults)
 NoL1 old new h fault = ⊥
 
@@ -116,7 +116,7 @@ pub record IsImageRead (f : Bytes) (offset : ℕ) (buffer : List ℕ) : Type 0 w
 -- why the image isn't read: want of memory, a fault of the storage, or as above
 abbrev pub NotImageRead : StorageState → StorageState → ℕ → ℕ → Fault → Type 0
 NotImageRead old new offset n Memory = new.faults ≡ old.faults
-NotImageRead old new offset n Storage = Rose old.faults new.faults
+NotImageRead old new offset n Storage = HasRisen old.faults new.faults
 NotImageRead old new offset n fault = ImageRefuses (file old) offset n fault × (new.faults ≡ old.faults)
 
 -- what contracts see of a file of a chain
@@ -134,7 +134,7 @@ extras_of files = map (λ x. x.extras) files
 -- the same files, where the storages' counts of faults aside nothing has changed
 abbrev pub FilesKept : List SeenFile → List SeenFile → Type 0
 FilesKept [] [] = Unit {0}
-FilesKept (x ∷ xs) (y ∷ ys) = (y.format ≡ x.format) × Kept x.state y.state × FilesKept xs ys
+FilesKept (x ∷ xs) (y ∷ ys) = (y.format ≡ x.format) × UnchangedButFaults x.state y.state × FilesKept xs ys
 FilesKept _ _ = ⊥
 
 -- the storages' counts of faults
@@ -143,7 +143,7 @@ faults_of files = map (λ x. x.state.faults) files
 
 -- a storage of theirs failed
 abbrev pub OneRose : List SeenFile → List SeenFile → Type 0
-OneRose (x ∷ xs) (y ∷ ys) = Rose x.state.faults y.state.faults ⊎ OneRose xs ys
+OneRose (x ∷ xs) (y ∷ ys) = HasRisen x.state.faults y.state.faults ⊎ OneRose xs ys
 OneRose _ _ = ⊥
 
 -- what one file shows: only a qcow2 file is read

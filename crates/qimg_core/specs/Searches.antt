@@ -51,7 +51,7 @@ IsFrom c next = IfSome next (λ n. (c ≤ n) × (n < 2 ^ 53))
 pub record IsCut (list : List ℕ) (c : ℕ) (next : Option ℕ) (index : ℕ) : Type 0 where
   pub bound : index ≤ length list
   pub before : (i : ℕ) → i < index → cluster_of (slice_index list i) < c
-  pub behind : (i : ℕ) → index ≤ i → i < length list → IsSomeAnd next (λ n. n ≤ cluster_of (slice_index list i))
+  pub next_not_after : (i : ℕ) → index ≤ i → i < length list → IsSomeAnd next (λ n. n ≤ cluster_of (slice_index list i))
 
 -- So is each list, at a cluster.
 pub record AreCut (others : Others) (c structure mapped copied : ℕ) : Type 0 where

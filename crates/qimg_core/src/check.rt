@@ -3,11 +3,11 @@
 //! Where qemu and imago say that an entry of a table references a cluster, a word of it names the cluster here. What counts a
 //! cluster is its refcount, which stands in a block: a refcount block, imago's `RefBlock`.
 ghost use Rattle.std.specs.Prelude.{◌≡◌, length, true, false, Ok, OnOk, IfOk, IfErr, IsTrue};
-ghost use Rattle.imago_storage.specs.Calls.{Kept};
+ghost use Rattle.imago_storage.specs.Calls.{UnchangedButFaults};
 ghost use Rattle.qcow2_types.specs.Header.{Limited, Shaped, header_of, has_external_data};
 ghost use Rattle.qcow2_types.specs.Consistency.{IsVerdict, Nowhere, tables_sound};
 ghost use Rattle.qcow2_metadata.specs.Loading.{file};
-ghost use Rattle.qimg_core.specs.Names.{AreRising, SparesLists};
+ghost use Rattle.qimg_core.specs.Names.{AreRising, ListsOnlyOverflow};
 ghost use Rattle.qimg_core.specs.Searches.{is_such};
 ghost use Rattle.qimg_core.specs.CheckParts.{Tells, IsBlocksEnd, counted_clusters, HasCells, HoldsPlaces};
 ghost use Rattle.qimg_core.specs.Check.{IsUnsound, SharesFirst, fault_of_load, Found, IsFinding};
@@ -26,9 +26,9 @@ mod search;
 mod tables;
 
 use counts::compare;
-use names::{Tallies, no_names, sort_names};
+use names::{Tallies, no_references, sort_references};
 use search::{Question, least_such};
-use tables::{Places, name_contents, name_structure, places_of};
+use tables::{Places, name_contents, places_of, reference_structure};
 
 /// What is wrong with an image, or why it wasn't checked. It is displayed as `error N`.
 #[derive(Clone, Copy, Debug, PartialEq, Eq, Error)]
@@ -95,7 +95,7 @@ fn readable_header<S: Storage>(alloc: Global, image: &mut S) -> Result<Header, C
     ensures snapshots { IfOk result (λ header. header.fields.snapshots ≡ 0) }
     ensures inside { IfOk result (λ header. has_external_data header.fields ≡ false) }
     ensures err { IfErr result (Found (S.state image.old) (S.state image.new) (IsFinding (file (S.state image.old)))) }
-    ensures kept { Kept (S.state image.old) (S.state image.new) }
+    ensures unchanged_but_faults { UnchangedButFaults (S.state image.old) (S.state image.new) }
     ensures faults { OnOk result ((S.state image.new).faults ≡ (S.state image.old).faults) }
 {
     let header = match Header::load(alloc, image, true) {
@@ -147,20 +147,20 @@ fn names_of<S: Storage>(
     requires places { HoldsPlaces (file (S.state image.old)) header.now.fields places.tables.items places.blocks.items }
     ensures told { IfOk result (λ found. Tells (file (S.state image.old)) header.now.fields found.0) }
     ensures cells { IfOk result (λ found. HasCells (length (S.state image.old).bytes) header.now.fields places.blocks.items found.0) }
-    ensures spares { IfOk result (λ found. SparesLists found.0) }
+    ensures spares { IfOk result (λ found. ListsOnlyOverflow found.0) }
     ensures rising { IfOk result (λ found. AreRising found.0.others) }
     ensures blocks { IfOk result (λ found. found.1.items ≡ places.blocks.items) }
     ensures sound { OnOk result (IsTrue (tables_sound (file (S.state image.old)) header.now.fields)) }
     ensures err { IfErr result (Found (S.state image.old) (S.state image.new) (IsUnsound (file (S.state image.old)) header.now.fields)) }
-    ensures kept { Kept (S.state image.old) (S.state image.new) }
+    ensures unchanged_but_faults { UnchangedButFaults (S.state image.old) (S.state image.new) }
     ensures faults { OnOk result ((S.state image.new).faults ≡ (S.state image.old).faults) }
 {
     let count = cell_count(header, image.size(), blocks_end(&places.blocks));
-    let mut names = no_names(alloc, count)?;
-    name_structure(&mut names, header, &places)?;
+    let mut names = no_references(alloc, count)?;
+    reference_structure(&mut names, header, &places)?;
     let Places { tables, blocks } = places;
     name_contents(alloc, image, header, tables, &mut names)?;
-    sort_names(&mut names);
+    sort_references(&mut names);
     Ok((names, blocks))
 }
 
@@ -200,7 +200,7 @@ fn check_shared(names: &Tallies) -> Result<(), CheckFault>
 pub fn check<S: Storage>(alloc: Global, image: &mut S) -> Result<Vec<(u64, u64)>, CheckFault>
     ensures ok { IfOk result (λ found. IsVerdict (file (S.state image.old)) (Ok found.items)) }
     ensures err { IfErr result (Found (S.state image.old) (S.state image.new) (IsFinding (file (S.state image.old)))) }
-    ensures kept { Kept (S.state image.old) (S.state image.new) }
+    ensures unchanged_but_faults { UnchangedButFaults (S.state image.old) (S.state image.new) }
     ensures faults { OnOk result ((S.state image.new).faults ≡ (S.state image.old).faults) }
 {
     let mut header = readable_header(alloc, image)?;

@@ -2,7 +2,7 @@
 //! file, a word of a table its entry, and a place of the disk a guest offset.
 ghost use Rattle.std.specs.Prelude.{◌≡◌, ◌<◌, length, Ok, false, IsTrue, IsFalse, OnOk, IfOk, IfErr, IsErrOf};
 ghost use Rattle.std.specs.Result.{result_err};
-ghost use Rattle.imago_storage.specs.Calls.{Kept};
+ghost use Rattle.imago_storage.specs.Calls.{UnchangedButFaults};
 ghost use Rattle.qcow2_types.specs.Header.{header_of, has_external_data};
 ghost use Rattle.qcow2_types.specs.Entries.{l1_table_sound};
 ghost use Rattle.qcow2_metadata.specs.Loading.{file};
@@ -11,7 +11,7 @@ ghost use Rattle.qimg_core.specs.Plain.{value_at, NamesTables, alone_fault, NoL1
 mod pieces;
 
 use crate::buffers::blank;
-use crate::file_end::words_before;
+use crate::file_end::entries_before;
 use imago_access::Format;
 use imago_storage::{Fault, Storage};
 use pieces::read_tables;
@@ -45,16 +45,16 @@ fn check_alone(header: &Header) -> Result<(), Fault>
 /// Loads the words of the L1 table that begin before the file's end, of an image whose header loads.
 fn load_l1<S: Storage>(image: &mut S, alloc: Global, header: &Header) -> Result<L1Table, Fault>
     requires { header_of false (file (S.state image.old)) ≡ Ok header.now }
-    ensures words { IfOk result (λ table. NamesTables (file (S.state image.old)) header.now.fields table.words) }
+    ensures raw_entries { IfOk result (λ table. NamesTables (file (S.state image.old)) header.now.fields table.raw_entries) }
     ensures sound { OnOk result (IsTrue (l1_table_sound (file (S.state image.old)) header.now.fields)) }
     ensures err { IfErr result (NoL1 (S.state image.old) (S.state image.new) header.now.fields) }
-    ensures kept { Kept (S.state image.old) (S.state image.new) }
+    ensures unchanged_but_faults { UnchangedButFaults (S.state image.old) (S.state image.new) }
     ensures faults { OnOk result ((S.state image.new).faults ≡ (S.state image.old).faults) }
 {
     let offset = header.l1_table_offset();
-    let words = words_before(image.size(), offset.0, header.l1_table_entries());
+    let raw_entries = entries_before(image.size(), offset.0, header.l1_table_entries());
     let cluster = offset.cluster(header.cluster_bits());
-    L1Table::load(alloc, image, header, cluster, words)
+    L1Table::load(alloc, image, header, cluster, raw_entries)
 }
 
 /// Reads a range of an image whose header has loaded, with the L1 table that it has, where the range's end fits 64 bits.
@@ -67,13 +67,13 @@ fn read_disk<S: Storage>(
     buf: &mut [u8],
 ) -> Result<(), Fault>
     requires loads { header_of false (file (S.state image.old)) ≡ Ok header.now }
-    requires words { NamesTables (file (S.state image.old)) header.now.fields l1.now.words }
+    requires raw_entries { NamesTables (file (S.state image.old)) header.now.fields l1.now.raw_entries }
     requires sound { IsTrue (l1_table_sound (file (S.state image.old)) header.now.fields) }
     requires inside { IsFalse (has_external_data header.now.fields) }
     ensures ok { OnOk result (ShowsRange (file (S.state image.old)) header.now.fields.size offset buf.new) }
     ensures err { IfErr result (NotShown (value_at (file (S.state image.old))) (S.state image.old) (S.state image.new) offset
         (below_size header.now.fields.size offset (length buf.old))) }
-    ensures kept { Kept (S.state image.old) (S.state image.new) }
+    ensures unchanged_but_faults { UnchangedButFaults (S.state image.old) (S.state image.new) }
     ensures faults { OnOk result ((S.state image.new).faults ≡ (S.state image.old).faults) }
 {
     let inside = header.size().saturating_sub(offset).min(buf.len() as u64) as usize;
@@ -93,7 +93,7 @@ fn read_image<S: Storage>(
 ) -> Result<(), Fault>
     ensures ok { OnOk result (IsImageRead (file (S.state image.old)) offset buf.new) }
     ensures err { IfErr result (NotImageRead (S.state image.old) (S.state image.new) offset (length buf.old)) }
-    ensures kept { Kept (S.state image.old) (S.state image.new) }
+    ensures unchanged_but_faults { UnchangedButFaults (S.state image.old) (S.state image.new) }
     ensures faults { OnOk result ((S.state image.new).faults ≡ (S.state image.old).faults) }
 {
     let header = Header::load(alloc, image, false)?;
@@ -128,7 +128,7 @@ pub fn plain_read<S: Storage>(
     ensures must { (fault : Fault) → Refuses (seen_files S.state files.old) offset (length buf.old) fault → MustRefuse result fault }
     ensures none { length files.old ≡ 0 → IsErrOf result Fault.MissingBelow }
     ensures several { 1 < length files.old → IsErrOf result Fault.Unsupported }
-    ensures kept { FilesKept (seen_files S.state files.old) (seen_files S.state files.new) }
+    ensures unchanged_but_faults { FilesKept (seen_files S.state files.old) (seen_files S.state files.new) }
     ensures extras { extras_of files.new ≡ extras_of files.old }
     ensures faults { OnOk result (faults_of (seen_files S.state files.new) ≡ faults_of (seen_files S.state files.old)) }
 {

@@ -1,6 +1,6 @@
 // A call of a storage, as a line of a script has it, and its answer.
 ghost use Rattle.std.specs.Prelude.{◌≡◌, ◌<◌, IfOk, IsTrue, length};
-ghost use Rattle.imago_storage.specs.State.{IsWhole, unit_of};
+ghost use Rattle.imago_storage.specs.State.{IsUnitRange, unit_of};
 
 use cases::{Trouble, ok, runs};
 use imago_storage::{
@@ -60,7 +60,7 @@ pub enum Answer {
 // Whether a range is whole units of an alignment, and its end fits.
 fn is_whole(unit: usize, offset: u64, n: u64) -> bool
     requires { 0 < unit }
-    ensures { IsTrue result → IsWhole unit offset n }
+    ensures { IsTrue result → IsUnitRange unit offset n }
 {
     offset % unit as u64 == 0 && n % unit as u64 == 0 && offset.checked_add(n).is_some()
 }

@@ -22,7 +22,7 @@
 //! - `size`; `aligns`, four numbers; `filename`; `resolve NAME`.
 //! - `asked`: what the lowest storage of four alignments was asked since this was last told.
 //! - Of a fuse: `count`, its calls so far. Of a log: `mark`, how many requests it has kept (also of a fuse over one); `requests`, these in
-//!   their order; `stop K`, the file that a stop after the first K leaves; `in_step`, whether the last stop has the bytes of the storage;
+//!   their order; `crash_image K`, the file that a stop after the first K leaves; `crash_image_is_bytes`, whether the last stop has the bytes of the storage;
 //!   `into_inner` takes it off. `again CALL`: a call, and once more where memory was wanting, if the log is in step then.
 //! - Of one in memory: `bytes`; `into_bytes`, which ends it.
 //!

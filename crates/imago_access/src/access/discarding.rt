@@ -2,17 +2,17 @@
 ghost use Rattle.std.specs.Prelude.{ℕ, ◌≡◌, ◌↔◌, ◌<◌, ◌+◌, ◌^◌, IsTrue, length, map, IsOk, IfOk, IfErr, IsErrOf, Some};
 ghost use Rattle.imago_storage.specs.Steps.{discard_to_any, discard_to_backing, IsIn};
 ghost use Rattle.imago_access.specs.RangeCalls.{discard_by};
-ghost use Rattle.imago_access.specs.Layer.{IsFree, IsLike};
+ghost use Rattle.imago_access.specs.Layer.{IsFree, KeepsLayerState};
 ghost use Rattle.imago_access.specs.Room.{GivesUp};
-ghost use Rattle.imago_access.specs.Files.{WasNotCutOff, IsDeclined};
+ghost use Rattle.imago_access.specs.Files.{HadNoResourceError, IsDeclined};
 ghost use Rattle.imago_access.specs.PartCalls.{IsPart, PartRefused};
-ghost use Rattle.imago_access.specs.Going.{Went};
-ghost use Rattle.imago_access.specs.Refusals.{barrier};
+ghost use Rattle.imago_access.specs.Going.{MutatingCall};
+ghost use Rattle.imago_access.specs.Refusals.{unusable_fault};
 ghost use Rattle.imago_access.specs.Stops.{GivesAny, GivesBelow};
-ghost use Rattle.imago_access.specs.Running.{IsIntactChain, RanChain};
+ghost use Rattle.imago_access.specs.Running.{IsIntactChain, ChainRangeChange};
 ghost use Rattle.imago_access.specs.ChainCalls.{chain_refusal, EndsAtOnce, CallRefused, GivesUnitsUp, IsCarriedOut, IsDoneInPart};
 ghost use Rattle.imago_access.specs.Failing.{Fails};
-ghost use Rattle.imago_access.specs.RunCalls.{DiscardStops, DiscardsAlone, GivesUnitsUpAlone, RangeRefused, ReachesUnits, StaysBegun, MarksAlone};
+ghost use Rattle.imago_access.specs.RunCalls.{DiscardCrashImages, DiscardsAlone, GivesUnitsUpAlone, RangeRefused, ReachesUnits, StaysBegun, DriverMarksFailed};
 
 use crate::access::FormatAccess;
 use crate::drivers::FormatDriverInstance;
@@ -45,15 +45,15 @@ fn discard_part<D: FormatDriverInstance>(
 ) -> Result<(u64, u64), Fault>
     requires free { IsFree (D.layer driver.old) }
     ensures part { IfOk result (IsPart offset length) }
-    ensures values { DiscardsAlone D.Seen discarding offset length result driver.old driver.new }
-    ensures like { IsLike (D.layer driver.old) (D.layer driver.new) }
-    ensures went { Went D.Seen (WasNotCutOff result) (WasNotCutOff result) driver.old driver.new }
-    ensures began { StaysBegun D.Seen offset length (WasNotCutOff result) driver.old driver.new }
-    ensures stops { DiscardStops D.Seen discarding offset length driver.old driver.new }
-    ensures room { D.safe driver.old → WasNotCutOff result → GivesUp D.Seen offset length driver.old driver.new }
-    ensures given { D.safe driver.old → IfOk result (λ r. (p : ℕ) → IsIn r.0 r.1 p → D.vacant driver.new p) }
-    ensures reach { D.safe driver.old → IfOk result (ReachesUnits (D.layer driver.old) offset length) }
-    ensures refused { PartRefused (discard_by discarding) D.Seen offset length result driver.old driver.new }
+    ensures values { DiscardsAlone D.DriverModel discarding offset length result driver.old driver.new }
+    ensures keeps_layer_state { KeepsLayerState (D.layer driver.old) (D.layer driver.new) }
+    ensures mutating_call { MutatingCall D.DriverModel (HadNoResourceError result) (HadNoResourceError result) driver.old driver.new }
+    ensures stays_begun { StaysBegun D.DriverModel offset length (HadNoResourceError result) driver.old driver.new }
+    ensures crash_images { DiscardCrashImages D.DriverModel discarding offset length driver.old driver.new }
+    ensures room { D.well_formed driver.old → HadNoResourceError result → GivesUp D.DriverModel offset length driver.old driver.new }
+    ensures given { D.well_formed driver.old → IfOk result (λ r. (p : ℕ) → IsIn r.0 r.1 p → D.unallocated driver.new p) }
+    ensures reach { D.well_formed driver.old → IfOk result (ReachesUnits (D.layer driver.old) offset length) }
+    ensures refused { PartRefused (discard_by discarding) D.DriverModel offset length result driver.old driver.new }
 {
     match discarding {
         Discarding::ToAny => driver.discard_to_any(alloc, offset, length),
@@ -73,15 +73,15 @@ fn discard_all<D: FormatDriverInstance>(
     requires fits { offset + n < 2 ^ 64 }
     ensures idle { n ≡ 0 → IsOk result }
     ensures untouched { n ≡ 0 → driver.new ≡ driver.old }
-    ensures values { DiscardsAlone D.Seen discarding offset n result driver.old driver.new }
-    ensures like { IsLike (D.layer driver.old) (D.layer driver.new) }
-    ensures went { Went D.Seen (WasNotCutOff result) (WasNotCutOff result) driver.old driver.new }
-    ensures stops { DiscardStops D.Seen discarding offset n driver.old driver.new }
-    ensures room { D.safe driver.old → WasNotCutOff result → GivesUp D.Seen offset n driver.old driver.new }
-    ensures gives_up { GivesUnitsUpAlone D.Seen discarding offset n result driver.old driver.new }
-    ensures failed { IfErr result (Fails D.Seen driver.old driver.new) }
-    ensures marks { IfErr result (MarksAlone D.Seen driver.old driver.new) }
-    ensures cause { RangeRefused (discard_by discarding) D.Seen offset n result driver.old driver.new }
+    ensures values { DiscardsAlone D.DriverModel discarding offset n result driver.old driver.new }
+    ensures keeps_layer_state { KeepsLayerState (D.layer driver.old) (D.layer driver.new) }
+    ensures mutating_call { MutatingCall D.DriverModel (HadNoResourceError result) (HadNoResourceError result) driver.old driver.new }
+    ensures crash_images { DiscardCrashImages D.DriverModel discarding offset n driver.old driver.new }
+    ensures room { D.well_formed driver.old → HadNoResourceError result → GivesUp D.DriverModel offset n driver.old driver.new }
+    ensures gives_up { GivesUnitsUpAlone D.DriverModel discarding offset n result driver.old driver.new }
+    ensures failed { IfErr result (Fails D.DriverModel driver.old driver.new) }
+    ensures marks_failed { IfErr result (DriverMarksFailed D.DriverModel driver.old driver.new) }
+    ensures cause { RangeRefused (discard_by discarding) D.DriverModel offset n result driver.old driver.new }
 {
     let end = offset + n;
     let mut at = offset;
@@ -108,25 +108,25 @@ impl<D: FormatDriverInstance> FormatAccess<D> {
         requires free { IsFree (D.layer self.old.0) }
 
         // What it does.
-        ensures ok { IsCarriedOut D.Seen (discard_to_any offset length) result self.old self.new }
-        ensures err { IsDoneInPart D.Seen (discard_to_any offset length) result self.old self.new }
-        ensures room { IsIntactChain D.Seen self.old → WasNotCutOff result → GivesUp D.Seen offset length self.old.0 self.new.0 }
-        ensures gives_up { GivesUnitsUp D.Seen (discard_to_any offset length) result self.old self.new }
+        ensures ok { IsCarriedOut D.DriverModel (discard_to_any offset length) result self.old self.new }
+        ensures err { IsDoneInPart D.DriverModel (discard_to_any offset length) result self.old self.new }
+        ensures room { IsIntactChain D.DriverModel self.old → HadNoResourceError result → GivesUp D.DriverModel offset length self.old.0 self.new.0 }
+        ensures gives_up { GivesUnitsUp D.DriverModel (discard_to_any offset length) result self.old self.new }
 
         // When it ends at once.
-        ensures at_once { (f : Fault) → chain_refusal D.Seen self.old offset length ≡ Some f → IsErrOf result f }
-        ensures idle { length ≡ 0 → barrier (D.layer self.old.0) ≡ None → IsOk result }
-        ensures untouched { EndsAtOnce D.Seen self.old offset length → self.new ≡ self.old }
+        ensures early_outcome { (f : Fault) → chain_refusal D.DriverModel self.old offset length ≡ Some f → IsErrOf result f }
+        ensures idle { length ≡ 0 → unusable_fault (D.layer self.old.0) ≡ None → IsOk result }
+        ensures untouched { EndsAtOnce D.DriverModel self.old offset length → self.new ≡ self.old }
 
         // What it keeps, and what its stops show.
-        ensures like { IsLike (D.layer self.old.0) (D.layer self.new.0) }
-        ensures ran { RanChain D.Seen (WasNotCutOff result) (GivesAny offset length) self.old self.new }
+        ensures keeps_layer_state { KeepsLayerState (D.layer self.old.0) (D.layer self.new.0) }
+        ensures range_change { ChainRangeChange D.DriverModel (HadNoResourceError result) (GivesAny offset length) self.old self.new }
         ensures below { self.new.1 ≡ self.old.1 }
 
         // Why it is refused, and what that marks.
-        ensures failed { IfErr result (Fails D.Seen self.old.0 self.new.0) }
-        ensures marks { IfErr result (MarksAlone D.Seen self.old.0 self.new.0) }
-        ensures cause { CallRefused D.Seen (discard_to_any offset length) result self.old self.new }
+        ensures failed { IfErr result (Fails D.DriverModel self.old.0 self.new.0) }
+        ensures marks_failed { IfErr result (DriverMarksFailed D.DriverModel self.old.0 self.new.0) }
+        ensures cause { CallRefused D.DriverModel (discard_to_any offset length) result self.old self.new }
     {
         self.check_change(offset, length)?;
         discard_all(alloc, &mut self.driver, Discarding::ToAny, offset, length)
@@ -145,25 +145,25 @@ impl<D: FormatDriverInstance> FormatAccess<D> {
         requires free { IsFree (D.layer self.old.0) }
 
         // What it does.
-        ensures ok { IsCarriedOut D.Seen (discard_to_backing offset length) result self.old self.new }
-        ensures err { IsDoneInPart D.Seen (discard_to_backing offset length) result self.old self.new }
-        ensures room { IsIntactChain D.Seen self.old → WasNotCutOff result → GivesUp D.Seen offset length self.old.0 self.new.0 }
-        ensures gives_up { GivesUnitsUp D.Seen (discard_to_backing offset length) result self.old self.new }
+        ensures ok { IsCarriedOut D.DriverModel (discard_to_backing offset length) result self.old self.new }
+        ensures err { IsDoneInPart D.DriverModel (discard_to_backing offset length) result self.old self.new }
+        ensures room { IsIntactChain D.DriverModel self.old → HadNoResourceError result → GivesUp D.DriverModel offset length self.old.0 self.new.0 }
+        ensures gives_up { GivesUnitsUp D.DriverModel (discard_to_backing offset length) result self.old self.new }
 
         // When it ends at once.
-        ensures at_once { (f : Fault) → chain_refusal D.Seen self.old offset length ≡ Some f → IsErrOf result f }
-        ensures idle { length ≡ 0 → barrier (D.layer self.old.0) ≡ None → IsOk result }
-        ensures untouched { EndsAtOnce D.Seen self.old offset length → self.new ≡ self.old }
+        ensures early_outcome { (f : Fault) → chain_refusal D.DriverModel self.old offset length ≡ Some f → IsErrOf result f }
+        ensures idle { length ≡ 0 → unusable_fault (D.layer self.old.0) ≡ None → IsOk result }
+        ensures untouched { EndsAtOnce D.DriverModel self.old offset length → self.new ≡ self.old }
 
         // What it keeps, and what its stops show.
-        ensures like { IsLike (D.layer self.old.0) (D.layer self.new.0) }
-        ensures ran { RanChain D.Seen (WasNotCutOff result) (GivesBelow (map D.layer self.old.1) offset length) self.old self.new }
+        ensures keeps_layer_state { KeepsLayerState (D.layer self.old.0) (D.layer self.new.0) }
+        ensures range_change { ChainRangeChange D.DriverModel (HadNoResourceError result) (GivesBelow (map D.layer self.old.1) offset length) self.old self.new }
         ensures below { self.new.1 ≡ self.old.1 }
 
         // Why it is refused, and what that marks.
-        ensures failed { IfErr result (Fails D.Seen self.old.0 self.new.0) }
-        ensures marks { IfErr result (MarksAlone D.Seen self.old.0 self.new.0) }
-        ensures cause { CallRefused D.Seen (discard_to_backing offset length) result self.old self.new }
+        ensures failed { IfErr result (Fails D.DriverModel self.old.0 self.new.0) }
+        ensures marks_failed { IfErr result (DriverMarksFailed D.DriverModel self.old.0 self.new.0) }
+        ensures cause { CallRefused D.DriverModel (discard_to_backing offset length) result self.old self.new }
     {
         self.check_change(offset, length)?;
         discard_all(

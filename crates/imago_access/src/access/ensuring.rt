@@ -1,19 +1,19 @@
 // Runs that are mapped as part of the disk at once.
 ghost use Rattle.std.specs.Prelude.{◌≡◌, IsOk, IfOk, IfErr, IsErrOf, IsSome, Some, None, true};
 ghost use Rattle.imago_storage.specs.Steps.{ensure};
-ghost use Rattle.imago_access.specs.Layer.{IsFree, IsLike};
-ghost use Rattle.imago_access.specs.Files.{WasNotCutOff};
-ghost use Rattle.imago_access.specs.Mappings.{IsHomeRun, IsMappedRun, IsTopRun};
-ghost use Rattle.imago_access.specs.Refusals.{barrier};
+ghost use Rattle.imago_access.specs.Layer.{IsFree, KeepsLayerState};
+ghost use Rattle.imago_access.specs.Files.{HadNoResourceError};
+ghost use Rattle.imago_access.specs.Mappings.{IsWritableRun, IsMappedRun, IsTopRun};
+ghost use Rattle.imago_access.specs.Refusals.{unusable_fault};
 ghost use Rattle.imago_access.specs.declared.mapping.Mapping.TheVariants as deep;
 ghost use Rattle.imago_access.specs.Stops.{GivesAnnounced};
-ghost use Rattle.imago_access.specs.Running.{IsIntactChain, RanChain, below_ghosts};
-ghost use Rattle.imago_access.specs.ChainCalls.{ChainStays, ChainFails, chain_refusal, AllUnchanged, ChainEnsures, EndsAtOnce, IfMild, CallRefused};
+ghost use Rattle.imago_access.specs.Running.{IsIntactChain, ChainRangeChange, below_ghosts};
+ghost use Rattle.imago_access.specs.ChainCalls.{ChainStays, ChainFails, chain_refusal, AllUnchanged, ChainEnsures, EndsAtOnce, UnlessResourceError, CallRefused};
 ghost use Rattle.imago_access.specs.Changes.{asking};
-ghost use Rattle.imago_access.specs.RunCalls.{MarksTop};
+ghost use Rattle.imago_access.specs.RunCalls.{MarksTopFailed};
 
 use crate::access::FormatAccess;
-use crate::access::mappings::settle;
+use crate::access::mappings::commit_or_abandon;
 use crate::drivers::FormatDriverInstance;
 use crate::mapping::Mapping;
 use imago_storage::Fault;
@@ -36,27 +36,27 @@ impl<D: FormatDriverInstance> FormatAccess<D> {
         requires free { IsFree (D.layer self.old.0) }
 
         // What it does.
-        ensures ok { IsIntactChain D.Seen self.old → IfOk result (ChainEnsures D.Seen (asking offset length overwrite) self.old self.new) }
-        ensures home { IsIntactChain D.Seen self.old → IfOk result (λ r. IsHomeRun (D.layer self.new.0) offset r.0 r.1) }
+        ensures ok { IsIntactChain D.DriverModel self.old → IfOk result (ChainEnsures D.DriverModel (asking offset length overwrite) self.old self.new) }
+        ensures writable_location { IsIntactChain D.DriverModel self.old → IfOk result (λ r. IsWritableRun (D.layer self.new.0) offset r.0 r.1) }
         ensures run { IfOk result (λ r. IsMappedRun (D.layer self.old.0) offset length r.1) }
         ensures raw { IfOk result (λ r. IsTopRun r.0 r.1) }
-        ensures err { IsIntactChain D.Seen self.old → IfMild result (ChainStays D.Seen self.old self.new) }
+        ensures err { IsIntactChain D.DriverModel self.old → UnlessResourceError result (ChainStays D.DriverModel self.old self.new) }
 
         // When it ends at once.
         ensures empty { length ≡ 0 → IfOk result (λ r. (r ≡ (deep.Raw 0 0 0 true, 0)) × (D.layer self.new.0 ≡ D.layer self.old.0)) }
-        ensures untouched { IsSome (chain_refusal D.Seen self.old offset length) → self.new ≡ self.old }
-        ensures at_once { (f : Fault) → chain_refusal D.Seen self.old offset length ≡ Some f → IsErrOf result f }
-        ensures idle { length ≡ 0 → barrier (D.layer self.old.0) ≡ None → IsOk result }
-        ensures unchanged { EndsAtOnce D.Seen self.old offset length → AllUnchanged D.Seen self.old self.new }
+        ensures untouched { IsSome (chain_refusal D.DriverModel self.old offset length) → self.new ≡ self.old }
+        ensures early_outcome { (f : Fault) → chain_refusal D.DriverModel self.old offset length ≡ Some f → IsErrOf result f }
+        ensures idle { length ≡ 0 → unusable_fault (D.layer self.old.0) ≡ None → IsOk result }
+        ensures unchanged { EndsAtOnce D.DriverModel self.old offset length → AllUnchanged D.DriverModel self.old self.new }
 
         // What it keeps, and what its stops show.
-        ensures like { IsLike (D.layer self.old.0) (D.layer self.new.0) }
-        ensures ran { RanChain D.Seen (WasNotCutOff result) (GivesAnnounced overwrite offset length) self.old self.new }
+        ensures keeps_layer_state { KeepsLayerState (D.layer self.old.0) (D.layer self.new.0) }
+        ensures range_change { ChainRangeChange D.DriverModel (HadNoResourceError result) (GivesAnnounced overwrite offset length) self.old self.new }
 
         // Why it is refused, and what that marks.
-        ensures failed { IfErr result (ChainFails D.Seen self.old self.new) }
-        ensures marks { IfErr result (MarksTop D.Seen (below_ghosts D.Seen) self.old self.new) }
-        ensures cause { CallRefused D.Seen (ensure offset length overwrite) result self.old self.new }
+        ensures failed { IfErr result (ChainFails D.DriverModel self.old self.new) }
+        ensures marks_failed { IfErr result (MarksTopFailed D.DriverModel (below_ghosts D.DriverModel) self.old self.new) }
+        ensures cause { CallRefused D.DriverModel (ensure offset length overwrite) result self.old self.new }
     {
         self.check_change(offset, length)?;
         let prepared = self
@@ -69,7 +69,7 @@ impl<D: FormatDriverInstance> FormatAccess<D> {
             writable: true,
         };
         let length = prepared.length();
-        settle(&mut self.driver, alloc, prepared)?;
+        commit_or_abandon(&mut self.driver, alloc, prepared)?;
         Ok((mapping, length))
     }
 }

@@ -1,9 +1,9 @@
 // The files of a chain's layers, as they stand: protocol nodes, in qemu.
 ghost use Rattle.std.specs.Prelude.{◌≡◌, ◌≤◌, ◌∷◌, length, OnOk, IfErr, IsOk, IsErrOf};
 ghost use Rattle.imago_access.specs.Layers.{chain, layers};
-ghost use Rattle.imago_access.specs.Files.{AreRead, OverflowsIn, Pairs, WasNotCutOff, files_of};
+ghost use Rattle.imago_access.specs.Files.{AreRead, OverflowsIn, Pairs, HadNoResourceError, files_of};
 ghost use Rattle.imago_access.specs.FileReads.{file_bytes_in, files_at, FilesRead, FileReadCause};
-ghost use Rattle.imago_access.specs.Going.{Looked};
+ghost use Rattle.imago_access.specs.Going.{LookupCall};
 
 use crate::access::FormatAccess;
 use crate::drivers::FormatDriverInstance;
@@ -15,7 +15,7 @@ impl<D: FormatDriverInstance> FormatAccess<D> {
     /// The length of a file of a layer, in bytes. The top layer has the number 0; of its files the image file has 0, and the further files
     /// follow. Of a number that none has it is 0.
     pub fn file_size(&self, layer: usize, file: usize) -> u64
-        ensures { result ≡ length (file_bytes_in (files_at D.Seen (chain self.now) layer) file) }
+        ensures { result ≡ length (file_bytes_in (files_at D.DriverModel (chain self.now) layer) file) }
     {
         if layer > 0 {
             return match &self.below {
@@ -52,19 +52,19 @@ impl<D: ReadFiles> FormatAccess<D> {
         buf: &mut [u8],
     ) -> Result<(), Fault>
         // What it answers.
-        ensures bytes { OnOk result (AreRead (files_at D.Seen (chain self.old) layer) file offset (length buf.old) buf.new) }
-        ensures overflow { OverflowsIn (files_at D.Seen (chain self.old) layer) file offset (length buf.old)
+        ensures bytes { OnOk result (AreRead (files_at D.DriverModel (chain self.old) layer) file offset (length buf.old) buf.new) }
+        ensures overflow { OverflowsIn (files_at D.DriverModel (chain self.old) layer) file offset (length buf.old)
             → IsErrOf result Fault.RangeOverflow }
         ensures empty { length buf.old ≡ 0 → IsOk result }
-        ensures beyond { length (files_at D.Seen (chain self.old) layer) ≤ file → IsOk result }
+        ensures beyond { length (files_at D.DriverModel (chain self.old) layer) ≤ file → IsOk result }
 
         // What it keeps.
-        ensures read { Pairs (FilesRead D.Seen (WasNotCutOff result)) (chain self.old) (chain self.new) }
-        ensures looked { Pairs (Looked D.Seen (WasNotCutOff result)) (chain self.old) (chain self.new) }
+        ensures read { Pairs (FilesRead D.DriverModel (HadNoResourceError result)) (chain self.old) (chain self.new) }
+        ensures lookup_call { Pairs (LookupCall D.DriverModel (HadNoResourceError result)) (chain self.old) (chain self.new) }
 
         // Why it is refused.
-        ensures cause { let overflows = OverflowsIn (files_at D.Seen (chain self.old) layer) file offset (length buf.old) in
-            IfErr result (FileReadCause overflows (files_of D.Seen (chain self.old)) (files_of D.Seen (chain self.new))) }
+        ensures cause { let overflows = OverflowsIn (files_at D.DriverModel (chain self.old) layer) file offset (length buf.old) in
+            IfErr result (FileReadCause overflows (files_of D.DriverModel (chain self.old)) (files_of D.DriverModel (chain self.new))) }
     {
         Self::read_file_part(
             alloc,
@@ -88,25 +88,25 @@ impl<D: ReadFiles> FormatAccess<D> {
         offset: u64,
         buf: &mut [u8],
     ) -> Result<(), Fault>
-        ensures bytes { OnOk result (AreRead (files_at D.Seen (driver.old ∷ layers below.old) layer) file offset (length buf.old) buf.new) }
-        ensures overflow { OverflowsIn (files_at D.Seen (driver.old ∷ layers below.old) layer) file offset (length buf.old)
+        ensures bytes { OnOk result (AreRead (files_at D.DriverModel (driver.old ∷ layers below.old) layer) file offset (length buf.old) buf.new) }
+        ensures overflow { OverflowsIn (files_at D.DriverModel (driver.old ∷ layers below.old) layer) file offset (length buf.old)
             → IsErrOf result Fault.RangeOverflow }
         ensures empty { length buf.old ≡ 0 → IsOk result }
-        ensures beyond { length (files_at D.Seen (driver.old ∷ layers below.old) layer) ≤ file → IsOk result }
-        ensures read { Pairs (FilesRead D.Seen (WasNotCutOff result)) (driver.old ∷ layers below.old) (driver.new ∷ layers below.new) }
+        ensures beyond { length (files_at D.DriverModel (driver.old ∷ layers below.old) layer) ≤ file → IsOk result }
+        ensures read { Pairs (FilesRead D.DriverModel (HadNoResourceError result)) (driver.old ∷ layers below.old) (driver.new ∷ layers below.new) }
         ensures cause { let olds = driver.old ∷ layers below.old in let news = driver.new ∷ layers below.new in
-            let overflows = OverflowsIn (files_at D.Seen olds layer) file offset (length buf.old) in
-            IfErr result (FileReadCause overflows (files_of D.Seen olds) (files_of D.Seen news)) }
+            let overflows = OverflowsIn (files_at D.DriverModel olds layer) file offset (length buf.old) in
+            IfErr result (FileReadCause overflows (files_of D.DriverModel olds) (files_of D.DriverModel news)) }
     {
         if layer == 0 {
             return driver.read_file(alloc, file, offset, buf);
         }
-        Self::read_file_under(alloc, below, layer - 1, file, offset, buf)
+        Self::read_file_below(alloc, below, layer - 1, file, offset, buf)
     }
 
     // The same of the layers below, if there are any.
     #[cycle(read_file)]
-    fn read_file_under(
+    fn read_file_below(
         alloc: Global,
         below: &mut Option<Box<FormatAccess<D>>>,
         layer: usize,
@@ -114,14 +114,14 @@ impl<D: ReadFiles> FormatAccess<D> {
         offset: u64,
         buf: &mut [u8],
     ) -> Result<(), Fault>
-        ensures bytes { OnOk result (AreRead (files_at D.Seen (layers below.old) layer) file offset (length buf.old) buf.new) }
-        ensures overflow { OverflowsIn (files_at D.Seen (layers below.old) layer) file offset (length buf.old)
+        ensures bytes { OnOk result (AreRead (files_at D.DriverModel (layers below.old) layer) file offset (length buf.old) buf.new) }
+        ensures overflow { OverflowsIn (files_at D.DriverModel (layers below.old) layer) file offset (length buf.old)
             → IsErrOf result Fault.RangeOverflow }
         ensures empty { length buf.old ≡ 0 → IsOk result }
-        ensures beyond { length (files_at D.Seen (layers below.old) layer) ≤ file → IsOk result }
-        ensures read { Pairs (FilesRead D.Seen (WasNotCutOff result)) (layers below.old) (layers below.new) }
-        ensures cause { let overflows = OverflowsIn (files_at D.Seen (layers below.old) layer) file offset (length buf.old) in
-            IfErr result (FileReadCause overflows (files_of D.Seen (layers below.old)) (files_of D.Seen (layers below.new))) }
+        ensures beyond { length (files_at D.DriverModel (layers below.old) layer) ≤ file → IsOk result }
+        ensures read { Pairs (FilesRead D.DriverModel (HadNoResourceError result)) (layers below.old) (layers below.new) }
+        ensures cause { let overflows = OverflowsIn (files_at D.DriverModel (layers below.old) layer) file offset (length buf.old) in
+            IfErr result (FileReadCause overflows (files_of D.DriverModel (layers below.old)) (files_of D.DriverModel (layers below.new))) }
     {
         match below {
             Some(access) => access.read_file(alloc, layer, file, offset, buf),

@@ -2,10 +2,10 @@
 ghost use Rattle.std.specs.Prelude.{◌≡◌, ◌∷◌, length, IsOk, IfOk, IfErr, IsErrOf, Some, None};
 ghost use Rattle.imago_storage.specs.declared.fault.Fault.{Fault};
 ghost use Rattle.imago_access.specs.Layers.{chain, layers};
-ghost use Rattle.imago_access.specs.Files.{Pairs, WasNotCutOff, ImageCause, files, files_of};
-ghost use Rattle.imago_access.specs.Going.{IsUnchanged, Looked, Marks, MarksSome};
-ghost use Rattle.imago_access.specs.Mappings.{IsRun, IsDeepRun, IsOneOf, IsRunBelow, DeepNamesHome, DeepStates, LooksIn, NamesRoomIn, States};
-ghost use Rattle.imago_access.specs.Refusals.{barrier};
+ghost use Rattle.imago_access.specs.Files.{Pairs, HadNoResourceError, ImageCause, files, files_of};
+ghost use Rattle.imago_access.specs.Going.{IsUnchanged, LookupCall, MarksFailed, MarksSomeFailed};
+ghost use Rattle.imago_access.specs.Mappings.{IsRun, IsDeepRun, IsOneOf, IsRunBelow, DeepReportsWritable, DeepReportsExplicitZero, LooksIn, ReportsAllocationIn, ReportsExplicitZero};
+ghost use Rattle.imago_access.specs.Refusals.{unusable_fault};
 ghost use Rattle.imago_access.specs.ChainCalls.{ChainFails};
 ghost use Rattle.imago_access.specs.Failing.{Fails, RefusesLookup};
 ghost use Rattle.imago_access.specs.ChainLooks.{ChainFinds, LookRefused, NamesLayer, NamesStorage, NamesTruly, NamesWritable, NeedsNoLook, TopFinds, UnchangedIfIdle, WhereAllSee};
@@ -30,26 +30,26 @@ impl<D: FormatDriverInstance> FormatAccess<D> {
         max_length: u64,
     ) -> Result<(ShallowMapping, u64), Fault>
         // What it answers.
-        ensures ok { D.sees self.old.0 → IfOk result (TopFinds D.Seen offset max_length self.old self.new) }
+        ensures ok { D.coherent self.old.0 → IfOk result (TopFinds D.DriverModel offset max_length self.old self.new) }
         ensures run { IfOk result (λ r. IsRun (D.layer self.old.0) offset max_length r.0 r.1) }
-        ensures looks { D.sees self.old.0 → IfOk result (LooksIn D.Seen offset max_length self.old.0 self.new.0) }
-        ensures room { D.sees self.old.0 → IfOk result (NamesRoomIn D.Seen offset self.old.0) }
-        ensures stated { D.sees self.old.0 → IfOk result (States (D.stated self.old.0) offset) }
-        ensures there { IfOk result (λ r. IsOneOf (length (files D.Seen self.old.0)) r.0) }
+        ensures looks { D.coherent self.old.0 → IfOk result (LooksIn D.DriverModel offset max_length self.old.0 self.new.0) }
+        ensures room { D.coherent self.old.0 → IfOk result (ReportsAllocationIn D.DriverModel offset self.old.0) }
+        ensures explicit_zero { D.coherent self.old.0 → IfOk result (ReportsExplicitZero (D.explicit_zero self.old.0) offset) }
+        ensures storage_exists { IfOk result (λ r. IsOneOf (length (files D.DriverModel self.old.0)) r.0) }
 
         // When it ends at once.
-        ensures idle { max_length ≡ 0 → barrier (D.layer self.old.0) ≡ None → IsOk result }
-        ensures unusable { (f : Fault) → barrier (D.layer self.old.0) ≡ Some f → IsErrOf result f }
-        ensures unchanged { NeedsNoLook (D.layer self.old.0) max_length → IsUnchanged D.Seen self.old.0 self.new.0 }
+        ensures idle { max_length ≡ 0 → unusable_fault (D.layer self.old.0) ≡ None → IsOk result }
+        ensures unusable { (f : Fault) → unusable_fault (D.layer self.old.0) ≡ Some f → IsErrOf result f }
+        ensures unchanged { NeedsNoLook (D.layer self.old.0) max_length → IsUnchanged D.DriverModel self.old.0 self.new.0 }
 
         // What it keeps.
-        ensures looked { Pairs (Looked D.Seen (WasNotCutOff result)) (chain self.old) (chain self.new) }
+        ensures lookup_call { Pairs (LookupCall D.DriverModel (HadNoResourceError result)) (chain self.old) (chain self.new) }
         ensures below { self.new.1 ≡ self.old.1 }
 
         // Why it is refused, and what that marks.
-        ensures failed { IfErr result (Fails D.Seen self.old.0 self.new.0) }
-        ensures marks { IfErr result (Marks D.Seen self.old.0 self.new.0) }
-        ensures cause { D.sees self.old.0 → IfErr result (RefusesLookup D.Seen offset max_length self.old.0 self.new.0) }
+        ensures failed { IfErr result (Fails D.DriverModel self.old.0 self.new.0) }
+        ensures marks_failed { IfErr result (MarksFailed D.DriverModel self.old.0 self.new.0) }
+        ensures cause { D.coherent self.old.0 → IfErr result (RefusesLookup D.DriverModel offset max_length self.old.0 self.new.0) }
     {
         self.driver.get_mapping(alloc, offset, max_length)
     }
@@ -73,27 +73,27 @@ impl<D: FormatDriverInstance> FormatAccess<D> {
         max_length: u64,
     ) -> Result<(Mapping, u64), Fault>
         // What it answers.
-        ensures ok { WhereAllSee D.Seen (chain self.old) (IfOk result (ChainFinds D.Seen offset max_length self.old self.new)) }
+        ensures ok { WhereAllSee D.DriverModel (chain self.old) (IfOk result (ChainFinds D.DriverModel offset max_length self.old self.new)) }
         ensures run { IfOk result (λ r. IsDeepRun (D.layer self.old.0).size offset max_length r.0 r.1) }
-        ensures names { NamesTruly D.Seen offset result (chain self.old) (chain self.new) }
+        ensures names { NamesTruly D.DriverModel offset result (chain self.old) (chain self.new) }
         ensures deep { NamesLayer result (chain self.old) }
-        ensures there { NamesStorage D.Seen result (chain self.old) }
-        ensures home { D.sees self.old.0 → IfOk result (λ r. DeepNamesHome (D.layer self.old.0) offset max_length r.0) }
-        ensures writable { NamesWritable D.Seen offset max_length result (chain self.old) }
-        ensures stated { D.sees self.old.0 → IfOk result (DeepStates (D.stated self.old.0) offset) }
+        ensures storage_exists { NamesStorage D.DriverModel result (chain self.old) }
+        ensures writable_location { D.coherent self.old.0 → IfOk result (λ r. DeepReportsWritable (D.layer self.old.0) offset max_length r.0) }
+        ensures writable { NamesWritable D.DriverModel offset max_length result (chain self.old) }
+        ensures explicit_zero { D.coherent self.old.0 → IfOk result (DeepReportsExplicitZero (D.explicit_zero self.old.0) offset) }
 
         // When it ends at once.
-        ensures idle { max_length ≡ 0 → barrier (D.layer self.old.0) ≡ None → IsOk result }
-        ensures unusable { (f : Fault) → barrier (D.layer self.old.0) ≡ Some f → IsErrOf result f }
-        ensures unchanged { UnchangedIfIdle D.Seen max_length self.old self.new }
+        ensures idle { max_length ≡ 0 → unusable_fault (D.layer self.old.0) ≡ None → IsOk result }
+        ensures unusable { (f : Fault) → unusable_fault (D.layer self.old.0) ≡ Some f → IsErrOf result f }
+        ensures unchanged { UnchangedIfIdle D.DriverModel max_length self.old self.new }
 
         // What it keeps.
-        ensures looked { Pairs (Looked D.Seen (WasNotCutOff result)) (chain self.old) (chain self.new) }
+        ensures lookup_call { Pairs (LookupCall D.DriverModel (HadNoResourceError result)) (chain self.old) (chain self.new) }
 
         // Why it is refused, and what that marks.
-        ensures failed { IfErr result (ChainFails D.Seen self.old self.new) }
-        ensures marks { IfErr result (MarksSome D.Seen (chain self.old) (chain self.new)) }
-        ensures cause { LookRefused D.Seen offset max_length result (chain self.old) (chain self.new) }
+        ensures failed { IfErr result (ChainFails D.DriverModel self.old self.new) }
+        ensures marks_failed { IfErr result (MarksSomeFailed D.DriverModel (chain self.old) (chain self.new)) }
+        ensures cause { LookRefused D.DriverModel offset max_length result (chain self.old) (chain self.new) }
     {
         Self::map_part(alloc, &mut self.driver, &mut self.below, offset, max_length)
     }
@@ -108,19 +108,19 @@ impl<D: FormatDriverInstance> FormatAccess<D> {
         max_length: u64,
     ) -> Result<(Mapping, u64), Fault>
         ensures run { IfOk result (λ r. IsDeepRun (D.layer driver.old).size offset max_length r.0 r.1) }
-        ensures names { NamesTruly D.Seen offset result (driver.old ∷ layers below.old) (driver.new ∷ layers below.new) }
+        ensures names { NamesTruly D.DriverModel offset result (driver.old ∷ layers below.old) (driver.new ∷ layers below.new) }
         ensures deep { NamesLayer result (driver.old ∷ layers below.old) }
-        ensures there { NamesStorage D.Seen result (driver.old ∷ layers below.old) }
-        ensures home { D.sees driver.old → IfOk result (λ r. DeepNamesHome (D.layer driver.old) offset max_length r.0) }
-        ensures writable { NamesWritable D.Seen offset max_length result (driver.old ∷ layers below.old) }
-        ensures stated { D.sees driver.old → IfOk result (DeepStates (D.stated driver.old) offset) }
-        ensures idle { max_length ≡ 0 → barrier (D.layer driver.old) ≡ None → IsOk result }
-        ensures unusable { (f : Fault) → barrier (D.layer driver.old) ≡ Some f → IsErrOf result f }
-        ensures unchanged { UnchangedIfIdle D.Seen max_length (driver.old, layers below.old) (driver.new, layers below.new) }
-        ensures looked { Pairs (Looked D.Seen (WasNotCutOff result)) (driver.old ∷ layers below.old) (driver.new ∷ layers below.new) }
-        ensures failed { IfErr result (ChainFails D.Seen (driver.old, layers below.old) (driver.new, layers below.new)) }
-        ensures marks { IfErr result (MarksSome D.Seen (driver.old ∷ layers below.old) (driver.new ∷ layers below.new)) }
-        ensures cause { LookRefused D.Seen offset max_length result (driver.old ∷ layers below.old) (driver.new ∷ layers below.new) }
+        ensures storage_exists { NamesStorage D.DriverModel result (driver.old ∷ layers below.old) }
+        ensures writable_location { D.coherent driver.old → IfOk result (λ r. DeepReportsWritable (D.layer driver.old) offset max_length r.0) }
+        ensures writable { NamesWritable D.DriverModel offset max_length result (driver.old ∷ layers below.old) }
+        ensures explicit_zero { D.coherent driver.old → IfOk result (DeepReportsExplicitZero (D.explicit_zero driver.old) offset) }
+        ensures idle { max_length ≡ 0 → unusable_fault (D.layer driver.old) ≡ None → IsOk result }
+        ensures unusable { (f : Fault) → unusable_fault (D.layer driver.old) ≡ Some f → IsErrOf result f }
+        ensures unchanged { UnchangedIfIdle D.DriverModel max_length (driver.old, layers below.old) (driver.new, layers below.new) }
+        ensures lookup_call { Pairs (LookupCall D.DriverModel (HadNoResourceError result)) (driver.old ∷ layers below.old) (driver.new ∷ layers below.new) }
+        ensures failed { IfErr result (ChainFails D.DriverModel (driver.old, layers below.old) (driver.new, layers below.new)) }
+        ensures marks_failed { IfErr result (MarksSomeFailed D.DriverModel (driver.old ∷ layers below.old) (driver.new ∷ layers below.new)) }
+        ensures cause { LookRefused D.DriverModel offset max_length result (driver.old ∷ layers below.old) (driver.new ∷ layers below.new) }
     {
         let (mapping, length) = driver.get_mapping(alloc, offset, max_length)?;
         match mapping {
@@ -141,7 +141,7 @@ impl<D: FormatDriverInstance> FormatAccess<D> {
                 if length == 0 {
                     return Ok((Mapping::Zero { explicit: false }, 0));
                 }
-                let (mapping, length) = Self::map_under(alloc, below, offset, length)?;
+                let (mapping, length) = Self::map_below(alloc, below, offset, length)?;
                 Ok((mapping.lowered(writable), length))
             }
             ShallowMapping::Zero { explicit } => Ok((Mapping::Zero { explicit }, length)),
@@ -158,21 +158,21 @@ impl<D: FormatDriverInstance> FormatAccess<D> {
 
     // Where the places lie in the layers below, which have no end.
     #[cycle(map)]
-    fn map_under(
+    fn map_below(
         alloc: Global,
         below: &mut Option<Box<FormatAccess<D>>>,
         offset: u64,
         max_length: u64,
     ) -> Result<(Mapping, u64), Fault>
         ensures run { IfOk result (λ r. IsRunBelow max_length r.0 r.1) }
-        ensures names { NamesTruly D.Seen offset result (layers below.old) (layers below.new) }
+        ensures names { NamesTruly D.DriverModel offset result (layers below.old) (layers below.new) }
         ensures deep { NamesLayer result (layers below.old) }
-        ensures there { NamesStorage D.Seen result (layers below.old) }
-        ensures writable { NamesWritable D.Seen offset max_length result (layers below.old) }
-        ensures looked { Pairs (Looked D.Seen (WasNotCutOff result)) (layers below.old) (layers below.new) }
-        ensures failed { IfErr result (ImageCause (files_of D.Seen (layers below.old)) (files_of D.Seen (layers below.new))) }
-        ensures marks { IfErr result (MarksSome D.Seen (layers below.old) (layers below.new)) }
-        ensures cause { LookRefused D.Seen offset max_length result (layers below.old) (layers below.new) }
+        ensures storage_exists { NamesStorage D.DriverModel result (layers below.old) }
+        ensures writable { NamesWritable D.DriverModel offset max_length result (layers below.old) }
+        ensures lookup_call { Pairs (LookupCall D.DriverModel (HadNoResourceError result)) (layers below.old) (layers below.new) }
+        ensures failed { IfErr result (ImageCause (files_of D.DriverModel (layers below.old)) (files_of D.DriverModel (layers below.new))) }
+        ensures marks_failed { IfErr result (MarksSomeFailed D.DriverModel (layers below.old) (layers below.new)) }
+        ensures cause { LookRefused D.DriverModel offset max_length result (layers below.old) (layers below.new) }
     {
         match below {
             None => Ok((Mapping::Zero { explicit: false }, max_length)),

@@ -3,20 +3,20 @@
 ghost use Rattle.std.specs.Prelude.{⊤, ◌≡◌, ◌<◌, ◌+◌, ◌^◌, length, IsOk, IfOk, IfErr, OnOk, IsErr, IsErrOf, IsSome, Some, None};
 ghost use Rattle.imago_storage.specs.Steps.{Call, prepare, write_mapped};
 ghost use Rattle.imago_storage.specs.declared.fault.Fault.{Fault};
-ghost use Rattle.imago_access.specs.Layer.{loose, IsFree, IsLike};
+ghost use Rattle.imago_access.specs.Layer.{loose, IsFree, KeepsLayerState};
 ghost use Rattle.imago_access.specs.Room.{Takes};
-ghost use Rattle.imago_access.specs.Files.{WasNotCutOff};
+ghost use Rattle.imago_access.specs.Files.{HadNoResourceError};
 ghost use Rattle.imago_access.specs.Mappings.{IsMappedRun};
 ghost use Rattle.imago_access.specs.Spending.{IsMine, IsForeignTo};
-ghost use Rattle.imago_access.specs.Refusals.{barrier};
+ghost use Rattle.imago_access.specs.Refusals.{unusable_fault};
 ghost use Rattle.imago_access.specs.Stops.{GivesNone, GivesBytes};
-ghost use Rattle.imago_access.specs.Running.{IsIntactChain, RanChain};
-ghost use Rattle.imago_access.specs.ChainCalls.{ChainStays, ChainFails, chain_refusal, AllUnchanged, CanWriteRun, ChainCancels, ChainCommitRefused, ChainCommits, ChainMappedCause, ChainPrepares, CommitStops, EndsAtOnce, IfMild, IsMappedFor, KeepsHomes, StaysIntact, WhereMine, CallRefused, IsCarriedOut};
+ghost use Rattle.imago_access.specs.Running.{IsIntactChain, ChainRangeChange};
+ghost use Rattle.imago_access.specs.ChainCalls.{ChainStays, ChainFails, chain_refusal, AllUnchanged, CanWriteRun, ChainCancels, ChainCommitRefused, ChainCommits, ChainMappedCause, ChainPrepares, CommitCrashImages, EndsAtOnce, UnlessResourceError, IsMappedFor, KeepsWritableLocations, StaysIntact, WhereMine, CallRefused, IsCarriedOut};
 ghost use Rattle.imago_access.specs.Failing.{Fails};
-ghost use Rattle.imago_access.specs.RunCalls.{GivesMappingUp, SettlesMapping, SettlingRefused, SettlingStops, MarksAlone};
+ghost use Rattle.imago_access.specs.RunCalls.{GivesMappingUp, SettlesMapping, SettlingRefused, WriteBackCrashImages, DriverMarksFailed};
 ghost use Rattle.imago_access.specs.PreparingCalls.{Cancels, CommitRefused, Commits, nowhere};
 ghost use Rattle.imago_access.specs.Changes.{asking};
-ghost use Rattle.imago_access.specs.Going.{IsUnchanged, Marks, MarksOver, KeepsSurplus, Went};
+ghost use Rattle.imago_access.specs.Going.{IsUnchanged, MarksFailed, MarksFailedOver, KeepsExcessRefcounts, MutatingCall};
 
 use crate::access::FormatAccess;
 use crate::drivers::FormatDriverInstance;
@@ -29,16 +29,16 @@ pub(crate) fn abandon<D: FormatDriverInstance>(
     driver: &mut D,
     mapping: PreparedDataMapping<D::State>,
 )
-    requires { IsMine D.Seen mapping.state (D.layer driver.old) }
-    ensures ok { GivesMappingUp D.Seen mapping.state driver.old driver.new }
-    ensures safe { D.safe driver.old → D.safe driver.new }
+    requires { IsMine D.DriverModel mapping.state (D.layer driver.old) }
+    ensures ok { GivesMappingUp D.DriverModel mapping.state driver.old driver.new }
+    ensures well_formed { D.well_formed driver.old → D.well_formed driver.new }
     ensures failed { (D.layer driver.new).failed ≡ (D.layer driver.old).failed }
-    ensures room { D.safe driver.old → Takes D.Seen (λ _. ⊤) driver.old driver.new }
-    ensures lasts { D.lasts driver.old → D.lasts driver.new }
-    ensures surplus { D.safe driver.old → KeepsSurplus D.Seen driver.old driver.new }
-    ensures began { (d : D) (call : Call) → D.began d call driver.old → D.began d call driver.new }
+    ensures room { D.well_formed driver.old → Takes D.DriverModel (λ _. ⊤) driver.old driver.new }
+    ensures stable { D.stable driver.old → D.stable driver.new }
+    ensures excess_refcount { D.well_formed driver.old → KeepsExcessRefcounts D.DriverModel driver.old driver.new }
+    ensures stays_begun { (d : D) (call : Call) → D.began d call driver.old → D.began d call driver.new }
     ensures none { (D.image driver.new ≡ D.image driver.old) × (D.extras driver.new ≡ D.extras driver.old) }
-    ensures unchanged { mapping.state ≡ None → IsUnchanged D.Seen driver.old driver.new }
+    ensures unchanged { mapping.state ≡ None → IsUnchanged D.DriverModel driver.old driver.new }
 {
     match driver.cancel_data_mapping(mapping) {
         Ok(()) => (),
@@ -47,25 +47,25 @@ pub(crate) fn abandon<D: FormatDriverInstance>(
 }
 
 // Commits a mapping of this image, and gives it up where that is refused.
-pub(crate) fn settle<D: FormatDriverInstance>(
+pub(crate) fn commit_or_abandon<D: FormatDriverInstance>(
     driver: &mut D,
     alloc: Global,
     mapping: PreparedDataMapping<D::State>,
 ) -> Result<(), Fault>
-    requires { IsMine D.Seen mapping.state (D.layer driver.old) }
-    ensures ok { OnOk result (SettlesMapping D.Seen mapping.state driver.old driver.new) }
-    ensures err { D.safe driver.old → IfMild result (GivesMappingUp D.Seen mapping.state driver.old driver.new) }
+    requires { IsMine D.DriverModel mapping.state (D.layer driver.old) }
+    ensures ok { OnOk result (SettlesMapping D.DriverModel mapping.state driver.old driver.new) }
+    ensures err { D.well_formed driver.old → UnlessResourceError result (GivesMappingUp D.DriverModel mapping.state driver.old driver.new) }
     ensures free { (mapping.state ≡ None → IsFree (D.layer driver.old)) → IsFree (D.layer driver.new) }
-    ensures idle { mapping.state ≡ None → barrier (D.layer driver.old) ≡ None → IsOk result }
-    ensures unchanged { mapping.state ≡ None → IsUnchanged D.Seen driver.old driver.new }
+    ensures idle { mapping.state ≡ None → unusable_fault (D.layer driver.old) ≡ None → IsOk result }
+    ensures unchanged { mapping.state ≡ None → IsUnchanged D.DriverModel driver.old driver.new }
     ensures size { (D.layer driver.new).size ≡ (D.layer driver.old).size }
-    ensures room { D.safe driver.old → WasNotCutOff result → Takes D.Seen (λ p. (D.layer driver.old).held p ≡ loose) driver.old driver.new }
-    ensures went { Went D.Seen (WasNotCutOff result) (WasNotCutOff result) driver.old driver.new }
-    ensures began { (d : D) (call : Call) → D.began d call driver.old → OnOk result (D.began d call driver.new) }
-    ensures stops { SettlingStops D.Seen driver.old driver.new }
-    ensures failed { IfErr result (Fails D.Seen driver.old driver.new) }
-    ensures marks { IfErr result (MarksAlone D.Seen driver.old driver.new) }
-    ensures cause { SettlingRefused D.Seen result driver.old driver.new }
+    ensures room { D.well_formed driver.old → HadNoResourceError result → Takes D.DriverModel (λ p. (D.layer driver.old).held p ≡ loose) driver.old driver.new }
+    ensures mutating_call { MutatingCall D.DriverModel (HadNoResourceError result) (HadNoResourceError result) driver.old driver.new }
+    ensures stays_begun { (d : D) (call : Call) → D.began d call driver.old → OnOk result (D.began d call driver.new) }
+    ensures crash_images { WriteBackCrashImages D.DriverModel driver.old driver.new }
+    ensures failed { IfErr result (Fails D.DriverModel driver.old driver.new) }
+    ensures marks_failed { IfErr result (DriverMarksFailed D.DriverModel driver.old driver.new) }
+    ensures cause { SettlingRefused D.DriverModel result driver.old driver.new }
 {
     match driver.commit_data_mapping(alloc, mapping) {
         Ok(()) => Ok(()),
@@ -97,28 +97,28 @@ impl<D: FormatDriverInstance> FormatAccess<D> {
         requires free { IsFree (D.layer self.old.0) }
 
         // What it does.
-        ensures ok { IsIntactChain D.Seen self.old → IfOk result (ChainPrepares D.Seen (asking offset length overwrite) self.old self.new) }
-        ensures home { IsIntactChain D.Seen self.old → IfOk result (CanWriteRun (D.layer self.new.0) offset) }
+        ensures ok { IsIntactChain D.DriverModel self.old → IfOk result (ChainPrepares D.DriverModel (asking offset length overwrite) self.old self.new) }
+        ensures writable_location { IsIntactChain D.DriverModel self.old → IfOk result (CanWriteRun (D.layer self.new.0) offset) }
         ensures run { IfOk result (λ m. IsMappedRun (D.layer self.old.0) offset length m.length × (m.offset + m.length < 2 ^ 64)) }
-        ensures mine { IfOk result (λ m. IsMine D.Seen m.state (D.layer self.new.0)) }
+        ensures mine { IfOk result (λ m. IsMine D.DriverModel m.state (D.layer self.new.0)) }
         ensures stateless { IfOk result (λ m. m.state ≡ None → IsFree (D.layer self.new.0)) }
-        ensures err { IsIntactChain D.Seen self.old → IfMild result (ChainStays D.Seen self.old self.new) }
+        ensures err { IsIntactChain D.DriverModel self.old → UnlessResourceError result (ChainStays D.DriverModel self.old self.new) }
 
         // When it ends at once.
         ensures empty { length ≡ 0 → IfOk result (λ m. (m ≡ nowhere) × (D.layer self.new.0 ≡ D.layer self.old.0)) }
-        ensures untouched { IsSome (chain_refusal D.Seen self.old offset length) → self.new ≡ self.old }
-        ensures at_once { (f : Fault) → chain_refusal D.Seen self.old offset length ≡ Some f → IsErrOf result f }
-        ensures idle { length ≡ 0 → barrier (D.layer self.old.0) ≡ None → IsOk result }
-        ensures unchanged { EndsAtOnce D.Seen self.old offset length → AllUnchanged D.Seen self.old self.new }
+        ensures untouched { IsSome (chain_refusal D.DriverModel self.old offset length) → self.new ≡ self.old }
+        ensures early_outcome { (f : Fault) → chain_refusal D.DriverModel self.old offset length ≡ Some f → IsErrOf result f }
+        ensures idle { length ≡ 0 → unusable_fault (D.layer self.old.0) ≡ None → IsOk result }
+        ensures unchanged { EndsAtOnce D.DriverModel self.old offset length → AllUnchanged D.DriverModel self.old self.new }
 
         // What it keeps, and what its stops show.
         ensures free { IsErr result → IsFree (D.layer self.new.0) }
-        ensures ran { RanChain D.Seen (WasNotCutOff result) GivesNone self.old self.new }
+        ensures range_change { ChainRangeChange D.DriverModel (HadNoResourceError result) GivesNone self.old self.new }
 
         // Why it is refused, and what that marks.
-        ensures failed { IfErr result (ChainFails D.Seen self.old self.new) }
-        ensures marks { IfErr result (MarksOver D.Seen self.old.0 self.new.0) }
-        ensures cause { CallRefused D.Seen (prepare offset length overwrite) result self.old self.new }
+        ensures failed { IfErr result (ChainFails D.DriverModel self.old self.new) }
+        ensures marks_failed { IfErr result (MarksFailedOver D.DriverModel self.old.0 self.new.0) }
+        ensures cause { CallRefused D.DriverModel (prepare offset length overwrite) result self.old self.new }
     {
         self.check_change(offset, length)?;
         self.driver
@@ -137,21 +137,21 @@ impl<D: FormatDriverInstance> FormatAccess<D> {
         mapping: PreparedDataMapping<D::State>,
     ) -> Result<(), (Fault, Option<PreparedDataMapping<D::State>>)>
         // What it does.
-        ensures ok { WhereMine D.Seen mapping.state self.old (OnOk result (ChainCommits D.Seen mapping.state self.old self.new)) }
+        ensures ok { WhereMine D.DriverModel mapping.state self.old (OnOk result (ChainCommits D.DriverModel mapping.state self.old self.new)) }
         ensures own { IsForeignTo D.tag mapping.state (D.layer self.old.0) → IsErr result }
-        ensures home { WhereMine D.Seen mapping.state self.old (OnOk result (KeepsHomes (D.layer self.old.0) (D.layer self.new.0))) }
+        ensures writable_location { WhereMine D.DriverModel mapping.state self.old (OnOk result (KeepsWritableLocations (D.layer self.old.0) (D.layer self.new.0))) }
         ensures stateless { mapping.state ≡ None → OnOk result (D.layer self.new.0 ≡ D.layer self.old.0) }
-        ensures commits { Commits D.Seen mapping.state result self.old.0 self.new.0 }
+        ensures commits { Commits D.DriverModel mapping.state result self.old.0 self.new.0 }
 
         // What it keeps, and what its stops show.
-        ensures free { IsMine D.Seen mapping.state (D.layer self.old.0) → IsSome mapping.state → OnOk result (IsFree (D.layer self.new.0)) }
-        ensures intact { IsMine D.Seen mapping.state (D.layer self.old.0) → OnOk result (StaysIntact D.Seen self.old self.new) }
-        ensures stops { WhereMine D.Seen mapping.state self.old (CommitStops D.Seen self.old self.new) }
+        ensures free { IsMine D.DriverModel mapping.state (D.layer self.old.0) → IsSome mapping.state → OnOk result (IsFree (D.layer self.new.0)) }
+        ensures intact { IsMine D.DriverModel mapping.state (D.layer self.old.0) → OnOk result (StaysIntact D.DriverModel self.old self.new) }
+        ensures crash_images { WhereMine D.DriverModel mapping.state self.old (CommitCrashImages D.DriverModel self.old self.new) }
         ensures below { self.new.1 ≡ self.old.1 }
 
         // Why it is refused, and what that marks.
-        ensures refused { CommitRefused D.Seen mapping result self.old.0 self.new.0 }
-        ensures cause { ChainCommitRefused D.Seen mapping.state result self.old self.new }
+        ensures refused { CommitRefused D.DriverModel mapping result self.old.0 self.new.0 }
+        ensures cause { ChainCommitRefused D.DriverModel mapping.state result self.old self.new }
     {
         self.driver.commit_data_mapping(alloc, mapping)
     }
@@ -165,14 +165,14 @@ impl<D: FormatDriverInstance> FormatAccess<D> {
         mapping: PreparedDataMapping<D::State>,
     ) -> Result<(), (Fault, PreparedDataMapping<D::State>)>
         // What it does.
-        ensures ok { IsMine D.Seen mapping.state (D.layer self.old.0) → OnOk result (ChainCancels D.Seen mapping.state self.old self.new) }
+        ensures ok { IsMine D.DriverModel mapping.state (D.layer self.old.0) → OnOk result (ChainCancels D.DriverModel mapping.state self.old self.new) }
         ensures own { IsForeignTo D.tag mapping.state (D.layer self.old.0) → IsErr result }
-        ensures cancels { Cancels D.Seen mapping result self.old.0 self.new.0 }
+        ensures cancels { Cancels D.DriverModel mapping result self.old.0 self.new.0 }
         ensures stateless { mapping.state ≡ None → D.layer self.new.0 ≡ D.layer self.old.0 }
 
         // What it keeps, and what its stops show.
-        ensures free { IsMine D.Seen mapping.state (D.layer self.old.0) → IsSome mapping.state → IsFree (D.layer self.new.0) }
-        ensures intact { IsMine D.Seen mapping.state (D.layer self.old.0) → StaysIntact D.Seen self.old self.new }
+        ensures free { IsMine D.DriverModel mapping.state (D.layer self.old.0) → IsSome mapping.state → IsFree (D.layer self.new.0) }
+        ensures intact { IsMine D.DriverModel mapping.state (D.layer self.old.0) → StaysIntact D.DriverModel self.old self.new }
         ensures below { self.new.1 ≡ self.old.1 }
     {
         self.driver.cancel_data_mapping(mapping)
@@ -193,27 +193,27 @@ impl<D: FormatDriverInstance> FormatAccess<D> {
         bytes: &[u8],
     ) -> Result<(), Fault>
         // What it does.
-        ensures ok { IsCarriedOut D.Seen (write_mapped guest bytes.now) result self.old self.new }
-        ensures mapped { D.sees self.old.0 → OnOk result (IsMappedFor (D.layer self.old.0) guest place (length bytes.now)) }
-        ensures home { IsIntactChain D.Seen self.old → OnOk result ((D.layer self.new.0).home ≡ (D.layer self.old.0).home) }
-        ensures err { IsIntactChain D.Seen self.old → IfMild result (D.layer self.new.0 ≡ D.layer self.old.0) }
+        ensures ok { IsCarriedOut D.DriverModel (write_mapped guest bytes.now) result self.old self.new }
+        ensures mapped { D.coherent self.old.0 → OnOk result (IsMappedFor (D.layer self.old.0) guest place (length bytes.now)) }
+        ensures writable_location { IsIntactChain D.DriverModel self.old → OnOk result ((D.layer self.new.0).writable_location ≡ (D.layer self.old.0).writable_location) }
+        ensures err { IsIntactChain D.DriverModel self.old → UnlessResourceError result (D.layer self.new.0 ≡ D.layer self.old.0) }
 
         // When it ends at once.
-        ensures at_once { (f : Fault) → chain_refusal D.Seen self.old guest (length bytes.now) ≡ Some f → IsErrOf result f }
-        ensures idle { length bytes.now ≡ 0 → barrier (D.layer self.old.0) ≡ None → IsOk result }
-        ensures unchanged { EndsAtOnce D.Seen self.old guest (length bytes.now) → IsUnchanged D.Seen self.old.0 self.new.0 }
-        ensures untouched { IsSome (chain_refusal D.Seen self.old guest (length bytes.now)) → self.new ≡ self.old }
+        ensures early_outcome { (f : Fault) → chain_refusal D.DriverModel self.old guest (length bytes.now) ≡ Some f → IsErrOf result f }
+        ensures idle { length bytes.now ≡ 0 → unusable_fault (D.layer self.old.0) ≡ None → IsOk result }
+        ensures unchanged { EndsAtOnce D.DriverModel self.old guest (length bytes.now) → IsUnchanged D.DriverModel self.old.0 self.new.0 }
+        ensures untouched { IsSome (chain_refusal D.DriverModel self.old guest (length bytes.now)) → self.new ≡ self.old }
         ensures empty { length bytes.now ≡ 0 → D.layer self.new.0 ≡ D.layer self.old.0 }
 
         // What it keeps, and what its stops show.
-        ensures like { IsLike (D.layer self.old.0) (D.layer self.new.0) }
-        ensures ran { RanChain D.Seen (WasNotCutOff result) (GivesBytes guest bytes.now) self.old self.new }
+        ensures keeps_layer_state { KeepsLayerState (D.layer self.old.0) (D.layer self.new.0) }
+        ensures range_change { ChainRangeChange D.DriverModel (HadNoResourceError result) (GivesBytes guest bytes.now) self.old self.new }
         ensures below { self.new.1 ≡ self.old.1 }
 
         // Why it is refused, and what that marks.
-        ensures failed { IfErr result (Fails D.Seen self.old.0 self.new.0) }
-        ensures marks { IfErr result (Marks D.Seen self.old.0 self.new.0) }
-        ensures cause { IsIntactChain D.Seen self.old → IfErr result (ChainMappedCause D.Seen guest place bytes.now self.old self.new) }
+        ensures failed { IfErr result (Fails D.DriverModel self.old.0 self.new.0) }
+        ensures marks_failed { IfErr result (MarksFailed D.DriverModel self.old.0 self.new.0) }
+        ensures cause { IsIntactChain D.DriverModel self.old → IfErr result (ChainMappedCause D.DriverModel guest place bytes.now self.old self.new) }
     {
         self.check_change(guest, bytes.len() as u64)?;
         self.driver.write_mapped(alloc, guest, place, bytes)

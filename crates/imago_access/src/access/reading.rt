@@ -5,17 +5,17 @@ ghost use Rattle.imago_storage.specs.Through.{Overflows};
 ghost use Rattle.imago_storage.specs.declared.fault.Fault.{Fault};
 ghost use Rattle.imago_access.specs.Chain.{at, Each, unit_of_chain};
 ghost use Rattle.imago_access.specs.Layers.{chain, layers};
-ghost use Rattle.imago_access.specs.Files.{Pairs, WasNotCutOff, ImageCause, files_of};
-ghost use Rattle.imago_access.specs.Going.{Looked, MarksSome};
-ghost use Rattle.imago_access.specs.Refusals.{barrier};
+ghost use Rattle.imago_access.specs.Files.{Pairs, HadNoResourceError, ImageCause, files_of};
+ghost use Rattle.imago_access.specs.Going.{LookupCall, MarksSomeFailed};
+ghost use Rattle.imago_access.specs.Refusals.{unusable_fault};
 ghost use Rattle.imago_access.specs.ChainCalls.{ChainFails, chain_look_refusal, LookEndsAtOnce};
 ghost use Rattle.imago_access.specs.ChainLooks.{ChainReads, ReadRefused, ReadsRun};
 
 use crate::access::FormatAccess;
 use crate::below::ReadBelow;
+use crate::driver_model::LayersBelowModel;
 use crate::drivers::FormatDriverInstance;
 use crate::mapping::{Mapping, ShallowMapping};
-use crate::seen::SeenBelow;
 use imago_storage::{Fault, padded_end};
 use std::alloc::Global;
 
@@ -31,20 +31,20 @@ impl<D: FormatDriverInstance> FormatAccess<D> {
     /// With `Fault::Storage` the layer whose storage it was has failed, if it is a qcow2 image.
     pub fn read(&mut self, alloc: Global, buf: &mut [u8], offset: u64) -> Result<(), Fault>
         // What it answers.
-        ensures ok { Each D.sees (chain self.old) → OnOk result (ChainReads D.Seen offset (length buf.old) buf.new self.old self.new) }
+        ensures ok { Each D.coherent (chain self.old) → OnOk result (ChainReads D.DriverModel offset (length buf.old) buf.new self.old self.new) }
 
         // When it ends at once.
-        ensures at_once { (f : Fault) → chain_look_refusal D.Seen self.old offset (length buf.old) ≡ Some f → IsErrOf result f }
-        ensures idle { length buf.old ≡ 0 → barrier (D.layer self.old.0) ≡ None → IsOk result }
-        ensures untouched { LookEndsAtOnce D.Seen self.old offset (length buf.old) → self.new ≡ self.old }
+        ensures early_outcome { (f : Fault) → chain_look_refusal D.DriverModel self.old offset (length buf.old) ≡ Some f → IsErrOf result f }
+        ensures idle { length buf.old ≡ 0 → unusable_fault (D.layer self.old.0) ≡ None → IsOk result }
+        ensures untouched { LookEndsAtOnce D.DriverModel self.old offset (length buf.old) → self.new ≡ self.old }
 
         // What it keeps.
-        ensures looked { Pairs (Looked D.Seen (WasNotCutOff result)) (chain self.old) (chain self.new) }
+        ensures lookup_call { Pairs (LookupCall D.DriverModel (HadNoResourceError result)) (chain self.old) (chain self.new) }
 
         // Why it is refused, and what that marks.
-        ensures failed { IfErr result (ChainFails D.Seen self.old self.new) }
-        ensures marks { IfErr result (MarksSome D.Seen (chain self.old) (chain self.new)) }
-        ensures cause { ReadRefused D.Seen offset (length buf.old) result (chain self.old) (chain self.new) }
+        ensures failed { IfErr result (ChainFails D.DriverModel self.old self.new) }
+        ensures marks_failed { IfErr result (MarksSomeFailed D.DriverModel (chain self.old) (chain self.new)) }
+        ensures cause { ReadRefused D.DriverModel offset (length buf.old) result (chain self.old) (chain self.new) }
     {
         self.driver.ready()?;
         if buf.is_empty() {
@@ -60,11 +60,11 @@ impl<D: FormatDriverInstance> FormatAccess<D> {
     #[cycle(read)]
     fn read_all(&mut self, alloc: Global, buf: &mut [u8], offset: u64) -> Result<(), Fault>
         requires fits { Overflows (unit_of_chain (map D.layer (chain self.old))) offset (length buf.old) → ⊥ }
-        ensures shown { Each D.sees (chain self.old) → OnOk result (Shows (at (map D.layer (chain self.old))) offset buf.new) }
-        ensures looked { Pairs (Looked D.Seen (WasNotCutOff result)) (chain self.old) (chain self.new) }
-        ensures failed { IfErr result (ChainFails D.Seen self.old self.new) }
-        ensures marks { IfErr result (MarksSome D.Seen (chain self.old) (chain self.new)) }
-        ensures cause { ReadRefused D.Seen offset (length buf.old) result (chain self.old) (chain self.new) }
+        ensures shown { Each D.coherent (chain self.old) → OnOk result (Shows (at (map D.layer (chain self.old))) offset buf.new) }
+        ensures lookup_call { Pairs (LookupCall D.DriverModel (HadNoResourceError result)) (chain self.old) (chain self.new) }
+        ensures failed { IfErr result (ChainFails D.DriverModel self.old self.new) }
+        ensures marks_failed { IfErr result (MarksSomeFailed D.DriverModel (chain self.old) (chain self.new)) }
+        ensures cause { ReadRefused D.DriverModel offset (length buf.old) result (chain self.old) (chain self.new) }
     {
         let mut done = 0;
         while done < buf.len() {
@@ -78,13 +78,13 @@ impl<D: FormatDriverInstance> FormatAccess<D> {
     #[cycle(read)]
     fn read_run(&mut self, alloc: Global, buf: &mut [u8], offset: u64) -> Result<usize, Fault>
         requires fits { Overflows (unit_of_chain (map D.layer (chain self.old))) offset (length buf.old) → ⊥ }
-        requires some { 0 < length buf.old }
+        requires nonempty { 0 < length buf.old }
         ensures run { IfOk result (λ n. (0 < n) × (n ≤ length buf.old)) }
-        ensures shown { ReadsRun D.Seen offset result buf.new (chain self.old) }
-        ensures looked { Pairs (Looked D.Seen (WasNotCutOff result)) (chain self.old) (chain self.new) }
-        ensures failed { IfErr result (ChainFails D.Seen self.old self.new) }
-        ensures marks { IfErr result (MarksSome D.Seen (chain self.old) (chain self.new)) }
-        ensures cause { ReadRefused D.Seen offset (length buf.old) result (chain self.old) (chain self.new) }
+        ensures shown { ReadsRun D.DriverModel offset result buf.new (chain self.old) }
+        ensures lookup_call { Pairs (LookupCall D.DriverModel (HadNoResourceError result)) (chain self.old) (chain self.new) }
+        ensures failed { IfErr result (ChainFails D.DriverModel self.old self.new) }
+        ensures marks_failed { IfErr result (MarksSomeFailed D.DriverModel (chain self.old) (chain self.new)) }
+        ensures cause { ReadRefused D.DriverModel offset (length buf.old) result (chain self.old) (chain self.new) }
     {
         Self::read_part(alloc, &mut self.driver, &mut self.below, buf, offset)
     }
@@ -99,13 +99,13 @@ impl<D: FormatDriverInstance> FormatAccess<D> {
         offset: u64,
     ) -> Result<usize, Fault>
         requires fits { Overflows (unit_of_chain (map D.layer (driver.old ∷ layers below.old))) offset (length buf.old) → ⊥ }
-        requires some { 0 < length buf.old }
+        requires nonempty { 0 < length buf.old }
         ensures run { IfOk result (λ n. (0 < n) × (n ≤ length buf.old)) }
-        ensures shown { ReadsRun D.Seen offset result buf.new (driver.old ∷ layers below.old) }
-        ensures looked { Pairs (Looked D.Seen (WasNotCutOff result)) (driver.old ∷ layers below.old) (driver.new ∷ layers below.new) }
-        ensures failed { IfErr result (ChainFails D.Seen (driver.old, layers below.old) (driver.new, layers below.new)) }
-        ensures marks { IfErr result (MarksSome D.Seen (driver.old ∷ layers below.old) (driver.new ∷ layers below.new)) }
-        ensures cause { ReadRefused D.Seen offset (length buf.old) result (driver.old ∷ layers below.old) (driver.new ∷ layers below.new) }
+        ensures shown { ReadsRun D.DriverModel offset result buf.new (driver.old ∷ layers below.old) }
+        ensures lookup_call { Pairs (LookupCall D.DriverModel (HadNoResourceError result)) (driver.old ∷ layers below.old) (driver.new ∷ layers below.new) }
+        ensures failed { IfErr result (ChainFails D.DriverModel (driver.old, layers below.old) (driver.new, layers below.new)) }
+        ensures marks_failed { IfErr result (MarksSomeFailed D.DriverModel (driver.old ∷ layers below.old) (driver.new ∷ layers below.new)) }
+        ensures cause { ReadRefused D.DriverModel offset (length buf.old) result (driver.old ∷ layers below.old) (driver.new ∷ layers below.new) }
     {
         let most = buf.len();
         let (mapping, length) = driver.get_mapping(alloc, offset, most as u64)?;
@@ -120,7 +120,7 @@ impl<D: FormatDriverInstance> FormatAccess<D> {
                 Ok(n)
             }
             ShallowMapping::Indirect { .. } => {
-                Self::read_under(alloc, below, &mut buf[..n], offset)?;
+                Self::read_below(alloc, below, &mut buf[..n], offset)?;
                 Ok(n)
             }
             ShallowMapping::Zero { .. } => {
@@ -137,18 +137,18 @@ impl<D: FormatDriverInstance> FormatAccess<D> {
 
     // What the layers below show of a range whose padded end fits, and zeroes where there are none.
     #[cycle(read)]
-    fn read_under(
+    fn read_below(
         alloc: Global,
         below: &mut Option<Box<FormatAccess<D>>>,
         buf: &mut [u8],
         offset: u64,
     ) -> Result<(), Fault>
         requires fits { Overflows (unit_of_chain (map D.layer (layers below.old))) offset (length buf.old) → ⊥ }
-        ensures shown { Each D.sees (layers below.old) → OnOk result (Shows (at (map D.layer (layers below.old))) offset buf.new) }
-        ensures looked { Pairs (Looked D.Seen (WasNotCutOff result)) (layers below.old) (layers below.new) }
-        ensures failed { IfErr result (ImageCause (files_of D.Seen (layers below.old)) (files_of D.Seen (layers below.new))) }
-        ensures marks { IfErr result (MarksSome D.Seen (layers below.old) (layers below.new)) }
-        ensures cause { ReadRefused D.Seen offset (length buf.old) result (layers below.old) (layers below.new) }
+        ensures shown { Each D.coherent (layers below.old) → OnOk result (Shows (at (map D.layer (layers below.old))) offset buf.new) }
+        ensures lookup_call { Pairs (LookupCall D.DriverModel (HadNoResourceError result)) (layers below.old) (layers below.new) }
+        ensures failed { IfErr result (ImageCause (files_of D.DriverModel (layers below.old)) (files_of D.DriverModel (layers below.new))) }
+        ensures marks_failed { IfErr result (MarksSomeFailed D.DriverModel (layers below.old) (layers below.new)) }
+        ensures cause { ReadRefused D.DriverModel offset (length buf.old) result (layers below.old) (layers below.new) }
     {
         match below {
             Some(layer) => layer.read_all(alloc, buf, offset),
@@ -160,18 +160,18 @@ impl<D: FormatDriverInstance> FormatAccess<D> {
     }
 }
 
-impl<D: FormatDriverInstance> SeenBelow for Option<Box<FormatAccess<D>>> {
-    ghost under = { λ b. map D.layer (layers b) };
+impl<D: FormatDriverInstance> LayersBelowModel for Option<Box<FormatAccess<D>>> {
+    ghost layers_below = { λ b. map D.layer (layers b) };
 
-    ghost files_under = { λ b. files_of D.Seen (layers b) };
+    ghost files_of_layers_below = { λ b. files_of D.DriverModel (layers b) };
 
-    ghost sees_under = { λ b. Each D.sees (layers b) };
+    ghost coherent_below = { λ b. Each D.coherent (layers b) };
 
-    ghost safe_under = { λ b. Each D.safe (layers b) };
+    ghost well_formed_below = { λ b. Each D.well_formed (layers b) };
 
-    ghost still_under = { λ b. Each D.still (layers b) };
+    ghost have_no_dirty_data_below = { λ b. Each D.has_no_dirty_data (layers b) };
 
-    ghost lasts_under = { λ b. Each D.lasts (layers b) };
+    ghost stable_below = { λ b. Each D.stable (layers b) };
 }
 
 impl<D: FormatDriverInstance> ReadBelow for Option<Box<FormatAccess<D>>> {

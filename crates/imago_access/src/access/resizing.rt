@@ -3,12 +3,12 @@ ghost use Rattle.std.specs.Prelude.{◌≡◌, ◌⊎◌, ◌≢◌, ◌<◌, �
 ghost use Rattle.imago_storage.specs.Steps.{grow, shrink};
 ghost use Rattle.imago_access.specs.Layer.{IsFree};
 ghost use Rattle.imago_access.specs.Chain.{Each};
-ghost use Rattle.imago_access.specs.Files.{WasNotCutOff};
-ghost use Rattle.imago_access.specs.Going.{AtOnce, Went, LookedUnder, Marks, MarksOver};
-ghost use Rattle.imago_access.specs.Refusals.{barrier, IsUnusable};
+ghost use Rattle.imago_access.specs.Files.{HadNoResourceError};
+ghost use Rattle.imago_access.specs.Going.{EarlyOutcome, MutatingCall, LookupCallBelow, MarksFailed, MarksFailedOver};
+ghost use Rattle.imago_access.specs.Refusals.{unusable_fault, IsUnusable};
 ghost use Rattle.imago_access.specs.Resizes.{fill_of};
 ghost use Rattle.imago_access.specs.Running.{IsIntactChain, below_ghosts};
-ghost use Rattle.imago_access.specs.ChainCalls.{ChainStays, ChainFails, ChainGrowthRefused, ChainResizes, ChainShrinkRefused, GrowthStops, IfMild, NeedsWritable, ShrinkStops, StaysIntact, IsCarriedOut};
+ghost use Rattle.imago_access.specs.ChainCalls.{ChainStays, ChainFails, ChainGrowthRefused, ChainResizes, ChainShrinkRefused, GrowthCrashImages, UnlessResourceError, NeedsWritable, ShrinkCrashImages, StaysIntact, IsCarriedOut};
 ghost use Rattle.imago_access.specs.Failing.{Fails};
 ghost use Rattle.imago_access.specs.ResizeCalls.{IsUngrown, Resizes};
 
@@ -33,22 +33,22 @@ impl<D: FormatDriverInstance> FormatAccess<D> {
         requires free { IsFree (D.layer self.old.0) }
 
         // What it does.
-        ensures ok { IsCarriedOut D.Seen (grow size (fill_of mode)) result self.old self.new }
-        ensures err { IsIntactChain D.Seen self.old → IfMild result (ChainStays D.Seen self.old self.new) }
-        ensures resizes { Resizes D.Seen size (D.layer self.old.0).size result self.old.0 self.new.0 }
+        ensures ok { IsCarriedOut D.DriverModel (grow size (fill_of mode)) result self.old self.new }
+        ensures err { IsIntactChain D.DriverModel self.old → UnlessResourceError result (ChainStays D.DriverModel self.old self.new) }
+        ensures resizes { Resizes D.DriverModel size (D.layer self.old.0).size result self.old.0 self.new.0 }
         ensures unread { IsUngrown (D.layer self.old.0) size → self.new.1 ≡ self.old.1 }
 
         // What it keeps, and what its stops show.
         ensures free { IsFree (D.layer self.new.0) }
-        ensures went { Went D.Seen (WasNotCutOff result) (WasNotCutOff result × Each D.sees self.old.1) self.old.0 self.new.0 }
-        ensures below { LookedUnder (below_ghosts D.Seen) (WasNotCutOff result) self.old.1 self.new.1 }
-        ensures intact { WasNotCutOff result → StaysIntact D.Seen self.old self.new }
-        ensures stops { IsIntactChain D.Seen self.old → GrowthStops D.Seen size self.old self.new }
+        ensures mutating_call { MutatingCall D.DriverModel (HadNoResourceError result) (HadNoResourceError result × Each D.coherent self.old.1) self.old.0 self.new.0 }
+        ensures below { LookupCallBelow (below_ghosts D.DriverModel) (HadNoResourceError result) self.old.1 self.new.1 }
+        ensures intact { HadNoResourceError result → StaysIntact D.DriverModel self.old self.new }
+        ensures crash_images { IsIntactChain D.DriverModel self.old → GrowthCrashImages D.DriverModel size self.old self.new }
 
         // Why it is refused, and what that marks.
-        ensures failed { IfErr result (ChainFails D.Seen self.old self.new) }
-        ensures marks { IfErr result (MarksOver D.Seen self.old.0 self.new.0) }
-        ensures cause { ChainGrowthRefused D.Seen size mode result self.old self.new }
+        ensures failed { IfErr result (ChainFails D.DriverModel self.old self.new) }
+        ensures marks_failed { IfErr result (MarksFailedOver D.DriverModel self.old.0 self.new.0) }
+        ensures cause { ChainGrowthRefused D.DriverModel size mode result self.old self.new }
     {
         self.driver.resize_grow(alloc, &mut self.below, size, mode)
     }
@@ -61,21 +61,21 @@ impl<D: FormatDriverInstance> FormatAccess<D> {
         requires free { IsFree (D.layer self.old.0) }
 
         // What it does.
-        ensures ok { IsCarriedOut D.Seen (shrink size) result self.old self.new }
-        ensures err { IsIntactChain D.Seen self.old → IfMild result (ChainStays D.Seen self.old self.new) }
-        ensures resizes { Resizes D.Seen (D.layer self.old.0).size size result self.old.0 self.new.0 }
+        ensures ok { IsCarriedOut D.DriverModel (shrink size) result self.old self.new }
+        ensures err { IsIntactChain D.DriverModel self.old → UnlessResourceError result (ChainStays D.DriverModel self.old self.new) }
+        ensures resizes { Resizes D.DriverModel (D.layer self.old.0).size size result self.old.0 self.new.0 }
 
         // What it keeps, and what its stops show.
         ensures free { IsFree (D.layer self.new.0) }
-        ensures went { Went D.Seen (WasNotCutOff result) (WasNotCutOff result) self.old.0 self.new.0 }
+        ensures mutating_call { MutatingCall D.DriverModel (HadNoResourceError result) (HadNoResourceError result) self.old.0 self.new.0 }
         ensures below { self.new.1 ≡ self.old.1 }
-        ensures intact { WasNotCutOff result → StaysIntact D.Seen self.old self.new }
-        ensures stops { IsIntactChain D.Seen self.old → ShrinkStops D.Seen size self.old self.new }
+        ensures intact { HadNoResourceError result → StaysIntact D.DriverModel self.old self.new }
+        ensures crash_images { IsIntactChain D.DriverModel self.old → ShrinkCrashImages D.DriverModel size self.old self.new }
 
         // Why it is refused, and what that marks.
-        ensures failed { IfErr result (Fails D.Seen self.old.0 self.new.0) }
-        ensures marks { IfErr result (Marks D.Seen self.old.0 self.new.0) }
-        ensures cause { ChainShrinkRefused D.Seen size result self.old self.new }
+        ensures failed { IfErr result (Fails D.DriverModel self.old.0 self.new.0) }
+        ensures marks_failed { IfErr result (MarksFailed D.DriverModel self.old.0 self.new.0) }
+        ensures cause { ChainShrinkRefused D.DriverModel size result self.old self.new }
     {
         self.driver.resize_shrink(alloc, size)
     }
@@ -87,27 +87,27 @@ impl<D: FormatDriverInstance> FormatAccess<D> {
         requires free { IsFree (D.layer self.old.0) }
 
         // What it does.
-        ensures ok { IsIntactChain D.Seen self.old → OnOk result (ChainResizes D.Seen size mode self.old self.new) }
-        ensures err { IsIntactChain D.Seen self.old → IfMild result (ChainStays D.Seen self.old self.new) }
+        ensures ok { IsIntactChain D.DriverModel self.old → OnOk result (ChainResizes D.DriverModel size mode self.old self.new) }
+        ensures err { IsIntactChain D.DriverModel self.old → UnlessResourceError result (ChainStays D.DriverModel self.old self.new) }
         ensures unread { (size ≡ (D.layer self.old.0).size) ⊎ IsUnusable (D.layer self.old.0) → self.new.1 ≡ self.old.1 }
-        ensures longer { IsIntactChain D.Seen self.old → (D.layer self.old.0).size ≤ size → GrowthStops D.Seen size self.old self.new }
-        ensures shorter { IsIntactChain D.Seen self.old → size < (D.layer self.old.0).size → ShrinkStops D.Seen size self.old self.new }
+        ensures longer { IsIntactChain D.DriverModel self.old → (D.layer self.old.0).size ≤ size → GrowthCrashImages D.DriverModel size self.old self.new }
+        ensures shorter { IsIntactChain D.DriverModel self.old → size < (D.layer self.old.0).size → ShrinkCrashImages D.DriverModel size self.old self.new }
 
         // When it ends at once.
-        ensures at_once { AtOnce D.Seen (barrier (D.layer self.old.0)) (size ≡ (D.layer self.old.0).size) result self.old.0 self.new.0 }
-        ensures read_only { NeedsWritable D.Seen (size ≢ (D.layer self.old.0).size) result self.old self.new }
+        ensures early_outcome { EarlyOutcome D.DriverModel (unusable_fault (D.layer self.old.0)) (size ≡ (D.layer self.old.0).size) result self.old.0 self.new.0 }
+        ensures read_only { NeedsWritable D.DriverModel (size ≢ (D.layer self.old.0).size) result self.old self.new }
 
         // What it keeps, and what its stops show.
         ensures free { IsFree (D.layer self.new.0) }
-        ensures went { Went D.Seen (WasNotCutOff result) (WasNotCutOff result × Each D.sees self.old.1) self.old.0 self.new.0 }
-        ensures below { LookedUnder (below_ghosts D.Seen) (WasNotCutOff result) self.old.1 self.new.1 }
-        ensures intact { WasNotCutOff result → StaysIntact D.Seen self.old self.new }
+        ensures mutating_call { MutatingCall D.DriverModel (HadNoResourceError result) (HadNoResourceError result × Each D.coherent self.old.1) self.old.0 self.new.0 }
+        ensures below { LookupCallBelow (below_ghosts D.DriverModel) (HadNoResourceError result) self.old.1 self.new.1 }
+        ensures intact { HadNoResourceError result → StaysIntact D.DriverModel self.old self.new }
 
         // Why it is refused, and what that marks.
-        ensures failed { IfErr result (ChainFails D.Seen self.old self.new) }
-        ensures marks { IfErr result (MarksOver D.Seen self.old.0 self.new.0) }
-        ensures growth { (D.layer self.old.0).size ≤ size → ChainGrowthRefused D.Seen size mode result self.old self.new }
-        ensures shrinking { size < (D.layer self.old.0).size → ChainShrinkRefused D.Seen size result self.old self.new }
+        ensures failed { IfErr result (ChainFails D.DriverModel self.old self.new) }
+        ensures marks_failed { IfErr result (MarksFailedOver D.DriverModel self.old.0 self.new.0) }
+        ensures growth { (D.layer self.old.0).size ≤ size → ChainGrowthRefused D.DriverModel size mode result self.old self.new }
+        ensures shrinking { size < (D.layer self.old.0).size → ChainShrinkRefused D.DriverModel size result self.old self.new }
     {
         if size < self.size() {
             self.resize_shrink(alloc, size)

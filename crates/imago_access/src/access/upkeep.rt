@@ -2,14 +2,14 @@
 ghost use Rattle.std.specs.Prelude.{◌≡◌, ◌∷◌, IsOk, IfErr, OnOk, IsErrOf, Some};
 ghost use Rattle.imago_storage.specs.Steps.{flush, sync, done};
 ghost use Rattle.imago_storage.specs.declared.fault.Fault.{Fault};
-ghost use Rattle.imago_access.specs.Layer.{IsFree, IsLike};
+ghost use Rattle.imago_access.specs.Layer.{IsFree, KeepsLayerState};
 ghost use Rattle.imago_access.specs.Chain.{Each};
 ghost use Rattle.imago_access.specs.Layers.{chain, layers};
-ghost use Rattle.imago_access.specs.Files.{Pairs, IsKept, files_of, files};
-ghost use Rattle.imago_access.specs.Going.{IsUnchanged, WentAnew, Marks, MarksSome};
-ghost use Rattle.imago_access.specs.Refusals.{barrier, IsUnusable};
+ghost use Rattle.imago_access.specs.Files.{Pairs, UnchangedButMoreFaults, files_of, files};
+ghost use Rattle.imago_access.specs.Going.{IsUnchanged, ReloadingCall, MarksFailed, MarksSomeFailed};
+ghost use Rattle.imago_access.specs.Refusals.{unusable_fault, IsUnusable};
 ghost use Rattle.imago_access.specs.Stops.{IsCounted, IsWritten, GivesNone};
-ghost use Rattle.imago_access.specs.Running.{IsIntactChain, RanChain};
+ghost use Rattle.imago_access.specs.Running.{IsIntactChain, ChainRangeChange};
 ghost use Rattle.imago_access.specs.ChainCalls.{ChainSteps, AllUnchanged, IsCarriedOut};
 ghost use Rattle.imago_access.specs.Failing.{Fails, RefusesFlush};
 ghost use Rattle.imago_access.specs.ChainLooks.{KeepsLayers, KeepsSight, EndsReloads, RefusesReloads};
@@ -26,26 +26,26 @@ impl<D: FormatDriverInstance> FormatAccess<D> {
     /// It refuses with `Fault::Memory` and `Fault::Storage`, and where the image can't be used.
     pub fn flush(&mut self, alloc: Global) -> Result<(), Fault>
         // What it does.
-        ensures ok { IsCarriedOut D.Seen flush result self.old self.new }
-        ensures written { IsIntactChain D.Seen self.old → IsFree (D.layer self.old.0) → OnOk result (IsWritten D.Seen self.new.0) }
-        ensures counted { IsIntactChain D.Seen self.old → IsFree (D.layer self.old.0) → OnOk result (IsCounted D.Seen self.new.0) }
+        ensures ok { IsCarriedOut D.DriverModel flush result self.old self.new }
+        ensures written { IsIntactChain D.DriverModel self.old → IsFree (D.layer self.old.0) → OnOk result (IsWritten D.DriverModel self.new.0) }
+        ensures counted { IsIntactChain D.DriverModel self.old → IsFree (D.layer self.old.0) → OnOk result (IsCounted D.DriverModel self.new.0) }
 
         // When it ends at once.
-        ensures unusable { (f : Fault) → barrier (D.layer self.old.0) ≡ Some f → IsErrOf result f }
-        ensures unchanged { IsUnusable (D.layer self.old.0) → IsUnchanged D.Seen self.old.0 self.new.0 }
+        ensures unusable { (f : Fault) → unusable_fault (D.layer self.old.0) ≡ Some f → IsErrOf result f }
+        ensures unchanged { IsUnusable (D.layer self.old.0) → IsUnchanged D.DriverModel self.old.0 self.new.0 }
 
         // What it keeps, and what its stops show.
-        ensures same { IsIntactChain D.Seen self.old → OnOk result (D.layer self.new.0 ≡ D.layer self.old.0) }
-        ensures sees { D.sees self.old.0 → OnOk result ((D.layer self.new.0 ≡ D.layer self.old.0) × D.sees self.new.0) }
-        ensures still { OnOk result (D.still self.new.0) }
-        ensures like { IsLike (D.layer self.old.0) (D.layer self.new.0) }
-        ensures ran { RanChain D.Seen (IsOk result) GivesNone self.old self.new }
+        ensures same { IsIntactChain D.DriverModel self.old → OnOk result (D.layer self.new.0 ≡ D.layer self.old.0) }
+        ensures coherent { D.coherent self.old.0 → OnOk result ((D.layer self.new.0 ≡ D.layer self.old.0) × D.coherent self.new.0) }
+        ensures has_no_dirty_data { OnOk result (D.has_no_dirty_data self.new.0) }
+        ensures keeps_layer_state { KeepsLayerState (D.layer self.old.0) (D.layer self.new.0) }
+        ensures range_change { ChainRangeChange D.DriverModel (IsOk result) GivesNone self.old self.new }
         ensures below { self.new.1 ≡ self.old.1 }
 
         // Why it is refused, and what that marks.
-        ensures failed { IfErr result (Fails D.Seen self.old.0 self.new.0) }
-        ensures marks { IfErr result (Marks D.Seen self.old.0 self.new.0) }
-        ensures cause { D.safe self.old.0 → IfErr result (RefusesFlush D.Seen self.old.0 self.new.0) }
+        ensures failed { IfErr result (Fails D.DriverModel self.old.0 self.new.0) }
+        ensures marks_failed { IfErr result (MarksFailed D.DriverModel self.old.0 self.new.0) }
+        ensures cause { D.well_formed self.old.0 → IfErr result (RefusesFlush D.DriverModel self.old.0 self.new.0) }
     {
         self.driver.flush(alloc)
     }
@@ -55,24 +55,24 @@ impl<D: FormatDriverInstance> FormatAccess<D> {
     /// It refuses with `Fault::Memory` and `Fault::Storage`, and where the image can't be used.
     pub fn sync(&mut self) -> Result<(), Fault>
         // What it does.
-        ensures ok { OnOk result (ChainSteps D.Seen sync done self.old self.new) }
+        ensures ok { OnOk result (ChainSteps D.DriverModel sync done self.old self.new) }
 
         // When it ends at once.
-        ensures unusable { (f : Fault) → barrier (D.layer self.old.0) ≡ Some f → IsErrOf result f }
-        ensures unchanged { IsUnusable (D.layer self.old.0) → IsUnchanged D.Seen self.old.0 self.new.0 }
+        ensures unusable { (f : Fault) → unusable_fault (D.layer self.old.0) ≡ Some f → IsErrOf result f }
+        ensures unchanged { IsUnusable (D.layer self.old.0) → IsUnchanged D.DriverModel self.old.0 self.new.0 }
 
         // What it keeps, and what its stops show.
         ensures same { OnOk result (D.layer self.new.0 ≡ D.layer self.old.0) }
-        ensures kept { Pairs IsKept (files D.Seen self.old.0) (files D.Seen self.new.0) }
-        ensures sees { D.sees self.old.0 → D.sees self.new.0 }
-        ensures still { D.still self.old.0 → D.still self.new.0 }
-        ensures like { IsLike (D.layer self.old.0) (D.layer self.new.0) }
-        ensures ran { RanChain D.Seen (IsOk result) GivesNone self.old self.new }
+        ensures unchanged_but_faults { Pairs UnchangedButMoreFaults (files D.DriverModel self.old.0) (files D.DriverModel self.new.0) }
+        ensures coherent { D.coherent self.old.0 → D.coherent self.new.0 }
+        ensures has_no_dirty_data { D.has_no_dirty_data self.old.0 → D.has_no_dirty_data self.new.0 }
+        ensures keeps_layer_state { KeepsLayerState (D.layer self.old.0) (D.layer self.new.0) }
+        ensures range_change { ChainRangeChange D.DriverModel (IsOk result) GivesNone self.old self.new }
         ensures below { self.new.1 ≡ self.old.1 }
 
         // Why it is refused, and what that marks.
-        ensures marks { IfErr result (Marks D.Seen self.old.0 self.new.0) }
-        ensures cause { IfErr result (RefusesFlush D.Seen self.old.0 self.new.0) }
+        ensures marks_failed { IfErr result (MarksFailed D.DriverModel self.old.0 self.new.0) }
+        ensures cause { IfErr result (RefusesFlush D.DriverModel self.old.0 self.new.0) }
     {
         self.driver.sync()
     }
@@ -90,21 +90,21 @@ impl<D: FormatDriverInstance> FormatAccess<D> {
         requires free { Each (λ d. IsFree (D.layer d)) (chain self.old) }
 
         // When it ends at once.
-        ensures unusable { (f : Fault) → barrier (D.layer self.old.0) ≡ Some f → IsErrOf result f }
-        ensures unchanged { IsUnusable (D.layer self.old.0) → AllUnchanged D.Seen self.old self.new }
+        ensures unusable { (f : Fault) → unusable_fault (D.layer self.old.0) ≡ Some f → IsErrOf result f }
+        ensures unchanged { IsUnusable (D.layer self.old.0) → AllUnchanged D.DriverModel self.old self.new }
 
         // What it keeps, and what its stops show.
-        ensures same { KeepsLayers D.Seen result (chain self.old) (chain self.new) }
-        ensures sees { KeepsSight D.Seen result (chain self.old) (chain self.new) }
-        ensures kept { Pairs IsKept (files_of D.Seen (chain self.old)) (files_of D.Seen (chain self.new)) }
-        ensures still { OnOk result (Each D.still (chain self.new)) }
-        ensures went { Pairs (WentAnew D.Seen (IsOk result) (IsOk result)) (chain self.old) (chain self.new) }
+        ensures same { KeepsLayers D.DriverModel result (chain self.old) (chain self.new) }
+        ensures coherent { KeepsSight D.DriverModel result (chain self.old) (chain self.new) }
+        ensures unchanged_but_faults { Pairs UnchangedButMoreFaults (files_of D.DriverModel (chain self.old)) (files_of D.DriverModel (chain self.new)) }
+        ensures has_no_dirty_data { OnOk result (Each D.has_no_dirty_data (chain self.new)) }
+        ensures mutating_call { Pairs (ReloadingCall D.DriverModel (IsOk result) (IsOk result)) (chain self.old) (chain self.new) }
         ensures free { Each (λ d. IsFree (D.layer d)) (chain self.new) }
 
         // Why it is refused, and what that marks.
-        ensures downward { IfErr result (EndsReloads D.Seen (chain self.old) (chain self.new)) }
-        ensures marks { IfErr result (MarksSome D.Seen (chain self.old) (chain self.new)) }
-        ensures cause { IfErr result (RefusesReloads D.Seen (chain self.old) (chain self.new)) }
+        ensures downward { IfErr result (EndsReloads D.DriverModel (chain self.old) (chain self.new)) }
+        ensures marks_failed { IfErr result (MarksSomeFailed D.DriverModel (chain self.old) (chain self.new)) }
+        ensures cause { IfErr result (RefusesReloads D.DriverModel (chain self.old) (chain self.new)) }
     {
         Self::invalidate_part(alloc, &mut self.driver, &mut self.below)
     }
@@ -117,39 +117,39 @@ impl<D: FormatDriverInstance> FormatAccess<D> {
         below: &mut Option<Box<FormatAccess<D>>>,
     ) -> Result<(), Fault>
         requires free { Each (λ d. IsFree (D.layer d)) (driver.old ∷ layers below.old) }
-        ensures same { KeepsLayers D.Seen result (driver.old ∷ layers below.old) (driver.new ∷ layers below.new) }
-        ensures sees { KeepsSight D.Seen result (driver.old ∷ layers below.old) (driver.new ∷ layers below.new) }
-        ensures kept { Pairs IsKept (files_of D.Seen (driver.old ∷ layers below.old)) (files_of D.Seen (driver.new ∷ layers below.new)) }
-        ensures still { OnOk result (Each D.still (driver.new ∷ layers below.new)) }
-        ensures unusable { (f : Fault) → barrier (D.layer driver.old) ≡ Some f → IsErrOf result f }
+        ensures same { KeepsLayers D.DriverModel result (driver.old ∷ layers below.old) (driver.new ∷ layers below.new) }
+        ensures coherent { KeepsSight D.DriverModel result (driver.old ∷ layers below.old) (driver.new ∷ layers below.new) }
+        ensures unchanged_but_faults { Pairs UnchangedButMoreFaults (files_of D.DriverModel (driver.old ∷ layers below.old)) (files_of D.DriverModel (driver.new ∷ layers below.new)) }
+        ensures has_no_dirty_data { OnOk result (Each D.has_no_dirty_data (driver.new ∷ layers below.new)) }
+        ensures unusable { (f : Fault) → unusable_fault (D.layer driver.old) ≡ Some f → IsErrOf result f }
         ensures unchanged { IsUnusable (D.layer driver.old)
-            → AllUnchanged D.Seen (driver.old, layers below.old) (driver.new, layers below.new) }
-        ensures went { Pairs (WentAnew D.Seen (IsOk result) (IsOk result)) (driver.old ∷ layers below.old) (driver.new ∷ layers below.new) }
+            → AllUnchanged D.DriverModel (driver.old, layers below.old) (driver.new, layers below.new) }
+        ensures mutating_call { Pairs (ReloadingCall D.DriverModel (IsOk result) (IsOk result)) (driver.old ∷ layers below.old) (driver.new ∷ layers below.new) }
         ensures free { Each (λ d. IsFree (D.layer d)) (driver.new ∷ layers below.new) }
-        ensures downward { IfErr result (EndsReloads D.Seen (driver.old ∷ layers below.old) (driver.new ∷ layers below.new)) }
-        ensures marks { IfErr result (MarksSome D.Seen (driver.old ∷ layers below.old) (driver.new ∷ layers below.new)) }
-        ensures cause { IfErr result (RefusesReloads D.Seen (driver.old ∷ layers below.old) (driver.new ∷ layers below.new)) }
+        ensures downward { IfErr result (EndsReloads D.DriverModel (driver.old ∷ layers below.old) (driver.new ∷ layers below.new)) }
+        ensures marks_failed { IfErr result (MarksSomeFailed D.DriverModel (driver.old ∷ layers below.old) (driver.new ∷ layers below.new)) }
+        ensures cause { IfErr result (RefusesReloads D.DriverModel (driver.old ∷ layers below.old) (driver.new ∷ layers below.new)) }
     {
         driver.invalidate_cache(alloc)?;
-        Self::invalidate_under(alloc, below)
+        Self::invalidate_layers_below(alloc, below)
     }
 
     // The same of the layers below, if there are any.
     #[cycle(invalidate)]
-    fn invalidate_under(
+    fn invalidate_layers_below(
         alloc: Global,
         below: &mut Option<Box<FormatAccess<D>>>,
     ) -> Result<(), Fault>
         requires free { Each (λ d. IsFree (D.layer d)) (layers below.old) }
-        ensures same { KeepsLayers D.Seen result (layers below.old) (layers below.new) }
-        ensures sees { KeepsSight D.Seen result (layers below.old) (layers below.new) }
-        ensures kept { Pairs IsKept (files_of D.Seen (layers below.old)) (files_of D.Seen (layers below.new)) }
-        ensures still { OnOk result (Each D.still (layers below.new)) }
-        ensures went { Pairs (WentAnew D.Seen (IsOk result) (IsOk result)) (layers below.old) (layers below.new) }
+        ensures same { KeepsLayers D.DriverModel result (layers below.old) (layers below.new) }
+        ensures coherent { KeepsSight D.DriverModel result (layers below.old) (layers below.new) }
+        ensures unchanged_but_faults { Pairs UnchangedButMoreFaults (files_of D.DriverModel (layers below.old)) (files_of D.DriverModel (layers below.new)) }
+        ensures has_no_dirty_data { OnOk result (Each D.has_no_dirty_data (layers below.new)) }
+        ensures mutating_call { Pairs (ReloadingCall D.DriverModel (IsOk result) (IsOk result)) (layers below.old) (layers below.new) }
         ensures free { Each (λ d. IsFree (D.layer d)) (layers below.new) }
-        ensures downward { IfErr result (EndsReloads D.Seen (layers below.old) (layers below.new)) }
-        ensures marks { IfErr result (MarksSome D.Seen (layers below.old) (layers below.new)) }
-        ensures cause { IfErr result (RefusesReloads D.Seen (layers below.old) (layers below.new)) }
+        ensures downward { IfErr result (EndsReloads D.DriverModel (layers below.old) (layers below.new)) }
+        ensures marks_failed { IfErr result (MarksSomeFailed D.DriverModel (layers below.old) (layers below.new)) }
+        ensures cause { IfErr result (RefusesReloads D.DriverModel (layers below.old) (layers below.new)) }
     {
         match below {
             Some(layer) => layer.invalidate_cache(alloc),

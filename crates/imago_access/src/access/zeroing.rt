@@ -1,24 +1,24 @@
 // Zeroing of ranges: by the driver where it can, and else by writing zeroes.
 ghost use Rattle.std.specs.Prelude.{⊤, ◌≡◌, ◌<◌, ◌≤◌, ◌+◌, ◌^◌, ◌∷◌, List, length, IsOk, IfOk, IfErr, OnOk, IsErrOf, Some, replicate};
 ghost use Rattle.imago_storage.specs.Steps.{Call, write_zeroes, discard_to_zero};
-ghost use Rattle.imago_access.specs.Layer.{Layer, IsFree, IsLike};
+ghost use Rattle.imago_access.specs.Layer.{Layer, IsFree, KeepsLayerState};
 ghost use Rattle.imago_access.specs.Room.{Takes};
-ghost use Rattle.imago_access.specs.Files.{WasNotCutOff};
+ghost use Rattle.imago_access.specs.Files.{HadNoResourceError};
 ghost use Rattle.imago_access.specs.PartCalls.{IsPart, PartRefused};
-ghost use Rattle.imago_access.specs.Going.{Went, Marks};
+ghost use Rattle.imago_access.specs.Going.{MutatingCall, MarksFailed};
 ghost use Rattle.imago_access.specs.Changes.{Rewrites, PartRewrites, ToZero, Wrote};
 ghost use Rattle.imago_access.specs.Parts.{IsPartOf};
-ghost use Rattle.imago_access.specs.Refusals.{barrier};
-ghost use Rattle.imago_access.specs.Stops.{KeepsStops, GivesBytes, GivesZero};
+ghost use Rattle.imago_access.specs.Refusals.{unusable_fault};
+ghost use Rattle.imago_access.specs.Stops.{KeepsCrashImages, GivesBytes, GivesZero};
 ghost use Rattle.imago_access.specs.RangeCalls.{zero_by};
-ghost use Rattle.imago_access.specs.Running.{IsIntact, RanChain, below_ghosts};
-ghost use Rattle.imago_access.specs.ChainCalls.{ChainFails, chain_refusal, EndsAtOnce, IfMild, CallRefused, GivesUnitsUp, GivesUpNear, IsCarriedOut, IsDoneInPart, TakesNear, ZeroesUnits};
+ghost use Rattle.imago_access.specs.Running.{IsIntact, ChainRangeChange, below_ghosts};
+ghost use Rattle.imago_access.specs.ChainCalls.{ChainFails, chain_refusal, EndsAtOnce, UnlessResourceError, CallRefused, GivesUnitsUp, GivesUpNear, IsCarriedOut, IsDoneInPart, TakesNear, ZeroesUnits};
 ghost use Rattle.imago_access.specs.Failing.{Fails};
-ghost use Rattle.imago_access.specs.RunCalls.{AreZeroTo, CutsNoUnit, DoesWork, EndsCutNone, IsLeftIn, LeavesUnits, LeavesUnitsBehind, LeavesUnitsTo, MappedRefused, RanAnywhere, RangeRefused, ReachesUnits, RunIsUncut, ShowsZeroRun, ShowsZeroTo, ShowsZeroes, StaysBegun, WorkRefused, ZeroesAlone, ZeroingLeaves, writing_zeroes, zeroing_by, MarksAlone, MarksTop};
+ghost use Rattle.imago_access.specs.RunCalls.{AreZeroTo, CutsNoUnit, DoesWork, EndsCutNone, IsLeftIn, LeavesUnits, LeavesUnitsBehind, LeavesUnitsTo, MappedRefused, DriverRangeChangeAnywhere, RangeRefused, ReachesUnits, RunIsUncut, ShowsZeroRun, ShowsZeroTo, ShowsZeroes, StaysBegun, WorkRefused, ZeroesAlone, ZeroingLeaves, writing_zeroes, zeroing_by, DriverMarksFailed, MarksTopFailed};
 
 use crate::access::FormatAccess;
 use crate::access::discarding::is_declined;
-use crate::access::mappings::{abandon, settle};
+use crate::access::mappings::{abandon, commit_or_abandon};
 use crate::below::ReadBelow;
 use crate::drivers::FormatDriverInstance;
 use imago_storage::Fault;
@@ -49,16 +49,16 @@ fn zero_part<D: FormatDriverInstance>(
 ) -> Result<(u64, u64), Fault>
     requires free { IsFree (D.layer driver.old) }
     ensures part { IfOk result (IsPart offset length) }
-    ensures ok { D.safe driver.old → IfOk result (λ r. Rewrites ToZero (D.layer driver.old) (D.layer driver.new) r.0 r.1) }
-    ensures err { D.safe driver.old → IfMild result (PartRewrites ToZero (D.layer driver.old) (D.layer driver.new) offset length) }
-    ensures like { IsLike (D.layer driver.old) (D.layer driver.new) }
-    ensures room { ZeroingLeaves D.Seen zeroing offset length result driver.old driver.new }
-    ensures given { D.safe driver.old → IfOk result (IsLeftIn D.Seen zeroing driver.new) }
-    ensures reach { D.safe driver.old → IfOk result (ReachesUnits (D.layer driver.old) offset length) }
-    ensures went { Went D.Seen (WasNotCutOff result) (WasNotCutOff result) driver.old driver.new }
-    ensures began { StaysBegun D.Seen offset length (WasNotCutOff result) driver.old driver.new }
-    ensures stops { D.safe driver.old → (below : List Layer) → KeepsStops D.Seen below (GivesZero offset length) driver.old driver.new }
-    ensures refused { PartRefused (zero_by zeroing) D.Seen offset length result driver.old driver.new }
+    ensures ok { D.well_formed driver.old → IfOk result (λ r. Rewrites ToZero (D.layer driver.old) (D.layer driver.new) r.0 r.1) }
+    ensures err { D.well_formed driver.old → UnlessResourceError result (PartRewrites ToZero (D.layer driver.old) (D.layer driver.new) offset length) }
+    ensures keeps_layer_state { KeepsLayerState (D.layer driver.old) (D.layer driver.new) }
+    ensures room { ZeroingLeaves D.DriverModel zeroing offset length result driver.old driver.new }
+    ensures given { D.well_formed driver.old → IfOk result (IsLeftIn D.DriverModel zeroing driver.new) }
+    ensures reach { D.well_formed driver.old → IfOk result (ReachesUnits (D.layer driver.old) offset length) }
+    ensures mutating_call { MutatingCall D.DriverModel (HadNoResourceError result) (HadNoResourceError result) driver.old driver.new }
+    ensures stays_begun { StaysBegun D.DriverModel offset length (HadNoResourceError result) driver.old driver.new }
+    ensures crash_images { D.well_formed driver.old → (below : List Layer) → KeepsCrashImages D.DriverModel below (GivesZero offset length) driver.old driver.new }
+    ensures refused { PartRefused (zero_by zeroing) D.DriverModel offset length result driver.old driver.new }
 {
     match zeroing {
         Zeroing::Keep => driver.ensure_zero_mapping(alloc, offset, length),
@@ -84,14 +84,14 @@ fn write_mapped_zeroes<D: FormatDriverInstance>(
 ) -> Result<(), Fault>
     requires fits { guest + n < 2 ^ 64 }
     requires place_fits { place + n < 2 ^ 64 }
-    ensures ok { D.safe driver.old → OnOk result (Wrote (D.layer driver.old) (D.layer driver.new) guest (replicate n 0)) }
-    ensures like { IsLike (D.layer driver.old) (D.layer driver.new) }
-    ensures room { D.safe driver.old → WasNotCutOff result → Takes D.Seen (λ _. ⊤) driver.old driver.new }
-    ensures ran { RanAnywhere D.Seen (WasNotCutOff result) (GivesBytes guest (replicate n 0)) driver.old driver.new }
-    ensures began { (d : D) (call : Call) → D.began d call driver.old → OnOk result (D.began d call driver.new) }
-    ensures failed { IfErr result (Fails D.Seen driver.old driver.new) }
-    ensures marks { IfErr result (MarksAlone D.Seen driver.old driver.new) }
-    ensures cause { MappedRefused D.Seen guest place n result driver.old driver.new }
+    ensures ok { D.well_formed driver.old → OnOk result (Wrote (D.layer driver.old) (D.layer driver.new) guest (replicate n 0)) }
+    ensures keeps_layer_state { KeepsLayerState (D.layer driver.old) (D.layer driver.new) }
+    ensures room { D.well_formed driver.old → HadNoResourceError result → Takes D.DriverModel (λ _. ⊤) driver.old driver.new }
+    ensures range_change { DriverRangeChangeAnywhere D.DriverModel (HadNoResourceError result) (GivesBytes guest (replicate n 0)) driver.old driver.new }
+    ensures stays_begun { (d : D) (call : Call) → D.began d call driver.old → OnOk result (D.began d call driver.new) }
+    ensures failed { IfErr result (Fails D.DriverModel driver.old driver.new) }
+    ensures marks_failed { IfErr result (DriverMarksFailed D.DriverModel driver.old driver.new) }
+    ensures cause { MappedRefused D.DriverModel guest place n result driver.old driver.new }
 {
     let mut done = 0;
     while done < n {
@@ -113,20 +113,20 @@ fn write_zero_run<D: FormatDriverInstance, B: ReadBelow>(
     n: u64,
 ) -> Result<u64, Fault>
     requires free { IsFree (D.layer driver.old) }
-    requires some { 0 < n }
+    requires nonempty { 0 < n }
     requires fits { offset + n < 2 ^ 64 }
     ensures run { IfOk result (λ count. (0 < count) × (count ≤ n)) }
-    ensures uncut { RunIsUncut D.Seen B.SeenBelow offset n result (driver.old, below.old) }
-    ensures shown { ShowsZeroRun D.Seen B.SeenBelow offset result (driver.old, below.old) (driver.new, below.new) }
+    ensures uncut { RunIsUncut D.DriverModel B.LayersBelowModel offset n result (driver.old, below.old) }
+    ensures shown { ShowsZeroRun D.DriverModel B.LayersBelowModel offset result (driver.old, below.old) (driver.new, below.new) }
     ensures free { IsFree (D.layer driver.new) }
-    ensures does { DoesWork D.Seen B.SeenBelow (writing_zeroes offset n) result (driver.old, below.old) (driver.new, below.new) }
-    ensures refused { WorkRefused D.Seen B.SeenBelow (writing_zeroes offset n) result (driver.old, below.old) (driver.new, below.new) }
+    ensures does { DoesWork D.DriverModel B.LayersBelowModel (writing_zeroes offset n) result (driver.old, below.old) (driver.new, below.new) }
+    ensures refused { WorkRefused D.DriverModel B.LayersBelowModel (writing_zeroes offset n) result (driver.old, below.old) (driver.new, below.new) }
 {
     let mapping = driver.prepare_data_mapping(alloc, below, offset, n, true)?;
     let count = mapping.length();
     match write_mapped_zeroes(alloc, driver, offset, mapping.offset(), count) {
         Ok(()) => {
-            settle(driver, alloc, mapping)?;
+            commit_or_abandon(driver, alloc, mapping)?;
             Ok(count)
         }
         Err(fault) => {
@@ -147,10 +147,10 @@ fn write_zero_bytes<D: FormatDriverInstance, B: ReadBelow>(
     requires free { IsFree (D.layer driver.old) }
     requires fits { offset + n < 2 ^ 64 }
     requires inside { offset + n ≤ (D.layer driver.old).size }
-    ensures shown { ShowsZeroes D.Seen B.SeenBelow offset n result (driver.old, below.old) (driver.new, below.new) }
+    ensures shown { ShowsZeroes D.DriverModel B.LayersBelowModel offset n result (driver.old, below.old) (driver.new, below.new) }
     ensures free { IsFree (D.layer driver.new) }
-    ensures does { DoesWork D.Seen B.SeenBelow (writing_zeroes offset n) result (driver.old, below.old) (driver.new, below.new) }
-    ensures refused { WorkRefused D.Seen B.SeenBelow (writing_zeroes offset n) result (driver.old, below.old) (driver.new, below.new) }
+    ensures does { DoesWork D.DriverModel B.LayersBelowModel (writing_zeroes offset n) result (driver.old, below.old) (driver.new, below.new) }
+    ensures refused { WorkRefused D.DriverModel B.LayersBelowModel (writing_zeroes offset n) result (driver.old, below.old) (driver.new, below.new) }
 {
     let mut done = 0;
     while done < n {
@@ -169,21 +169,21 @@ fn zero_by_driver<D: FormatDriverInstance>(
     n: u64,
 ) -> Result<(u64, u64), Fault>
     requires free { IsFree (D.layer driver.old) }
-    requires some { 0 < n }
+    requires nonempty { 0 < n }
     requires fits { offset + n < 2 ^ 64 }
     ensures part { IfOk result (λ r. (offset ≤ r.0) × (r.0 ≤ r.1) × (offset < r.1) × (r.1 ≤ offset + n)) }
-    ensures uncut { D.safe driver.old → IfOk result (EndsCutNone (D.layer driver.old) offset n) }
-    ensures zeroed { D.safe driver.old → (below : List Layer) → IfOk result (λ r. AreZeroTo (D.layer driver.new ∷ below) r.0 r.1) }
-    ensures values { ZeroesAlone D.Seen offset n result driver.old driver.new }
-    ensures like { IsLike (D.layer driver.old) (D.layer driver.new) }
-    ensures room { ZeroingLeaves D.Seen zeroing offset n result driver.old driver.new }
-    ensures given { LeavesUnitsBehind D.Seen zeroing offset n result driver.old driver.new }
-    ensures went { Went D.Seen (WasNotCutOff result) (WasNotCutOff result) driver.old driver.new }
-    ensures began { (d : D) (call : Call) → D.began d call driver.old → IsPartOf call offset n → OnOk result (D.began d call driver.new) }
-    ensures stops { D.safe driver.old → (below : List Layer) → KeepsStops D.Seen below (GivesZero offset n) driver.old driver.new }
-    ensures failed { IfErr result (Fails D.Seen driver.old driver.new) }
-    ensures marks { IfErr result (Marks D.Seen driver.old driver.new) }
-    ensures cause { RangeRefused (zero_by zeroing) D.Seen offset n result driver.old driver.new }
+    ensures uncut { D.well_formed driver.old → IfOk result (EndsCutNone (D.layer driver.old) offset n) }
+    ensures zeroed { D.well_formed driver.old → (below : List Layer) → IfOk result (λ r. AreZeroTo (D.layer driver.new ∷ below) r.0 r.1) }
+    ensures values { ZeroesAlone D.DriverModel offset n result driver.old driver.new }
+    ensures keeps_layer_state { KeepsLayerState (D.layer driver.old) (D.layer driver.new) }
+    ensures room { ZeroingLeaves D.DriverModel zeroing offset n result driver.old driver.new }
+    ensures given { LeavesUnitsBehind D.DriverModel zeroing offset n result driver.old driver.new }
+    ensures mutating_call { MutatingCall D.DriverModel (HadNoResourceError result) (HadNoResourceError result) driver.old driver.new }
+    ensures stays_begun { (d : D) (call : Call) → D.began d call driver.old → IsPartOf call offset n → OnOk result (D.began d call driver.new) }
+    ensures crash_images { D.well_formed driver.old → (below : List Layer) → KeepsCrashImages D.DriverModel below (GivesZero offset n) driver.old driver.new }
+    ensures failed { IfErr result (Fails D.DriverModel driver.old driver.new) }
+    ensures marks_failed { IfErr result (MarksFailed D.DriverModel driver.old driver.new) }
+    ensures cause { RangeRefused (zero_by zeroing) D.DriverModel offset n result driver.old driver.new }
 {
     let end = offset + n;
     match zero_part(alloc, driver, zeroing, offset, n) {
@@ -206,16 +206,16 @@ fn zero_run<D: FormatDriverInstance, B: ReadBelow>(
     n: u64,
 ) -> Result<u64, Fault>
     requires free { IsFree (D.layer driver.old) }
-    requires some { 0 < n }
+    requires nonempty { 0 < n }
     requires fits { offset + n < 2 ^ 64 }
     requires inside { offset + n ≤ (D.layer driver.old).size }
     ensures run { IfOk result (λ end. (offset < end) × (end ≤ offset + n)) }
-    ensures uncut { IsIntact D.Seen B.SeenBelow driver.old below.old → IfOk result (CutsNoUnit (D.layer driver.old) offset n) }
-    ensures shown { ShowsZeroTo D.Seen B.SeenBelow offset result (driver.old, below.old) (driver.new, below.new) }
+    ensures uncut { IsIntact D.DriverModel B.LayersBelowModel driver.old below.old → IfOk result (CutsNoUnit (D.layer driver.old) offset n) }
+    ensures shown { ShowsZeroTo D.DriverModel B.LayersBelowModel offset result (driver.old, below.old) (driver.new, below.new) }
     ensures free { IsFree (D.layer driver.new) }
-    ensures given { LeavesUnitsTo D.Seen B.SeenBelow zeroing offset n result (driver.old, below.old) (driver.new, below.new) }
-    ensures does { DoesWork D.Seen B.SeenBelow (zeroing_by zeroing offset n) result (driver.old, below.old) (driver.new, below.new) }
-    ensures refused { WorkRefused D.Seen B.SeenBelow (zeroing_by zeroing offset n) result (driver.old, below.old) (driver.new, below.new) }
+    ensures given { LeavesUnitsTo D.DriverModel B.LayersBelowModel zeroing offset n result (driver.old, below.old) (driver.new, below.new) }
+    ensures does { DoesWork D.DriverModel B.LayersBelowModel (zeroing_by zeroing offset n) result (driver.old, below.old) (driver.new, below.new) }
+    ensures refused { WorkRefused D.DriverModel B.LayersBelowModel (zeroing_by zeroing offset n) result (driver.old, below.old) (driver.new, below.new) }
 {
     let (start, end) = zero_by_driver(alloc, driver, zeroing, offset, n)?;
     write_zero_bytes(alloc, driver, below, offset, start - offset)?;
@@ -236,11 +236,11 @@ fn zero_all<D: FormatDriverInstance, B: ReadBelow>(
     requires inside { 0 < n → offset + n ≤ (D.layer driver.old).size }
     ensures idle { n ≡ 0 → IsOk result }
     ensures untouched { n ≡ 0 → (driver.new ≡ driver.old) × (below.new ≡ below.old) }
-    ensures shown { ShowsZeroes D.Seen B.SeenBelow offset n result (driver.old, below.old) (driver.new, below.new) }
+    ensures shown { ShowsZeroes D.DriverModel B.LayersBelowModel offset n result (driver.old, below.old) (driver.new, below.new) }
     ensures free { IsFree (D.layer driver.new) }
-    ensures leaves { LeavesUnits D.Seen B.SeenBelow zeroing offset n result (driver.old, below.old) (driver.new, below.new) }
-    ensures does { DoesWork D.Seen B.SeenBelow (zeroing_by zeroing offset n) result (driver.old, below.old) (driver.new, below.new) }
-    ensures refused { WorkRefused D.Seen B.SeenBelow (zeroing_by zeroing offset n) result (driver.old, below.old) (driver.new, below.new) }
+    ensures leaves { LeavesUnits D.DriverModel B.LayersBelowModel zeroing offset n result (driver.old, below.old) (driver.new, below.new) }
+    ensures does { DoesWork D.DriverModel B.LayersBelowModel (zeroing_by zeroing offset n) result (driver.old, below.old) (driver.new, below.new) }
+    ensures refused { WorkRefused D.DriverModel B.LayersBelowModel (zeroing_by zeroing offset n) result (driver.old, below.old) (driver.new, below.new) }
 {
     let end = offset + n;
     let mut at = offset;
@@ -262,24 +262,24 @@ impl<D: FormatDriverInstance> FormatAccess<D> {
         requires free { IsFree (D.layer self.old.0) }
 
         // What it does.
-        ensures ok { IsCarriedOut D.Seen (write_zeroes offset length) result self.old self.new }
-        ensures err { IsDoneInPart D.Seen (write_zeroes offset length) result self.old self.new }
-        ensures room { TakesNear D.Seen offset length result self.old self.new }
-        ensures zeroed { ZeroesUnits D.Seen (write_zeroes offset length) result self.old self.new }
+        ensures ok { IsCarriedOut D.DriverModel (write_zeroes offset length) result self.old self.new }
+        ensures err { IsDoneInPart D.DriverModel (write_zeroes offset length) result self.old self.new }
+        ensures room { TakesNear D.DriverModel offset length result self.old self.new }
+        ensures zeroed { ZeroesUnits D.DriverModel (write_zeroes offset length) result self.old self.new }
 
         // When it ends at once.
-        ensures at_once { (f : Fault) → chain_refusal D.Seen self.old offset length ≡ Some f → IsErrOf result f }
-        ensures idle { length ≡ 0 → barrier (D.layer self.old.0) ≡ None → IsOk result }
-        ensures untouched { EndsAtOnce D.Seen self.old offset length → self.new ≡ self.old }
+        ensures early_outcome { (f : Fault) → chain_refusal D.DriverModel self.old offset length ≡ Some f → IsErrOf result f }
+        ensures idle { length ≡ 0 → unusable_fault (D.layer self.old.0) ≡ None → IsOk result }
+        ensures untouched { EndsAtOnce D.DriverModel self.old offset length → self.new ≡ self.old }
 
         // What it keeps, and what its stops show.
-        ensures like { IsLike (D.layer self.old.0) (D.layer self.new.0) }
-        ensures ran { RanChain D.Seen (WasNotCutOff result) (GivesZero offset length) self.old self.new }
+        ensures keeps_layer_state { KeepsLayerState (D.layer self.old.0) (D.layer self.new.0) }
+        ensures range_change { ChainRangeChange D.DriverModel (HadNoResourceError result) (GivesZero offset length) self.old self.new }
 
         // Why it is refused, and what that marks.
-        ensures failed { IfErr result (ChainFails D.Seen self.old self.new) }
-        ensures marks { IfErr result (MarksTop D.Seen (below_ghosts D.Seen) self.old self.new) }
-        ensures cause { CallRefused D.Seen (write_zeroes offset length) result self.old self.new }
+        ensures failed { IfErr result (ChainFails D.DriverModel self.old self.new) }
+        ensures marks_failed { IfErr result (MarksTopFailed D.DriverModel (below_ghosts D.DriverModel) self.old self.new) }
+        ensures cause { CallRefused D.DriverModel (write_zeroes offset length) result self.old self.new }
     {
         self.check_change(offset, length)?;
         zero_all(
@@ -300,24 +300,24 @@ impl<D: FormatDriverInstance> FormatAccess<D> {
         requires free { IsFree (D.layer self.old.0) }
 
         // What it does.
-        ensures ok { IsCarriedOut D.Seen (discard_to_zero offset length) result self.old self.new }
-        ensures err { IsDoneInPart D.Seen (discard_to_zero offset length) result self.old self.new }
-        ensures room { GivesUpNear D.Seen offset length result self.old self.new }
-        ensures gives_up { GivesUnitsUp D.Seen (discard_to_zero offset length) result self.old self.new }
+        ensures ok { IsCarriedOut D.DriverModel (discard_to_zero offset length) result self.old self.new }
+        ensures err { IsDoneInPart D.DriverModel (discard_to_zero offset length) result self.old self.new }
+        ensures room { GivesUpNear D.DriverModel offset length result self.old self.new }
+        ensures gives_up { GivesUnitsUp D.DriverModel (discard_to_zero offset length) result self.old self.new }
 
         // When it ends at once.
-        ensures at_once { (f : Fault) → chain_refusal D.Seen self.old offset length ≡ Some f → IsErrOf result f }
-        ensures idle { length ≡ 0 → barrier (D.layer self.old.0) ≡ None → IsOk result }
-        ensures untouched { EndsAtOnce D.Seen self.old offset length → self.new ≡ self.old }
+        ensures early_outcome { (f : Fault) → chain_refusal D.DriverModel self.old offset length ≡ Some f → IsErrOf result f }
+        ensures idle { length ≡ 0 → unusable_fault (D.layer self.old.0) ≡ None → IsOk result }
+        ensures untouched { EndsAtOnce D.DriverModel self.old offset length → self.new ≡ self.old }
 
         // What it keeps, and what its stops show.
-        ensures like { IsLike (D.layer self.old.0) (D.layer self.new.0) }
-        ensures ran { RanChain D.Seen (WasNotCutOff result) (GivesZero offset length) self.old self.new }
+        ensures keeps_layer_state { KeepsLayerState (D.layer self.old.0) (D.layer self.new.0) }
+        ensures range_change { ChainRangeChange D.DriverModel (HadNoResourceError result) (GivesZero offset length) self.old self.new }
 
         // Why it is refused, and what that marks.
-        ensures failed { IfErr result (ChainFails D.Seen self.old self.new) }
-        ensures marks { IfErr result (MarksTop D.Seen (below_ghosts D.Seen) self.old self.new) }
-        ensures cause { CallRefused D.Seen (discard_to_zero offset length) result self.old self.new }
+        ensures failed { IfErr result (ChainFails D.DriverModel self.old self.new) }
+        ensures marks_failed { IfErr result (MarksTopFailed D.DriverModel (below_ghosts D.DriverModel) self.old self.new) }
+        ensures cause { CallRefused D.DriverModel (discard_to_zero offset length) result self.old self.new }
     {
         self.check_change(offset, length)?;
         zero_all(

@@ -2,16 +2,16 @@
 ghost use Rattle.std.specs.Prelude.{IsErrOf, slice_index_or, ◌<◌, ◌≤◌, ℕ, ◌≡◌, ◌⊎◌, ◌∷◌, ◌-◌, ◌+◌, ◌*◌, ◌<◌, [], ⊤, min, map, refl, length, OnOk, IfOk, IfErr, IsOk, IsTrue, Ok, Err, Some, None};
 ghost use Rattle.std.proofs.Common.{inr};
 ghost use Rattle.std.proofs.Math.Nat.{le_refl};
-ghost use Rattle.imago_storage.specs.Calls.{CountsFaults, IsFaultless, Kept};
+ghost use Rattle.imago_storage.specs.Calls.{CountsFaults, IsFaultless, UnchangedButFaults};
 ghost use Rattle.imago_access.specs.Failing.{Fails, RefusesFlush, RefusesLookup};
 ghost use Rattle.imago_access.specs.FileReads.{FileReadCause};
-ghost use Rattle.imago_access.specs.Files.{AreRead, OverflowsIn, Pairs, WasNotCutOff, byte_in, files, keep_all};
-ghost use Rattle.imago_access.specs.Mappings.{IsOneOf, IsRun, LooksIn, NamesRoomIn, States};
-ghost use Rattle.imago_access.specs.Going.{AtOnce, IsUnchanged, Looked, Marks, RangeAtOnce};
+ghost use Rattle.imago_access.specs.Files.{AreRead, OverflowsIn, Pairs, HadNoResourceError, byte_in, files, keep_all};
+ghost use Rattle.imago_access.specs.Mappings.{IsOneOf, IsRun, LooksIn, ReportsAllocationIn, ReportsExplicitZero};
+ghost use Rattle.imago_access.specs.Going.{EarlyOutcome, IsUnchanged, LookupCall, MarksFailed, RangeEarlyOutcome};
 ghost use Rattle.imago_access.specs.PartCalls.{IsPart, DoesPart, PartCall, PartRefused};
 ghost use Rattle.imago_formats.specs.VmdkFiles.{Keeps, Refuses};
 ghost use Rattle.imago_access.specs.PreparingCalls.{Commits, CommitRefused, Cancels};
-ghost use Rattle.imago_access.specs.Refusals.{barrier};
+ghost use Rattle.imago_access.specs.Refusals.{unusable_fault};
 ghost use Rattle.imago_formats.specs.Descriptor.{descriptor_of, is_signed, text_of};
 ghost use Rattle.imago_formats.specs.DescriptorView.{RefusesOpening, kept_extents, kept_names};
 ghost use Rattle.imago_formats.specs.RawHome.{never};
@@ -31,8 +31,8 @@ use crate::vmdk::storages::{
     Upkeep, greatest_mem_align, greatest_req_align, keep_up, read_storage,
 };
 use imago_access::{
-    Format, FormatDriverInstance, ImplicitOpenGate, PreallocateMode, PreparedDataMapping,
-    ReadBelow, ReadFiles, Seen, ShallowMapping,
+    DriverModel, Format, FormatDriverInstance, ImplicitOpenGate, PreallocateMode,
+    PreparedDataMapping, ReadBelow, ReadFiles, ShallowMapping,
 };
 use imago_storage::{Fault, Storage, larger_alignment};
 use std::alloc::Global;
@@ -73,7 +73,7 @@ impl<S: Storage> Vmdk<S> {
     /// It refuses with `Fault::Memory` and `Fault::Storage`.
     pub fn probe(alloc: Global, image: &mut S) -> Result<bool, Fault>
         ensures ok { IfOk result (λ yes. yes ≡ is_signed (text_of (S.state image.old).bytes)) }
-        ensures kept { Kept (S.state image.old) (S.state image.new) }
+        ensures unchanged_but_faults { UnchangedButFaults (S.state image.old) (S.state image.new) }
         ensures faults { CountsFaults (S.state image.old).faults (S.state image.new).faults result }
     {
         is_descriptor(alloc, image)
@@ -94,12 +94,12 @@ impl<S: Storage> Vmdk<S> {
     ) -> Result<(), Fault>
         ensures disk { self.new.disk ≡ self.old.disk }
         ensures image { self.new.image ≡ self.old.image }
-        ensures ready { OnOk result (barrier (⟦<Vmdk<S> as Seen>⟧.layer self.new) ≡ None) }
-        ensures sees { OnOk result (⟦<Vmdk<S> as Seen>⟧.sees self.new) }
+        ensures ready { OnOk result (unusable_fault (⟦<Vmdk<S> as DriverModel>⟧.layer self.new) ≡ None) }
+        ensures coherent { OnOk result (⟦<Vmdk<S> as DriverModel>⟧.coherent self.new) }
         // Behind the files that were open stand those that the gate opened for the names that come next, in order.
         ensures opens { let names = kept_names self.old.disk.extents.items in
             OnOk result (OpensNext G.answers names (self.old.files.items, gate.old) (self.new.files.items, gate.new)) }
-        ensures err { let names = kept_names self.old.disk.extents.items in let Reach = ⟦<Vmdk<S> as Seen>⟧.sees self.new in
+        ensures err { let names = kept_names self.old.disk.extents.items in let Reach = ⟦<Vmdk<S> as DriverModel>⟧.coherent self.new in
             IfErr result (NotAllOpened G.answers names Reach (self.old.files.items, gate.old) (self.new.files.items, gate.new)) }
     {
         open_files(alloc, gate, self.disk.extents(), &mut self.files)?;
@@ -109,10 +109,10 @@ impl<S: Storage> Vmdk<S> {
 
     // The run from an offset on: all of the range that lies in its extent.
     fn run_from(&self, offset: u64, max_length: u64) -> (ShallowMapping, u64)
-        ensures run { IsRun (⟦<Vmdk<S> as Seen>⟧.layer self.now) offset max_length result.0 result.1 }
-        ensures looks { let d = ⟦<Vmdk<S> as Seen>⟧ in d.sees self.now → LooksIn d offset max_length self.now self.now result }
-        ensures there { let d = ⟦<Vmdk<S> as Seen>⟧ in barrier (d.layer self.now) ≡ None → IsOneOf (length (files d self.now)) result.0 }
-        ensures stated { States (IsZeroByDescriptor self.now.disk.extents.items) offset result }
+        ensures run { IsRun (⟦<Vmdk<S> as DriverModel>⟧.layer self.now) offset max_length result.0 result.1 }
+        ensures looks { let d = ⟦<Vmdk<S> as DriverModel>⟧ in d.coherent self.now → LooksIn d offset max_length self.now self.now result }
+        ensures storage_exists { let d = ⟦<Vmdk<S> as DriverModel>⟧ in unusable_fault (d.layer self.now) ≡ None → IsOneOf (length (files d self.now)) result.0 }
+        ensures explicit_zero { ReportsExplicitZero (IsZeroByDescriptor self.now.disk.extents.items) offset result }
         ensures whole { IsWholeRun self.now.disk.extents.items offset max_length result.1 }
     {
         match self.disk.find(offset) {
@@ -130,8 +130,8 @@ impl<S: Storage> Vmdk<S> {
 
     // Why a change of so many bytes is refused before anything is done.
     fn check_change(&self, length: u64) -> Result<(), Fault>
-        ensures ok { OnOk result ((barrier (⟦<Vmdk<S> as Seen>⟧.layer self.now) ≡ None) × (length ≡ 0)) }
-        ensures err { IfErr result (Refuses (⟦<Vmdk<S> as Seen>⟧.layer self.now) length) }
+        ensures ok { OnOk result ((unusable_fault (⟦<Vmdk<S> as DriverModel>⟧.layer self.now) ≡ None) × (length ≡ 0)) }
+        ensures err { IfErr result (Refuses (⟦<Vmdk<S> as DriverModel>⟧.layer self.now) length) }
     {
         match self.ready() {
             Ok(()) => {}
@@ -145,10 +145,10 @@ impl<S: Storage> Vmdk<S> {
 
     // Asks each storage, in order, up to the first that refuses, if no file is missing.
     fn keep(&mut self, upkeep: Upkeep) -> Result<(), Fault>
-        ensures keeps { Keeps ⟦<Vmdk<S> as Seen>⟧ self.old self.new }
-        ensures at_once { let d = ⟦<Vmdk<S> as Seen>⟧ in AtOnce d (barrier (d.layer self.old)) ⊥ result self.old self.new }
-        ensures whole { let d = ⟦<Vmdk<S> as Seen>⟧ in WasNotCutOff result → Pairs IsFaultless (files d self.old) (files d self.new) }
-        ensures err { IfErr result (RefusesFlush ⟦<Vmdk<S> as Seen>⟧ self.old self.new) }
+        ensures keeps { Keeps ⟦<Vmdk<S> as DriverModel>⟧ self.old self.new }
+        ensures early_outcome { let d = ⟦<Vmdk<S> as DriverModel>⟧ in EarlyOutcome d (unusable_fault (d.layer self.old)) ⊥ result self.old self.new }
+        ensures whole { let d = ⟦<Vmdk<S> as DriverModel>⟧ in HadNoResourceError result → Pairs IsFaultless (files d self.old) (files d self.new) }
+        ensures err { IfErr result (RefusesFlush ⟦<Vmdk<S> as DriverModel>⟧ self.old self.new) }
     {
         self.ready()?;
         keep_up(&mut self.image, &mut self.files, upkeep)
@@ -162,15 +162,15 @@ impl<S: Storage> Vmdk<S> {
         place: u64,
         buf: &mut [u8],
     ) -> Result<(), Fault>
-        ensures keeps { Keeps ⟦<Vmdk<S> as Seen>⟧ self.old self.new }
-        ensures bytes { OnOk result (AreRead (files ⟦<Vmdk<S> as Seen>⟧ self.old) storage place (length buf.old) buf.new) }
-        ensures whole { let d = ⟦<Vmdk<S> as Seen>⟧ in WasNotCutOff result → Pairs IsFaultless (files d self.old) (files d self.new) }
-        ensures overflow { OverflowsIn (files ⟦<Vmdk<S> as Seen>⟧ self.old) storage place (length buf.old)
+        ensures keeps { Keeps ⟦<Vmdk<S> as DriverModel>⟧ self.old self.new }
+        ensures bytes { OnOk result (AreRead (files ⟦<Vmdk<S> as DriverModel>⟧ self.old) storage place (length buf.old) buf.new) }
+        ensures whole { let d = ⟦<Vmdk<S> as DriverModel>⟧ in HadNoResourceError result → Pairs IsFaultless (files d self.old) (files d self.new) }
+        ensures overflow { OverflowsIn (files ⟦<Vmdk<S> as DriverModel>⟧ self.old) storage place (length buf.old)
             → IsErrOf result Fault.RangeOverflow }
-        ensures beyond { length (files ⟦<Vmdk<S> as Seen>⟧ self.old) ≤ storage → IsOk result }
-        ensures cause { let d = ⟦<Vmdk<S> as Seen>⟧ in let overflows = OverflowsIn (files d self.old) storage place (length buf.old) in
+        ensures beyond { length (files ⟦<Vmdk<S> as DriverModel>⟧ self.old) ≤ storage → IsOk result }
+        ensures cause { let d = ⟦<Vmdk<S> as DriverModel>⟧ in let overflows = OverflowsIn (files d self.old) storage place (length buf.old) in
             IfErr result (FileReadCause overflows (files d self.old) (files d self.new)) }
-        ensures empty { length buf.old ≡ 0 → IsOk result × IsUnchanged ⟦<Vmdk<S> as Seen>⟧ self.old self.new }
+        ensures empty { length buf.old ≡ 0 → IsOk result × IsUnchanged ⟦<Vmdk<S> as DriverModel>⟧ self.old self.new }
     {
         read_storage(alloc, &mut self.image, &mut self.files, storage, place, buf)
     }
@@ -178,9 +178,9 @@ impl<S: Storage> Vmdk<S> {
     // A call that would zero or discard a part of a range.
     fn no_part(&mut self, offset: u64, length: u64) -> Result<(u64, u64), Fault>
         ensures part { IfOk result (IsPart offset length) }
-        ensures does { (call : PartCall) → DoesPart call ⟦<Vmdk<S> as Seen>⟧ offset length result self.old self.new }
-        ensures at_once { RangeAtOnce ⟦<Vmdk<S> as Seen>⟧ offset length result self.old self.new }
-        ensures refused { (call : PartCall) → PartRefused call ⟦<Vmdk<S> as Seen>⟧ offset length result self.old self.new }
+        ensures does { (call : PartCall) → DoesPart call ⟦<Vmdk<S> as DriverModel>⟧ offset length result self.old self.new }
+        ensures early_outcome { RangeEarlyOutcome ⟦<Vmdk<S> as DriverModel>⟧ offset length result self.old self.new }
+        ensures refused { (call : PartCall) → PartRefused call ⟦<Vmdk<S> as DriverModel>⟧ offset length result self.old self.new }
     {
         self.check_change(length)?;
         Ok((offset, 0))
@@ -252,7 +252,7 @@ impl<S: Storage> Display for Vmdk<S> {
     }
 }
 
-impl<S: Storage> Seen for Vmdk<S> {
+impl<S: Storage> DriverModel for Vmdk<S> {
     type State = NoState;
 
     ghost layer = { λ d. vmdk_layer d.disk.extents.items (S.state d.image) (map S.state d.files.items) };
@@ -261,27 +261,27 @@ impl<S: Storage> Seen for Vmdk<S> {
 
     ghost extras = { λ d. map S.state d.files.items };
 
-    ghost sees = { λ d. ReadsReach d.disk.extents.items (S.state d.image) (map S.state d.files.items) };
+    ghost coherent = { λ d. ReadsReach d.disk.extents.items (S.state d.image) (map S.state d.files.items) };
 
-    ghost safe = { λ d. IsTrue (keep_all (S.state d.image) (map S.state d.files.items))
+    ghost well_formed = { λ d. IsTrue (keep_all (S.state d.image) (map S.state d.files.items))
         × ReadsReach d.disk.extents.items (S.state d.image) (map S.state d.files.items)
         × (descriptor_of (S.state d.image).bytes ≡ Ok (kept_extents d.disk.extents.items)) };
 
-    ghost still = { λ _. ⊤ };
+    ghost has_no_dirty_data = { λ _. ⊤ };
 
-    ghost lasts = { λ _. ⊤ };
+    ghost stable = { λ _. ⊤ };
 
-    ghost surplus = { λ _ c. 0 };
+    ghost excess_refcount = { λ _ c. 0 };
 
-    ghost vacant = { λ d p. ⊤ };
+    ghost unallocated = { λ d p. ⊤ };
 
-    ghost has_room = { λ d p. ⊥ };
+    ghost has_allocation = { λ d p. ⊥ };
 
     ghost zeroed = { λ d p. ⊤ };
 
-    ghost stated = { λ d. IsZeroByDescriptor d.disk.extents.items };
+    ghost explicit_zero = { λ d. IsZeroByDescriptor d.disk.extents.items };
 
-    ghost claim = { λ _. 0 };
+    ghost mapping_id = { λ _. 0 };
 
     ghost tag = { λ _. 0 };
 
@@ -297,15 +297,15 @@ impl<S: Storage> Seen for Vmdk<S> {
 impl<S: Storage> FormatDriverInstance for Vmdk<S> {
     type Storage = S;
 
-    ghost safe_sees = { λ d safe. safe.1 };
+    ghost well_formed_is_coherent = { λ d well_formed. well_formed.1 };
 
-    ghost safe_runs = { λ d safe. refl };
+    ghost well_formed_is_usable = { λ d well_formed. refl };
 
-    ghost safe_keeps = { λ d safe. safe.0 };
+    ghost well_formed_keeps_writes = { λ d well_formed. well_formed.0 };
 
-    ghost safe_sound = { λ d safe. covered d.disk.extents.items (S.state d.image) (map S.state d.files.items) safe.2 };
+    ghost well_formed_is_sound = { λ d well_formed. covered d.disk.extents.items (S.state d.image) (map S.state d.files.items) well_formed.2 };
 
-    ghost one_home = { λ d p q at safe. no_home p q at };
+    ghost one_writable_location = { λ d p q at well_formed. no_home p q at };
 
     ghost blanks = { λ d. inr refl };
 
@@ -315,7 +315,7 @@ impl<S: Storage> FormatDriverInstance for Vmdk<S> {
 
     ghost marked = { λ d is. absurd (cc is) };
 
-    ghost says_room = { λ d is. absurd (cc is) };
+    ghost reports_allocations = { λ d is. absurd (cc is) };
 
     ghost units = { λ d. le_refl 1 };
 
@@ -376,19 +376,19 @@ impl<S: Storage> FormatDriverInstance for Vmdk<S> {
         offset: u64,
         max_length: u64,
     ) -> Result<(ShallowMapping, u64), Fault>
-        ensures run { let d = ⟦<Vmdk<S> as Seen>⟧ in IfOk result (λ r. IsRun (d.layer self.old) offset max_length r.0 r.1) }
-        ensures looks { let d = ⟦<Vmdk<S> as Seen>⟧ in d.sees self.old → IfOk result (LooksIn d offset max_length self.old self.new) }
-        ensures room { let d = ⟦<Vmdk<S> as Seen>⟧ in d.sees self.old → IfOk result (NamesRoomIn d offset self.old) }
-        ensures stated { let d = ⟦<Vmdk<S> as Seen>⟧ in d.sees self.old → IfOk result (States (d.stated self.old) offset) }
-        ensures there { let d = ⟦<Vmdk<S> as Seen>⟧ in IfOk result (λ r. IsOneOf (length (files d self.old)) r.0) }
-        ensures at_once { let d = ⟦<Vmdk<S> as Seen>⟧ in AtOnce d (barrier (d.layer self.old)) (max_length ≡ 0) result self.old self.new }
-        ensures looked { Looked ⟦<Vmdk<S> as Seen>⟧ (WasNotCutOff result) self.old self.new }
-        ensures began { let d = ⟦<Vmdk<S> as Seen>⟧ in
+        ensures run { let d = ⟦<Vmdk<S> as DriverModel>⟧ in IfOk result (λ r. IsRun (d.layer self.old) offset max_length r.0 r.1) }
+        ensures looks { let d = ⟦<Vmdk<S> as DriverModel>⟧ in d.coherent self.old → IfOk result (LooksIn d offset max_length self.old self.new) }
+        ensures room { let d = ⟦<Vmdk<S> as DriverModel>⟧ in d.coherent self.old → IfOk result (ReportsAllocationIn d offset self.old) }
+        ensures explicit_zero { let d = ⟦<Vmdk<S> as DriverModel>⟧ in d.coherent self.old → IfOk result (ReportsExplicitZero (d.explicit_zero self.old) offset) }
+        ensures storage_exists { let d = ⟦<Vmdk<S> as DriverModel>⟧ in IfOk result (λ r. IsOneOf (length (files d self.old)) r.0) }
+        ensures early_outcome { let d = ⟦<Vmdk<S> as DriverModel>⟧ in EarlyOutcome d (unusable_fault (d.layer self.old)) (max_length ≡ 0) result self.old self.new }
+        ensures lookup_call { LookupCall ⟦<Vmdk<S> as DriverModel>⟧ (HadNoResourceError result) self.old self.new }
+        ensures stays_begun { let d = ⟦<Vmdk<S> as DriverModel>⟧ in
             OnOk result ((e : _) (call : _) → d.began e call self.old → d.began e call self.new) }
-        ensures failed { IfErr result (Fails ⟦<Vmdk<S> as Seen>⟧ self.old self.new) }
-        ensures marks { IfErr result (Marks ⟦<Vmdk<S> as Seen>⟧ self.old self.new) }
-        ensures cause { let d = ⟦<Vmdk<S> as Seen>⟧ in
-            d.sees self.old → IfErr result (RefusesLookup d offset max_length self.old self.new) }
+        ensures failed { IfErr result (Fails ⟦<Vmdk<S> as DriverModel>⟧ self.old self.new) }
+        ensures marks_failed { IfErr result (MarksFailed ⟦<Vmdk<S> as DriverModel>⟧ self.old self.new) }
+        ensures cause { let d = ⟦<Vmdk<S> as DriverModel>⟧ in
+            d.coherent self.old → IfErr result (RefusesLookup d offset max_length self.old self.new) }
         // A run ends with the range or the disk, or with its extent.
         ensures whole { IfOk result (λ r. IsWholeRun self.old.disk.extents.items offset max_length r.1) }
     {
@@ -429,8 +429,8 @@ impl<S: Storage> FormatDriverInstance for Vmdk<S> {
         _alloc: Global,
         mapping: PreparedDataMapping<NoState>,
     ) -> Result<(), (Fault, Option<PreparedDataMapping<NoState>>)>
-        ensures commits { Commits ⟦<Vmdk<S> as Seen>⟧ mapping.state result self.old self.new }
-        ensures refused { CommitRefused ⟦<Vmdk<S> as Seen>⟧ mapping result self.old self.new }
+        ensures commits { Commits ⟦<Vmdk<S> as DriverModel>⟧ mapping.state result self.old self.new }
+        ensures refused { CommitRefused ⟦<Vmdk<S> as DriverModel>⟧ mapping result self.old self.new }
     {
         match self.ready() {
             Ok(()) => {}
@@ -446,7 +446,7 @@ impl<S: Storage> FormatDriverInstance for Vmdk<S> {
         &mut self,
         mapping: PreparedDataMapping<NoState>,
     ) -> Result<(), (Fault, PreparedDataMapping<NoState>)>
-        ensures cancels { Cancels ⟦<Vmdk<S> as Seen>⟧ mapping result self.old self.new }
+        ensures cancels { Cancels ⟦<Vmdk<S> as DriverModel>⟧ mapping result self.old self.new }
     {
         match mapping.into_state() {
             None => Ok(()),

@@ -1,6 +1,6 @@
 // The descriptor of a file.
 ghost use Rattle.std.specs.Prelude.{◌≡◌, ◌≤◌, ◌^◌, length, IfOk, IfErr, OnOk, Ok};
-ghost use Rattle.imago_storage.specs.Calls.{CountsFaults, Kept, Reads};
+ghost use Rattle.imago_storage.specs.Calls.{CountsFaults, UnchangedButFaults, Reads};
 ghost use Rattle.imago_formats.specs.Descriptor.{descriptor_of, is_signed, text_of};
 ghost use Rattle.imago_formats.specs.DescriptorView.{NotRead, kept_extents};
 
@@ -15,7 +15,7 @@ pub(crate) fn read_descriptor<S: Storage>(alloc: Global, image: &mut S) -> Resul
     ensures ok { IfOk result (λ d. descriptor_of (S.state image.old).bytes ≡ Ok (kept_extents d.extents.items)) }
     ensures err { IfErr result (NotRead (descriptor_of (S.state image.old).bytes) (S.state image.old) (S.state image.new)) }
     ensures faults { OnOk result ((S.state image.new).faults ≡ (S.state image.old).faults) }
-    ensures kept { Kept (S.state image.old) (S.state image.new) }
+    ensures unchanged_but_faults { UnchangedButFaults (S.state image.old) (S.state image.new) }
 {
     // One byte more than a descriptor may have, so that a longer one shows.
     let count = image.size().min(MOST_BYTES as u64 + 1);
@@ -26,7 +26,7 @@ pub(crate) fn read_descriptor<S: Storage>(alloc: Global, image: &mut S) -> Resul
 /// Whether the first line of a file is that of a descriptor. Nothing is written.
 pub(crate) fn is_descriptor<S: Storage>(alloc: Global, image: &mut S) -> Result<bool, Fault>
     ensures ok { IfOk result (λ yes. yes ≡ is_signed (text_of (S.state image.old).bytes)) }
-    ensures kept { Kept (S.state image.old) (S.state image.new) }
+    ensures unchanged_but_faults { UnchangedButFaults (S.state image.old) (S.state image.new) }
     ensures faults { CountsFaults (S.state image.old).faults (S.state image.new).faults result }
 {
     // The line takes 21 bytes, and its end two at most.
@@ -41,7 +41,7 @@ fn read_front<S: Storage>(alloc: Global, image: &mut S, count: usize) -> Result<
     requires { count ≤ 2 ^ 63 }
     ensures read { IfOk result (λ bytes. Reads (S.state image.old).bytes 0 bytes.items) }
     ensures size { IfOk result (λ bytes. length bytes.items ≡ count) }
-    ensures kept { Kept (S.state image.old) (S.state image.new) }
+    ensures unchanged_but_faults { UnchangedButFaults (S.state image.old) (S.state image.new) }
     ensures faults { CountsFaults (S.state image.old).faults (S.state image.new).faults result }
 {
     let mut bytes = vec![in alloc; 0u8; count]?;
@@ -53,7 +53,7 @@ fn read_front<S: Storage>(alloc: Global, image: &mut S, count: usize) -> Result<
 fn read_start<S: Storage>(alloc: Global, image: &mut S, buf: &mut [u8]) -> Result<(), Fault>
     requires { length buf.old ≤ 2 ^ 63 }
     ensures read { OnOk result (Reads (S.state image.old).bytes 0 buf.new) }
-    ensures kept { Kept (S.state image.old) (S.state image.new) }
+    ensures unchanged_but_faults { UnchangedButFaults (S.state image.old) (S.state image.new) }
     ensures faults { CountsFaults (S.state image.old).faults (S.state image.new).faults result }
 {
     image.read(alloc, buf, 0)

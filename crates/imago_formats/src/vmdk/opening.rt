@@ -54,7 +54,7 @@ fn open_file<S: Drop, G: ImplicitOpenGate<S>>(
     ensures ok { OnOk result
         ((file : S) × (files.new.items ≡ files.old.items ++ file ∷ []) × G.answers gate.old name.now (Ok file) gate.new) }
     ensures err { IfErr result (λ e. ((e ≡ Memory) × (gate.new ≡ gate.old)) ⊎ G.answers gate.old name.now (Err e) gate.new) }
-    ensures kept { IsErr result → files.new.items ≡ files.old.items }
+    ensures unchanged_on_error { IsErr result → files.new.items ≡ files.old.items }
 {
     match files.reserve(1) {
         Ok(()) => {}
@@ -67,7 +67,7 @@ fn open_file<S: Drop, G: ImplicitOpenGate<S>>(
 
 // The name of the file that an extent asks for.
 fn file_name(extent: &Extent<String>) -> Option<&str>
-    ensures some { is_some result ≡ has_file extent.now }
+    ensures some_if_file { is_some result ≡ has_file extent.now }
     ensures name { option_to_list (option_map (λ name. name.now) result)
         ≡ map (λ name. string_bytes name) (name_in extent.now.access extent.now.source) }
 {
@@ -105,7 +105,7 @@ pub(crate) fn check_reach(extents: &[Extent<String>], unit: u64) -> Result<(), F
     ensures err { IfErr result (λ e. (e ≡ DamagedDescriptor) × (AreInReach unit extents.now → ⊥)) }
 {
     for extent in extents {
-        if !is_in_reach(extent, unit) {
+        if !is_addressable(extent, unit) {
             return Err(Fault::DamagedDescriptor);
         }
     }
@@ -113,7 +113,7 @@ pub(crate) fn check_reach(extents: &[Extent<String>], unit: u64) -> Result<(), F
 }
 
 // The same of one extent.
-fn is_in_reach(extent: &Extent<String>, unit: u64) -> bool
+fn is_addressable(extent: &Extent<String>, unit: u64) -> bool
     requires { 0 < unit }
     ensures yes { IsTrue result → round_up unit (end_in_file extent.now.access extent.now.source extent.now.sectors) < 2 ^ 64 }
     ensures no { IsFalse result → 2 ^ 64 ≤ round_up unit (end_in_file extent.now.access extent.now.source extent.now.sectors) }
@@ -126,7 +126,7 @@ fn is_in_reach(extent: &Extent<String>, unit: u64) -> bool
 
 // The end of an extent in its file, in bytes, if it is below 2^64: 0 where it has none.
 fn end_of(extent: &Extent<String>) -> Option<u64>
-    ensures some { IfSome result (λ n. n ≡ end_in_file extent.now.access extent.now.source extent.now.sectors) }
+    ensures end_if_some { IfSome result (λ n. n ≡ end_in_file extent.now.access extent.now.source extent.now.sectors) }
     ensures none { IfNone result (2 ^ 64 ≤ end_in_file extent.now.access extent.now.source extent.now.sectors) }
 {
     match extent.access {

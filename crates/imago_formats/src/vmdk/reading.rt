@@ -100,7 +100,7 @@ fn keep(alloc: Global, extent: Extent<&str>) -> Result<Extent<String>, Fault>
 /// The first line of a text, without its end, and what follows it.
 pub(crate) fn split_line(text: &[u8]) -> (&[u8], &[u8])
     ensures first { result.0.now ≡ slice_index_or (lines text.now) 0 [] }
-    ensures rest { lines result.1.now ≡ drop 1 (lines text.now) }
+    ensures remainder { lines result.1.now ≡ drop 1 (lines text.now) }
     ensures whole { 0 < length text.now → lines text.now ≡ result.0.now ∷ lines result.1.now }
     ensures shorter { 0 < length text.now → length result.1.now < length text.now }
 {

@@ -5,7 +5,7 @@ ghost use Rattle.imago_storage.specs.Calls.{Cause, IsFaultless};
 ghost use Rattle.imago_formats.specs.VmdkFiles.{IsStopped, states};
 ghost use Rattle.imago_storage.specs.State.{IsAlignment};
 ghost use Rattle.imago_access.specs.FileReads.{FileReadCause};
-ghost use Rattle.imago_access.specs.Files.{AreRead, IsKept, OverflowsIn, Pairs, WasNotCutOff, greatest};
+ghost use Rattle.imago_access.specs.Files.{AreRead, UnchangedButMoreFaults, OverflowsIn, Pairs, HadNoResourceError, greatest};
 
 use imago_storage::{Fault, Storage, StorageExt, larger_alignment};
 use std::alloc::Global;
@@ -51,7 +51,7 @@ pub(crate) fn keep_up<S: Storage>(
     files: &mut [S],
     upkeep: Upkeep,
 ) -> Result<(), Fault>
-    ensures kept { Pairs IsKept (states S.state image.old files.old) (states S.state image.new files.new) }
+    ensures unchanged_but_faults { Pairs UnchangedButMoreFaults (states S.state image.old files.old) (states S.state image.new files.new) }
     ensures ok { OnOk result (Pairs IsFaultless (states S.state image.old files.old) (states S.state image.new files.new)) }
     ensures err { IfErr result (IsStopped (states S.state image.old files.old) (states S.state image.new files.new)) }
 {
@@ -61,7 +61,7 @@ pub(crate) fn keep_up<S: Storage>(
 
 // Asks each of the files, in order, up to the first that refuses.
 fn keep_files<S: Storage>(files: &mut [S], upkeep: Upkeep) -> Result<(), Fault>
-    ensures kept { Pairs IsKept (map S.state files.old) (map S.state files.new) }
+    ensures unchanged_but_faults { Pairs UnchangedButMoreFaults (map S.state files.old) (map S.state files.new) }
     ensures ok { OnOk result (Pairs IsFaultless (map S.state files.old) (map S.state files.new)) }
     ensures err { IfErr result (IsStopped (map S.state files.old) (map S.state files.new)) }
 {
@@ -73,7 +73,7 @@ fn keep_files<S: Storage>(files: &mut [S], upkeep: Upkeep) -> Result<(), Fault>
 
 // Asks one storage.
 fn keep_one<S: Storage>(storage: &mut S, upkeep: Upkeep) -> Result<(), Fault>
-    ensures kept { IsKept (S.state storage.old) (S.state storage.new) }
+    ensures unchanged_but_faults { UnchangedButMoreFaults (S.state storage.old) (S.state storage.new) }
     ensures ok { OnOk result (IsFaultless (S.state storage.old) (S.state storage.new)) }
     ensures err { IfErr result (Cause (S.state storage.old).faults (S.state storage.new).faults) }
 {
@@ -95,8 +95,8 @@ pub(crate) fn read_storage<S: Storage>(
     buf: &mut [u8],
 ) -> Result<(), Fault>
     ensures bytes { OnOk result (AreRead (states S.state image.old files.old) storage place (length buf.old) buf.new) }
-    ensures kept { Pairs IsKept (states S.state image.old files.old) (states S.state image.new files.new) }
-    ensures whole { WasNotCutOff result → Pairs IsFaultless (states S.state image.old files.old) (states S.state image.new files.new) }
+    ensures unchanged_but_faults { Pairs UnchangedButMoreFaults (states S.state image.old files.old) (states S.state image.new files.new) }
+    ensures whole { HadNoResourceError result → Pairs IsFaultless (states S.state image.old files.old) (states S.state image.new files.new) }
     ensures overflow { OverflowsIn (states S.state image.old files.old) storage place (length buf.old)
         → IsErrOf result Fault.RangeOverflow }
     ensures beyond { length files.old < storage → IsOk result }

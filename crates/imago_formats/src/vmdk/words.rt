@@ -54,7 +54,7 @@ pub(crate) fn past_blanks(text: &[u8]) -> &[u8]
 /// The word at the start of a text, and what follows it and the blanks behind it.
 pub(crate) fn split_word(text: &[u8]) -> (&[u8], &[u8])
     ensures first { result.0.now ≡ word text.now }
-    ensures rest { result.1.now ≡ past_word text.now }
+    ensures remainder { result.1.now ≡ past_word text.now }
 {
     let end = text.iter().position(|b| is_blank(*b)).unwrap_or(text.len());
     let (first, rest) = text.split_at(end);

@@ -11,7 +11,7 @@ use Rattle.qcow2_types.specs.Bytes.{bytes_of}
 use Rattle.qcow2_types.specs.Header.{Header, cluster_size}
 use Rattle.qcow2_types.specs.Counts.{counters_of_block}
 use Rattle.qcow2_types.specs.Pending.{FreeEntry}
-use Rattle.qcow2_types.specs.Versions.{named}
+use Rattle.qcow2_types.specs.Versions.{references_in_either}
 use Rattle.qcow2_types.proofs.Counting.Parts.{block-inside}
 use Rattle.qcow2_metadata.specs.Tables.{TableValue}
 use Rattle.qcow2_metadata.specs.Blocks.{Block, with_counter}
@@ -20,15 +20,15 @@ use Rattle.qcow2_alloc.specs.declared.cache.CacheDependency.{CacheDependency}
 use Rattle.qcow2_alloc.specs.declared.cache.CacheDependency.TheVariants.{L2DependsOnRb}
 use Rattle.qcow2_alloc.specs.declared.cache.MetadataCaches.{MetadataCaches}
 use Rattle.qcow2_alloc.specs.declared.file.ImageFile.{ImageFile}
-use Rattle.qcow2_alloc.specs.Allocating.{Raises, RaisesCluster}
-use Rattle.qcow2_alloc.specs.Allocators.{metadata_of, named_block, UsesBlock, BlockUsed}
+use Rattle.qcow2_alloc.specs.Allocating.{IncrementsCounter, IncrementsCluster}
+use Rattle.qcow2_alloc.specs.Allocators.{metadata_of, referenced_block, UsesBlock, BlockUsed}
 use Rattle.qcow2_alloc.specs.Cache.{hit, victim}
 use Rattle.qcow2_alloc.specs.Caches.{cached_in, order_of, cached_file}
 use Rattle.qcow2_alloc.specs.Changes.{SetsCounter}
 use Rattle.qcow2_alloc.specs.Finding.{Sought, with_room}
 use Rattle.qcow2_alloc.specs.Memory.{Cached, memory, written_block}
-use Rattle.qcow2_alloc.specs.Quiet.{Metadata, IsSound, counted, named_at_all}
-use Rattle.qcow2_alloc.specs.Safety.{Safe}
+use Rattle.qcow2_alloc.specs.GuestView.{Metadata, IsSound, counted, referenced_at_all}
+use Rattle.qcow2_alloc.specs.WellFormedness.{WellFormed}
 use Rattle.qcow2_alloc.proofs.Memory.CounterChanges.{counter-raised}
 use Rattle.qcow2_alloc.proofs.Blocks.ClusterCounts.{succeeded}
 use Rattle.qcow2_alloc.proofs.Caching.Entries.{hit_missed, remove_absent}
@@ -67,7 +67,7 @@ module _ {V : Type 0} (c : ℕ) where
     where
       by-slot : (o : Option (Slot V)) → lookup (nat_eq key) es ≡ o → lookup (nat_eq c) es' ≡ None
       by-slot None is = rw (sought.loaded is) (rw (ne_eqb c key (λ same. apart (sym same))) (none-in-room size es none))
-      by-slot (Some slot) is = rw (sought.there (rw is refl)) none
+      by-slot (Some slot) is = rw (sought.unchanged_if_cached (rw is refl)) none
 
 module _ {S : Type 0} (state : S → StorageState) (table : TableValue) (pending : List FreeEntry) (c : ℕ) (old : MetadataCaches S) (before : ImageFile S) (new : MetadataCaches S) (after : ImageFile S) where
   abbrev Old : Metadata
@@ -80,60 +80,60 @@ module _ {S : Type 0} (state : S → StorageState) (table : TableValue) (pending
   i = c / counters_of_block before.header.fields
 
   abbrev Apart : Type 0
-  Apart = (named_at_all New c ≡ 0) × (lookup (nat_eq c) (cached_in new).blocks ≡ None)
+  Apart = (referenced_at_all New c ≡ 0) × (lookup (nat_eq c) (cached_in new).blocks ≡ None)
 
   module _ (keeps : IsTrue (state before.image).shape.keeps) (order : order_of old ≡ L2DependsOnRb) (sound : IsSound Old) (zero : counted Old c ≡ 0) (uncached : lookup (nat_eq c) (cached_in old).blocks ≡ None) where
-    unnamed : named_at_all Old c ≡ 0
-    unnamed = (uncounted-free Old sound order c zero).0
+    not_referenced : referenced_at_all Old c ≡ 0
+    not_referenced = (uncounted-free Old sound order c zero).0
 
-    key-apart : (key : ℕ) → named_block table i ≡ Some key → key ≢ c
+    key-apart : (key : ℕ) → referenced_block table i ≡ Some key → key ≢ c
     key-apart key names same =
         let place = named-there Old i key sound names in
         let inside = block-inside Old.file Old.header.fields i (λ none. place-there (cluster_size before.header.fields) key (pow_pos before.header.fields.cluster_bits) place.1 (sym place.0 ∙ none)) in
         let some = block-names Old i key inside place.0 place.1 in
-        let none : named_at_all Old key ≡ 0 = subst (λ n. named_at_all Old n ≡ 0) (sym same) unnamed in
+        let none : referenced_at_all Old key ≡ 0 = subst (λ n. referenced_at_all Old n ≡ 0) (sym same) not_referenced in
         omega (arith, some, none)
 
-    done-so : (index : ℕ) (block block' : Block) → Raises index block (Ok tt) block' → block' ≡ with_counter block index 1
+    done-so : (index : ℕ) (block block' : Block) → IncrementsCounter index block (Ok tt) block' → block' ≡ with_counter block index 1
     done-so index block block' raises = elim (cases_lt index (length block.counters)) [
       | inr past ↦ absurd (let no = (raises.out past).0 in cc no)
       | inl inside ↦ elim (cases_eq (slice_index block.counters index) 0) [
         | inl none ↦ (raises.none inside none).1
-        | inr some ↦ absurd (let no = (raises.some inside (omega (arith, some))).0 in cc no)
+        | inr some ↦ absurd (let no = (raises.if_counted inside (omega (arith, some))).0 in cc no)
       ]
     ]
 
-    by-use : (key : ℕ) → named_block table i ≡ Some key → BlockUsed state key (Raises (c % counters_of_block before.header.fields)) (cached_file old before) (Ok tt) (cached_file new after) → Apart
+    by-use : (key : ℕ) → referenced_block table i ≡ Some key → BlockUsed state key (IncrementsCounter (c % counters_of_block before.header.fields)) (cached_file old before) (Ok tt) (cached_file new after) → Apart
     by-use key names u =
         let f = bytes_of (state after.image).bytes in
         let mid : Cached = cached_in u.mid in
-        let settled = u.found.going.holds keeps sound.safe tt (inl tt) in
-        let safe : Safe f before.header mid L2DependsOnRb = subst (λ (o : CacheDependency). Safe f before.header mid o) order settled.safe in
+        let settled = u.found.writes_back_cached.holds keeps sound.well_formed tt (inl tt) in
+        let well_formed : WellFormed f before.header mid L2DependsOnRb = subst (λ (o : CacheDependency). WellFormed f before.header mid o) order settled.well_formed in
         let flushed = flushes-count Old (state before.image).bytes (state after.image).bytes mid refl settled c in
         let place = named-there Old i key sound names in
         let block' = with_counter u.value (c % counters_of_block before.header.fields) 1 in
         let cached' : Cached = record mid { blocks = hit (nat_eq key) mid.blocks block' } in
         let sets : SetsCounter f before.header.fields mid key c 1 cached' = record {
           block = u.value;
-          caches = record { there = u.there; counts = settled.left.words.places.blocks i ∙ place.0; some = place.1 };
+          caches = record { block_cached = u.value_cached; counts = settled.left.raw_entries.places.blocks i ∙ place.0; cluster_nonzero = place.1 };
           blocks = refl;
           tables = refl;
         } in
-        let raised = counter-raised f before.header mid cached' key c safe sets (flushed.0 ∙ zero) in
-        let names-now : named f (memory f before.header.fields cached') before.header.fields c ≡ 0 = raised.0.names c ∙ raised.1 in
+        let raised = counter-raised f before.header mid cached' key c well_formed sets (flushed.0 ∙ zero) in
+        let names-now : references_in_either f (memory f before.header.fields cached') before.header.fields c ≡ 0 = raised.0.names c ∙ raised.1 in
         let is = done-so (c % counters_of_block before.header.fields) u.value u.value' u.used in (
-          subst (λ (h : Header). named f (memory f h.fields (cached_in new)) h.fields c ≡ 0) (sym u.found.others.1)
-              (subst (λ (m : MetadataCaches S). named f (memory f before.header.fields (cached_in m)) before.header.fields c ≡ 0) (sym u.left)
-              (subst (λ (b : Block). named f (memory f before.header.fields (record mid { blocks = hit (nat_eq key) mid.blocks b })) before.header.fields c ≡ 0) (sym is) names-now)),
+          subst (λ (h : Header). references_in_either f (memory f h.fields (cached_in new)) h.fields c ≡ 0) (sym u.found.others.1)
+              (subst (λ (m : MetadataCaches S). references_in_either f (memory f before.header.fields (cached_in m)) before.header.fields c ≡ 0) (sym u.left)
+              (subst (λ (b : Block). references_in_either f (memory f before.header.fields (record mid { blocks = hit (nat_eq key) mid.blocks b })) before.header.fields c ≡ 0) (sym is) names-now)),
           subst (λ (m : MetadataCaches S). lookup (nat_eq c) (cached_in m).blocks ≡ None) (sym u.left)
               (none-in-hit c key mid.blocks u.value' (key-apart key names) (none-in-search c written_block _ key _ (cached_in old).blocks mid.blocks u.found.sought (key-apart key names) uncached)),
         )
 
     -- The count of a cluster names nothing anew, and caches no block there.
-    pub counted-apart : RaisesCluster state table c (cached_file old before) (Ok tt) (cached_file new after) → Apart
-    counted-apart = by-name (named_block table i) refl
+    pub counted-apart : IncrementsCluster state table c (cached_file old before) (Ok tt) (cached_file new after) → Apart
+    counted-apart = by-name (referenced_block table i) refl
       where
-        by-name : (o : Option ℕ) → named_block table i ≡ o → MatchOption o ((succeeded ≡ Err DamagedTable) × (new ≡ old) × (after ≡ before)) (λ key. UsesBlock state key (Raises (c % counters_of_block before.header.fields)) (cached_file old before) (Ok tt) (cached_file new after)) → Apart
+        by-name : (o : Option ℕ) → referenced_block table i ≡ o → MatchOption o ((succeeded ≡ Err DamagedTable) × (new ≡ old) × (after ≡ before)) (λ key. UsesBlock state key (IncrementsCounter (c % counters_of_block before.header.fields)) (cached_file old before) (Ok tt) (cached_file new after)) → Apart
         by-name None names (is, same, same') = absurd (cc is)
         by-name (Some key) names (inl (fault, is, found)) = absurd (cc is)
         by-name (Some key) names (inr u) = by-use key names u

@@ -6,8 +6,8 @@ use Rattle.std.specs.Map.{lookup}
 use Rattle.std.proofs.lemmas.List.{length-set, get_or-set_same, get_or-set_other}
 use Rattle.std.proofs.lemmas.Nat.{pow_pos}
 use Rattle.imago_storage.specs.State.{StorageState}
-use Rattle.imago_storage.specs.Calls.{Cause, Later, IsFaultless}
-use Rattle.imago_storage.specs.Through.{Put, PutAtOnce}
+use Rattle.imago_storage.specs.Calls.{Cause, CountsNotFallen, IsFaultless}
+use Rattle.imago_storage.specs.Through.{WriteOutcome, AtomicWriteOutcome}
 use Rattle.imago_storage.specs.declared.fault.Fault.{Fault}
 use Rattle.imago_storage.specs.declared.fault.Fault.TheVariants.{Memory, CacheFull}
 use Rattle.imago_storage.proofs.Composing.{keeps_on, later_both, later_same}
@@ -22,33 +22,33 @@ use Rattle.qcow2_types.proofs.Fields.HeaderLimits.{header-limited}
 use Rattle.qcow2_types.proofs.Counting.Named.{structure-le-refs}
 use Rattle.qcow2_types.proofs.Changes.WriteBack.{place-near, place-whole}
 use Rattle.qcow2_metadata.specs.Blocks.{Block, BlockPut, block_of}
-use Rattle.qcow2_metadata.specs.Places.{IsInReach, IsPlaced}
-use Rattle.qcow2_metadata.specs.Tables.{TableValue, IsNamable, with_word, table_place}
+use Rattle.qcow2_metadata.specs.Places.{IsAddressable, IsPlaced}
+use Rattle.qcow2_metadata.specs.Tables.{TableValue, CanBeReferenced, with_raw_entry, table_start}
 use Rattle.qcow2_metadata.proofs.TableSteps.{block_named}
 use Rattle.qcow2_alloc.specs.declared.cache.CacheDependency.TheVariants.{L2DependsOnRb}
 use Rattle.qcow2_alloc.specs.declared.cache.MetadataCaches.{MetadataCaches}
 use Rattle.qcow2_alloc.specs.declared.file.ImageFile.{ImageFile}
-use Rattle.qcow2_alloc.specs.Allocating.{Allocating, MakesBlock, OnlyRaised, allocating_causes}
-use Rattle.qcow2_alloc.specs.Allocators.{metadata_of, named_block}
+use Rattle.qcow2_alloc.specs.Allocating.{Allocating, MakesBlock, OnlyIncremented, allocating_causes}
+use Rattle.qcow2_alloc.specs.Allocators.{metadata_of, referenced_block}
 use Rattle.qcow2_alloc.specs.Caches.{cached_in, order_of}
 use Rattle.qcow2_alloc.specs.Causes.{HasCause}
-use Rattle.qcow2_alloc.specs.Freeing.{IsUnbarred, IsLoose, freeing_causes, counting_causes}
-use Rattle.qcow2_alloc.specs.Going.{WasNotCutOff}
-use Rattle.qcow2_alloc.specs.MakingBlocks.{Begins, CanName, naming_causes, NamesWritten}
+use Rattle.qcow2_alloc.specs.Freeing.{IsUnbarred, HasUnpinnedRoom, freeing_causes, counting_causes}
+use Rattle.qcow2_alloc.specs.Going.{HadNoResourceError}
+use Rattle.qcow2_alloc.specs.MakingBlocks.{Begins, CanReference, naming_causes, LinksWritten}
 use Rattle.qcow2_alloc.specs.MakingRoom.{with_block}
-use Rattle.qcow2_alloc.specs.Quiet.{Metadata, in_memory, counted, IsUsed, IsSound, Quietly, named_at_all}
-use Rattle.qcow2_alloc.specs.State.{ImageState, lent, metadata, IsGuarded}
+use Rattle.qcow2_alloc.specs.GuestView.{Metadata, in_memory, counted, IsUsed, IsSound, PreservesGuest, referenced_at_all}
+use Rattle.qcow2_alloc.specs.State.{ImageState, image_state, metadata, IsGuarded}
 use Rattle.qcow2_alloc.proofs.Causes.{Implies, bare-weaker, fails-weaker, storage-fails}
 use Rattle.qcow2_alloc.proofs.Handing.CountSequences.{moved-none, raised-then, allocating-then}
-use Rattle.qcow2_alloc.proofs.Quiet.SingleRequests.{put-done}
+use Rattle.qcow2_alloc.proofs.GuestView.SingleRequests.{put-done}
 use Rattle.qcow2_alloc.proofs.Flushing.FaultlessCalls.{never-mild, faultless-then, put-faultless}
 use Rattle.qcow2_alloc.proofs.Caching.BlockDrops.{never-unnamed}
 use Rattle.qcow2_alloc.proofs.Freeing.EntryFrees.{failed, unbarred-still}
 use Rattle.qcow2_alloc.proofs.Caching.UnpinnedCaches.{StaysLoose, loose-named, name-kept}
 use Rattle.qcow2_alloc.proofs.Memory.Patches.{place-there}
-use Rattle.qcow2_alloc.proofs.Quiet.QuietFlushes.{memory-quietly, quiet-none, quietly-weaker}
-use Rattle.qcow2_alloc.proofs.Quiet.QuietPremises.{quietly-given, quietly-then-given}
-use Rattle.qcow2_alloc.proofs.Quiet.QuietSequences.{quietly-otherwise, quiet-otherwise}
+use Rattle.qcow2_alloc.proofs.GuestView.QuietFlushes.{memory-quietly, quiet-none, quietly-weaker}
+use Rattle.qcow2_alloc.proofs.GuestView.QuietPremises.{quietly-given, quietly-then-given}
+use Rattle.qcow2_alloc.proofs.GuestView.QuietSequences.{quietly-otherwise, quiet-otherwise}
 use Rattle.qcow2_alloc.proofs.Caching.Pins.{pinned-there}
 
 module _ (m : Metadata) (sound : IsSound m) where
@@ -63,39 +63,39 @@ module _ (m : Metadata) (sound : IsSound m) where
       omega (arith, part, one, le, covers)
 
   -- The words of the refcount table can be written.
-  pub can-name : (place : ℕ) → place ≢ 0 → CanName m.table m.header.fields.cluster_bits place
+  pub can-name : (place : ℕ) → place ≢ 0 → CanReference m.table m.header.fields.cluster_bits place
   can-name place some =
       let bits : m.table.layout.cluster_bits ≡ m.header.fields.cluster_bits = ap (λ (l : Layout). l.cluster_bits) sound.table.layout in
-      let limited = header-limited true m.file m.header sound.safe.consistent.readable.loads in
+      let limited = header-limited true m.file m.header sound.well_formed.consistent.readable.loads in
       let whole = place-whole m.header.fields.cluster_bits m.header.fields.refcount_table_offset limited.refcount_place in
       let near = place-near m.header.fields.cluster_bits m.header.fields.refcount_table_offset limited.refcount_place in
       record {
         placed = subst (λ (b : ℕ). IsPlaced b m.table.cluster) (sym bits) (subst (λ (c : Option ℕ). IsPlaced m.header.fields.cluster_bits c) (sym sound.table.placed) (subst (λ n. n ≤ max_offset) (sym whole) near));
         bits = bits;
-        some = some;
+        offset_nonzero = some;
       }
 
 -- So a word can name the cluster of a block.
-pub namable : (table : TableValue) (bits d : ℕ) → CanName table bits d → IsInReach bits d → (cluster : Option ℕ) → cluster ≡ Some d → IsNamable table.layout.cluster_bits cluster
+pub namable : (table : TableValue) (bits d : ℕ) → CanReference table bits d → IsAddressable bits d → (cluster : Option ℕ) → cluster ≡ Some d → CanBeReferenced table.layout.cluster_bits cluster
 namable table bits d can reach cluster is =
-    let place : IsNamable bits (Some d) = record { placed = reach; some = let there = place-there (2 ^ bits) d (pow_pos bits) can.some in omega (arith, there) } in
-    subst (λ (b : ℕ). IsNamable b cluster) (sym can.bits) (subst (λ (c : Option ℕ). IsNamable bits c) (sym is) place)
+    let place : CanBeReferenced bits (Some d) = record { placed = reach; cluster_nonzero = let there = place-there (2 ^ bits) d (pow_pos bits) can.offset_nonzero in omega (arith, there) } in
+    subst (λ (b : ℕ). CanBeReferenced b cluster) (sym can.bits) (subst (λ (c : Option ℕ). CanBeReferenced bits c) (sym is) place)
 
 -- What is known of a request that was refused,
-put-cause : (old new : StorageState) (at : ℕ) (bytes : List ℕ) (done : Result Unit Fault) → Put old new at bytes done → (fault : Fault) → done ≡ Err fault → Cause old.faults new.faults fault
+put-cause : (old new : StorageState) (at : ℕ) (bytes : List ℕ) (done : Result Unit Fault) → WriteOutcome old new at bytes done → (fault : Fault) → done ≡ Err fault → Cause old.faults new.faults fault
 put-cause old new at bytes (Ok done) put fault is = absurd (cc is)
 put-cause old new at bytes (Err other) put fault is = subst (λ (f : Fault). Cause old.faults new.faults f) (let e = is in cc) put.answer.cause
 
 -- and of one that wasn't.
-put-faults : (old new : StorageState) (at : ℕ) (bytes : List ℕ) (done : Result Unit Fault) → Put old new at bytes done → done ≡ Ok tt → new.faults ≡ old.faults
+put-faults : (old new : StorageState) (at : ℕ) (bytes : List ℕ) (done : Result Unit Fault) → WriteOutcome old new at bytes done → done ≡ Ok tt → new.faults ≡ old.faults
 put-faults old new at bytes (Ok done) put is = put.answer.faults
 put-faults old new at bytes (Err fault) put is = absurd (cc is)
 
 -- A table is as it was, or names this cluster at an index.
 pub record NamedAt (table : TableValue) (i d : ℕ) (result : Result Unit Fault) (table' : TableValue) : Type 0 where
-  pub named : OnOk result (block_offset (slice_index table'.words i) ≢ 0)
-  pub others : (k : ℕ) → k ≢ i → slice_index table'.words k ≡ slice_index table.words k
-  pub long : length table'.words ≡ length table.words
+  pub named : OnOk result (block_offset (slice_index table'.raw_entries i) ≢ 0)
+  pub others : (k : ℕ) → k ≢ i → slice_index table'.raw_entries k ≡ slice_index table.raw_entries k
+  pub long : length table'.raw_entries ≡ length table.raw_entries
   pub layout : table'.layout ≡ table.layout
   pub placed : table'.cluster ≡ table.cluster
 
@@ -106,11 +106,11 @@ on-ok : (result : Result Unit Fault) (P : Type 0) → P → OnOk result P
 on-ok (Ok done) P p = p
 on-ok (Err fault) P p = tt
 
-word-named : (table : TableValue) (i d bits : ℕ) (result : Result Unit Fault) (modified : Bool) → i < length table.words → 9 ≤ bits → d ≢ 0 → IsInReach bits d → NamedAt table i d result (record (with_word table i (d * 2 ^ bits)) { modified = modified })
+word-named : (table : TableValue) (i d bits : ℕ) (result : Result Unit Fault) (modified : Bool) → i < length table.raw_entries → 9 ≤ bits → d ≢ 0 → IsAddressable bits d → NamedAt table i d result (record (with_raw_entry table i (d * 2 ^ bits)) { modified = modified })
 word-named table i d bits result modified inside low some reach = record {
-  named = on-ok result _ (λ none. place-there (2 ^ bits) d (pow_pos bits) some (sym (ap block_offset (get_or-set_same table.words i (d * 2 ^ bits) 0 inside) ∙ block_named bits d low reach) ∙ none));
-  others = λ k apart. get_or-set_other table.words i k (d * 2 ^ bits) 0 apart;
-  long = length-set table.words i (d * 2 ^ bits);
+  named = on-ok result _ (λ none. place-there (2 ^ bits) d (pow_pos bits) some (sym (ap block_offset (get_or-set_same table.raw_entries i (d * 2 ^ bits) 0 inside) ∙ block_named bits d low reach) ∙ none));
+  others = λ k apart. get_or-set_other table.raw_entries i k (d * 2 ^ bits) 0 apart;
+  long = length-set table.raw_entries i (d * 2 ^ bits);
   layout = refl;
   placed = refl;
 }
@@ -126,53 +126,53 @@ module _ {S : Type 0} (state : S → StorageState) (i d : ℕ) (counters : List 
   -- What it does, where these clusters are taken.
   pub record Ends (ready : Type 0) (taken : ℕ → ℕ) (result : Result Unit Fault) (table' : TableValue) (after : StorageState) : Type 0 where
     pub shape : after.shape ≡ (state sC.file.image).shape
-    pub later : Later (state sC.file.image) after
-    pub faults : WasNotCutOff result → IsFaultless (state sC.file.image) after
-    pub quiet : IsTrue (state sC.file.image).shape.keeps → ready → Quietly (WasNotCutOff result) (λ _. 0) taken (state sC.file.image) mC after (record mC { file = bytes_of after.bytes; table = table' })
-    pub raised : IsTrue (state sC.file.image).shape.keeps → IsSound mC → ready → WasNotCutOff result → OnlyRaised mC (record mC { file = bytes_of after.bytes; table = table' })
+    pub counts_not_fallen : CountsNotFallen (state sC.file.image) after
+    pub faults : HadNoResourceError result → IsFaultless (state sC.file.image) after
+    pub guest_unchanged : IsTrue (state sC.file.image).shape.keeps → ready → PreservesGuest (HadNoResourceError result) (λ _. 0) taken (state sC.file.image) mC after (record mC { file = bytes_of after.bytes; table = table' })
+    pub raised : IsTrue (state sC.file.image).shape.keeps → IsSound mC → ready → HadNoResourceError result → OnlyIncremented mC (record mC { file = bytes_of after.bytes; table = table' })
     pub named : NamedAt sC.table i d result table'
     pub cause : MatchResult result (λ _. after.faults ≡ (state sC.file.image).faults) (Cause (state sC.file.image).faults after.faults)
 
-  module _ (ready : Type 0) (taken : ℕ → ℕ) (inside : i < length sC.table.words) (low : 9 ≤ sC.file.header.fields.cluster_bits) (some : d ≢ 0) (reach : IsInReach sC.file.header.fields.cluster_bits d)
-      (written : ready → (mid : StorageState) (done : Result Unit Fault) → BlockPut B (d * cluster_size sC.file.header.fields) (state sC.file.image) mid done → Quietly (done ≡ Ok tt) taken taken (state sC.file.image) mC mid (record mC { file = bytes_of mid.bytes }))
+  module _ (ready : Type 0) (taken : ℕ → ℕ) (inside : i < length sC.table.raw_entries) (low : 9 ≤ sC.file.header.fields.cluster_bits) (some : d ≢ 0) (reach : IsAddressable sC.file.header.fields.cluster_bits d)
+      (written : ready → (mid : StorageState) (done : Result Unit Fault) → BlockPut B (d * cluster_size sC.file.header.fields) (state sC.file.image) mid done → PreservesGuest (done ≡ Ok tt) taken taken (state sC.file.image) mC mid (record mC { file = bytes_of mid.bytes }))
       (named : ready → (modified : Bool) (mid new : StorageState) (done : Result Unit Fault) → done ≡ Ok tt → BlockPut B (d * cluster_size sC.file.header.fields) (state sC.file.image) mid done → (result : Result Unit Fault)
-      → PutAtOnce mid new (table_place (with_word sC.table i (d * cluster_size sC.file.header.fields)) + 8 * i) (to_be_bytes w64 (slice_index (with_word sC.table i (d * cluster_size sC.file.header.fields)).words i)) result
-      → Quietly (result ≡ Ok tt) (λ _. 0) taken (state sC.file.image) mC new (with_block mC i d modified (bytes_of new.bytes))
-      × (IsTrue (state sC.file.image).shape.keeps → IsSound mC → result ≡ Ok tt → OnlyRaised mC (with_block mC i d modified (bytes_of new.bytes)))) where
+      → AtomicWriteOutcome mid new (table_start (with_raw_entry sC.table i (d * cluster_size sC.file.header.fields)) + 8 * i) (to_be_bytes w64 (slice_index (with_raw_entry sC.table i (d * cluster_size sC.file.header.fields)).raw_entries i)) result
+      → PreservesGuest (result ≡ Ok tt) (λ _. 0) taken (state sC.file.image) mC new (with_block mC i d modified (bytes_of new.bytes))
+      × (IsTrue (state sC.file.image).shape.keeps → IsSound mC → result ≡ Ok tt → OnlyIncremented mC (with_block mC i d modified (bytes_of new.bytes)))) where
     stopped-end : (fault : Fault) (mid : StorageState) (done : Result Unit Fault) → done ≡ Err fault → BlockPut B (d * cluster_size sC.file.header.fields) (state sC.file.image) mid done → Ends ready taken (Err fault) sC.table mid
     stopped-end fault mid done is put =
         let cause = put-cause (state sC.file.image) mid (d * cluster_size sC.file.header.fields) put.bytes done put.put.put fault is in
         record {
           shape = put.put.put.shape;
-          later = put.put.put.later;
-          faults = λ mild. absurd (never-mild _ _ fault cause mild);
-          quiet = λ keeps r. let q = written r mid done put in record { shape = q.shape; later = q.later; passes = q.passes; holds = λ k sound mild. absurd (never-mild _ _ fault cause mild) };
-          raised = λ keeps sound r mild. absurd (never-mild _ _ fault cause mild);
+          counts_not_fallen = put.put.put.counts_not_fallen;
+          faults = λ not_resource_error. absurd (never-mild _ _ fault cause not_resource_error);
+          guest_unchanged = λ keeps r. let q = written r mid done put in record { shape = q.shape; counts_not_fallen = q.counts_not_fallen; passes = q.passes; holds = λ k sound not_resource_error. absurd (never-mild _ _ fault cause not_resource_error) };
+          raised = λ keeps sound r not_resource_error. absurd (never-mild _ _ fault cause not_resource_error);
           named = refused-named sC.table i d fault;
           cause = cause;
         }
 
     -- what is known of the answer
-    answer-caused : (result : Result Unit Fault) (old mid new : StorageState) (at : ℕ) (bytes : List ℕ) → mid.faults ≡ old.faults → Put mid new at bytes result → MatchResult result (λ _. new.faults ≡ old.faults) (Cause old.faults new.faults)
+    answer-caused : (result : Result Unit Fault) (old mid new : StorageState) (at : ℕ) (bytes : List ℕ) → mid.faults ≡ old.faults → WriteOutcome mid new at bytes result → MatchResult result (λ _. new.faults ≡ old.faults) (Cause old.faults new.faults)
     answer-caused (Ok done) old mid new at bytes same put = put.answer.faults ∙ same
     answer-caused (Err fault) old mid new at bytes same put = subst (λ n. Cause n new.faults fault) same put.answer.cause
 
     named-end : (modified : Bool) (mid new : StorageState) (done : Result Unit Fault) → done ≡ Ok tt → BlockPut B (d * cluster_size sC.file.header.fields) (state sC.file.image) mid done → (result : Result Unit Fault)
-        → PutAtOnce mid new (table_place (with_word sC.table i (d * cluster_size sC.file.header.fields)) + 8 * i) (to_be_bytes w64 (slice_index (with_word sC.table i (d * cluster_size sC.file.header.fields)).words i)) result
-        → Ends ready taken result (record (with_word sC.table i (d * cluster_size sC.file.header.fields)) { modified = modified }) new
+        → AtomicWriteOutcome mid new (table_start (with_raw_entry sC.table i (d * cluster_size sC.file.header.fields)) + 8 * i) (to_be_bytes w64 (slice_index (with_raw_entry sC.table i (d * cluster_size sC.file.header.fields)).raw_entries i)) result
+        → Ends ready taken result (record (with_raw_entry sC.table i (d * cluster_size sC.file.header.fields)) { modified = modified }) new
     named-end modified mid new done is put result names =
-        let end = λ (whole : WasNotCutOff result). put-done mid new _ _ result names.put whole in
+        let end = λ (whole : HadNoResourceError result). put-done mid new _ _ result names.put whole in
         record {
           shape = names.put.shape ∙ put.put.put.shape;
-          later = later_both (state sC.file.image) mid new put.put.put.later names.put.later;
-          faults = λ whole. faultless-then (put-faultless (state sC.file.image) mid (d * cluster_size sC.file.header.fields) put.bytes done put.put.put (subst (λ (r : Result Unit Fault). WasNotCutOff r) (sym is) tt)) (put-faultless mid new _ _ result names.put whole);
-          quiet = λ keeps r. quietly-weaker (result ≡ Ok tt) (WasNotCutOff result) (λ _. 0) taken (state sC.file.image) mC new (with_block mC i d modified (bytes_of new.bytes)) (λ sound whole. end whole) (named r modified mid new done is put result names).0;
+          counts_not_fallen = later_both (state sC.file.image) mid new put.put.put.counts_not_fallen names.put.counts_not_fallen;
+          faults = λ whole. faultless-then (put-faultless (state sC.file.image) mid (d * cluster_size sC.file.header.fields) put.bytes done put.put.put (subst (λ (r : Result Unit Fault). HadNoResourceError r) (sym is) tt)) (put-faultless mid new _ _ result names.put whole);
+          guest_unchanged = λ keeps r. quietly-weaker (result ≡ Ok tt) (HadNoResourceError result) (λ _. 0) taken (state sC.file.image) mC new (with_block mC i d modified (bytes_of new.bytes)) (λ sound whole. end whole) (named r modified mid new done is put result names).0;
           raised = λ keeps sound r whole. (named r modified mid new done is put result names).1 keeps sound (end whole);
           named = word-named sC.table i d sC.file.header.fields.cluster_bits result modified inside low some reach;
           cause = answer-caused result (state sC.file.image) mid new _ _ (put-faults (state sC.file.image) mid _ _ done put.put.put is) names.put;
         }
 
-    pub ends : (result : Result Unit Fault) (table' : TableValue) (after : StorageState) → NamesWritten sC.table i B (state sC.file.image) result table' after → Ends ready taken result table' after
+    pub ends : (result : Result Unit Fault) (table' : TableValue) (after : StorageState) → LinksWritten sC.table i B (state sC.file.image) result table' after → Ends ready taken result table' after
     ends result table' after n = by-done n.done refl
       where
         by-done : (done : Result Unit Fault) → n.done ≡ done → Ends ready taken result table' after
@@ -204,84 +204,84 @@ module _ {S : Type 0} (state : S → StorageState) (i : ℕ) (image : ImageState
   Holds = IsGuarded state image
 
   abbrev pub Full : ℕ → Type 0
-  Full number = (number ≤ i * counters_of_block image.file.header.fields) × (IsInReach image.file.header.fields.cluster_bits number → ⊥)
+  Full number = (number ≤ i * counters_of_block image.file.header.fields) × (IsAddressable image.file.header.fields.cluster_bits number → ⊥)
 
   -- Nothing was done yet.
   pub begins-none : Begins state image (λ _. 0) image
   begins-none = record {
     shape = refl;
-    later = later_same (state image.file.image);
-    quiet = λ order. memory-quietly ⊤ (λ _. 0) (λ _. 0) (state image.file.image) m0 m0 (λ sound done. (sound, quiet-none m0 sound));
+    counts_not_fallen = later_same (state image.file.image);
+    guest_unchanged = λ order. memory-quietly ⊤ (λ _. 0) (λ _. 0) (state image.file.image) m0 m0 (λ sound done. (sound, quiet-none m0 sound));
     raised = λ order keeps sound c. inl refl;
     faults = (refl, refl);
     header = refl;
     order = refl;
-    loose = λ any loose. loose;
+    keeps_unpinned_room = λ any loose. loose;
     room = record { tables = refl; blocks = refl; entries = refl };
   }
 
   -- What is done next.
   pub record Follows (ok : Type 0) (more : ℕ → ℕ) (C : MetadataCaches S) (fC : ImageFile S) (D : MetadataCaches S) (fD : ImageFile S) : Type 0 where
     pub shape : (state fD.image).shape ≡ (state fC.image).shape
-    pub later : Later (state fC.image) (state fD.image)
+    pub counts_not_fallen : CountsNotFallen (state fC.image) (state fD.image)
     pub faults : ok → IsFaultless (state fC.image) (state fD.image)
-    pub quiet : order_of image.caches ≡ L2DependsOnRb → IsTrue (state image.file.image).shape.keeps → IsSound m0 → IsSound (metadata_of state fC C image.table image.pending)
-        → Quietly ok more (λ _. 0) (state fC.image) (metadata_of state fC C image.table image.pending) (state fD.image) (metadata_of state fD D image.table image.pending)
-    pub raised : order_of image.caches ≡ L2DependsOnRb → IsTrue (state image.file.image).shape.keeps → IsSound m0 → IsSound (metadata_of state fC C image.table image.pending) → ok → OnlyRaised (metadata_of state fC C image.table image.pending) (metadata_of state fD D image.table image.pending)
+    pub guest_unchanged : order_of image.caches ≡ L2DependsOnRb → IsTrue (state image.file.image).shape.keeps → IsSound m0 → IsSound (metadata_of state fC C image.table image.pending)
+        → PreservesGuest ok more (λ _. 0) (state fC.image) (metadata_of state fC C image.table image.pending) (state fD.image) (metadata_of state fD D image.table image.pending)
+    pub raised : order_of image.caches ≡ L2DependsOnRb → IsTrue (state image.file.image).shape.keeps → IsSound m0 → IsSound (metadata_of state fC C image.table image.pending) → ok → OnlyIncremented (metadata_of state fC C image.table image.pending) (metadata_of state fD D image.table image.pending)
     pub stays : StaysLoose image.table C fC D fD
 
-  module _ (handed more : ℕ → ℕ) (C : MetadataCaches S) (fC : ImageFile S) (D : MetadataCaches S) (fD : ImageFile S) (begins : Begins state image handed (lent image.table C fC image.pending)) where
+  module _ (handed more : ℕ → ℕ) (C : MetadataCaches S) (fC : ImageFile S) (D : MetadataCaches S) (fD : ImageFile S) (begins : Begins state image handed (image_state image.table C fC image.pending)) where
     abbrev mB : Metadata
     mB = metadata_of state fC C image.table image.pending
 
     abbrev mD : Metadata
     mD = metadata_of state fD D image.table image.pending
 
-    both-quietly : (ok : Type 0) → Follows ok more C fC D fD → order_of image.caches ≡ L2DependsOnRb → Quietly ok (λ c. handed c + more c) (λ _. 0 + 0) (state image.file.image) m0 (state fD.image) mD
+    both-quietly : (ok : Type 0) → Follows ok more C fC D fD → order_of image.caches ≡ L2DependsOnRb → PreservesGuest ok (λ c. handed c + more c) (λ _. 0 + 0) (state image.file.image) m0 (state fD.image) mD
     both-quietly ok follows order =
-        quietly-given ok (λ c. handed c + more c) (λ _. 0 + 0) (state image.file.image) m0 (state fD.image) mD (follows.shape ∙ begins.shape) (later_both _ _ _ begins.later follows.later)
-        (λ keeps sound. quietly-then-given ⊤ ok handed (λ _. 0) more (λ _. 0) (state image.file.image) m0 (state fC.image) mB (state fD.image) mD tt (λ s c some. refl) (begins.quiet order) follows.shape follows.later
-        (λ k s s1 quiet. follows.quiet order keeps s s1))
+        quietly-given ok (λ c. handed c + more c) (λ _. 0 + 0) (state image.file.image) m0 (state fD.image) mD (follows.shape ∙ begins.shape) (later_both _ _ _ begins.counts_not_fallen follows.counts_not_fallen)
+        (λ keeps sound. quietly-then-given ⊤ ok handed (λ _. 0) more (λ _. 0) (state image.file.image) m0 (state fC.image) mB (state fD.image) mD tt (λ s c some. refl) (begins.guest_unchanged order) follows.shape follows.counts_not_fallen
+        (λ k s s1 guest_unchanged. follows.guest_unchanged order keeps s s1))
 
-    both-raised : (ok : Type 0) → Follows ok more C fC D fD → order_of image.caches ≡ L2DependsOnRb → IsTrue (state image.file.image).shape.keeps → IsSound m0 → ok → OnlyRaised m0 mD
+    both-raised : (ok : Type 0) → Follows ok more C fC D fD → order_of image.caches ≡ L2DependsOnRb → IsTrue (state image.file.image).shape.keeps → IsSound m0 → ok → OnlyIncremented m0 mD
     both-raised ok follows order keeps sound done =
-        raised-then m0 mB mD (begins.raised order keeps sound) (follows.raised order keeps sound ((begins.quiet order).holds keeps sound tt).0 done)
+        raised-then m0 mB mD (begins.raised order keeps sound) (follows.raised order keeps sound ((begins.guest_unchanged order).holds keeps sound tt).0 done)
 
-    pub begins-then : (all : ℕ → ℕ) → ((c : ℕ) → handed c + more c ≡ all c) → Follows ⊤ more C fC D fD → Begins state image all (lent image.table D fD image.pending)
+    pub begins-then : (all : ℕ → ℕ) → ((c : ℕ) → handed c + more c ≡ all c) → Follows ⊤ more C fC D fD → Begins state image all (image_state image.table D fD image.pending)
     begins-then all sum follows = record {
       shape = follows.shape ∙ begins.shape;
-      later = later_both _ _ _ begins.later follows.later;
-      quiet = λ order. quietly-otherwise ⊤ (λ c. handed c + more c) (λ _. 0 + 0) all (λ _. 0) (state image.file.image) m0 (state fD.image) mD (λ s c. let is = sum c in omega (arith, is)) (λ s c used none. omega arith) (both-quietly ⊤ follows order);
+      counts_not_fallen = later_both _ _ _ begins.counts_not_fallen follows.counts_not_fallen;
+      guest_unchanged = λ order. quietly-otherwise ⊤ (λ c. handed c + more c) (λ _. 0 + 0) all (λ _. 0) (state image.file.image) m0 (state fD.image) mD (λ s c. let is = sum c in omega (arith, is)) (λ s c used none. omega arith) (both-quietly ⊤ follows order);
       raised = λ order keeps sound. both-raised ⊤ follows order keeps sound tt;
       faults = faultless-then begins.faults (follows.faults tt);
       header = follows.stays.header ∙ begins.header;
       order = follows.stays.order ∙ begins.order;
-      loose = λ any loose. follows.stays.loose any (begins.loose any loose);
+      keeps_unpinned_room = λ any loose. follows.stays.loose any (begins.keeps_unpinned_room any loose);
       room = record { tables = follows.stays.room.tables ∙ begins.room.tables; blocks = follows.stays.room.blocks ∙ begins.room.blocks; entries = follows.stays.room.entries ∙ begins.room.entries };
     }
 
     -- It is refused, and wasn't cut off only where nothing was handed out.
-    pub begins-refused : (fault : Fault) → Follows (WasNotCutOff (failed fault)) more C fC D fD
-        → (order_of image.caches ≡ L2DependsOnRb → IsTrue (state image.file.image).shape.keeps → IsSound m0 → WasNotCutOff (failed fault) → (c : ℕ) → handed c + more c ≡ 0)
-        → HasCause (allocating_causes Holds (IsLoose image.table image.caches) Full (state image.file.image).faults (state fD.image).faults) fault → MakesBlock state i image (Err fault) (lent image.table D fD image.pending)
+    pub begins-refused : (fault : Fault) → Follows (HadNoResourceError (failed fault)) more C fC D fD
+        → (order_of image.caches ≡ L2DependsOnRb → IsTrue (state image.file.image).shape.keeps → IsSound m0 → HadNoResourceError (failed fault) → (c : ℕ) → handed c + more c ≡ 0)
+        → HasCause (allocating_causes Holds (HasUnpinnedRoom image.table image.caches) Full (state image.file.image).faults (state fD.image).faults) fault → MakesBlock state i image (Err fault) (image_state image.table D fD image.pending)
     begins-refused fault follows none why = record {
       step = record {
         faults = λ whole. faultless-then begins.faults (follows.faults whole);
-        quiet = λ order.
-            let q = both-quietly (WasNotCutOff (failed fault)) follows order in
+        guest_unchanged = λ order.
+            let q = both-quietly (HadNoResourceError (failed fault)) follows order in
             record {
               shape = q.shape;
-              later = q.later;
+              counts_not_fallen = q.counts_not_fallen;
               passes = q.passes;
               holds = λ keeps sound whole.
                   let all = q.holds keeps sound whole in
                   (all.0, quiet-otherwise m0 mD (λ c. handed c + more c) (λ _. 0 + 0) (λ _. 0) (λ _. 0) (λ c. let zero = none order keeps sound whole c in omega (arith, zero)) (λ c used zero. omega arith) all.1);
             };
-        raised = λ order keeps sound whole. both-raised (WasNotCutOff (failed fault)) follows order keeps sound whole;
+        raised = λ order keeps sound whole. both-raised (HadNoResourceError (failed fault)) follows order keeps sound whole;
         order = follows.stays.order ∙ begins.order;
         moved = moved-none image.file.header fD.header (follows.stays.header ∙ begins.header);
         longer = omega arith;
-        loose = λ any loose. follows.stays.loose any (begins.loose any loose);
+        keeps_unpinned_room = λ any loose. follows.stays.loose any (begins.keeps_unpinned_room any loose);
         room = record { tables = follows.stays.room.tables ∙ begins.room.tables; blocks = follows.stays.room.blocks ∙ begins.room.blocks; entries = follows.stays.room.entries ∙ begins.room.entries };
       };
       named = tt;
@@ -294,98 +294,98 @@ module _ {S : Type 0} (state : S → StorageState) (i : ℕ) (image : ImageState
     }
 
   -- It is refused before anything was handed out, and changes nothing more,
-  module _ (C : MetadataCaches S) (fC : ImageFile S) (begins : Begins state image (λ _. 0) (lent image.table C fC image.pending)) where
+  module _ (C : MetadataCaches S) (fC : ImageFile S) (begins : Begins state image (λ _. 0) (image_state image.table C fC image.pending)) where
     abbrev mU : Metadata
     mU = metadata_of state fC C image.table image.pending
 
-    pub unmade : (fault : Fault) → HasCause (allocating_causes Holds (IsLoose image.table image.caches) Full (state image.file.image).faults (state image.file.image).faults) fault → MakesBlock state i image (Err fault) (lent image.table C fC image.pending)
+    pub unmade : (fault : Fault) → HasCause (allocating_causes Holds (HasUnpinnedRoom image.table image.caches) Full (state image.file.image).faults (state image.file.image).faults) fault → MakesBlock state i image (Err fault) (image_state image.table C fC image.pending)
     unmade fault why =
         begins-refused (λ _. 0) (λ _. 0) C fC C fC begins fault
         (record {
           shape = refl;
-          later = later_same (state fC.image);
+          counts_not_fallen = later_same (state fC.image);
           faults = λ whole. (refl, refl);
-          quiet = λ order keeps sound s. memory-quietly (WasNotCutOff (failed fault)) (λ _. 0) (λ _. 0) (state fC.image) mU mU (λ s' whole. (s', quiet-none mU s'));
+          guest_unchanged = λ order keeps sound s. memory-quietly (HadNoResourceError (failed fault)) (λ _. 0) (λ _. 0) (state fC.image) mU mU (λ s' whole. (s', quiet-none mU s'));
           raised = λ order keeps sound s whole c. inl refl;
           stays = record { header = refl; order = refl; loose = λ any loose. loose; room = record { tables = refl; blocks = refl; entries = refl } };
         })
         (λ order keeps sound whole c. omega arith)
-        (subst (λ n. HasCause (allocating_causes Holds (IsLoose image.table image.caches) Full (state image.file.image).faults n) fault) (sym begins.faults.0) why)
+        (subst (λ n. HasCause (allocating_causes Holds (HasUnpinnedRoom image.table image.caches) Full (state image.file.image).faults n) fault) (sym begins.faults.0) why)
 
     -- for want of memory,
-    pub unmade-memory : (fault : Fault) → fault ≡ Memory → MakesBlock state i image (Err fault) (lent image.table C fC image.pending)
-    unmade-memory fault is = unmade fault (subst (λ (f : Fault). HasCause (allocating_causes Holds (IsLoose image.table image.caches) Full (state image.file.image).faults (state image.file.image).faults) f) (sym is) tt)
+    pub unmade-memory : (fault : Fault) → fault ≡ Memory → MakesBlock state i image (Err fault) (image_state image.table C fC image.pending)
+    unmade-memory fault is = unmade fault (subst (λ (f : Fault). HasCause (allocating_causes Holds (HasUnpinnedRoom image.table image.caches) Full (state image.file.image).faults (state image.file.image).faults) f) (sym is) tt)
 
     -- for a cluster that no word can name,
-    pub unmade-place : (d : ℕ) (fault : Fault) → d ≤ i * counters_of_block fC.header.fields → (Holds → d ≢ 0) → HasCause (naming_causes image.table fC.header.fields.cluster_bits d) fault → MakesBlock state i image (Err fault) (lent image.table C fC image.pending)
-    unmade-place d fault low some why = unmade fault (bare-weaker _ (λ cannot holds. cannot (can-name mU ((begins.quiet holds.1).holds holds.0 holds.2 tt).0 d (some holds)))
+    pub unmade-place : (d : ℕ) (fault : Fault) → d ≤ i * counters_of_block fC.header.fields → (Holds → d ≢ 0) → HasCause (naming_causes image.table fC.header.fields.cluster_bits d) fault → MakesBlock state i image (Err fault) (image_state image.table C fC image.pending)
+    unmade-place d fault low some why = unmade fault (bare-weaker _ (λ cannot holds. cannot (can-name mU ((begins.guest_unchanged holds.1).holds holds.0 holds.2 tt).0 d (some holds)))
         (λ number far. (
-          subst (λ (h : Header). (number ≤ i * counters_of_block h.fields) × (IsInReach h.fields.cluster_bits number → ⊥)) begins.header
-              (let is = far.1 in omega (arith, is, low), λ near. far.0 (subst (λ n. IsInReach fC.header.fields.cluster_bits n) far.1 near)),
+          subst (λ (h : Header). (number ≤ i * counters_of_block h.fields) × (IsAddressable h.fields.cluster_bits number → ⊥)) begins.header
+              (let is = far.1 in omega (arith, is, low), λ near. far.0 (subst (λ n. IsAddressable fC.header.fields.cluster_bits n) far.1 near)),
           refl,
         )) fault why)
 
     -- and where a block is pinned in a cluster that nothing names.
-    pub unforgotten : (d : ℕ) (fault : Fault) (new : MetadataCaches S) → (Holds → named_at_all mU d ≡ 0) → (fault ≡ CacheFull) × IsSomeAnd (lookup (nat_eq d) (cached_in C).blocks) (λ s. 0 < s.pins) × (new ≡ C) → MakesBlock state i image (Err fault) (lent image.table new fC image.pending)
-    unforgotten d fault new unnamed (is, pinned, same) =
-        subst (λ (c : MetadataCaches S). MakesBlock state i image (Err fault) (lent image.table c fC image.pending)) (sym same)
-        (unmade fault (subst (λ (f : Fault). HasCause (allocating_causes Holds (IsLoose image.table image.caches) Full (state image.file.image).faults (state image.file.image).faults) f) (sym is)
-        (λ u. let there = (begins.loose u.0 u.2).named d (pinned-there d (cached_in C).blocks pinned) in let holds = u.1 there.0 in
-        never-unnamed mU ((begins.quiet holds.1).holds holds.0 holds.2 tt).0 d (unnamed holds) there.1)))
+    pub unforgotten : (d : ℕ) (fault : Fault) (new : MetadataCaches S) → (Holds → referenced_at_all mU d ≡ 0) → (fault ≡ CacheFull) × IsSomeAnd (lookup (nat_eq d) (cached_in C).blocks) (λ s. 0 < s.pins) × (new ≡ C) → MakesBlock state i image (Err fault) (image_state image.table new fC image.pending)
+    unforgotten d fault new not_referenced (is, pinned, same) =
+        subst (λ (c : MetadataCaches S). MakesBlock state i image (Err fault) (image_state image.table c fC image.pending)) (sym same)
+        (unmade fault (subst (λ (f : Fault). HasCause (allocating_causes Holds (HasUnpinnedRoom image.table image.caches) Full (state image.file.image).faults (state image.file.image).faults) f) (sym is)
+        (λ u. let there = (begins.keeps_unpinned_room u.0 u.2).named d (pinned-there d (cached_in C).blocks pinned) in let holds = u.1 there.0 in
+        never-unnamed mU ((begins.guest_unchanged holds.1).holds holds.0 holds.2 tt).0 d (not_referenced holds) there.1)))
 
   -- What makes a block from there on makes it in all.
-  pub begins-makes : (C : MetadataCaches S) (fC : ImageFile S) → Begins state image (λ _. 0) (lent image.table C fC image.pending) → (result : Result Unit Fault) (table' : TableValue) (new : MetadataCaches S) (after : ImageFile S)
-      → MakesBlock state i (lent image.table C fC image.pending) result (lent table' new after image.pending) → MakesBlock state i image result (lent table' new after image.pending)
+  pub begins-makes : (C : MetadataCaches S) (fC : ImageFile S) → Begins state image (λ _. 0) (image_state image.table C fC image.pending) → (result : Result Unit Fault) (table' : TableValue) (new : MetadataCaches S) (after : ImageFile S)
+      → MakesBlock state i (image_state image.table C fC image.pending) result (image_state table' new after image.pending) → MakesBlock state i image result (image_state table' new after image.pending)
   begins-makes C fC begins result table' new after makes = record {
-    step = allocating-then state ⊤ (WasNotCutOff result) (λ _. 0) (λ _. 0) image (lent image.table C fC image.pending) (lent table' new after image.pending) tt begun makes.step;
+    step = allocating-then state ⊤ (HadNoResourceError result) (λ _. 0) (λ _. 0) image (image_state image.table C fC image.pending) (image_state table' new after image.pending) tt begun makes.step;
     named = makes.named;
     others = makes.others;
     long = makes.long;
     layout = makes.layout;
     placed = makes.placed;
     header = makes.header ∙ begins.header;
-    cause = fails-weaker _ _ (allocating-weaker (λ holds. (keeps_on (state image.file.image) (state fC.image) begins.shape holds.0, begins.order ∙ holds.1, ((begins.quiet holds.1).holds holds.0 holds.2 tt).0)) begins.loose
-        (λ number full. subst (λ (h : Header). (number ≤ i * counters_of_block h.fields) × (IsInReach h.fields.cluster_bits number → ⊥)) begins.header full) begins.faults.0) (λ same. same ∙ begins.faults.0) result makes.cause;
+    cause = fails-weaker _ _ (allocating-weaker (λ holds. (keeps_on (state image.file.image) (state fC.image) begins.shape holds.0, begins.order ∙ holds.1, ((begins.guest_unchanged holds.1).holds holds.0 holds.2 tt).0)) begins.keeps_unpinned_room
+        (λ number full. subst (λ (h : Header). (number ≤ i * counters_of_block h.fields) × (IsAddressable h.fields.cluster_bits number → ⊥)) begins.header full) begins.faults.0) (λ same. same ∙ begins.faults.0) result makes.cause;
   }
     where
-      begun : Allocating state ⊤ (λ _. 0) image (lent image.table C fC image.pending)
+      begun : Allocating state ⊤ (λ _. 0) image (image_state image.table C fC image.pending)
       begun = record {
         faults = λ done. begins.faults;
-        quiet = begins.quiet;
+        guest_unchanged = begins.guest_unchanged;
         raised = λ order keeps sound done. begins.raised order keeps sound;
         order = begins.order;
         moved = moved-none image.file.header fC.header begins.header;
         longer = omega arith;
-        loose = begins.loose;
+        keeps_unpinned_room = begins.keeps_unpinned_room;
         room = begins.room;
       }
 
   -- Begin and end.
-  module _ (both : ℕ → ℕ) (ready : Type 0) (d : ℕ) (counters : List ℕ) (C : MetadataCaches S) (fC : ImageFile S) (begins : Begins state image both (lent image.table C fC image.pending))
+  module _ (both : ℕ → ℕ) (ready : Type 0) (d : ℕ) (counters : List ℕ) (C : MetadataCaches S) (fC : ImageFile S) (begins : Begins state image both (image_state image.table C fC image.pending))
       (unused : order_of image.caches ≡ L2DependsOnRb → IsTrue (state image.file.image).shape.keeps → IsSound m0 → (c : ℕ) → IsUsed m0 c → both c ≡ 0)
       (from : order_of image.caches ≡ L2DependsOnRb → IsTrue (state image.file.image).shape.keeps → IsSound m0 → IsSound (metadata_of state fC C image.table image.pending) → ready) where
     abbrev m1 : Metadata
     m1 = metadata_of state fC C image.table image.pending
 
-    pub made : block_offset (slice_index image.table.words i) ≡ 0 → (result : Result Unit Fault) (table' : TableValue) (after : ImageFile S) → after.header ≡ fC.header → Ends state i d counters (lent image.table C fC image.pending) ready both result table' (state after.image)
-        → MakesBlock state i image result (lent table' C after image.pending)
+    pub made : block_offset (slice_index image.table.raw_entries i) ≡ 0 → (result : Result Unit Fault) (table' : TableValue) (after : ImageFile S) → after.header ≡ fC.header → Ends state i d counters (image_state image.table C fC image.pending) ready both result table' (state after.image)
+        → MakesBlock state i image result (image_state table' C after image.pending)
     made empty result table' after header ends = record {
       step = record {
         faults = λ whole. faultless-then begins.faults (ends.faults whole);
-        quiet = λ order.
-            quietly-given (WasNotCutOff result) (λ _. 0) (λ _. 0) (state image.file.image) m0 (state after.image) (metadata_of state after C table' image.pending) (ends.shape ∙ begins.shape) (later_both _ _ _ begins.later ends.later) (λ keeps sound.
-            quietly-otherwise (WasNotCutOff result) (λ c. both c + 0) (λ c. 0 + both c) (λ _. 0) (λ _. 0) (state image.file.image) m0 (state after.image) (metadata_of state after C table' image.pending) (λ s c. omega arith)
+        guest_unchanged = λ order.
+            quietly-given (HadNoResourceError result) (λ _. 0) (λ _. 0) (state image.file.image) m0 (state after.image) (metadata_of state after C table' image.pending) (ends.shape ∙ begins.shape) (later_both _ _ _ begins.counts_not_fallen ends.counts_not_fallen) (λ keeps sound.
+            quietly-otherwise (HadNoResourceError result) (λ c. both c + 0) (λ c. 0 + both c) (λ _. 0) (λ _. 0) (state image.file.image) m0 (state after.image) (metadata_of state after C table' image.pending) (λ s c. omega arith)
             (λ s c used none. let no = unused order keeps s c used in omega (arith, no))
-            (there (λ m. Quietly (WasNotCutOff result) (λ c. both c + 0) (λ c. 0 + both c) (state image.file.image) m0 (state after.image) m)
-            (quietly-then-given ⊤ (WasNotCutOff result) both (λ _. 0) (λ _. 0) both (state image.file.image) m0 (state fC.image) m1 (state after.image) (ended m1.header) tt (λ s c some. refl) (begins.quiet order) ends.shape ends.later
-            (λ k s s1 quiet. ends.quiet (on keeps) (from order keeps s s1)))));
+            (there (λ m. PreservesGuest (HadNoResourceError result) (λ c. both c + 0) (λ c. 0 + both c) (state image.file.image) m0 (state after.image) m)
+            (quietly-then-given ⊤ (HadNoResourceError result) both (λ _. 0) (λ _. 0) both (state image.file.image) m0 (state fC.image) m1 (state after.image) (ended m1.header) tt (λ s c some. refl) (begins.guest_unchanged order) ends.shape ends.counts_not_fallen
+            (λ k s s1 guest_unchanged. ends.guest_unchanged (on keeps) (from order keeps s s1)))));
         raised = λ order keeps sound whole.
-            let s1 = ((begins.quiet order).holds keeps sound tt).0 in
-            there (λ m. OnlyRaised m0 m) (raised-then m0 m1 (ended m1.header) (begins.raised order keeps sound) (ends.raised (on keeps) s1 (from order keeps sound s1) whole));
+            let s1 = ((begins.guest_unchanged order).holds keeps sound tt).0 in
+            there (λ m. OnlyIncremented m0 m) (raised-then m0 m1 (ended m1.header) (begins.raised order keeps sound) (ends.raised (on keeps) s1 (from order keeps sound s1) whole));
         order = begins.order;
         moved = moved-none image.file.header after.header (header ∙ begins.header);
         longer = let long = ends.named.long in omega (arith, long);
-        loose = λ any loose. loose-named image.table table' C kept any (begins.loose any loose);
+        keeps_unpinned_room = λ any loose. loose-named image.table table' C kept any (begins.keeps_unpinned_room any loose);
         room = begins.room;
       };
       named = ends.named.named;
@@ -394,11 +394,11 @@ module _ {S : Type 0} (state : S → StorageState) (i : ℕ) (image : ImageState
       layout = ends.named.layout;
       placed = ends.named.placed;
       header = header ∙ begins.header;
-      cause = let same = begins.faults.0 in storage-fails _ _ _ (omega (arith, same)) (omega arith) (λ still. still ∙ same) result ends.cause;
+      cause = let same = begins.faults.0 in storage-fails _ _ _ (omega (arith, same)) (omega arith) (λ has_no_dirty_data. has_no_dirty_data ∙ same) result ends.cause;
     }
       where
-        kept : (k key : ℕ) → named_block image.table k ≡ Some key → named_block table' k ≡ Some key
-        kept k key = name-kept image.table table' k key (ap (λ (l : Layout). l.cluster_bits) ends.named.layout) (λ some. ap block_offset (ends.named.others k (λ here. some (subst (λ n. block_offset (slice_index image.table.words n) ≡ 0) (sym here) empty))))
+        kept : (k key : ℕ) → referenced_block image.table k ≡ Some key → referenced_block table' k ≡ Some key
+        kept k key = name-kept image.table table' k key (ap (λ (l : Layout). l.cluster_bits) ends.named.layout) (λ some. ap block_offset (ends.named.others k (λ here. some (subst (λ n. block_offset (slice_index image.table.raw_entries n) ≡ 0) (sym here) empty))))
 
         ended : Header → Metadata
         ended h = record { file = bytes_of (state after.image).bytes; header = h; cached = cached_in C; order = order_of C; table = table'; pending = image.pending }

@@ -6,7 +6,7 @@ use Rattle.std.proofs.lemmas.Bool.{cases_eq}
 use Rattle.std.proofs.lemmas.List.{get_or-set_same, get_or-set_other, length-set}
 use Rattle.std.proofs.lemmas.Nat.{mod_below, pow_pos}
 use Rattle.imago_storage.specs.State.{StorageState}
-use Rattle.imago_storage.specs.Through.{PutAtOnce}
+use Rattle.imago_storage.specs.Through.{AtomicWriteOutcome}
 use Rattle.imago_storage.specs.declared.fault.Fault.{Fault}
 use Rattle.qcow2_types.specs.Bytes.{Bytes, bytes_of, splice}
 use Rattle.qcow2_types.specs.Words.{Mapping, Layout, max_offset, block_offset}
@@ -27,19 +27,19 @@ use Rattle.qcow2_types.proofs.Fields.HeaderLimits.{header-limited}
 use Rattle.qcow2_types.proofs.Counting.Parts.{refcount_table}
 use Rattle.qcow2_types.proofs.Changes.WriteBack.{place-whole}
 use Rattle.qcow2_metadata.specs.Places.{place_of}
-use Rattle.qcow2_metadata.specs.Tables.{TableValue, with_word, table_place}
+use Rattle.qcow2_metadata.specs.Tables.{TableValue, with_raw_entry, table_start}
 use Rattle.qcow2_metadata.specs.Blocks.{Block, counters_in}
 use Rattle.qcow2_metadata.proofs.TableSteps.{block_named, block_word_named}
-use Rattle.qcow2_alloc.specs.Safety.{Safe, IsCachedBlock}
-use Rattle.qcow2_alloc.specs.MakingRoom.{IsReadyBlock, BlockNamed, with_block}
-use Rattle.qcow2_alloc.specs.Quiet.{IsTableOf, Metadata, in_memory, counted, referenced, named_at_all, waiting, one_at, IsSound, IsQuiet, ShowsEither, IsIn, Quietly}
-use Rattle.qcow2_alloc.proofs.Quiet.SingleRequests.{at-once-quietly, at-once-file}
+use Rattle.qcow2_alloc.specs.WellFormedness.{WellFormed, IsCachedBlock}
+use Rattle.qcow2_alloc.specs.MakingRoom.{IsReadyBlock, BlockLinked, with_block}
+use Rattle.qcow2_alloc.specs.GuestView.{IsTableOf, Metadata, in_memory, counted, referenced, referenced_at_all, waiting, one_at, IsSound, GuestUnchanged, ShowsEither, IsIn, PreservesGuest}
+use Rattle.qcow2_alloc.proofs.GuestView.SingleRequests.{at-once-quietly, at-once-file}
 use Rattle.qcow2_alloc.proofs.Memory.MemoryImage.{safe-memory}
 use Rattle.qcow2_alloc.proofs.Memory.MemoryWords.{places-in-memory}
 use Rattle.qcow2_alloc.proofs.Memory.Patches.{all-weaker, all-both, place-there, places-differ, shaped-in}
-use Rattle.qcow2_alloc.proofs.Quiet.QuietCounters.{here-one, away-none}
-use Rattle.qcow2_alloc.proofs.Quiet.QuietEntries.{metadata-among}
-use Rattle.qcow2_alloc.proofs.Quiet.ShownDisks.{from-start, mapping-meets, in-cluster, memory-same}
+use Rattle.qcow2_alloc.proofs.GuestView.QuietCounters.{here-one, away-none}
+use Rattle.qcow2_alloc.proofs.GuestView.QuietEntries.{metadata-among}
+use Rattle.qcow2_alloc.proofs.GuestView.ShownDisks.{from-start, mapping-meets, in-cluster, memory-same}
 use Rattle.qcow2_alloc.proofs.Memory.StructureWrites.{memory-beside, unmet-stays}
 use Rattle.qcow2_alloc.proofs.Memory.FittingWords.{table-fits, counters-same}
 use Rattle.qcow2_alloc.proofs.Memory.KeptWords.{word-contents, structure-named, named-more, copied-stays, ordered-still, block-fits}
@@ -79,16 +79,16 @@ module _ (m : Metadata) (i d : ℕ) (modified : Bool) (sound : IsSound m) (ready
   m' = with_block m i d modified x
 
   places : SamePlaces f g h
-  places = places-in-memory m.file m.header sound.safe.consistent m.cached sound.safe.tables sound.safe.blocks
+  places = places-in-memory m.file m.header sound.well_formed.consistent m.cached sound.well_formed.tables sound.well_formed.blocks
 
   shaped : Shaped h
-  shaped = shaped-in m.file m.header sound.safe.consistent
+  shaped = shaped-in m.file m.header sound.well_formed.consistent
 
   empty : block_at f h i ≡ 0
   empty = sym (sound.table.names i ready.inside) ∙ ready.empty
 
   there : w ≢ 0
-  there = place-there (cluster_size h) d (pow_pos h.cluster_bits) ready.some
+  there = place-there (cluster_size h) d (pow_pos h.cluster_bits) ready.cluster_nonzero
 
   small : w < 2 ^ 64
   small = let near : w ≤ max_offset = ready.reach in omega (arith, near)
@@ -100,28 +100,28 @@ module _ (m : Metadata) (i d : ℕ) (modified : Bool) (sound : IsSound m) (ready
   out = splice-is-outside f at (to_be_bytes w64 w)
 
   memory-is : in_memory m' ≡ splice g at (to_be_bytes w64 w)
-  memory-is = memory-beside m.file m.header sound.safe.consistent m.cached sound.safe.tables sound.safe.blocks refcount_table tt refl h.refcount_table_offset (h.refcount_table_clusters * cluster_size h) (λ v. refl)
+  memory-is = memory-beside m.file m.header sound.well_formed.consistent m.cached sound.well_formed.tables sound.well_formed.blocks refcount_table tt refl h.refcount_table_offset (h.refcount_table_clusters * cluster_size h) (λ v. refl)
       at (to_be_bytes w64 w) (omega arith) (omega arith) (omega (arith, fits))
 
   -- The block's bytes are in memory what they are in the file.
   unstructured : structure f h (meets h d) ≡ 0
-  unstructured = let none = ready.unnamed in let le = structure-named f g h d in omega (arith, none, le)
+  unstructured = let none = ready.not_referenced in let le = structure-named f g h d in omega (arith, none, le)
 
   counters-there : (c : ℕ) → c / counters_of_block h ≡ i → counter g h w (c % counters_of_block h) ≡ one_at d c
   counters-there c own =
       let some : 0 < counters_of_block h = some-counters h shaped in
-      counter-same f g h w (memory-same m.file m.header d unstructured sound.safe.consistent m.cached m.order sound.safe) (c % counters_of_block h) (mod_below c (counters_of_block h) some) ∙ ready.counters c own
+      counter-same f g h w (memory-same m.file m.header d unstructured sound.well_formed.consistent m.cached m.order sound.well_formed) (c % counters_of_block h) (mod_below c (counters_of_block h) some) ∙ ready.counters c own
 
   in-file : BlockEntered f x m.header i d w
-  in-file = block-entered-spliced f m.header sound.safe.consistent i ready.inside empty w small (block_word_named h.cluster_bits (Some d) shaped.low ready.reach) d w (block_named h.cluster_bits d shaped.low ready.reach) there refl
-      (let none = ready.unnamed in let le = refs-file f g h d in omega (arith, none, le)) (λ apart. (ready.counted apart).0)
+  in-file = block-entered-spliced f m.header sound.well_formed.consistent i ready.inside empty w small (block_word_named h.cluster_bits (Some d) shaped.low ready.reach) d w (block_named h.cluster_bits d shaped.low ready.reach) there refl
+      (let none = ready.not_referenced in let le = refs-file f g h d in omega (arith, none, le)) (λ apart. (ready.counted apart).0)
       (λ own. let is = ready.counters d own in let one = here-one d in omega (arith, is, one))
 
   over-there : BlockEntered g (in_memory m') m.header i d w
   over-there = subst (λ (y : Bytes). BlockEntered g y m.header i d w) (sym memory-is)
-      (block-entered-spliced g m.header (safe-memory m.file m.header m.cached m.order sound.safe) i ready.inside (places.blocks i ∙ empty) w small (block_word_named h.cluster_bits (Some d) shaped.low ready.reach) d w
+      (block-entered-spliced g m.header (safe-memory m.file m.header m.cached m.order sound.well_formed) i ready.inside (places.blocks i ∙ empty) w small (block_word_named h.cluster_bits (Some d) shaped.low ready.reach) d w
       (block_named h.cluster_bits d shaped.low ready.reach) there refl
-      (let none = ready.unnamed in let le = refs-cached f g h d places in omega (arith, none, le)) (λ apart. (ready.counted apart).1)
+      (let none = ready.not_referenced in let le = refs-cached f g h d places in omega (arith, none, le)) (λ apart. (ready.counted apart).1)
       (λ own. let is = counters-there d own in let one = here-one d in omega (arith, is, one)))
 
   words-there : (k j : ℕ) → Live (l2_table f h) h k j → slot (in_memory m') h k j ≡ slot g h k j
@@ -130,7 +130,7 @@ module _ (m : Metadata) (i d : ℕ) (modified : Bool) (sound : IsSound m) (ready
   structure-more : (c : ℕ) → structure x h (meets h c) ≡ structure f h (meets h c) + one_at d c
   structure-more c = in-file.structure (meets h c) ∙ ap (λ n. structure f h (meets h c) + n) (meets-one h c d)
 
-  names-more : (c : ℕ) → named_at_all m' c ≡ named_at_all m c + one_at d c
+  names-more : (c : ℕ) → referenced_at_all m' c ≡ referenced_at_all m c + one_at d c
   names-more c =
       let more = structure-more c in
       let all = named-more f g x (in_memory m') h h.refcount_table_offset h.refcount_table_clusters in-file.tables in-file.slots words-there c 0 (one_at d c) (omega (arith, more)) in
@@ -142,7 +142,7 @@ module _ (m : Metadata) (i d : ℕ) (modified : Bool) (sound : IsSound m) (ready
   references-more : (c : ℕ) → referenced m' c ≡ referenced m c + one_at d c
   references-more c = elim (cases_eq c d) [
     | inl same ↦ subst (λ k. referenced m' k ≡ referenced m k + one_at d k) (sym same) (
-        let none = ready.unnamed in
+        let none = ready.not_referenced in
         let le = refs-cached f g h d places in
         let once = over-there.named_once in
         let one = here-one d in
@@ -151,9 +151,9 @@ module _ (m : Metadata) (i d : ℕ) (modified : Bool) (sound : IsSound m) (ready
   ]
 
   -- Either a cluster is another, or it is the block's.
-  which : (c : ℕ) → (one_at d c ≡ 0) ⊎ ((one_at d c ≡ 1) × (named_at_all m c ≡ 0) × (waiting m c ≡ 0))
+  which : (c : ℕ) → (one_at d c ≡ 0) ⊎ ((one_at d c ≡ 1) × (referenced_at_all m c ≡ 0) × (waiting m c ≡ 0))
   which c = elim (cases_eq c d) [
-    | inl same ↦ inr (subst (λ k. (one_at d k ≡ 1) × (named_at_all m k ≡ 0) × (waiting m k ≡ 0)) (sym same) (here-one d, ready.unnamed, ready.unlisted))
+    | inl same ↦ inr (subst (λ k. (one_at d k ≡ 1) × (referenced_at_all m k ≡ 0) × (waiting m k ≡ 0)) (sym same) (here-one d, ready.not_referenced, ready.unlisted))
     | inr apart ↦ inl (away-none d c apart)
   ]
 
@@ -174,7 +174,7 @@ module _ (m : Metadata) (i d : ℕ) (modified : Bool) (sound : IsSound m) (ready
     | inr away ↦ let none = away-none d c away in (omega (arith, none), omega (arith, none))
   ]
 
-  names-counted : (c : ℕ) → named_at_all m c ≤ counted m c → named_at_all m' c ≤ counted m' c
+  names-counted : (c : ℕ) → referenced_at_all m c ≤ counted m c → referenced_at_all m' c ≤ counted m' c
   names-counted c le =
       let more = names-more c in
       elim (cases_eq (c / counters_of_block h) i) [
@@ -185,7 +185,7 @@ module _ (m : Metadata) (i d : ℕ) (modified : Bool) (sound : IsSound m) (ready
         ]
       ]
 
-  names-counted-there : (c : ℕ) → named_at_all m c ≤ count f h c → named_at_all m' c ≤ count x h c
+  names-counted-there : (c : ℕ) → referenced_at_all m c ≤ count f h c → referenced_at_all m' c ≤ count x h c
   names-counted-there c le =
       let more = names-more c in
       elim (cases_eq (c / counters_of_block h) i) [
@@ -219,43 +219,43 @@ module _ (m : Metadata) (i d : ℕ) (modified : Bool) (sound : IsSound m) (ready
         | inl new ↦
             let here : cluster ≡ d = same-cluster cluster d (sym live.2 ∙ ap (block_at x h) new ∙ in-file.here) in
             fresh here ∙ sym (subst (λ k. counters_in x h (k * cluster_size h) ≡ counters_in f h (d * cluster_size h)) (sym here)
-            (counters-same f x h w (in-file.free d (let none = ready.unnamed in let le = refs-file f g h d in omega (arith, none, le)))))
+            (counters-same f x h w (in-file.free d (let none = ready.not_referenced in let le = refs-file f g h d in omega (arith, none, le)))))
         | inr old ↦
             let place : block_at f h live.0 ≡ cluster * cluster_size h = sym (in-file.blocks live.0 old) ∙ live.2 in
             let some : block_at f h live.0 ≢ 0 = λ none. place-there (cluster_size h) cluster (pow_pos h.cluster_bits) live.3 (sym place ∙ none) in
             is.clean clean (live.0, live.1, place, live.3)
-            ∙ sym (counters-same f x h (cluster * cluster_size h) (subst (λ p. Same f x p (cluster_size h)) place (in-file.kept.counters live.0 live.1 some (λ e. cc))))
+            ∙ sym (counters-same f x h (cluster * cluster_size h) (subst (λ p. Same f x p (cluster_size h)) place (in-file.same_structure_outside.counters live.0 live.1 some (λ e. cc))))
       ])
       is
 
-  safe-still : Safe x m.header m.cached m.order
+  safe-still : WellFormed x m.header m.cached m.order
   safe-still = record {
     consistent = in-file.consistent;
-    tables_apart = sound.safe.tables_apart;
-    blocks_apart = sound.safe.blocks_apart;
-    tables = all-weaker _ _ (λ e is. table-fits f x h h.refcount_table_offset h.refcount_table_clusters in-file.tables e.0 (λ k j at live. in-file.kept.words k j live (λ e. cc)) e.1.value is) m.cached.tables sound.safe.tables;
-    blocks = all-weaker _ _ (λ e both. block-still e.0 e.1.value both.1 both.0) m.cached.blocks (all-both _ _ m.cached.blocks sound.safe.blocks ready.cached);
+    tables_apart = sound.well_formed.tables_apart;
+    blocks_apart = sound.well_formed.blocks_apart;
+    tables = all-weaker _ _ (λ e is. table-fits f x h h.refcount_table_offset h.refcount_table_clusters in-file.tables e.0 (λ k j at live. in-file.same_structure_outside.raw_entries k j live (λ e. cc)) e.1.value is) m.cached.tables sound.well_formed.tables;
+    blocks = all-weaker _ _ (λ e both. block-still e.0 e.1.value both.1 both.0) m.cached.blocks (all-both _ _ m.cached.blocks sound.well_formed.blocks ready.cached);
     apart = λ c some.
         let base = structure-more c in
         let marks = copied-same c in
         let names = names-more c in
         elim (which c) [
-          | inl none ↦ let one = sound.safe.apart c (omega (arith, base, marks, some, none)) in omega (arith, names, one, none)
+          | inl none ↦ let one = sound.well_formed.apart c (omega (arith, base, marks, some, none)) in omega (arith, names, one, none)
           | inr one ↦ omega (arith, names, one.0, one.1)
         ];
-    ordered = ordered-still f g x (in_memory m') h h names-counted names-counted-there (λ c. named-counted x m.header in-file.consistent c) lowered-still m.order sound.safe.ordered;
+    ordered = ordered-still f g x (in_memory m') h h names-counted names-counted-there (λ c. named-counted x m.header in-file.consistent c) lowered-still m.order sound.well_formed.ordered;
     covered = λ c. named-counted (in_memory m') m.header over-there.consistent c;
   }
 
   table-still : IsTableOf x h m'.table
   table-still = record {
     layout = sound.table.layout;
-    long = length-set m.table.words i w ∙ sound.table.long;
+    long = length-set m.table.raw_entries i w ∙ sound.table.long;
     placed = sound.table.placed;
     names = λ b lt. elim (cases_eq b i) [
-      | inl same ↦ subst (λ k. block_offset (slice_index (slice_set m.table.words i w) k) ≡ block_at x h k) (sym same)
-          (ap block_offset (get_or-set_same m.table.words i w 0 (omega (arith, sound.table.long, ready.inside))) ∙ block_named h.cluster_bits d shaped.low ready.reach ∙ sym in-file.here)
-      | inr apart ↦ ap block_offset (get_or-set_other m.table.words i b w 0 apart) ∙ sound.table.names b lt ∙ sym (in-file.blocks b apart)
+      | inl same ↦ subst (λ k. block_offset (slice_index (slice_set m.table.raw_entries i w) k) ≡ block_at x h k) (sym same)
+          (ap block_offset (get_or-set_same m.table.raw_entries i w 0 (omega (arith, sound.table.long, ready.inside))) ∙ block_named h.cluster_bits d shaped.low ready.reach ∙ sym in-file.here)
+      | inr apart ↦ ap block_offset (get_or-set_other m.table.raw_entries i b w 0 apart) ∙ sound.table.names b lt ∙ sym (in-file.blocks b apart)
     ];
   }
 
@@ -273,11 +273,11 @@ module _ (m : Metadata) (i d : ℕ) (modified : Bool) (sound : IsSound m) (ready
 
   pub block-sound : IsSound m'
   block-sound = record {
-    safe = safe-still;
+    well_formed = safe-still;
     table = table-still;
     covered = covered-still;
-    unnamed = λ c some.
-        let none = sound.unnamed c some in
+    not_referenced = λ c some.
+        let none = sound.not_referenced c some in
         let more = names-more c in
         elim (which c) [
           | inl away ↦ omega (arith, none, more, away)
@@ -295,10 +295,10 @@ module _ (m : Metadata) (i d : ℕ) (modified : Bool) (sound : IsSound m) (ready
   block-shows = record {
     consistent = in-file.consistent;
     moved = (h.refcount_table_offset, h.refcount_table_clusters, refl);
-    behind = λ p from lt. from-start f x (cluster_size h) p (in-file.kept.start (λ e. cc)) lt;
-    l1 = λ k lt. in-file.kept.l1 k lt (λ e. cc);
+    header_tail_unchanged = λ p from lt. from-start f x (cluster_size h) p (in-file.same_structure_outside.start (λ e. cc)) lt;
+    l1 = λ k lt. in-file.same_structure_outside.l1 k lt (λ e. cc);
     tables = in-file.tables;
-    words = λ k j live. inl (in-file.slots k j live);
+    raw_entries = λ k j live. inl (in-file.slots k j live);
     contents = λ k j live p some.
         let le = mapping-meets h p (slot x h k j) in
         let one : 0 < of_mapping h (meets h (p / cluster_size h)) (slot f h k j) = subst (λ (v : Mapping). 0 < of_mapping h (meets h (p / cluster_size h)) v) (in-file.slots k j live) (omega (arith, le, some)) in
@@ -306,11 +306,11 @@ module _ (m : Metadata) (i d : ℕ) (modified : Bool) (sound : IsSound m) (ready
         in-cluster h f x p (in-file.mapped (p / cluster_size h) (omega (arith, one, all)));
   }
 
-  pub block-quiet : (taken : ℕ → ℕ) → (d / counters_of_block h ≡ i → (c : ℕ) → taken c ≡ 0) → (d / counters_of_block h ≢ i → (c : ℕ) → taken c ≡ one_at d c) → IsQuiet (λ _. 0) taken m m'
+  pub block-quiet : (taken : ℕ → ℕ) → (d / counters_of_block h ≡ i → (c : ℕ) → taken c ≡ 0) → (d / counters_of_block h ≢ i → (c : ℕ) → taken c ≡ one_at d c) → GuestUnchanged (λ _. 0) taken m m'
   block-quiet taken by_itself by_another = record {
     shows = block-shows;
-    words = words-there;
-    kept = λ c used none. kept-there c used.apart;
+    raw_entries = words-there;
+    used_bytes_unchanged = λ c used none. kept-there c used.apart;
     apart = λ c used none.
         let more = structure-more c in
         let was = used.apart in
@@ -344,7 +344,7 @@ module _ (m : Metadata) (i d : ℕ) (modified : Bool) (sound : IsSound m) (ready
         ];
   }
 
-  pub block-names : BlockNamed m m' i d
+  pub block-names : BlockLinked m m' i d
   block-names = record {
     here = in-file.here;
     blocks = in-file.blocks;
@@ -357,41 +357,41 @@ module _ (m : Metadata) (i d : ℕ) (modified : Bool) (sound : IsSound m) (ready
 -- The word is written, by one request.
 module _ (m : Metadata) (i d : ℕ) (modified : Bool) (old new : StorageState) (is_in : IsIn old m) (ready : IsSound m → IsReadyBlock m i d) where
   abbrev entered : TableValue
-  entered = with_word m.table i (d * cluster_size m.header.fields)
+  entered = with_raw_entry m.table i (d * cluster_size m.header.fields)
 
   module _ (sound : IsSound m) where
-    at-word : table_place entered + 8 * i ≡ m.header.fields.refcount_table_offset + 8 * i
+    at-word : table_start entered + 8 * i ≡ m.header.fields.refcount_table_offset + 8 * i
     at-word =
-        let limited = header-limited true m.file m.header sound.safe.consistent.readable.loads in
+        let limited = header-limited true m.file m.header sound.well_formed.consistent.readable.loads in
         let whole : m.header.fields.refcount_table_offset / cluster_size m.header.fields * cluster_size m.header.fields ≡ m.header.fields.refcount_table_offset = place-whole m.header.fields.cluster_bits m.header.fields.refcount_table_offset limited.refcount_place in
         ap (λ (l : Layout). place_of l.cluster_bits m.table.cluster + 8 * i) sound.table.layout
         ∙ ap (λ (c : Option ℕ). place_of m.header.fields.cluster_bits c + 8 * i) sound.table.placed
         ∙ ap (λ p. p + 8 * i) whole
 
-    this-word : to_be_bytes w64 (slice_index entered.words i) ≡ to_be_bytes w64 (d * cluster_size m.header.fields)
-    this-word = ap (to_be_bytes w64) (get_or-set_same m.table.words i (d * cluster_size m.header.fields) 0 (let long = sound.table.long in let lt = (ready sound).inside in omega (arith, long, lt)))
+    this-word : to_be_bytes w64 (slice_index entered.raw_entries i) ≡ to_be_bytes w64 (d * cluster_size m.header.fields)
+    this-word = ap (to_be_bytes w64) (get_or-set_same m.table.raw_entries i (d * cluster_size m.header.fields) 0 (let long = sound.table.long in let lt = (ready sound).inside in omega (arith, long, lt)))
 
-    put-there : splice m.file (table_place entered + 8 * i) (to_be_bytes w64 (slice_index entered.words i)) ≡ splice m.file (m.header.fields.refcount_table_offset + 8 * i) (to_be_bytes w64 (d * cluster_size m.header.fields))
-    put-there = ap (λ p. splice m.file p (to_be_bytes w64 (slice_index entered.words i))) at-word ∙ ap (λ (l : List ℕ). splice m.file (m.header.fields.refcount_table_offset + 8 * i) l) this-word
+    put-there : splice m.file (table_start entered + 8 * i) (to_be_bytes w64 (slice_index entered.raw_entries i)) ≡ splice m.file (m.header.fields.refcount_table_offset + 8 * i) (to_be_bytes w64 (d * cluster_size m.header.fields))
+    put-there = ap (λ p. splice m.file p (to_be_bytes w64 (slice_index entered.raw_entries i))) at-word ∙ ap (λ (l : List ℕ). splice m.file (m.header.fields.refcount_table_offset + 8 * i) l) this-word
 
   by-taken : (taken : ℕ → ℕ) → (IsSound m → (d / counters_of_block m.header.fields ≡ i → (c : ℕ) → taken c ≡ 0) × (d / counters_of_block m.header.fields ≢ i → (c : ℕ) → taken c ≡ one_at d c))
-      → (result : Result Unit Fault) → PutAtOnce old new (table_place entered + 8 * i) (to_be_bytes w64 (slice_index entered.words i)) result → Quietly (result ≡ Ok tt) (λ _. 0) taken old m new (with_block m i d modified (bytes_of new.bytes))
-  by-taken taken is = at-once-quietly m (with_block m i d modified) (λ x. refl) (λ _. 0) taken (table_place entered + 8 * i) (to_be_bytes w64 (slice_index entered.words i)) (omega arith) old new is_in
-      (λ sound. subst (λ (x : Bytes). IsSound (with_block m i d modified x) × IsQuiet (λ _. 0) taken m (with_block m i d modified x)) (sym (put-there sound))
+      → (result : Result Unit Fault) → AtomicWriteOutcome old new (table_start entered + 8 * i) (to_be_bytes w64 (slice_index entered.raw_entries i)) result → PreservesGuest (result ≡ Ok tt) (λ _. 0) taken old m new (with_block m i d modified (bytes_of new.bytes))
+  by-taken taken is = at-once-quietly m (with_block m i d modified) (λ x. refl) (λ _. 0) taken (table_start entered + 8 * i) (to_be_bytes w64 (slice_index entered.raw_entries i)) (omega arith) old new is_in
+      (λ sound. subst (λ (x : Bytes). IsSound (with_block m i d modified x) × GuestUnchanged (λ _. 0) taken m (with_block m i d modified x)) (sym (put-there sound))
       (block-sound m i d modified sound (ready sound), block-quiet m i d modified sound (ready sound) taken (is sound).0 (is sound).1))
 
   -- A block that another counts is taken for it, and one that counts itself is none's.
-  pub counted-block-quietly : d / counters_of_block m.header.fields ≢ i → (result : Result Unit Fault) → PutAtOnce old new (table_place entered + 8 * i) (to_be_bytes w64 (slice_index entered.words i)) result
-      → Quietly (result ≡ Ok tt) (λ _. 0) (one_at d) old m new (with_block m i d modified (bytes_of new.bytes))
+  pub counted-block-quietly : d / counters_of_block m.header.fields ≢ i → (result : Result Unit Fault) → AtomicWriteOutcome old new (table_start entered + 8 * i) (to_be_bytes w64 (slice_index entered.raw_entries i)) result
+      → PreservesGuest (result ≡ Ok tt) (λ _. 0) (one_at d) old m new (with_block m i d modified (bytes_of new.bytes))
   counted-block-quietly other = by-taken (one_at d) (λ sound. ((λ own. absurd (other own)), (λ _ c. refl)))
 
-  pub own-block-quietly : d / counters_of_block m.header.fields ≡ i → (result : Result Unit Fault) → PutAtOnce old new (table_place entered + 8 * i) (to_be_bytes w64 (slice_index entered.words i)) result
-      → Quietly (result ≡ Ok tt) (λ _. 0) (λ _. 0) old m new (with_block m i d modified (bytes_of new.bytes))
+  pub own-block-quietly : d / counters_of_block m.header.fields ≡ i → (result : Result Unit Fault) → AtomicWriteOutcome old new (table_start entered + 8 * i) (to_be_bytes w64 (slice_index entered.raw_entries i)) result
+      → PreservesGuest (result ≡ Ok tt) (λ _. 0) (λ _. 0) old m new (with_block m i d modified (bytes_of new.bytes))
   own-block-quietly own = by-taken (λ _. 0) (λ sound. ((λ _ c. refl), (λ other. absurd (other own))))
 
-  pub names-block : IsTrue old.shape.keeps → IsSound m → (result : Result Unit Fault) → PutAtOnce old new (table_place entered + 8 * i) (to_be_bytes w64 (slice_index entered.words i)) result → result ≡ Ok tt
-      → BlockNamed m (with_block m i d modified (bytes_of new.bytes)) i d
+  pub names-block : IsTrue old.shape.keeps → IsSound m → (result : Result Unit Fault) → AtomicWriteOutcome old new (table_start entered + 8 * i) (to_be_bytes w64 (slice_index entered.raw_entries i)) result → result ≡ Ok tt
+      → BlockLinked m (with_block m i d modified (bytes_of new.bytes)) i d
   names-block keeps sound result put done =
-      subst (λ (x : Bytes). BlockNamed m (with_block m i d modified x) i d)
-      (sym (at-once-file m (table_place entered + 8 * i) (to_be_bytes w64 (slice_index entered.words i)) old new is_in result put keeps done ∙ put-there sound))
+      subst (λ (x : Bytes). BlockLinked m (with_block m i d modified x) i d)
+      (sym (at-once-file m (table_start entered + 8 * i) (to_be_bytes w64 (slice_index entered.raw_entries i)) old new is_in result put keeps done ∙ put-there sound))
       (block-names m i d modified sound (ready sound))

@@ -12,7 +12,7 @@ use Rattle.qcow2_types.specs.Words.{block_offset}
 use Rattle.qcow2_types.specs.Header.{Header}
 use Rattle.qcow2_types.specs.Counts.{counters_of_block}
 use Rattle.qcow2_types.specs.Pending.{FreeEntry}
-use Rattle.qcow2_metadata.specs.Places.{IsInReach}
+use Rattle.qcow2_metadata.specs.Places.{IsAddressable}
 use Rattle.qcow2_metadata.specs.Tables.{TableValue}
 use Rattle.qcow2_alloc.specs.declared.allocation.readying_runs.Provision.{Provision}
 use Rattle.qcow2_alloc.specs.declared.allocation.readying_runs.Provision.TheVariants.{Complete, Extended}
@@ -23,10 +23,10 @@ use Rattle.qcow2_alloc.specs.Allocating.{Allocating, MakesBlock, MakesBlocks, mi
 use Rattle.qcow2_alloc.specs.Allocators.{metadata_of}
 use Rattle.qcow2_alloc.specs.Caches.{order_of}
 use Rattle.qcow2_alloc.specs.Causes.{FailsFor}
-use Rattle.qcow2_alloc.specs.Freeing.{IsLoose}
-use Rattle.qcow2_alloc.specs.Going.{WasNotCutOff}
-use Rattle.qcow2_alloc.specs.Quiet.{IsSound}
-use Rattle.qcow2_alloc.specs.State.{lent}
+use Rattle.qcow2_alloc.specs.Freeing.{HasUnpinnedRoom}
+use Rattle.qcow2_alloc.specs.Going.{HadNoResourceError}
+use Rattle.qcow2_alloc.specs.GuestView.{IsSound}
+use Rattle.qcow2_alloc.specs.State.{image_state}
 use Rattle.qcow2_alloc.proofs.Causes.{cause-weaker}
 use Rattle.qcow2_alloc.proofs.Blocks.BlockCreationCalls.{allocating-weaker}
 use Rattle.qcow2_alloc.proofs.Handing.CountSequences.{allocating-none, allocating-then}
@@ -45,28 +45,28 @@ made_by (Ok done) = Ok Extended
 made_by (Err fault) = Err fault
 
 -- One word of a refcount table comes to name a block, and no other changes.
-fewer-missing : (table table' : TableValue) (index : ℕ) → index < length table.words → length table'.words ≡ length table.words → block_offset (slice_index table.words index) ≡ 0 → block_offset (slice_index table'.words index) ≢ 0
-    → ((i : ℕ) → i ≢ index → slice_index table'.words i ≡ slice_index table.words i) → missing table' < missing table
+fewer-missing : (table table' : TableValue) (index : ℕ) → index < length table.raw_entries → length table'.raw_entries ≡ length table.raw_entries → block_offset (slice_index table.raw_entries index) ≡ 0 → block_offset (slice_index table'.raw_entries index) ≢ 0
+    → ((i : ℕ) → i ≢ index → slice_index table'.raw_entries i ≡ slice_index table.raw_entries i) → missing table' < missing table
 fewer-missing table table' index inside long none some others =
     let f : ℕ → ℕ = λ w. if block_offset w == 0 then 1 else 0 in
-    let w : ℕ = slice_index table'.words index in
-    let set : table'.words ≡ slice_set table.words index w = ext_get_or 0 table'.words (slice_set table.words index w) (long ∙ sym (length-set table.words index w)) (λ i lt. elim (cases_eq i index) [
-      | inl same ↦ subst (λ k. slice_index table'.words k ≡ slice_index (slice_set table.words index w) k) (sym same) (sym (get_or-set_same table.words index w 0 inside))
-      | inr apart ↦ others i apart ∙ sym (get_or-set_other table.words index i w 0 apart)
+    let w : ℕ = slice_index table'.raw_entries index in
+    let set : table'.raw_entries ≡ slice_set table.raw_entries index w = ext_get_or 0 table'.raw_entries (slice_set table.raw_entries index w) (long ∙ sym (length-set table.raw_entries index w)) (λ i lt. elim (cases_eq i index) [
+      | inl same ↦ subst (λ k. slice_index table'.raw_entries k ≡ slice_index (slice_set table.raw_entries index w) k) (sym same) (sym (get_or-set_same table.raw_entries index w 0 inside))
+      | inr apart ↦ others i apart ∙ sym (get_or-set_other table.raw_entries index i w 0 apart)
     ]) in
-    let sums : sum_by f (slice_set table.words index w) + f (slice_index table.words index) ≡ sum_by f table.words + f w = sum_by-set f table.words index w 0 inside in
-    let new : missing table' ≡ sum_by f (slice_set table.words index w) = ap (λ (l : List ℕ). sum_by f l) set in
-    let was : f (slice_index table.words index) ≡ 1 = rw none refl in
+    let sums : sum_by f (slice_set table.raw_entries index w) + f (slice_index table.raw_entries index) ≡ sum_by f table.raw_entries + f w = sum_by-set f table.raw_entries index w 0 inside in
+    let new : missing table' ≡ sum_by f (slice_set table.raw_entries index w) = ap (λ (l : List ℕ). sum_by f l) set in
+    let was : f (slice_index table.raw_entries index) ≡ 1 = rw none refl in
     let is : f w ≡ 0 = rw (ne_eqb (block_offset w) 0 some) refl in
     omega (arith, sums, new, was, is)
 
 module _ {S : Type 0} (state : S → StorageState) (pending : List FreeEntry) (first : ℕ) where
   -- None,
-  pub blocks-none : (table : TableValue) (old : MetadataCaches S) (before : ImageFile S) → MakesBlocks state first first (lent table old before pending) (so Complete) (lent table old before pending)
+  pub blocks-none : (table : TableValue) (old : MetadataCaches S) (before : ImageFile S) → MakesBlocks state first first (image_state table old before pending) (so Complete) (image_state table old before pending)
   blocks-none table old before = record {
-    step = allocating-none state (lent table old before pending);
+    step = allocating-none state (image_state table old before pending);
     named = λ i above below. omega (arith, above, below);
-    kept = λ i some. refl;
+    entries_unchanged = λ i some. refl;
     idle = λ none. (refl, refl, refl);
     fewer = λ some. absurd (cc);
     long = refl;
@@ -76,16 +76,16 @@ module _ {S : Type 0} (state : S → StorageState) (pending : List FreeEntry) (f
     cause = refl;
   }
 
-  module _ (c : ℕ) (tA : TableValue) (A : MetadataCaches S) (fA : ImageFile S) (made : Provision) (tB : TableValue) (B : MetadataCaches S) (fB : ImageFile S) (one : MakesBlocks state first c (lent tA A fA pending) (so made) (lent tB B fB pending)) where
+  module _ (c : ℕ) (tA : TableValue) (A : MetadataCaches S) (fA : ImageFile S) (made : Provision) (tB : TableValue) (B : MetadataCaches S) (fB : ImageFile S) (one : MakesBlocks state first c (image_state tA A fA pending) (so made) (image_state tB B fB pending)) where
     -- one that is there,
-    pub blocks-there : block_offset (slice_index tB.words c) ≢ 0 → MakesBlocks state first (c + 1) (lent tA A fA pending) (so made) (lent tB B fB pending)
+    pub blocks-there : block_offset (slice_index tB.raw_entries c) ≢ 0 → MakesBlocks state first (c + 1) (image_state tA A fA pending) (so made) (image_state tB B fB pending)
     blocks-there there = record {
       step = one.step;
       named = λ i above below. elim (cases_eq i c) [
-        | inl same ↦ subst (λ k. block_offset (slice_index tB.words k) ≢ 0) (sym same) there
+        | inl same ↦ subst (λ k. block_offset (slice_index tB.raw_entries k) ≢ 0) (sym same) there
         | inr apart ↦ one.named i above (omega (arith, below, apart))
       ];
-      kept = one.kept;
+      entries_unchanged = one.entries_unchanged;
       idle = one.idle;
       fewer = one.fewer;
       long = one.long;
@@ -96,12 +96,12 @@ module _ {S : Type 0} (state : S → StorageState) (pending : List FreeEntry) (f
     }
 
     -- and one that is made.
-    pub blocks-then : c < length tA.words → block_offset (slice_index tB.words c) ≡ 0 → first ≤ c → (result : Result Unit Fault) (tC : TableValue) (C : MetadataCaches S) (fC : ImageFile S) → MakesBlock state c (lent tB B fB pending) result (lent tC C fC pending)
-        → MakesBlocks state first (c + 1) (lent tA A fA pending) (made_by result) (lent tC C fC pending)
+    pub blocks-then : c < length tA.raw_entries → block_offset (slice_index tB.raw_entries c) ≡ 0 → first ≤ c → (result : Result Unit Fault) (tC : TableValue) (C : MetadataCaches S) (fC : ImageFile S) → MakesBlock state c (image_state tB B fB pending) result (image_state tC C fC pending)
+        → MakesBlocks state first (c + 1) (image_state tA A fA pending) (made_by result) (image_state tC C fC pending)
     blocks-then inside none above result tC C fC two = record {
       step = step result two.step;
       named = named result two.named;
-      kept = λ i some. kept i some;
+      entries_unchanged = λ i some. kept i some;
       idle = idle result;
       fewer = fewer result two.named;
       long = two.long ∙ one.long;
@@ -111,24 +111,24 @@ module _ {S : Type 0} (state : S → StorageState) (pending : List FreeEntry) (f
       cause = caused result two.cause;
     }
       where
-        step : (r : Result Unit Fault) → Allocating state (WasNotCutOff r) (λ _. 0) (lent tB B fB pending) (lent tC C fC pending) → Allocating state (WasNotCutOff (made_by r)) (λ _. 0) (lent tA A fA pending) (lent tC C fC pending)
-        step (Ok done) more = allocating-then state (WasNotCutOff (so made)) (WasNotCutOff (so Extended)) (λ _. 0) (λ _. 0) (lent tA A fA pending) (lent tB B fB pending) (lent tC C fC pending) tt one.step more
-        step (Err fault) more = allocating-then state (WasNotCutOff (so made)) (WasNotCutOff (made_by (Err fault))) (λ _. 0) (λ _. 0) (lent tA A fA pending) (lent tB B fB pending) (lent tC C fC pending) tt one.step more
+        step : (r : Result Unit Fault) → Allocating state (HadNoResourceError r) (λ _. 0) (image_state tB B fB pending) (image_state tC C fC pending) → Allocating state (HadNoResourceError (made_by r)) (λ _. 0) (image_state tA A fA pending) (image_state tC C fC pending)
+        step (Ok done) more = allocating-then state (HadNoResourceError (so made)) (HadNoResourceError (so Extended)) (λ _. 0) (λ _. 0) (image_state tA A fA pending) (image_state tB B fB pending) (image_state tC C fC pending) tt one.step more
+        step (Err fault) more = allocating-then state (HadNoResourceError (so made)) (HadNoResourceError (made_by (Err fault))) (λ _. 0) (λ _. 0) (image_state tA A fA pending) (image_state tB B fB pending) (image_state tC C fC pending) tt one.step more
 
-        others : (i : ℕ) → i ≢ c → slice_index tC.words i ≡ slice_index tB.words i
+        others : (i : ℕ) → i ≢ c → slice_index tC.raw_entries i ≡ slice_index tB.raw_entries i
         others = two.others
 
-        named : (r : Result Unit Fault) → OnOk r (block_offset (slice_index tC.words c) ≢ 0) → OnOk (made_by r) ((i : ℕ) → first ≤ i → i < c + 1 → block_offset (slice_index tC.words i) ≢ 0)
+        named : (r : Result Unit Fault) → OnOk r (block_offset (slice_index tC.raw_entries c) ≢ 0) → OnOk (made_by r) ((i : ℕ) → first ≤ i → i < c + 1 → block_offset (slice_index tC.raw_entries i) ≢ 0)
         named (Ok done) there = λ i above' below. elim (cases_eq i c) [
-          | inl same ↦ subst (λ k. block_offset (slice_index tC.words k) ≢ 0) (sym same) there
+          | inl same ↦ subst (λ k. block_offset (slice_index tC.raw_entries k) ≢ 0) (sym same) there
           | inr apart ↦ subst (λ w. block_offset w ≢ 0) (sym (others i apart)) (one.named i above' (omega (arith, below, apart)))
         ]
         named (Err fault) there = tt
 
-        kept : (i : ℕ) → block_offset (slice_index tA.words i) ≢ 0 → slice_index tC.words i ≡ slice_index tA.words i
+        kept : (i : ℕ) → block_offset (slice_index tA.raw_entries i) ≢ 0 → slice_index tC.raw_entries i ≡ slice_index tA.raw_entries i
         kept i some =
-            let same = one.kept i some in
-            others i (λ at. some (ap (λ w. block_offset w) (sym same) ∙ subst (λ k. block_offset (slice_index tB.words k) ≡ 0) (sym at) none)) ∙ same
+            let same = one.entries_unchanged i some in
+            others i (λ at. some (ap (λ w. block_offset w) (sym same) ∙ subst (λ k. block_offset (slice_index tB.raw_entries k) ≡ 0) (sym at) none)) ∙ same
 
         idle : (r : Result Unit Fault) → IfOk (made_by r) (λ made'. made' ≡ Complete → (tC ≡ tA) × (C ≡ A) × (fC ≡ fA))
         idle (Ok done) = λ none. absurd (cc)
@@ -138,7 +138,7 @@ module _ {S : Type 0} (state : S → StorageState) (pending : List FreeEntry) (f
         before-fewer Extended same less = let lt = less refl in omega (arith, lt)
         before-fewer Complete same less = let is = ap (λ (t : TableValue). missing t) (same refl).0 in omega (arith, is)
 
-        fewer : (r : Result Unit Fault) → OnOk r (block_offset (slice_index tC.words c) ≢ 0) → IfOk (made_by r) (λ made'. made' ≡ Extended → missing tC < missing tA)
+        fewer : (r : Result Unit Fault) → OnOk r (block_offset (slice_index tC.raw_entries c) ≢ 0) → IfOk (made_by r) (λ made'. made' ≡ Extended → missing tC < missing tA)
         fewer (Ok done) there = λ some.
             let same = one.long in
             let lt = fewer-missing tB tC c (omega (arith, inside, same)) two.long none there others in
@@ -147,19 +147,19 @@ module _ {S : Type 0} (state : S → StorageState) (pending : List FreeEntry) (f
         fewer (Err fault) there = tt
 
         caused : (r : Result Unit Fault)
-            → FailsFor (allocating_causes (IsTrue (state fB.image).shape.keeps × (order_of B ≡ L2DependsOnRb) × IsSound (metadata_of state fB B tB pending)) (IsLoose tB B) (λ number. (number ≤ c * counters_of_block fB.header.fields) × (IsInReach fB.header.fields.cluster_bits number → ⊥)) (state fB.image).faults (state fC.image).faults) r
-            → FailsFor (allocating_causes (IsTrue (state fA.image).shape.keeps × (order_of A ≡ L2DependsOnRb) × IsSound (metadata_of state fA A tA pending)) (IsLoose tA A)
-            (λ number. (i : ℕ) × (first ≤ i) × (i < c + 1) × (number ≤ i * counters_of_block fA.header.fields) × (IsInReach fA.header.fields.cluster_bits number → ⊥)) (state fA.image).faults (state fC.image).faults) (made_by r)
+            → FailsFor (allocating_causes (IsTrue (state fB.image).shape.keeps × (order_of B ≡ L2DependsOnRb) × IsSound (metadata_of state fB B tB pending)) (HasUnpinnedRoom tB B) (λ number. (number ≤ c * counters_of_block fB.header.fields) × (IsAddressable fB.header.fields.cluster_bits number → ⊥)) (state fB.image).faults (state fC.image).faults) r
+            → FailsFor (allocating_causes (IsTrue (state fA.image).shape.keeps × (order_of A ≡ L2DependsOnRb) × IsSound (metadata_of state fA A tA pending)) (HasUnpinnedRoom tA A)
+            (λ number. (i : ℕ) × (first ≤ i) × (i < c + 1) × (number ≤ i * counters_of_block fA.header.fields) × (IsAddressable fA.header.fields.cluster_bits number → ⊥)) (state fA.image).faults (state fC.image).faults) (made_by r)
         caused (Ok done) same = same ∙ one.cause
-        caused (Err fault) why = cause-weaker (allocating-weaker (λ holds. let quiet = one.step.quiet holds.1 in (keeps_on (state fA.image) (state fB.image) quiet.shape holds.0, one.step.order ∙ holds.1, (quiet.holds holds.0 holds.2 tt).0)) one.step.loose (λ number far. let at = subst (λ (h : Header). (number ≤ c * counters_of_block h.fields) × (IsInReach h.fields.cluster_bits number → ⊥)) one.header far in (c, above, omega arith, at.0, at.1)) one.cause) fault why
+        caused (Err fault) why = cause-weaker (allocating-weaker (λ holds. let guest_unchanged = one.step.guest_unchanged holds.1 in (keeps_on (state fA.image) (state fB.image) guest_unchanged.shape holds.0, one.step.order ∙ holds.1, (guest_unchanged.holds holds.0 holds.2 tt).0)) one.step.keeps_unpinned_room (λ number far. let at = subst (λ (h : Header). (number ≤ c * counters_of_block h.fields) × (IsAddressable h.fields.cluster_bits number → ⊥)) one.header far in (c, above, omega arith, at.0, at.1)) one.cause) fault why
 
   -- They are part of more, where that was refused.
   pub blocks-within : (end more : ℕ) → end ≤ more → (tA : TableValue) (A : MetadataCaches S) (fA : ImageFile S) (fault : Fault) (tB : TableValue) (B : MetadataCaches S) (fB : ImageFile S)
-      → MakesBlocks state first end (lent tA A fA pending) (refused fault) (lent tB B fB pending) → MakesBlocks state first more (lent tA A fA pending) (refused fault) (lent tB B fB pending)
+      → MakesBlocks state first end (image_state tA A fA pending) (refused fault) (image_state tB B fB pending) → MakesBlocks state first more (image_state tA A fA pending) (refused fault) (image_state tB B fB pending)
   blocks-within end more le tA A fA fault tB B fB part = record {
     step = part.step;
     named = tt;
-    kept = part.kept;
+    entries_unchanged = part.entries_unchanged;
     idle = tt;
     fewer = tt;
     long = part.long;

@@ -15,29 +15,29 @@ use Rattle.qcow2_types.specs.Words.{block_offset}
 use Rattle.qcow2_types.specs.Counts.{count, counters_of_block}
 use Rattle.qcow2_types.specs.Pending.{FreeEntry}
 use Rattle.qcow2_types.proofs.Counting.Counters.{some-counters}
-use Rattle.qcow2_metadata.specs.Places.{IsInReach}
+use Rattle.qcow2_metadata.specs.Places.{IsAddressable}
 use Rattle.qcow2_metadata.specs.Tables.{TableValue}
 use Rattle.qcow2_metadata.specs.Blocks.{Block, with_counter}
 use Rattle.qcow2_alloc.specs.declared.async_lru_cache.Slot.{Slot}
 use Rattle.qcow2_alloc.specs.declared.cache.CacheDependency.TheVariants.{L2DependsOnRb}
 use Rattle.qcow2_alloc.specs.declared.cache.MetadataCaches.{MetadataCaches}
 use Rattle.qcow2_alloc.specs.declared.file.ImageFile.{ImageFile}
-use Rattle.qcow2_alloc.specs.Allocating.{Raises, RaisesCluster, CountsRun}
-use Rattle.qcow2_alloc.specs.Allocators.{metadata_of, named_block, UsesBlock, BlockUsed}
+use Rattle.qcow2_alloc.specs.Allocating.{IncrementsCounter, IncrementsCluster, CountsRun}
+use Rattle.qcow2_alloc.specs.Allocators.{metadata_of, referenced_block, UsesBlock, BlockUsed}
 use Rattle.qcow2_alloc.specs.Cache.{hit}
 use Rattle.qcow2_alloc.specs.Caches.{cached_in, order_of, cached_file}
 use Rattle.qcow2_alloc.specs.CachesLending.{with_blocks}
 use Rattle.qcow2_alloc.specs.Causes.{FailsFor}
 use Rattle.qcow2_alloc.specs.Changes.{CachesBlock, SetsCounter}
 use Rattle.qcow2_alloc.specs.Finding.{BlockFound, IsPinnedFull, search_causes}
-use Rattle.qcow2_alloc.specs.Freeing.{IsLoose, counting_causes}
+use Rattle.qcow2_alloc.specs.Freeing.{HasUnpinnedRoom, counting_causes}
 use Rattle.qcow2_alloc.specs.FreeList.{covers}
-use Rattle.qcow2_alloc.specs.Going.{WasNotCutOff, AreTablesInReach, AreBlocksInReach}
+use Rattle.qcow2_alloc.specs.Going.{HadNoResourceError, AreTablesAddressable, AreBlocksAddressable}
 use Rattle.qcow2_alloc.specs.MakingRoom.{run_of}
 use Rattle.qcow2_alloc.specs.Memory.{memory}
-use Rattle.qcow2_alloc.specs.Quiet.{Metadata, IsSound, IsQuiet, Quietly, counted, one_at}
-use Rattle.qcow2_alloc.specs.Safety.{Safe, IsCachedBlock}
-use Rattle.qcow2_alloc.specs.State.{lent}
+use Rattle.qcow2_alloc.specs.GuestView.{Metadata, IsSound, GuestUnchanged, PreservesGuest, counted, one_at}
+use Rattle.qcow2_alloc.specs.WellFormedness.{WellFormed, IsCachedBlock}
+use Rattle.qcow2_alloc.specs.State.{image_state}
 use Rattle.qcow2_alloc.proofs.Causes.{Implies, cause-weaker}
 use Rattle.qcow2_alloc.proofs.Memory.CounterChanges.{cached-count, counter-raised}
 use Rattle.qcow2_alloc.proofs.Blocks.ClusterBlocks.{block-named}
@@ -47,10 +47,10 @@ use Rattle.qcow2_alloc.proofs.Freeing.EntryFrees.{failed}
 use Rattle.qcow2_alloc.proofs.Freeing.ClusterOccurrences.{covers-none, covers-one}
 use Rattle.qcow2_alloc.proofs.Memory.Patches.{shaped-in, place-there}
 use Rattle.qcow2_alloc.proofs.Caching.Places.{slot-of}
-use Rattle.qcow2_alloc.proofs.Quiet.QuietCounters.{hand-out-quiet, here-one, away-none}
-use Rattle.qcow2_alloc.proofs.Quiet.QuietFlushes.{used-quiet, memory-quietly, quiet-none}
-use Rattle.qcow2_alloc.proofs.Quiet.QuietPremises.{quietly-then-given}
-use Rattle.qcow2_alloc.proofs.Quiet.QuietSequences.{quiet-otherwise, quietly-otherwise}
+use Rattle.qcow2_alloc.proofs.GuestView.QuietCounters.{hand-out-quiet, here-one, away-none}
+use Rattle.qcow2_alloc.proofs.GuestView.QuietFlushes.{used-quiet, memory-quietly, quiet-none}
+use Rattle.qcow2_alloc.proofs.GuestView.QuietPremises.{quietly-then-given}
+use Rattle.qcow2_alloc.proofs.GuestView.QuietSequences.{quiet-otherwise, quietly-otherwise}
 use Rattle.qcow2_alloc.proofs.Memory.SafeLaws.{safe-reach}
 use Rattle.qcow2_alloc.proofs.Caching.SearchOutcomes.{all-at}
 use Rattle.qcow2_alloc.proofs.Caching.EntryUses.{block-used}
@@ -76,7 +76,7 @@ module _ {S : Type 0} (state : S → StorageState) (table : TableValue) (pending
   given result d = covers d (run_of c (done_of result))
 
   -- Once the block is found the counter is raised, or that is refused.
-  module _ (key : ℕ) (mid : MetadataCaches S) (after : ImageFile S) (named : named_block table (c / counters_of_block after.header.fields) ≡ Some key)
+  module _ (key : ℕ) (mid : MetadataCaches S) (after : ImageFile S) (named : referenced_block table (c / counters_of_block after.header.fields) ≡ Some key)
       (block : Block) (there : option_map (λ (s : Slot Block). s.value) (lookup (nat_eq key) (cached_in mid).blocks) ≡ Some block) where
     abbrev Was : Metadata
     Was = At mid after
@@ -85,44 +85,44 @@ module _ {S : Type 0} (state : S → StorageState) (table : TableValue) (pending
     index = c % counters_of_block after.header.fields
 
     caches-it : IsSound Was → CachesBlock Was.file Was.header.fields Was.cached key c block
-    caches-it sound = let place = named-there Was (c / counters_of_block after.header.fields) key sound named in record { there = there; counts = place.0; some = place.1 }
+    caches-it sound = let place = named-there Was (c / counters_of_block after.header.fields) key sound named in record { block_cached = there; counts = place.0; cluster_nonzero = place.1 }
 
     counter-is : IsSound Was → counted Was c ≡ slice_index block.counters index
-    counter-is sound = cached-count Was.file Was.header Was.cached Was.order key c block sound.safe (caches-it sound)
+    counter-is sound = cached-count Was.file Was.header Was.cached Was.order key c block sound.well_formed (caches-it sound)
 
     -- In a sound image there is the counter.
     pub counter-inside : IsSound Was → index < length block.counters
     counter-inside sound =
         let found = slot-of (lookup (nat_eq key) (cached_in mid).blocks) block there in
-        let fits : IsCachedBlock Was.file Was.header.fields key found.0.value = all-at (λ (e : ℕ × Slot Block). IsCachedBlock Was.file Was.header.fields e.0 e.1.value) key (cached_in mid).blocks found.0 found.1 sound.safe.blocks in
+        let fits : IsCachedBlock Was.file Was.header.fields key found.0.value = all-at (λ (e : ℕ × Slot Block). IsCachedBlock Was.file Was.header.fields e.0 e.1.value) key (cached_in mid).blocks found.0 found.1 sound.well_formed.blocks in
         let long : length block.counters ≡ counters_of_block Was.header.fields = ap (λ (b : Block). length b.counters) (sym found.2) ∙ fits.long in
-        rw long (mod_below c (counters_of_block Was.header.fields) (some-counters Was.header.fields (shaped-in Was.file Was.header sound.safe.consistent)))
+        rw long (mod_below c (counters_of_block Was.header.fields) (some-counters Was.header.fields (shaped-in Was.file Was.header sound.well_formed.consistent)))
 
     abbrev With : Block → Metadata
     With block' = At (with_blocks mid (hit (nat_eq key) (cached_in mid).blocks block')) after
 
     -- what is known of the image then
     abbrev Ends : Result Unit Fault → Block → Type 0
-    Ends result block' = IsSound (With block') × IsQuiet (given result) (λ _. 0) Was (With block') × ((d : ℕ) → counted (With block') d ≡ counted Was d + given result d)
+    Ends result block' = IsSound (With block') × GuestUnchanged (given result) (λ _. 0) Was (With block') × ((d : ℕ) → counted (With block') d ≡ counted Was d + given result d)
 
     stays : (fault : Fault) → IsSound Was → Ends (Err fault) block
     stays fault sound =
-        let used = block-used Was.file Was.header Was.cached Was.order key sound.safe block there in
-        let quiet = used-quiet Was (record (cached_in mid) { blocks = hit (nat_eq key) (cached_in mid).blocks block }) sound used in
+        let used = block-used Was.file Was.header Was.cached Was.order key sound.well_formed block there in
+        let guest_unchanged = used-quiet Was (record (cached_in mid) { blocks = hit (nat_eq key) (cached_in mid).blocks block }) sound used in
         let none : (d : ℕ) → given (Err fault) d ≡ 0 = λ d. covers-none d (run_of c 0) refl in (
-          quiet.0,
-          quiet-otherwise Was (With block) (λ _. 0) (λ _. 0) (given (Err fault)) (λ _. 0) (λ d. let zero = none d in omega (arith, zero)) (λ d used zero. zero) quiet.1,
+          guest_unchanged.0,
+          quiet-otherwise Was (With block) (λ _. 0) (λ _. 0) (given (Err fault)) (λ _. 0) (λ d. let zero = none d in omega (arith, zero)) (λ d used zero. zero) guest_unchanged.1,
           λ d. let same : counted (With block) d ≡ counted Was d = ap (λ g. count g Was.header.fields d) used.memory_same in let zero = none d in omega (arith, same, zero),
         )
 
     raised : IsSound Was → Was.order ≡ L2DependsOnRb → counted Was c ≡ 0 → Ends (Ok tt) (with_counter block index 1)
     raised sound order zero =
         let sets : SetsCounter Was.file Was.header.fields Was.cached key c 1 (With (with_counter block index 1)).cached = record { block = block; caches = caches-it sound; blocks = refl; tables = refl } in
-        let quiet = hand-out-quiet Was key c (With (with_counter block index 1)).cached sound order sets zero in
-        let changed = (counter-raised Was.file Was.header Was.cached (With (with_counter block index 1)).cached key c (subst (λ o. Safe Was.file Was.header Was.cached o) order sound.safe) sets zero).0 in
+        let guest_unchanged = hand-out-quiet Was key c (With (with_counter block index 1)).cached sound order sets zero in
+        let changed = (counter-raised Was.file Was.header Was.cached (With (with_counter block index 1)).cached key c (subst (λ o. WellFormed Was.file Was.header Was.cached o) order sound.well_formed) sets zero).0 in
         let one : (d : ℕ) → given (Ok tt) d ≡ one_at c d = one-run c in (
-          quiet.0,
-          quiet-otherwise Was (With (with_counter block index 1)) (one_at c) (λ _. 0) (given (Ok tt)) (λ _. 0) (λ d. let is = one d in omega (arith, is)) (λ d used none. none) quiet.1,
+          guest_unchanged.0,
+          quiet-otherwise Was (With (with_counter block index 1)) (one_at c) (λ _. 0) (given (Ok tt)) (λ _. 0) (λ d. let is = one d in omega (arith, is)) (λ d used none. none) guest_unchanged.1,
           λ d. let is = one d in elim (cases_eq d c) [
             | inl same ↦
                 let here = here-one c in
@@ -134,12 +134,12 @@ module _ {S : Type 0} (state : S → StorageState) (table : TableValue) (pending
           ],
         )
 
-    pub ends : (result : Result Unit Fault) (block' : Block) → Raises index block result block' → Was.order ≡ L2DependsOnRb → IsSound Was → counted Was c ≡ 0 → Ends result block'
+    pub ends : (result : Result Unit Fault) (block' : Block) → IncrementsCounter index block result block' → Was.order ≡ L2DependsOnRb → IsSound Was → counted Was c ≡ 0 → Ends result block'
     ends result block' raises order sound zero = elim (cases_lt index (length block.counters)) [
       | inr past ↦ let out = raises.out past in so (Err DamagedTable) block out.0 out.1 (stays DamagedTable sound)
       | inl inside ↦ elim (cases_eq (slice_index block.counters index) 0) [
         | inl none ↦ let done = raises.none inside none in so (Ok tt) (with_counter block index 1) done.0 done.1 (raised sound order zero)
-        | inr some ↦ let out = raises.some inside (omega (arith, some)) in so (Err Counter) block out.0 out.1 (stays Counter sound)
+        | inr some ↦ let out = raises.if_counted inside (omega (arith, some)) in so (Err Counter) block out.0 out.1 (stays Counter sound)
       ]
     ]
       where
@@ -158,7 +158,7 @@ module _ {S : Type 0} (state : S → StorageState) (table : TableValue) (pending
     i = c / counters_of_block before.header.fields
 
     abbrev Does : Block → Result Unit Fault → Block → Type 0
-    Does = Raises (c % counters_of_block before.header.fields)
+    Does = IncrementsCounter (c % counters_of_block before.header.fields)
 
     abbrev Keeps : Type 0
     Keeps = IsTrue (state before.image).shape.keeps
@@ -168,23 +168,23 @@ module _ {S : Type 0} (state : S → StorageState) (table : TableValue) (pending
     Free = (d : ℕ) → c ≤ d → d < c + 1 → counted Old d ≡ 0
 
     abbrev Holds : Type 0
-    Holds = Keeps × (order_of old ≡ L2DependsOnRb) × IsSound Old × ((d : ℕ) → c ≤ d → d < c + 1 → (counted Old d ≡ 0) × (block_offset (slice_index table.words (d / counters_of_block before.header.fields)) ≢ 0))
+    Holds = Keeps × (order_of old ≡ L2DependsOnRb) × IsSound Old × ((d : ℕ) → c ≤ d → d < c + 1 → (counted Old d ≡ 0) × (block_offset (slice_index table.raw_entries (d / counters_of_block before.header.fields)) ≢ 0))
 
     here : {P : ℕ → Type 0} → ((d : ℕ) → c ≤ d → d < c + 1 → P d) → P c
     here each = each c (omega arith) (omega arith)
 
     abbrev Counts : Result Unit Fault → Type 0
-    Counts q = FailsFor (counting_causes Holds (IsLoose table old) (state before.image).faults (state after.image).faults) q
+    Counts q = FailsFor (counting_causes Holds (HasUnpinnedRoom table old) (state before.image).faults (state after.image).faults) q
 
     -- The counts are what they were behind a search that wasn't cut off.
-    found-counts : (key : ℕ) (answer : Result Unit Fault) (mid : MetadataCaches S) → BlockFound state key old before answer mid after → Keeps → IsSound Old → WasNotCutOff answer → (d : ℕ) → counted (At mid after) d ≡ counted Old d
+    found-counts : (key : ℕ) (answer : Result Unit Fault) (mid : MetadataCaches S) → BlockFound state key old before answer mid after → Keeps → IsSound Old → HadNoResourceError answer → (d : ℕ) → counted (At mid after) d ≡ counted Old d
     found-counts key answer mid found keeps sound whole d =
-        let settled = found.going.holds keeps sound.safe tt (inl whole) in
+        let settled = found.writes_back_cached.holds keeps sound.well_formed tt (inl whole) in
         subst (λ (h : Header). count (memory (bytes_of (state after.image).bytes) h.fields (cached_in mid)) h.fields d ≡ counted Old d) (sym found.others.1) (ap (λ g. count g before.header.fields d) settled.memory_same)
 
-    search-counts : (key : ℕ) → named_block table i ≡ Some key
-        → Implies (search_causes (IsInReach before.header.fields.cluster_bits key × AreBlocksInReach (cached_in old) × AreTablesInReach (cached_in old)) (IsPinnedFull old.rb.slots.cap (cached_in old).blocks) (state before.image).faults (state after.image).faults)
-        (counting_causes Holds (IsLoose table old) (state before.image).faults (state after.image).faults)
+    search-counts : (key : ℕ) → referenced_block table i ≡ Some key
+        → Implies (search_causes (IsAddressable before.header.fields.cluster_bits key × AreBlocksAddressable (cached_in old) × AreTablesAddressable (cached_in old)) (IsPinnedFull old.rb.slots.cap (cached_in old).blocks) (state before.image).faults (state after.image).faults)
+        (counting_causes Holds (HasUnpinnedRoom table old) (state before.image).faults (state after.image).faults)
     search-counts key named = record {
       before = omega arith;
       after = omega arith;
@@ -193,51 +193,51 @@ module _ {S : Type 0} (state : S → StorageState) (table : TableValue) (pending
           let place = named-there Old i key sound named in
           let there = block-named Old sound c (λ none. place-there (cluster_size before.header.fields) key (pow_pos before.header.fields.cluster_bits) place.1 (sym place.0 ∙ none)) in
           let same : there.key ≡ key = (let e = sym there.names ∙ named in cc) in
-          let reach = safe-reach Old.file Old.header Old.cached Old.order sound.safe in
-          wrong (subst (λ n. IsInReach before.header.fields.cluster_bits n) same there.reach, reach.1, reach.0);
+          let reach = safe-reach Old.file Old.header Old.cached Old.order sound.well_formed in
+          wrong (subst (λ n. IsAddressable before.header.fields.cluster_bits n) same there.reach, reach.1, reach.0);
       counter = absurd;
       full = λ full u. loose-never table old u.0 u.2 full;
       limit = λ number. absurd;
     }
 
     -- Where nothing is counted, that is quiet.
-    none-given : (fault : Fault) (new' : MetadataCaches S) (after' : ImageFile S) → Quietly (WasNotCutOff (failed fault)) (λ _. 0) (λ _. 0) (state before.image) Old (state after'.image) (At new' after')
-        → Quietly (WasNotCutOff (failed fault)) (given (Err fault)) (λ _. 0) (state before.image) Old (state after'.image) (At new' after')
-    none-given fault new' after' quiet = quietly-otherwise (WasNotCutOff (failed fault)) (λ _. 0) (λ _. 0) (given (Err fault)) (λ _. 0) (state before.image) Old (state after'.image) (At new' after')
-        (λ sound d. let zero = covers-none d (run_of c 0) refl in omega (arith, zero)) (λ sound d used none. none) quiet
+    none-given : (fault : Fault) (new' : MetadataCaches S) (after' : ImageFile S) → PreservesGuest (HadNoResourceError (failed fault)) (λ _. 0) (λ _. 0) (state before.image) Old (state after'.image) (At new' after')
+        → PreservesGuest (HadNoResourceError (failed fault)) (given (Err fault)) (λ _. 0) (state before.image) Old (state after'.image) (At new' after')
+    none-given fault new' after' guest_unchanged = quietly-otherwise (HadNoResourceError (failed fault)) (λ _. 0) (λ _. 0) (given (Err fault)) (λ _. 0) (state before.image) Old (state after'.image) (At new' after')
+        (λ sound d. let zero = covers-none d (run_of c 0) refl in omega (arith, zero)) (λ sound d used none. none) guest_unchanged
 
     -- A run of one cluster is counted, or none of it.
     abbrev CountsOne : Result Unit Fault → MetadataCaches S → ImageFile S → Type 0
-    CountsOne q m f = (run : CountsRun state c 1 (lent table old before pending) q (lent table m f pending)) × (run.part ≡ done_of q)
+    CountsOne q m f = (run : CountsRun state c 1 (image_state table old before pending) q (image_state table m f pending)) × (run.part ≡ done_of q)
 
-    not-found : (key : ℕ) → named_block table i ≡ Some key → (fault : Fault) → BlockFound state key old before (Err fault) new after → CountsOne (Err fault) new after
+    not-found : (key : ℕ) → referenced_block table i ≡ Some key → (fault : Fault) → BlockFound state key old before (Err fault) new after → CountsOne (Err fault) new after
     not-found key named fault found =
         let stays = found-stays state table key old before (Err fault) new after found in
-        let quiet = search-quietly state table key pending old before (Err fault) new after found in (
+        let guest_unchanged = search-quietly state table key pending old before (Err fault) new after found in (
           record {
             part = 0;
             inside = omega arith;
             whole = tt;
-            shape = quiet.shape;
-            later = quiet.later;
-            faults = found.going.faults;
-            quiet = λ order free. none-given fault new after quiet;
+            shape = guest_unchanged.shape;
+            counts_not_fallen = guest_unchanged.counts_not_fallen;
+            faults = found.writes_back_cached.faults;
+            guest_unchanged = λ order free. none-given fault new after guest_unchanged;
             raised = λ order keeps sound free whole d. let same = found-counts key (Err fault) new found keeps sound whole d in let zero = covers-none d (run_of c 0) refl in omega (arith, same, zero);
             order = stays.order;
             header = stays.header;
-            loose = stays.loose;
+            keeps_unpinned_room = stays.loose;
             room = stays.room;
             cause = cause-weaker (search-counts key named) fault found.cause;
           },
           refl,
         )
 
-    used-run : (key : ℕ) → named_block table i ≡ Some key → BlockUsed state key Does (cached_file old before) result (cached_file new after) → CountsOne result new after
+    used-run : (key : ℕ) → referenced_block table i ≡ Some key → BlockUsed state key Does (cached_file old before) result (cached_file new after) → CountsOne result new after
     used-run key named u =
         let stays = used-stays state table key Does old before result new after u in
         let found = search-quietly state table key pending old before succeeded u.mid after u.found in
-        let named-now : named_block table (c / counters_of_block after.header.fields) ≡ Some key = subst (λ (h : Header). named_block table (c / counters_of_block h.fields) ≡ Some key) (sym stays.header) named in
-        let raises : Raises (c % counters_of_block after.header.fields) u.value result u.value' = subst (λ (h : Header). Raises (c % counters_of_block h.fields) u.value result u.value') (sym stays.header) u.used in
+        let named-now : referenced_block table (c / counters_of_block after.header.fields) ≡ Some key = subst (λ (h : Header). referenced_block table (c / counters_of_block h.fields) ≡ Some key) (sym stays.header) named in
+        let raises : IncrementsCounter (c % counters_of_block after.header.fields) u.value result u.value' = subst (λ (h : Header). IncrementsCounter (c % counters_of_block h.fields) u.value result u.value') (sym stays.header) u.used in
         let order-now : order_of old ≡ L2DependsOnRb → order_of u.mid ≡ L2DependsOnRb = λ order. u.found.others.0 ∙ order in
         let mid-sound : Keeps → IsSound Old → IsSound (At u.mid after) = λ keeps sound. (found.holds keeps sound tt).0 in
         let zero : Keeps → IsSound Old → Free → counted (At u.mid after) c ≡ 0 = λ keeps sound free. found-counts key succeeded u.mid u.found keeps sound tt c ∙ here free in (
@@ -246,29 +246,29 @@ module _ {S : Type 0} (state : S → StorageState) (table : TableValue) (pending
             inside = at-most result;
             whole = all-done result;
             shape = found.shape;
-            later = found.later;
-            faults = λ whole. u.found.going.faults tt;
-            quiet = λ order free. subst (λ (m : MetadataCaches S). Quietly (WasNotCutOff result) (given result) (λ _. 0) (state before.image) Old (state after.image) (At m after)) (sym u.left)
-                (quietly-otherwise (WasNotCutOff result) (λ d. 0 + given result d) (λ d. 0 + 0) (given result) (λ _. 0) (state before.image) Old (state after.image) _ (λ sound d. omega arith) (λ sound d used none. omega arith)
-                (quietly-then-given ⊤ (WasNotCutOff result) (λ _. 0) (λ _. 0) (given result) (λ _. 0) (state before.image) Old (state after.image) (At u.mid after) (state after.image) (With key u.mid after named-now u.value u.there u.value') tt (λ sound d some. refl)
-                found refl (later_same (state after.image)) (λ keeps sound sound1 quiet.
-                memory-quietly (WasNotCutOff result) (given result) (λ _. 0) (state after.image) (At u.mid after) (With key u.mid after named-now u.value u.there u.value') (λ sound2 whole.
-                let e = ends key u.mid after named-now u.value u.there result u.value' raises (order-now order) sound2 (zero keeps sound (free sound)) in (e.0, e.1)))));
+            counts_not_fallen = found.counts_not_fallen;
+            faults = λ whole. u.found.writes_back_cached.faults tt;
+            guest_unchanged = λ order free. subst (λ (m : MetadataCaches S). PreservesGuest (HadNoResourceError result) (given result) (λ _. 0) (state before.image) Old (state after.image) (At m after)) (sym u.left)
+                (quietly-otherwise (HadNoResourceError result) (λ d. 0 + given result d) (λ d. 0 + 0) (given result) (λ _. 0) (state before.image) Old (state after.image) _ (λ sound d. omega arith) (λ sound d used none. omega arith)
+                (quietly-then-given ⊤ (HadNoResourceError result) (λ _. 0) (λ _. 0) (given result) (λ _. 0) (state before.image) Old (state after.image) (At u.mid after) (state after.image) (With key u.mid after named-now u.value u.value_cached u.value') tt (λ sound d some. refl)
+                found refl (later_same (state after.image)) (λ keeps sound sound1 guest_unchanged.
+                memory-quietly (HadNoResourceError result) (given result) (λ _. 0) (state after.image) (At u.mid after) (With key u.mid after named-now u.value u.value_cached u.value') (λ sound2 whole.
+                let e = ends key u.mid after named-now u.value u.value_cached result u.value' raises (order-now order) sound2 (zero keeps sound (free sound)) in (e.0, e.1)))));
             raised = λ order keeps sound free whole d.
-                let e = ends key u.mid after named-now u.value u.there result u.value' raises (order-now order) (mid-sound keeps sound) (zero keeps sound free) in
+                let e = ends key u.mid after named-now u.value u.value_cached result u.value' raises (order-now order) (mid-sound keeps sound) (zero keeps sound free) in
                 let more : counted New d ≡ counted (At u.mid after) d + given result d = subst (λ (m : MetadataCaches S). counted (At m after) d ≡ counted (At u.mid after) d + given result d) (sym u.left) (e.2 d) in
                 let same = found-counts key succeeded u.mid u.found keeps sound tt d in
                 omega (arith, more, same);
             order = stays.order;
             header = stays.header;
-            loose = stays.loose;
+            keeps_unpinned_room = stays.loose;
             room = stays.room;
             cause = elim (cases_lt (c % counters_of_block after.header.fields) (length u.value.counters)) [
-              | inr past ↦ subst (λ (q : Result Unit Fault). Counts q) (sym (raises.out past).0) (λ holds. let inside = counter-inside key u.mid after named-now u.value u.there (mid-sound holds.0 holds.2) in omega (arith, inside, past))
+              | inr past ↦ subst (λ (q : Result Unit Fault). Counts q) (sym (raises.out past).0) (λ holds. let inside = counter-inside key u.mid after named-now u.value u.value_cached (mid-sound holds.0 holds.2) in omega (arith, inside, past))
               | inl inside ↦ elim (cases_eq (slice_index u.value.counters (c % counters_of_block after.header.fields)) 0) [
                 | inl none ↦ subst (λ (q : Result Unit Fault). Counts q) (sym (raises.none inside none).0) u.found.cause
-                | inr some ↦ subst (λ (q : Result Unit Fault). Counts q) (sym (raises.some inside (omega (arith, some))).0) (λ holds.
-                    let is = counter-is key u.mid after named-now u.value u.there (mid-sound holds.0 holds.2) in
+                | inr some ↦ subst (λ (q : Result Unit Fault). Counts q) (sym (raises.if_counted inside (omega (arith, some))).0) (λ holds.
+                    let is = counter-is key u.mid after named-now u.value u.value_cached (mid-sound holds.0 holds.2) in
                     let none = zero holds.0 holds.2 (λ d le lt. (holds.3 d le lt).0) in
                     omega (arith, some, is, none))
               ]
@@ -285,34 +285,34 @@ module _ {S : Type 0} (state : S → StorageState) (table : TableValue) (pending
         all-done (Ok done) = refl
         all-done (Err fault) = tt
 
-    pub one-counted : RaisesCluster state table c (cached_file old before) result (cached_file new after) → CountsOne result new after
-    one-counted = by-name (named_block table i) refl
+    pub one-counted : IncrementsCluster state table c (cached_file old before) result (cached_file new after) → CountsOne result new after
+    one-counted = by-name (referenced_block table i) refl
       where
-        refused : named_block table i ≡ None → CountsOne (failed DamagedTable) old before
+        refused : referenced_block table i ≡ None → CountsOne (failed DamagedTable) old before
         refused named =
-            let still = memory-quietly ⊤ (λ _. 0) (λ _. 0) (state before.image) Old Old (λ sound whole. (sound, quiet-none Old sound)) in (
+            let has_no_dirty_data = memory-quietly ⊤ (λ _. 0) (λ _. 0) (state before.image) Old Old (λ sound whole. (sound, quiet-none Old sound)) in (
               record {
                 part = 0;
                 inside = omega arith;
                 whole = tt;
                 shape = refl;
-                later = later_same (state before.image);
+                counts_not_fallen = later_same (state before.image);
                 faults = λ whole. (refl, refl);
-                quiet = λ order free. none-given DamagedTable old before still;
+                guest_unchanged = λ order free. none-given DamagedTable old before has_no_dirty_data;
                 raised = λ order keeps sound free whole d. let zero = covers-none d (run_of c 0) refl in omega (arith, zero);
                 order = refl;
                 header = refl;
-                loose = λ any loose. loose;
+                keeps_unpinned_room = λ any loose. loose;
                 room = record { tables = refl; blocks = refl; entries = refl };
-                cause = λ holds. unnamed (block_offset (slice_index table.words i)) (table.layout.cluster_bits) (here holds.3).1 named;
+                cause = λ holds. not_referenced (block_offset (slice_index table.raw_entries i)) (table.layout.cluster_bits) (here holds.3).1 named;
               },
               refl,
             )
           where
-            unnamed : (w bits : ℕ) → w ≢ 0 → (if w == 0 then None else Some (w / 2 ^ bits)) ≡ None → ⊥
-            unnamed w bits some none = let no : Some (w / 2 ^ bits) ≡ None = sym (rw (ne_eqb w 0 some) refl) ∙ none in cc
+            not_referenced : (w bits : ℕ) → w ≢ 0 → (if w == 0 then None else Some (w / 2 ^ bits)) ≡ None → ⊥
+            not_referenced w bits some none = let no : Some (w / 2 ^ bits) ≡ None = sym (rw (ne_eqb w 0 some) refl) ∙ none in cc
 
-        by-name : (o : Option ℕ) → named_block table i ≡ o → MatchOption o ((result ≡ Err DamagedTable) × (new ≡ old) × (after ≡ before)) (λ key. UsesBlock state key Does (cached_file old before) result (cached_file new after)) → CountsOne result new after
+        by-name : (o : Option ℕ) → referenced_block table i ≡ o → MatchOption o ((result ≡ Err DamagedTable) × (new ≡ old) × (after ≡ before)) (λ key. UsesBlock state key Does (cached_file old before) result (cached_file new after)) → CountsOne result new after
         by-name None named (is, same, same') =
             subst (λ (q : Result Unit Fault). CountsOne q new after) (sym is)
             (subst (λ (m : MetadataCaches S). CountsOne (failed DamagedTable) m after) (sym same)
@@ -320,5 +320,5 @@ module _ {S : Type 0} (state : S → StorageState) (table : TableValue) (pending
         by-name (Some key) named (inl (fault, is, found)) = subst (λ (q : Result Unit Fault). CountsOne q new after) (sym is) (not-found key named fault found)
         by-name (Some key) named (inr u) = used-run key named u
 
-    pub cluster-counted : RaisesCluster state table c (cached_file old before) result (cached_file new after) → CountsRun state c 1 (lent table old before pending) result (lent table new after pending)
+    pub cluster-counted : IncrementsCluster state table c (cached_file old before) result (cached_file new after) → CountsRun state c 1 (image_state table old before pending) result (image_state table new after pending)
     cluster-counted raises = (one-counted raises).0

@@ -9,10 +9,10 @@ use Rattle.imago_storage.specs.declared.fault.Fault.{Fault}
 use Rattle.imago_storage.specs.declared.fault.Fault.TheVariants.{CacheFull, Limit}
 use Rattle.imago_storage.proofs.Composing.{keeps_on}
 use Rattle.qcow2_types.specs.Counts.{counters_of_block}
-use Rattle.qcow2_types.specs.Header.{Header, words_of_cluster}
+use Rattle.qcow2_types.specs.Header.{Header, entries_of_cluster}
 use Rattle.qcow2_types.specs.Switched.{with_refcount_table}
 use Rattle.qcow2_metadata.specs.Tables.{IsGrownLength, TableValue}
-use Rattle.qcow2_metadata.specs.Places.{IsInReach}
+use Rattle.qcow2_metadata.specs.Places.{IsAddressable}
 use Rattle.qcow2_alloc.specs.declared.allocation.readying_runs.Provision.{Provision}
 use Rattle.qcow2_alloc.specs.declared.allocation.handing_out.Readiness.{Readiness}
 use Rattle.qcow2_alloc.specs.declared.allocation.handing_out.Readiness.TheVariants.{Ready, NoPlace}
@@ -24,12 +24,12 @@ use Rattle.qcow2_alloc.specs.Allocators.{metadata_of}
 use Rattle.qcow2_alloc.specs.Caches.{order_of}
 use Rattle.qcow2_alloc.specs.Causes.{HasCause, FailsFor}
 use Rattle.qcow2_alloc.specs.FillingBlocks.{FillsFrom}
-use Rattle.qcow2_alloc.specs.Freeing.{IsLoose}
-use Rattle.qcow2_alloc.specs.Going.{WasNotCutOff}
-use Rattle.qcow2_alloc.specs.GrowingTables.{GrowsTable, IsInRoomToGrow, IsLengthenedByTable, NoPlaceToGrow, table_run}
-use Rattle.qcow2_alloc.specs.HandingOutOne.{HandsOut, ReadiesCounter, ReadiesWord, leaked_by, tells_limit}
-use Rattle.qcow2_alloc.specs.Quiet.{IsSound, counted}
-use Rattle.qcow2_alloc.specs.State.{lent, metadata, IsGuarded, with_mark, AllocatorState}
+use Rattle.qcow2_alloc.specs.Freeing.{HasUnpinnedRoom}
+use Rattle.qcow2_alloc.specs.Going.{HadNoResourceError}
+use Rattle.qcow2_alloc.specs.GrowingTables.{GrowsTable, IsInFreeAreaToGrow, IsLengthenedByTable, NoPlaceToGrow, table_run}
+use Rattle.qcow2_alloc.specs.HandingOutOne.{AllocatesByAnswer, ReadiesCounter, ReadiesRawEntry, leaked_by, tells_limit}
+use Rattle.qcow2_alloc.specs.GuestView.{IsSound, counted}
+use Rattle.qcow2_alloc.specs.State.{image_state, metadata, IsGuarded, with_first_free, AllocatorState}
 use Rattle.qcow2_alloc.proofs.Causes.{cause-weaker, cause-told}
 use Rattle.qcow2_alloc.proofs.Blocks.BlockCreationCalls.{allocating-weaker}
 use Rattle.qcow2_alloc.proofs.Handing.CountSequences.{allocating-none, allocating-as, allocating-then}
@@ -70,7 +70,7 @@ one-index i n above below = omega arith
 before-all : (c k n : ℕ) → n ≤ c / k * k → n ≤ c
 before-all c k n le = let shape = div-add-mod' c k in omega (arith, le, shape)
 
-nearer : (bits a b : ℕ) → a ≤ b → IsInReach bits b → IsInReach bits a
+nearer : (bits a b : ℕ) → a ≤ b → IsAddressable bits b → IsAddressable bits a
 nearer bits a b le reach = let more = mul-le-mul_right (2 ^ bits) le in omega (arith, reach, more)
 
 ready-apart : Ready ≡ NoPlace → ⊥
@@ -110,7 +110,7 @@ module _ {S : Type 0} (state : S → StorageState) (cluster : ℕ) (s : Allocato
   k = counters_of_block s.file.header.fields
 
   -- Nothing was to be done.
-  stands : (answer : Readiness) → HandsOut state leaked_by s.image (ready_so answer) s.image
+  stands : (answer : Readiness) → AllocatesByAnswer state leaked_by s.image (ready_so answer) s.image
   stands answer = record {
     leaked = λ _. 0;
     leaks = leaks-none _ _ (ready_so answer);
@@ -119,12 +119,12 @@ module _ {S : Type 0} (state : S → StorageState) (cluster : ℕ) (s : Allocato
     cause = refl;
   }
 
-  pub word-stands : cluster / k < length s.table.words → ReadiesWord state cluster s (ready_so Ready) s
-  word-stands inside = record { did = stands Ready; mark = refl; there = λ yes. inside; barred = λ order keeps sound no. absurd (ready-apart no); near = λ order keeps sound c none more. absurd (not-more _ _ refl none more) }
+  pub word-stands : cluster / k < length s.table.raw_entries → ReadiesRawEntry state cluster s (ready_so Ready) s
+  word-stands inside = record { did = stands Ready; mark = refl; ready_covers_cluster = λ yes. inside; barred = λ order keeps sound no. absurd (ready-apart no); taken_up_to_cluster = λ order keeps sound c none more. absurd (not-more _ _ refl none more) }
 
   -- The table has grown,
-  module _ (past : length s.table.words ≤ cluster / k) (result : Result Unit Fault) (s' : AllocatorState S) (grows : GrowsTable state (cluster / k) s result s') where
-    grown-list : (r : Result Unit Fault) → OnOk r (IsGrownLength (words_of_cluster s.file.header.fields) k (cluster / k) (length s'.table.words)) → OnOk r (s'.pending ≡ s.pending ++ table_run s.file.header.fields) → OnErr r (s'.pending ≡ s.pending)
+  module _ (past : length s.table.raw_entries ≤ cluster / k) (result : Result Unit Fault) (s' : AllocatorState S) (grows : GrowsTable state (cluster / k) s result s') where
+    grown-list : (r : Result Unit Fault) → OnOk r (IsGrownLength (entries_of_cluster s.file.header.fields) k (cluster / k) (length s'.table.raw_entries)) → OnOk r (s'.pending ≡ s.pending ++ table_run s.file.header.fields) → OnErr r (s'.pending ≡ s.pending)
         → IsLengthenedByTable s.file.header.fields s.table s'.table s.pending s'.pending
     grown-list (Ok done) grown waits kept = inr (longer-than _ _ _ past grown.enough.above, waits)
     grown-list (Err fault) grown waits kept = inl kept
@@ -132,136 +132,136 @@ module _ {S : Type 0} (state : S → StorageState) (cluster : ℕ) (s : Allocato
     no-leak : (result ≡ Err CacheFull → ⊥) → (c : ℕ) → grows.leaked c ≡ 0
     no-leak = grows.leaks.none
 
-    pub word-made : result ≡ Ok tt → ReadiesWord state cluster s (ready_so Ready) s'
+    pub word-made : result ≡ Ok tt → ReadiesRawEntry state cluster s (ready_so Ready) s'
     word-made ok = record {
       did = record {
         leaked = λ _. 0;
         leaks = leaks-none _ _ (ready_so Ready);
-        step = allocating-as state (WasNotCutOff result) (WasNotCutOff (ready_so Ready)) grows.leaked (λ _. 0) s.image s'.image (λ whole. subst (λ (r : Result Unit Fault). WasNotCutOff r) (sym ok) tt) (no-leak (ok-apart result ok)) grows.step;
-        list = grown-list result grows.enough grows.waits grows.kept;
+        step = allocating-as state (HadNoResourceError result) (HadNoResourceError (ready_so Ready)) grows.leaked (λ _. 0) s.image s'.image (λ whole. subst (λ (r : Result Unit Fault). HadNoResourceError r) (sym ok) tt) (no-leak (ok-apart result ok)) grows.step;
+        list = grown-list result grows.enough grows.waits grows.unchanged_on_error;
         cause = of-cause _ _ _ result ok grows.cause;
       };
       mark = grows.mark;
-      there = λ yes. (of-ok result ok grows.enough).enough.above;
+      ready_covers_cluster = λ yes. (of-ok result ok grows.enough).enough.above;
       barred = λ order keeps sound no. absurd (ready-apart no);
-      near = λ order keeps sound c none more. inr (in-room order keeps sound c none more);
+      taken_up_to_cluster = λ order keeps sound c none more. inr (in-room order keeps sound c none more);
     }
       where
         in-room : order_of s.caches ≡ L2DependsOnRb → IsTrue (state s.file.image).shape.keeps → IsSound (metadata state s.image) → (c : ℕ) → counted (metadata state s.image) c ≡ 0 → 0 < counted (metadata state s'.image) c
-            → IsInRoomToGrow (metadata state s.image) s.mark (cluster / k) c
+            → IsInFreeAreaToGrow (metadata state s.image) s.mark (cluster / k) c
         in-room order keeps sound c none more =
             let grown = of-ok result ok (grows.grown order keeps sound) in
             let inside = covered-inside c grown.first grown.total (some-more _ _ _ (grown.counts c) none more) in
             (past, grown.first, grown.total, grown.clusters, grown.room, inside.0, inside.1)
 
     -- or has no place,
-    pub word-barred : (number : ℕ) → result ≡ Err (Limit number) → ReadiesWord state cluster s (ready_so NoPlace) s'
+    pub word-barred : (number : ℕ) → result ≡ Err (Limit number) → ReadiesRawEntry state cluster s (ready_so NoPlace) s'
     word-barred number limit = record {
       did = record {
         leaked = λ _. 0;
         leaks = leaks-none _ _ (ready_so NoPlace);
-        step = allocating-as state (WasNotCutOff result) (WasNotCutOff (ready_so NoPlace)) grows.leaked (λ _. 0) s.image s'.image (λ whole. subst (λ (r : Result Unit Fault). WasNotCutOff r) (sym limit) tt) (no-leak (limit-apart result number limit)) grows.step;
-        list = grown-list result grows.enough grows.waits grows.kept;
+        step = allocating-as state (HadNoResourceError result) (HadNoResourceError (ready_so NoPlace)) grows.leaked (λ _. 0) s.image s'.image (λ whole. subst (λ (r : Result Unit Fault). HadNoResourceError r) (sym limit) tt) (no-leak (limit-apart result number limit)) grows.step;
+        list = grown-list result grows.enough grows.waits grows.unchanged_on_error;
         cause = cause.1;
       };
       mark = grows.mark;
-      there = λ yes. absurd (ready-apart (sym yes));
+      ready_covers_cluster = λ yes. absurd (ready-apart (sym yes));
       barred = λ order keeps sound no. inr (past, number, cause.0 order keeps sound);
-      near = λ order keeps sound c none more. absurd (not-more _ _ (grows.barred order keeps sound number limit c) none more);
+      taken_up_to_cluster = λ order keeps sound c none more. absurd (not-more _ _ (grows.barred order keeps sound number limit c) none more);
     }
       where
         cause : (order_of s.caches ≡ L2DependsOnRb → IsTrue (state s.file.image).shape.keeps → IsSound (metadata state s.image) → NoPlaceToGrow (metadata state s.image) s.mark (cluster / k) number) × ((state s'.file.image).faults ≡ (state s.file.image).faults)
-        cause = subst (λ (r : Result Unit Fault). FailsFor (allocating_causes (IsGuarded state s.image) (IsLoose s.table s.caches)
+        cause = subst (λ (r : Result Unit Fault). FailsFor (allocating_causes (IsGuarded state s.image) (HasUnpinnedRoom s.table s.caches)
             (λ n. order_of s.caches ≡ L2DependsOnRb → IsTrue (state s.file.image).shape.keeps → IsSound (metadata state s.image) → NoPlaceToGrow (metadata state s.image) s.mark (cluster / k) n)
             (state s.file.image).faults (state s'.file.image).faults) r) limit grows.cause
 
     -- or was refused.
-    pub word-refused : (fault : Fault) → result ≡ Err fault → ((number : ℕ) → fault ≢ Limit number) → ReadiesWord state cluster s (not_ready fault) s'
+    pub word-refused : (fault : Fault) → result ≡ Err fault → ((number : ℕ) → fault ≢ Limit number) → ReadiesRawEntry state cluster s (not_ready fault) s'
     word-refused fault is other = record {
       did = record {
         leaked = grows.leaked;
         leaks = record { none = λ full. grows.leaks.none (λ at. full (same-fault result fault is at)); pinned = grows.leaks.pinned };
-        step = allocating-as state (WasNotCutOff result) (WasNotCutOff (not_ready fault)) grows.leaked grows.leaked s.image s'.image (λ whole. subst (λ (r : Result Unit Fault). WasNotCutOff r) (sym is) whole) (λ c. refl) grows.step;
-        list = grown-list result grows.enough grows.waits grows.kept;
-        cause = never-limit _ _ _ _ _ _ fault other (subst (λ (r : Result Unit Fault). FailsFor (allocating_causes (IsGuarded state s.image) (IsLoose s.table s.caches)
+        step = allocating-as state (HadNoResourceError result) (HadNoResourceError (not_ready fault)) grows.leaked grows.leaked s.image s'.image (λ whole. subst (λ (r : Result Unit Fault). HadNoResourceError r) (sym is) whole) (λ c. refl) grows.step;
+        list = grown-list result grows.enough grows.waits grows.unchanged_on_error;
+        cause = never-limit _ _ _ _ _ _ fault other (subst (λ (r : Result Unit Fault). FailsFor (allocating_causes (IsGuarded state s.image) (HasUnpinnedRoom s.table s.caches)
             (λ n. order_of s.caches ≡ L2DependsOnRb → IsTrue (state s.file.image).shape.keeps → IsSound (metadata state s.image) → NoPlaceToGrow (metadata state s.image) s.mark (cluster / k) n)
             (state s.file.image).faults (state s'.file.image).faults) r) is grows.cause);
       };
       mark = grows.mark;
-      there = tt;
+      ready_covers_cluster = tt;
       barred = λ order keeps sound. tt;
-      near = λ order keeps sound. tt;
+      taken_up_to_cluster = λ order keeps sound. tt;
     }
 
   -- There is a word for the cluster, and its block is made.
   module _ (mid : AllocatorState S) where
     -- There was no place for one,
-    pub counter-barred : ReadiesWord state cluster s (ready_so NoPlace) mid → ReadiesCounter state cluster s (ready_so NoPlace) mid
-    counter-barred word = record { did = word.did; mark = word.mark; there = λ yes. absurd (ready-apart (sym yes)); barred = word.barred; near = word.near }
+    pub counter-barred : ReadiesRawEntry state cluster s (ready_so NoPlace) mid → ReadiesCounter state cluster s (ready_so NoPlace) mid
+    counter-barred raw_entry = record { did = raw_entry.did; mark = raw_entry.mark; ready_covers_cluster = λ yes. absurd (ready-apart (sym yes)); barred = raw_entry.barred; taken_up_to_cluster = raw_entry.taken_up_to_cluster }
 
-    module _ (word : ReadiesWord state cluster s (ready_so Ready) mid) (reach : IsInReach s.file.header.fields.cluster_bits cluster) (table' : TableValue) (new : MetadataCaches S) (after : ImageFile S) (mark' : ℕ) (still : mark' ≡ mid.mark) where
-      header-moved : (P : Header → Type 0) → P (with_refcount_table s.file.header word.did.step.moved.0 word.did.step.moved.1) → P mid.file.header
-      header-moved P p = subst P (sym word.did.step.moved.2) p
+    module _ (raw_entry : ReadiesRawEntry state cluster s (ready_so Ready) mid) (reach : IsAddressable s.file.header.fields.cluster_bits cluster) (table' : TableValue) (new : MetadataCaches S) (after : ImageFile S) (mark' : ℕ) (has_no_dirty_data : mark' ≡ mid.mark) where
+      header-moved : (P : Header → Type 0) → P (with_refcount_table s.file.header raw_entry.did.step.moved.0 raw_entry.did.step.moved.1) → P mid.file.header
+      header-moved P p = subst P (sym raw_entry.did.step.moved.2) p
 
-      near : (i : ℕ) → cluster / k ≤ i → i < cluster / k + 1 → IsInReach mid.file.header.fields.cluster_bits (i * counters_of_block mid.file.header.fields)
-      near i above below = header-moved (λ (H : Header). IsInReach H.fields.cluster_bits (i * counters_of_block H.fields)) (
-          subst (λ j. IsInReach s.file.header.fields.cluster_bits (j * k)) (sym (one-index i (cluster / k) above below))
+      near : (i : ℕ) → cluster / k ≤ i → i < cluster / k + 1 → IsAddressable mid.file.header.fields.cluster_bits (i * counters_of_block mid.file.header.fields)
+      near i above below = header-moved (λ (H : Header). IsAddressable H.fields.cluster_bits (i * counters_of_block H.fields)) (
+          subst (λ j. IsAddressable s.file.header.fields.cluster_bits (j * k)) (sym (one-index i (cluster / k) above below))
           (nearer s.file.header.fields.cluster_bits (cluster / k * k) cluster (before-all cluster k (cluster / k * k) (unchanged (cluster / k * k))) reach))
 
-      never-far : (number : ℕ) → ((i : ℕ) × (cluster / k ≤ i) × (i < cluster / k + 1) × (number ≤ i * counters_of_block mid.file.header.fields) × (IsInReach mid.file.header.fields.cluster_bits number → ⊥)) → ⊥
+      never-far : (number : ℕ) → ((i : ℕ) × (cluster / k ≤ i) × (i < cluster / k + 1) × (number ≤ i * counters_of_block mid.file.header.fields) × (IsAddressable mid.file.header.fields.cluster_bits number → ⊥)) → ⊥
       never-far number (i, above, below, le, far) = far (nearer mid.file.header.fields.cluster_bits number _ le (near i above below))
 
-      both : (ok' : Type 0) → Allocating state ok' (λ _. 0) mid.image (lent table' new after mid.pending) → Allocating state ok' (λ _. 0) s.image (lent table' new after mid.pending)
-      both ok' two = allocating-as state ok' ok' (λ c. leaked_by (ready_so Ready) word.did.leaked c + 0) (λ _. 0) s.image (lent table' new after mid.pending) (λ o. o) (λ c. refl)
-          (allocating-then state ⊤ ok' (leaked_by (ready_so Ready) word.did.leaked) (λ _. 0) s.image mid.image (lent table' new after mid.pending) tt word.did.step two)
+      both : (ok' : Type 0) → Allocating state ok' (λ _. 0) mid.image (image_state table' new after mid.pending) → Allocating state ok' (λ _. 0) s.image (image_state table' new after mid.pending)
+      both ok' two = allocating-as state ok' ok' (λ c. leaked_by (ready_so Ready) raw_entry.did.leaked c + 0) (λ _. 0) s.image (image_state table' new after mid.pending) (λ o. o) (λ c. refl)
+          (allocating-then state ⊤ ok' (leaked_by (ready_so Ready) raw_entry.did.leaked) (λ _. 0) s.image mid.image (image_state table' new after mid.pending) tt raw_entry.did.step two)
 
-      blocks-behind : IsLengthenedByTable s.file.header.fields s.table mid.table s.pending mid.pending → length table'.words ≡ length mid.table.words → IsLengthenedByTable s.file.header.fields s.table table' s.pending mid.pending
+      blocks-behind : IsLengthenedByTable s.file.header.fields s.table mid.table s.pending mid.pending → length table'.raw_entries ≡ length mid.table.raw_entries → IsLengthenedByTable s.file.header.fields s.table table' s.pending mid.pending
       blocks-behind (inl same) long = inl same
-      blocks-behind (inr (longer, waits)) long = inr (subst (λ n. length s.table.words < n) (sym long) longer, waits)
+      blocks-behind (inr (longer, waits)) long = inr (subst (λ n. length s.table.raw_entries < n) (sym long) longer, waits)
 
       holds-still : IsGuarded state s.image → IsGuarded state mid.image
-      holds-still holds = let quiet = word.did.step.quiet holds.1 in (keeps_on (state s.file.image) (state mid.file.image) quiet.shape holds.0, word.did.step.order ∙ holds.1, (quiet.holds holds.0 holds.2 tt).0)
+      holds-still holds = let guest_unchanged = raw_entry.did.step.guest_unchanged holds.1 in (keeps_on (state s.file.image) (state mid.file.image) guest_unchanged.shape holds.0, raw_entry.did.step.order ∙ holds.1, (guest_unchanged.holds holds.0 holds.2 tt).0)
 
       -- or now there is a block,
-      pub counter-made : (made : Provision) → MakesBlocks state (cluster / k) (cluster / k + 1) mid.image (so made) (lent table' new after mid.pending)
+      pub counter-made : (made : Provision) → MakesBlocks state (cluster / k) (cluster / k + 1) mid.image (so made) (image_state table' new after mid.pending)
           → (order_of mid.caches ≡ L2DependsOnRb → IsTrue (state mid.file.image).shape.keeps → IsSound (metadata state mid.image)
           → FillsFrom s.mark (cluster / k) (cluster / k + 1) (metadata state mid.image) (metadata_of state after new table' mid.pending))
-          → ReadiesCounter state cluster s (ready_so Ready) (with_mark (lent table' new after mid.pending) mark')
+          → ReadiesCounter state cluster s (ready_so Ready) (with_first_free (image_state table' new after mid.pending) mark')
       counter-made made blocks fills = record {
         did = record {
           leaked = λ _. 0;
           leaks = leaks-none _ _ (ready_so Ready);
           step = both ⊤ blocks.step;
-          list = blocks-behind word.did.list blocks.long;
-          cause = blocks.cause ∙ word.did.cause;
+          list = blocks-behind raw_entry.did.list blocks.long;
+          cause = blocks.cause ∙ raw_entry.did.cause;
         };
-        mark = still ∙ word.mark;
-        there = λ yes. blocks.named (cluster / k) (unchanged (cluster / k)) (behind (cluster / k));
+        mark = has_no_dirty_data ∙ raw_entry.mark;
+        ready_covers_cluster = λ yes. blocks.named (cluster / k) (unchanged (cluster / k)) (behind (cluster / k));
         barred = λ order keeps sound no. absurd (ready-apart no);
-        near = λ order keeps sound c none more. elim (cases_eq (counted (metadata state mid.image) c) 0) [
-          | inr made-before ↦ word.near order keeps sound c none (some-of _ made-before)
-          | inl still ↦
+        taken_up_to_cluster = λ order keeps sound c none more. elim (cases_eq (counted (metadata state mid.image) c) 0) [
+          | inr made-before ↦ raw_entry.taken_up_to_cluster order keeps sound c none (some-of _ made-before)
+          | inl has_no_dirty_data ↦
               let held = holds-still (keeps, order, sound) in
-              let own = (fills held.1 held.0 held.2).own c (λ same. not-more _ _ same still more) in
-              let size : counters_of_block mid.file.header.fields ≡ k = ap (λ (H : Header). counters_of_block H.fields) word.did.step.moved.2 in
+              let own = (fills held.1 held.0 held.2).own c (λ same. not-more _ _ same has_no_dirty_data more) in
+              let size : counters_of_block mid.file.header.fields ≡ k = ap (λ (H : Header). counters_of_block H.fields) raw_entry.did.step.moved.2 in
               inl (before-all cluster k c (subst (λ i. c ≤ i * k) (one-index own.0 (cluster / k) own.1 own.2) (subst (λ x. c ≤ own.0 * x) size own.3)))
         ];
       }
 
       -- or none could be made.
-      pub counter-unmade : (fault : Fault) → MakesBlocks state (cluster / k) (cluster / k + 1) mid.image (refused fault) (lent table' new after mid.pending) → ReadiesCounter state cluster s (not_ready fault) (with_mark (lent table' new after mid.pending) mark')
+      pub counter-unmade : (fault : Fault) → MakesBlocks state (cluster / k) (cluster / k + 1) mid.image (refused fault) (image_state table' new after mid.pending) → ReadiesCounter state cluster s (not_ready fault) (with_first_free (image_state table' new after mid.pending) mark')
       counter-unmade fault blocks = record {
         did = record {
           leaked = λ _. 0;
           leaks = leaks-none _ _ (not_ready fault);
-          step = both (WasNotCutOff (not_ready fault)) blocks.step;
-          list = blocks-behind word.did.list blocks.long;
-          cause = cause-weaker (allocating-weaker holds-still word.did.step.loose never-far word.did.cause) fault blocks.cause;
+          step = both (HadNoResourceError (not_ready fault)) blocks.step;
+          list = blocks-behind raw_entry.did.list blocks.long;
+          cause = cause-weaker (allocating-weaker holds-still raw_entry.did.step.keeps_unpinned_room never-far raw_entry.did.cause) fault blocks.cause;
         };
-        mark = still ∙ word.mark;
-        there = tt;
+        mark = has_no_dirty_data ∙ raw_entry.mark;
+        ready_covers_cluster = tt;
         barred = λ order keeps sound. tt;
-        near = λ order keeps sound. tt;
+        taken_up_to_cluster = λ order keeps sound. tt;
       }
 
 -- Where the header moved its refcount table alone, a cluster has the block that it had.

@@ -8,14 +8,14 @@ use Rattle.std.proofs.lemmas.Nat.{pow_pos}
 use Rattle.std.proofs.Math.Nat.{mul-le-mul, mul-le-mul_right}
 use Rattle.qcow2_types.specs.Counts.{counters_of_block}
 use Rattle.qcow2_types.specs.Header.{Fields, cluster_size}
-use Rattle.qcow2_types.specs.Words.{Layout, block_offset, block_word_sound}
-use Rattle.qcow2_metadata.specs.Places.{IsInReach}
-use Rattle.qcow2_metadata.specs.Tables.{TableValue, IsNamable, IsTable, block_words, with_word}
+use Rattle.qcow2_types.specs.Words.{Layout, block_offset, reftable_entry_valid}
+use Rattle.qcow2_metadata.specs.Places.{IsAddressable}
+use Rattle.qcow2_metadata.specs.Tables.{TableValue, CanBeReferenced, IsTable, refcount_table_kind, with_raw_entry}
 use Rattle.qcow2_metadata.proofs.TableSteps.{block_named, block_word_named, entered}
 use Rattle.qcow2_alloc.specs.declared.allocation.searching.Run.{Run}
 use Rattle.qcow2_alloc.specs.Growing.{lacks, lacking}
 use Rattle.qcow2_alloc.specs.MakingRoom.{rank}
-use Rattle.qcow2_alloc.specs.MovingTables.{NamesNewBlocks}
+use Rattle.qcow2_alloc.specs.MovingTables.{LinksNewBlocks}
 use Rattle.qcow2_alloc.proofs.Growth.FirstRooms.{rank-longer, lacks-inside}
 use Rattle.qcow2_alloc.proofs.Growth.LongerReftables.{rank-new}
 use Rattle.qcow2_alloc.proofs.Memory.Patches.{place-there}
@@ -31,10 +31,10 @@ module _ (h : Fields) (was : TableValue) (run : Run) where
   pub record NamesBefore (end : ℕ) (old new : TableValue) : Type 0 where
     pub layout : new.layout ≡ old.layout
     pub placed : new.cluster ≡ old.cluster
-    pub long : length new.words ≡ length old.words
-    pub news : (i : ℕ) → i < end → lack i ≡ true → block_offset (slice_index new.words i) ≡ (run.first + rank lack i) * cluster_size h
-    pub olds : (i : ℕ) → lack i ≡ false → slice_index new.words i ≡ slice_index old.words i
-    pub table : IsTable block_words old → old.layout.cluster_bits ≡ h.cluster_bits → IsTable block_words new
+    pub long : length new.raw_entries ≡ length old.raw_entries
+    pub news : (i : ℕ) → i < end → lack i ≡ true → block_offset (slice_index new.raw_entries i) ≡ (run.first + rank lack i) * cluster_size h
+    pub olds : (i : ℕ) → lack i ≡ false → slice_index new.raw_entries i ≡ slice_index old.raw_entries i
+    pub table : IsTable refcount_table_kind old → old.layout.cluster_bits ≡ h.cluster_bits → IsTable refcount_table_kind new
 
   -- One that is lacking stands behind those before it.
   pub rank-before : (i end : ℕ) → i < end → lack i ≡ true → rank lack i + 1 ≤ rank lack end
@@ -71,25 +71,25 @@ module _ (h : Fields) (was : TableValue) (run : Run) where
     table = before.table;
   }
 
-  pub named-then : (index place : ℕ) (old mid new : TableValue) → 9 ≤ h.cluster_bits → lack index ≡ true → index < length mid.words → place ≡ run.first + rank lack index → IsInReach h.cluster_bits place
-      → new ≡ with_word mid index (place * 2 ^ h.cluster_bits) → NamesBefore index old mid → NamesBefore (index + 1) old new
+  pub named-then : (index place : ℕ) (old mid new : TableValue) → 9 ≤ h.cluster_bits → lack index ≡ true → index < length mid.raw_entries → place ≡ run.first + rank lack index → IsAddressable h.cluster_bits place
+      → new ≡ with_raw_entry mid index (place * 2 ^ h.cluster_bits) → NamesBefore index old mid → NamesBefore (index + 1) old new
   named-then index place old mid new low is inside at reach made before = subst (λ (t : TableValue). NamesBefore (index + 1) old t) (sym made) (record {
     layout = before.layout;
     placed = before.placed;
-    long = length-set mid.words index (place * 2 ^ h.cluster_bits) ∙ before.long;
+    long = length-set mid.raw_entries index (place * 2 ^ h.cluster_bits) ∙ before.long;
     news = λ i lt is'. elim (cases_eq i index) [
-      | inl here ↦ subst (λ n. block_offset (slice_index (with_word mid index (place * 2 ^ h.cluster_bits)).words n) ≡ (run.first + rank lack n) * cluster_size h) (sym here)
-          (ap block_offset (get_or-set_same mid.words index (place * 2 ^ h.cluster_bits) 0 inside) ∙ block_named h.cluster_bits place low reach ∙ ap (λ n. n * 2 ^ h.cluster_bits) at)
-      | inr away ↦ ap block_offset (get_or-set_other mid.words index i (place * 2 ^ h.cluster_bits) 0 away) ∙ before.news i (omega (arith, lt, away)) is'
+      | inl here ↦ subst (λ n. block_offset (slice_index (with_raw_entry mid index (place * 2 ^ h.cluster_bits)).raw_entries n) ≡ (run.first + rank lack n) * cluster_size h) (sym here)
+          (ap block_offset (get_or-set_same mid.raw_entries index (place * 2 ^ h.cluster_bits) 0 inside) ∙ block_named h.cluster_bits place low reach ∙ ap (λ n. n * 2 ^ h.cluster_bits) at)
+      | inr away ↦ ap block_offset (get_or-set_other mid.raw_entries index i (place * 2 ^ h.cluster_bits) 0 away) ∙ before.news i (omega (arith, lt, away)) is'
     ];
-    olds = λ i off. get_or-set_other mid.words index i (place * 2 ^ h.cluster_bits) 0 (λ same. absurd (let both : true ≡ false = sym is ∙ ap lack (sym same) ∙ off in cc both)) ∙ before.olds i off;
-    table = λ is bits. entered block_words mid.layout mid.words index (place * 2 ^ h.cluster_bits) mid.cluster mid.cluster mid.modified true (before.table is bits)
-        (subst (λ b. IsTrue (block_word_sound b (place * 2 ^ h.cluster_bits))) (sym (ap (λ (l : Layout). l.cluster_bits) before.layout ∙ bits)) (block_word_named h.cluster_bits (Some place) low reach))
+    olds = λ i off. get_or-set_other mid.raw_entries index i (place * 2 ^ h.cluster_bits) 0 (λ same. absurd (let both : true ≡ false = sym is ∙ ap lack (sym same) ∙ off in cc both)) ∙ before.olds i off;
+    table = λ is bits. entered refcount_table_kind mid.layout mid.raw_entries index (place * 2 ^ h.cluster_bits) mid.cluster mid.cluster mid.modified true (before.table is bits)
+        (subst (λ b. IsTrue (reftable_entry_valid b (place * 2 ^ h.cluster_bits))) (sym (ap (λ (l : Layout). l.cluster_bits) before.layout ∙ bits)) (block_word_named h.cluster_bits (Some place) low reach))
         (omega (arith, reach));
   })
 
   -- At the end all are.
-  pub named-all : (end : ℕ) (old new : TableValue) → ((i : ℕ) → lack i ≡ true → i < end) → NamesBefore end old new → NamesNewBlocks h was run old new
+  pub named-all : (end : ℕ) (old new : TableValue) → ((i : ℕ) → lack i ≡ true → i < end) → NamesBefore end old new → LinksNewBlocks h was run old new
   named-all end old new all before = record {
     layout = before.layout;
     placed = before.placed;
@@ -100,8 +100,8 @@ module _ (h : Fields) (was : TableValue) (run : Run) where
   }
 
 -- An index is lacking that has no block and counts a cluster of the run,
-pub lack-here : (h : Fields) (was : TableValue) (run : Run) (i : ℕ) → block_offset (slice_index was.words i) ≡ 0 → run.first / counters_of_block h ≤ i → i * counters_of_block h < run.first + run.len → lack h was run i ≡ true
-lack-here h was run i none from to = is-lacking (block_offset (slice_index was.words i)) (run.first / counters_of_block h) i (i * counters_of_block h) (run.first + run.len) none from to
+pub lack-here : (h : Fields) (was : TableValue) (run : Run) (i : ℕ) → block_offset (slice_index was.raw_entries i) ≡ 0 → run.first / counters_of_block h ≤ i → i * counters_of_block h < run.first + run.len → lack h was run i ≡ true
+lack-here h was run i none from to = is-lacking (block_offset (slice_index was.raw_entries i)) (run.first / counters_of_block h) i (i * counters_of_block h) (run.first + run.len) none from to
   where
     is-lacking : (w a j p e : ℕ) → w ≡ 0 → a ≤ j → p < e → ((w == 0) && (nat_le a j && nat_lt p e)) ≡ true
     is-lacking w a j p e none from to = grind (arith, nat_tests)
@@ -124,14 +124,14 @@ lack-inside h was run end i past is = elim (cases_lt i end) [
 ]
 
 -- A word of the table is there for each block, and can name its place.
-pub word-inside : (index k words end : ℕ) → 0 < k → index * k < end → end ≤ words * k → index < words
-word-inside index k words end some lt le = elim (cases_lt index words) [
+pub word-inside : (index k raw_entries end : ℕ) → 0 < k → index * k < end → end ≤ raw_entries * k → index < raw_entries
+word-inside index k raw_entries end some lt le = elim (cases_lt index raw_entries) [
   | inl less ↦ less
-  | inr past ↦ let far : words * k ≤ index * k = mul-le-mul_right k past in absurd (omega (arith, lt, le, far))
+  | inr past ↦ let far : raw_entries * k ≤ index * k = mul-le-mul_right k past in absurd (omega (arith, lt, le, far))
 ]
 
-pub place-namable : (bits first len place : ℕ) → first ≢ 0 → IsInReach bits (first + (len - 1)) → first ≤ place → place < first + len → IsNamable bits (Some place)
+pub place-namable : (bits first len place : ℕ) → first ≢ 0 → IsAddressable bits (first + (len - 1)) → first ≤ place → place < first + len → CanBeReferenced bits (Some place)
 place-namable bits first len place some reach from to =
     let less : place * 2 ^ bits ≤ (first + (len - 1)) * 2 ^ bits = mul-le-mul_right (2 ^ bits) (omega (arith, to)) in
     let there = place-there (2 ^ bits) place (pow_pos bits) (λ none. some (omega (arith, from, none))) in
-    record { placed = omega (arith, less, reach); some = omega (arith, there) }
+    record { placed = omega (arith, less, reach); cluster_nonzero = omega (arith, there) }

@@ -7,7 +7,7 @@ use Rattle.std.proofs.lemmas.Nat.{mod_below, pow_pos}
 use Rattle.std.proofs.Math.Nat.{div-add-mod, mul-le-mul, mul-le-mul_right}
 use Rattle.imago_storage.specs.State.{StorageState}
 use Rattle.imago_storage.specs.Calls.{Cause}
-use Rattle.imago_storage.specs.Through.{Put}
+use Rattle.imago_storage.specs.Through.{WriteOutcome}
 use Rattle.imago_storage.specs.declared.fault.Fault.{Fault}
 use Rattle.imago_storage.proofs.Composing.{later_same, later_both, keeps_on}
 use Rattle.qcow2_types.specs.Bytes.{Bytes, bytes_of}
@@ -17,16 +17,16 @@ use Rattle.qcow2_types.specs.Frames.{Same}
 use Rattle.qcow2_types.proofs.Counting.Counters.{some-counters}
 use Rattle.qcow2_types.proofs.Counting.Either.{refs-cached}
 use Rattle.qcow2_metadata.specs.Blocks.{Block, BlockPut, counters_in}
-use Rattle.qcow2_metadata.specs.Places.{IsInReach, place_of}
+use Rattle.qcow2_metadata.specs.Places.{IsAddressable, place_of}
 use Rattle.qcow2_metadata.specs.Tables.{TableValue}
 use Rattle.qcow2_alloc.specs.declared.allocation.searching.Run.{Run}
 use Rattle.qcow2_alloc.specs.FreeList.{covers}
-use Rattle.qcow2_alloc.specs.Going.{WasNotCutOff}
+use Rattle.qcow2_alloc.specs.Going.{HadNoResourceError}
 use Rattle.qcow2_alloc.specs.Growing.{lacks, lacking}
 use Rattle.qcow2_alloc.specs.MakingRoom.{rank, run_of, CountsTheSame}
 use Rattle.qcow2_alloc.specs.NewBlocks.{CountsItsOwn, HasCountedOwn, with_file, MayWrite, WritesClusters, WritesBlockTo, WritesLacking}
-use Rattle.qcow2_alloc.specs.Quiet.{Metadata, in_memory, referenced, named_at_all, IsUsed, IsSound, IsQuiet, Quietly}
-use Rattle.qcow2_alloc.proofs.Quiet.SingleRequests.{put-done, put-whole}
+use Rattle.qcow2_alloc.specs.GuestView.{Metadata, in_memory, referenced, referenced_at_all, IsUsed, IsSound, GuestUnchanged, PreservesGuest}
+use Rattle.qcow2_alloc.proofs.GuestView.SingleRequests.{put-done, put-whole}
 use Rattle.qcow2_alloc.proofs.Flushing.FaultlessCalls.{faultless-then, put-faultless}
 use Rattle.qcow2_alloc.proofs.Memory.FreeClusterWrites.{block-quietly, block-counts, block-short, put-outside}
 use Rattle.qcow2_alloc.proofs.Growth.FirstRooms.{rank-longer, index-near, lacks-inside}
@@ -34,14 +34,14 @@ use Rattle.qcow2_alloc.proofs.Growth.LongerReftables.{rank-new}
 use Rattle.qcow2_alloc.proofs.Memory.MemoryWords.{places-in-memory}
 use Rattle.qcow2_alloc.proofs.Blocks.NewBlocks.{counter-read}
 use Rattle.qcow2_alloc.proofs.Memory.Patches.{shaped-in}
-use Rattle.qcow2_alloc.proofs.Quiet.QuietFlushes.{memory-quietly, quiet-none}
-use Rattle.qcow2_alloc.proofs.Quiet.QuietPremises.{quietly-then-given}
-use Rattle.qcow2_alloc.proofs.Quiet.QuietSequences.{quietly-otherwise, quiet-otherwise}
+use Rattle.qcow2_alloc.proofs.GuestView.QuietFlushes.{memory-quietly, quiet-none}
+use Rattle.qcow2_alloc.proofs.GuestView.QuietPremises.{quietly-then-given}
+use Rattle.qcow2_alloc.proofs.GuestView.QuietSequences.{quietly-otherwise, quiet-otherwise}
 use Rattle.qcow2_alloc.proofs.Memory.FittingWords.{counters-same}
 use Rattle.qcow2_alloc.proofs.Memory.KeptWords.{structure-named}
 
 -- What is known of the faults of a write.
-pub put-counts : (old new : StorageState) (at : ℕ) (bytes : List ℕ) (result : Result Unit Fault) → Put old new at bytes result → MatchResult result (λ _. new.faults ≡ old.faults) (Cause old.faults new.faults)
+pub put-counts : (old new : StorageState) (at : ℕ) (bytes : List ℕ) (result : Result Unit Fault) → WriteOutcome old new at bytes result → MatchResult result (λ _. new.faults ≡ old.faults) (Cause old.faults new.faults)
 put-counts old new at bytes (Ok done) put = put.answer.faults
 put-counts old new at bytes (Err fault) put = put.answer.cause
 
@@ -57,10 +57,10 @@ module _ (h : Header) (index : ℕ) (run : Run) (d : ℕ) (block : Block) (own :
     put-there : BlockPut block (d * cluster_size f) old new result
     put-there = subst (λ (H : Header). BlockPut block (d * cluster_size H.fields) old new result) (sym may.header) put
 
-    free-there : IsSound m → (named_at_all m d ≡ 0) × (IsUsed m d → 0 < taken d)
+    free-there : IsSound m → (referenced_at_all m d ≡ 0) × (IsUsed m d → 0 < taken d)
     free-there sound = may.free sound d (omega arith) (omega arith)
 
-    written-quietly : Quietly (WasNotCutOff result) taken taken old m new (with_file m new)
+    written-quietly : PreservesGuest (HadNoResourceError result) taken taken old m new (with_file m new)
     written-quietly =
         put-whole m (with_file m new) taken taken old new (d * cluster_size f) put-there.bytes result put-there.put.put
         (block-quietly m d block old new may.file own-there.order own-there.long taken free-there result put-there)
@@ -71,7 +71,7 @@ module _ (h : Header) (index : ℕ) (run : Run) (d : ℕ) (block : Block) (own :
 
       written-counters : HasCountedOwn (bytes_of new.bytes) h.fields d index run
       written-counters = subst (λ (H : Header). HasCountedOwn (bytes_of new.bytes) H.fields d index run) may.header (λ c is.
-          let less = mod_below c (counters_of_block f) (some-counters f (shaped-in m.file m.header sound.safe.consistent)) in
+          let less = mod_below c (counters_of_block f) (some-counters f (shaped-in m.file m.header sound.well_formed.consistent)) in
           counter-read (bytes_of new.bytes) f (d * cluster_size f) block.counters written-counts.1 (c % counters_of_block f) less
           ∙ own-there.each (c % counters_of_block f) less ∙ ap (λ x. covers x (run_of run.first run.len)) (whole c is))
         where
@@ -85,11 +85,11 @@ module _ (h : Header) (index : ℕ) (run : Run) (d : ℕ) (block : Block) (own :
   block-written = record {
     writes = record {
       shape = put.put.put.shape;
-      later = put.put.put.later;
+      counts_not_fallen = put.put.put.counts_not_fallen;
       faults = put-faultless old new (d * cluster_size h.fields) put.bytes result put.put.put;
       whole = put-done old new (d * cluster_size h.fields) put.bytes result put.put.put;
       cause = put-counts old new (d * cluster_size h.fields) put.bytes result put.put.put;
-      quiet = written-quietly;
+      guest_unchanged = written-quietly;
       counts = λ m taken may keeps sound done. (written-counts m taken may keeps sound done).0;
       others = λ keeps done p off.
           let short = block-short h.fields block put.bytes put.packs own.order own.long in
@@ -135,12 +135,12 @@ within-le s n c t = elim (cases_lt c s) [
 pub clusters-none : (h : Header) (s n : ℕ) (a : StorageState) → WritesClusters h s n a (Ok tt) a
 clusters-none h s n a = record {
   shape = refl;
-  later = later_same a;
+  counts_not_fallen = later_same a;
   faults = λ whole. (refl, refl);
   whole = λ whole. refl;
   cause = refl;
-  quiet = λ m taken may. memory-quietly ⊤ taken taken a m (with_file m a) (λ sound whole.
-      subst (λ (f : Bytes). IsSound (record m { file = f }) × IsQuiet taken taken m (record m { file = f })) may.file
+  guest_unchanged = λ m taken may. memory-quietly ⊤ taken taken a m (with_file m a) (λ sound whole.
+      subst (λ (f : Bytes). IsSound (record m { file = f }) × GuestUnchanged taken taken m (record m { file = f })) may.file
       (sound, quiet-otherwise m m (λ _. 0) (λ _. 0) taken taken (λ c. omega arith) (λ c used none. refl) (quiet-none m sound)));
   counts = λ m taken may keeps sound done. subst (λ (f : Bytes). CountsTheSame m (record m { file = f })) may.file (record { file = λ c. refl; memory = λ c. refl; references = λ c. refl; names = λ c. refl });
   others = λ keeps done p off. refl;
@@ -153,11 +153,11 @@ may-fewer h s n k taken a m le may = record { file = may.file; header = may.head
 pub clusters-more : (h : Header) (s n k : ℕ) (a : StorageState) (result : Result Unit Fault) (c : StorageState) → n ≤ k → WritesClusters h s n a result c → WritesClusters h s k a result c
 clusters-more h s n k a result c le writes = record {
   shape = writes.shape;
-  later = writes.later;
+  counts_not_fallen = writes.counts_not_fallen;
   faults = writes.faults;
   whole = writes.whole;
   cause = writes.cause;
-  quiet = λ m taken may. writes.quiet m taken (may-fewer h s n k taken a m le may);
+  guest_unchanged = λ m taken may. writes.guest_unchanged m taken (may-fewer h s n k taken a m le may);
   counts = λ m taken may. writes.counts m taken (may-fewer h s n k taken a m le may);
   others = λ keeps done p off. writes.others keeps done p (elim off [
     | inl before ↦ inl before
@@ -177,8 +177,8 @@ module _ (h : Header) (s n : ℕ) (a b : StorageState) (result : Result Unit Fau
           (both.0, λ used. let some = both.1 used in let same = within-here s n d (taken d) from to in omega (arith, some, same));
     }
 
-    first-quietly : Quietly ⊤ (within s n taken) (within s n taken) a m b (with_file m b)
-    first-quietly = first.quiet m (within s n taken) may-first
+    first-quietly : PreservesGuest ⊤ (within s n taken) (within s n taken) a m b (with_file m b)
+    first-quietly = first.guest_unchanged m (within s n taken) may-first
 
     named-kept : IsSound m → (d : ℕ) → 0 < referenced m d → within s n taken d ≡ 0
     named-kept sound d some = elim (cases_lt d s) [
@@ -186,7 +186,7 @@ module _ (h : Header) (s n : ℕ) (a b : StorageState) (result : Result Unit Fau
       | inr from ↦ elim (cases_lt d (s + n)) [
         | inl to ↦
             let none = (may.free sound d from (omega (arith, to))).0 in
-            let le = refs-cached m.file (in_memory m) m.header.fields d (places-in-memory m.file m.header sound.safe.consistent m.cached sound.safe.tables sound.safe.blocks) in
+            let le = refs-cached m.file (in_memory m) m.header.fields d (places-in-memory m.file m.header sound.well_formed.consistent m.cached sound.well_formed.tables sound.well_formed.blocks) in
             absurd (omega (arith, none, le, some))
         | inr behind ↦ within-behind s n d (taken d) behind
       ]
@@ -223,21 +223,21 @@ module _ (h : Header) (s n : ℕ) (a b : StorageState) (result : Result Unit Fau
             names = λ d. again.names d ∙ first-counts.names d;
           }
 
-    then-quietly : Quietly (WasNotCutOff result) taken taken a m c (with_file m c)
+    then-quietly : PreservesGuest (HadNoResourceError result) taken taken a m c (with_file m c)
     then-quietly =
-        quietly-otherwise (WasNotCutOff result) (λ d. within s n taken d + taken d) (λ d. within s n taken d + taken d) taken taken a m c (with_file m c) (λ sound d. omega arith)
+        quietly-otherwise (HadNoResourceError result) (λ d. within s n taken d + taken d) (λ d. within s n taken d + taken d) taken taken a m c (with_file m c) (λ sound d. omega arith)
         (λ sound d used none. let le = within-le s n d (taken d) in omega (arith, le, none))
-        (quietly-then-given ⊤ (WasNotCutOff result) (within s n taken) (within s n taken) taken taken a m b (with_file m b) c (with_file m c) tt named-kept first-quietly second.shape second.later
-        (λ keeps sound sound1 quiet. second.quiet (with_file m b) taken (may-second keeps sound)))
+        (quietly-then-given ⊤ (HadNoResourceError result) (within s n taken) (within s n taken) taken taken a m b (with_file m b) c (with_file m c) tt named-kept first-quietly second.shape second.counts_not_fallen
+        (λ keeps sound sound1 guest_unchanged. second.guest_unchanged (with_file m b) taken (may-second keeps sound)))
 
   pub clusters-then : WritesClusters h s (n + 1) a result c
   clusters-then = record {
     shape = second.shape ∙ first.shape;
-    later = later_both a b c first.later second.later;
+    counts_not_fallen = later_both a b c first.counts_not_fallen second.counts_not_fallen;
     faults = λ whole. faultless-then (first.faults tt) (second.faults whole);
     whole = second.whole;
     cause = subst (λ (n : ℕ). MatchResult result (λ _. c.faults ≡ n) (Cause n c.faults)) first.cause second.cause;
-    quiet = then-quietly;
+    guest_unchanged = then-quietly;
     counts = then-counts;
     others = λ keeps done p off.
         second.others (keeps_on a b first.shape keeps) done p (elim off [ inl before ↦ inl (omega (arith, before)) | inr behind ↦ inr (omega (arith, behind)) ])
@@ -319,7 +319,7 @@ module _ (h : Header) (table : TableValue) (run : Run) where
       ]
         where
           some : 0 < counters_of_block h.fields
-          some = subst (λ (H : Header). 0 < counters_of_block H.fields) may.header (some-counters m.header.fields (shaped-in m.file m.header sound.safe.consistent))
+          some = subst (λ (H : Header). 0 < counters_of_block H.fields) may.header (some-counters m.header.fields (shaped-in m.file m.header sound.well_formed.consistent))
 
   -- So it is by a call that was given its place.
   pub before-then-at : (index : ℕ) (a b : StorageState) (result : Result Unit Fault) (c : StorageState) (H : Header) (place : ℕ) → H ≡ h → place ≡ run.first + rank lack index → rank lack (suc index) ≡ rank lack index + 1
@@ -364,7 +364,7 @@ module _ (h : Header) (table : TableValue) (run : Run) where
   ]
 
 -- A run in reach has few clusters.
-pub run-fits : (bits first len : ℕ) → IsInReach bits (first + (len - 1)) → first + len ≤ 2 ^ 56
+pub run-fits : (bits first len : ℕ) → IsAddressable bits (first + (len - 1)) → first + len ≤ 2 ^ 56
 run-fits bits first len reach =
     let le : (first + (len - 1)) * 1 ≤ (first + (len - 1)) * 2 ^ bits = mul-le-mul (omega arith) (pow_pos bits) in
     omega (arith, le, reach)

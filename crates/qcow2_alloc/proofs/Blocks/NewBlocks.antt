@@ -15,10 +15,10 @@ use Rattle.qcow2_types.specs.Counts.{counter, counters_of_block}
 use Rattle.qcow2_types.proofs.Counting.Counters.{some-counters}
 use Rattle.qcow2_metadata.specs.Blocks.{Block, counters_in}
 use Rattle.qcow2_alloc.specs.declared.async_lru_cache.Slot.{Slot}
-use Rattle.qcow2_alloc.specs.Quiet.{Metadata, one_at, IsSound}
+use Rattle.qcow2_alloc.specs.GuestView.{Metadata, one_at, IsSound}
 use Rattle.qcow2_alloc.proofs.Memory.Patches.{all-append, all-weaker, others-before, others-behind, shaped-in}
 use Rattle.qcow2_alloc.proofs.Caching.Places.{Place, place-of-key, away-of-all, slot-of}
-use Rattle.qcow2_alloc.proofs.Quiet.QuietCounters.{here-one, away-none}
+use Rattle.qcow2_alloc.proofs.GuestView.QuietCounters.{here-one, away-none}
 
 -- A counter of the file by its list.
 pub counter-read : (f : Bytes) (h : Fields) (place : ℕ) (counters : List ℕ) → counters_in f h place ≡ counters → (j : ℕ) → j < counters_of_block h → counter f h place j ≡ slice_index counters j
@@ -29,7 +29,7 @@ module _ (m : Metadata) (sound : IsSound m) (i d : ℕ) where
   k = counters_of_block m.header.fields
 
   some : 0 < counters_of_block m.header.fields
-  some = some-counters m.header.fields (shaped-in m.file m.header sound.safe.consistent)
+  some = some-counters m.header.fields (shaped-in m.file m.header sound.well_formed.consistent)
 
   zero-at : (j : ℕ) → j < counters_of_block m.header.fields → slice_index (replicate (counters_of_block m.header.fields) 0) j ≡ 0
   zero-at j lt = get_or-replicate (counters_of_block m.header.fields) j 0 0 lt

@@ -14,22 +14,22 @@ use Rattle.qcow2_metadata.specs.Tables.{TableValue}
 use Rattle.qcow2_alloc.specs.declared.cache.CacheDependency.TheVariants.{L2DependsOnRb}
 use Rattle.qcow2_alloc.specs.declared.cache.MetadataCaches.{MetadataCaches}
 use Rattle.qcow2_alloc.specs.declared.file.ImageFile.{ImageFile}
-use Rattle.qcow2_alloc.specs.Allocating.{CountsPart, CountsRun, CountsNamed, named_part}
+use Rattle.qcow2_alloc.specs.Allocating.{CountsPart, CountsRun, CountsReferenced, named_part}
 use Rattle.qcow2_alloc.specs.Allocators.{metadata_of}
 use Rattle.qcow2_alloc.specs.Caches.{order_of}
 use Rattle.qcow2_alloc.specs.FreeList.{covers}
-use Rattle.qcow2_alloc.specs.Going.{WasNotCutOff}
+use Rattle.qcow2_alloc.specs.Going.{HadNoResourceError}
 use Rattle.qcow2_alloc.specs.MakingRoom.{run_of}
-use Rattle.qcow2_alloc.specs.Quiet.{Metadata, IsSound, counted}
-use Rattle.qcow2_alloc.specs.State.{lent}
+use Rattle.qcow2_alloc.specs.GuestView.{Metadata, IsSound, counted}
+use Rattle.qcow2_alloc.specs.State.{image_state}
 use Rattle.qcow2_alloc.proofs.Causes.{cause-weaker, fails-weaker}
 use Rattle.qcow2_alloc.proofs.Blocks.ClusterCounts.{succeeded}
 use Rattle.qcow2_alloc.proofs.Flushing.FaultlessCalls.{faultless-then}
 use Rattle.qcow2_alloc.proofs.Freeing.EntryFrees.{failed, counting-weaker}
 use Rattle.qcow2_alloc.proofs.Freeing.ClusterOccurrences.{covers-none}
-use Rattle.qcow2_alloc.proofs.Quiet.QuietFlushes.{memory-quietly, quiet-none}
-use Rattle.qcow2_alloc.proofs.Quiet.QuietPremises.{quietly-then-given}
-use Rattle.qcow2_alloc.proofs.Quiet.QuietSequences.{quietly-otherwise, quiet-otherwise}
+use Rattle.qcow2_alloc.proofs.GuestView.QuietFlushes.{memory-quietly, quiet-none}
+use Rattle.qcow2_alloc.proofs.GuestView.QuietPremises.{quietly-then-given}
+use Rattle.qcow2_alloc.proofs.GuestView.QuietSequences.{quietly-otherwise, quiet-otherwise}
 
 -- A run goes on in the next one, and ends where that begins.
 pub covers-join : (c first n k : ℕ) → covers c (run_of first n) + covers c (run_of (first + n) k) ≡ covers c (run_of first (n + k))
@@ -84,7 +84,7 @@ module _ {S : Type 0} (state : S → StorageState) (table : TableValue) (pending
 
   -- so many clusters from one on are counted
   abbrev Counts : ℕ → ℕ → MetadataCaches S → ImageFile S → Result Unit Fault → MetadataCaches S → ImageFile S → Type 0
-  Counts from n old before result new after = CountsPart state (part_of passed from) ready from n (lent table old before pending) result (lent table new after pending)
+  Counts from n old before result new after = CountsPart state (part_of passed from) ready from n (image_state table old before pending) result (image_state table new after pending)
 
   -- nothing, where nothing is handed out,
   parts-still : (n part : ℕ) → part ≤ n → part ≡ n → ((d : ℕ) → part_of passed first part d ≡ 0) → (old : MetadataCaches S) (before : ImageFile S) → Counts first n old before succeeded old before
@@ -93,16 +93,16 @@ module _ {S : Type 0} (state : S → StorageState) (table : TableValue) (pending
     inside = inside;
     whole = whole;
     shape = refl;
-    later = later_same (state before.image);
+    counts_not_fallen = later_same (state before.image);
     faults = λ whole. (refl, refl);
-    quiet = λ order free. memory-quietly (WasNotCutOff succeeded) (part_of passed first part) (λ _. 0) (state before.image) (At old before) (At old before) (λ sound whole. (
+    guest_unchanged = λ order free. memory-quietly (HadNoResourceError succeeded) (part_of passed first part) (λ _. 0) (state before.image) (At old before) (At old before) (λ sound whole. (
       sound,
       quiet-otherwise (At old before) (At old before) (λ _. 0) (λ _. 0) (part_of passed first part) (λ _. 0) (λ d. let zero = none d in omega (arith, zero)) (λ d used zero. zero) (quiet-none (At old before) sound),
     ));
     raised = λ order keeps sound free whole d. let zero = none d in omega (arith, zero);
     order = refl;
     header = refl;
-    loose = λ any loose. loose;
+    keeps_unpinned_room = λ any loose. loose;
     room = record { tables = refl; blocks = refl; entries = refl };
     cause = refl;
   }
@@ -131,25 +131,25 @@ module _ {S : Type 0} (state : S → StorageState) (table : TableValue) (pending
         inside = omega (arith, le);
         whole = ended result two.part two.whole;
         shape = two.shape ∙ one.shape;
-        later = later_both (state fA.image) (state fB.image) (state fC.image) one.later two.later;
+        counts_not_fallen = later_both (state fA.image) (state fB.image) (state fC.image) one.counts_not_fallen two.counts_not_fallen;
         faults = λ whole. faultless-then (one.faults tt) (two.faults whole);
-        quiet = λ order free.
-            quietly-otherwise (WasNotCutOff result) (λ d. part_of passed first one.part d + part_of passed (first + n) two.part d) (λ d. 0 + 0) (part_of passed first (n + two.part)) (λ _. 0)
+        guest_unchanged = λ order free.
+            quietly-otherwise (HadNoResourceError result) (λ d. part_of passed first one.part d + part_of passed (first + n) two.part d) (λ d. 0 + 0) (part_of passed first (n + two.part)) (λ _. 0)
             (state fA.image) (At A fA) (state fC.image) (At C fC) (λ sound d. let same = joined d in omega (arith, same)) (λ sound d used none. omega arith)
-            (quietly-then-given (WasNotCutOff succeeded) (WasNotCutOff result) (part_of passed first one.part) (λ _. 0) (part_of passed (first + n) two.part) (λ _. 0)
-            (state fA.image) (At A fA) (state fB.image) (At B fB) (state fC.image) (At C fC) tt (λ sound d some. refl) (one.quiet order (λ sound. within (free sound))) two.shape two.later (λ keeps sound sound1 quiet.
-            two.quiet (one.order ∙ order) (λ again. next order keeps sound (free sound))));
+            (quietly-then-given (HadNoResourceError succeeded) (HadNoResourceError result) (part_of passed first one.part) (λ _. 0) (part_of passed (first + n) two.part) (λ _. 0)
+            (state fA.image) (At A fA) (state fB.image) (At B fB) (state fC.image) (At C fC) tt (λ sound d some. refl) (one.guest_unchanged order (λ sound. within (free sound))) two.shape two.counts_not_fallen (λ keeps sound sound1 guest_unchanged.
+            two.guest_unchanged (one.order ∙ order) (λ again. next order keeps sound (free sound))));
         raised = λ order keeps sound free whole d.
             let more = one.raised order keeps sound (within free) tt d in
-            let mid = ((one.quiet order (λ s. within free)).holds keeps sound tt).0 in
+            let mid = ((one.guest_unchanged order (λ s. within free)).holds keeps sound tt).0 in
             let last = two.raised (one.order ∙ order) (on keeps) mid (next order keeps sound free) whole d in
             let same = joined d in
             omega (arith, more, last, same);
         order = two.order ∙ one.order;
         header = two.header ∙ one.header;
-        loose = λ any loose. two.loose any (one.loose any loose);
+        keeps_unpinned_room = λ any loose. two.keeps_unpinned_room any (one.keeps_unpinned_room any loose);
         room = record { tables = two.room.tables ∙ one.room.tables; blocks = two.room.blocks ∙ one.room.blocks; entries = two.room.entries ∙ one.room.entries };
-        cause = fails-weaker _ _ (counting-weaker from one.loose one.cause) (λ same. same ∙ one.cause) result two.cause;
+        cause = fails-weaker _ _ (counting-weaker from one.keeps_unpinned_room one.cause) (λ same. same ∙ one.cause) result two.cause;
       }
     where
       ended : (r : Result Unit Fault) (k : ℕ) → OnOk r (k ≡ 1) → OnOk r (n + k ≡ n + 1)
@@ -158,7 +158,7 @@ module _ {S : Type 0} (state : S → StorageState) (table : TableValue) (pending
 
       from : Holds first (n + 1) A fA → Holds (first + n) 1 B fB
       from holds =
-          let mid = ((one.quiet holds.1 (λ s d above below. (holds.3 d above (omega (arith, below))).0)).holds holds.0 holds.2 tt).0 in (
+          let mid = ((one.guest_unchanged holds.1 (λ s d above below. (holds.3 d above (omega (arith, below))).0)).holds holds.0 holds.2 tt).0 in (
             keeps_on (state fA.image) (state fB.image) one.shape holds.0,
             one.order ∙ holds.1,
             mid,
@@ -183,13 +183,13 @@ module _ {S : Type 0} (state : S → StorageState) (table : TableValue) (pending
         inside = omega (arith, few, le);
         whole = tt;
         shape = part.shape;
-        later = part.later;
+        counts_not_fallen = part.counts_not_fallen;
         faults = part.faults;
-        quiet = λ order free. part.quiet order (λ sound. within (free sound));
+        guest_unchanged = λ order free. part.guest_unchanged order (λ sound. within (free sound));
         raised = λ order keeps sound free whole d. part.raised order keeps sound (within free) whole d;
         order = part.order;
         header = part.header;
-        loose = part.loose;
+        keeps_unpinned_room = part.keeps_unpinned_room;
         room = part.room;
         cause = cause-weaker (counting-weaker (λ holds. (holds.0, holds.1, holds.2, λ d above below. holds.3 d above (omega (arith, below, le)))) (λ any loose. loose) refl) fault part.cause;
       }
@@ -197,39 +197,39 @@ module _ {S : Type 0} (state : S → StorageState) (table : TableValue) (pending
 -- Where all are counted,
 module _ {S : Type 0} (state : S → StorageState) (table : TableValue) (pending : List FreeEntry) (first : ℕ) where
   abbrev named_in : Header → ℕ → Type 0
-  named_in h c = block_offset (slice_index table.words (c / counters_of_block h.fields)) ≢ 0
+  named_in h c = block_offset (slice_index table.raw_entries (c / counters_of_block h.fields)) ≢ 0
 
-  pub run-none : (old : MetadataCaches S) (before : ImageFile S) → CountsRun state first 0 (lent table old before pending) succeeded (lent table old before pending)
+  pub run-none : (old : MetadataCaches S) (before : ImageFile S) → CountsRun state first 0 (image_state table old before pending) succeeded (image_state table old before pending)
   run-none old before = parts-none state table pending (λ c. false) (named_in before.header) first old before
 
   pub run-then : (n : ℕ) (A : MetadataCaches S) (fA : ImageFile S) (B : MetadataCaches S) (fB : ImageFile S) (result : Result Unit Fault) (C : MetadataCaches S) (fC : ImageFile S)
-      → CountsRun state first n (lent table A fA pending) succeeded (lent table B fB pending) → CountsRun state (first + n) 1 (lent table B fB pending) result (lent table C fC pending) → CountsRun state first (n + 1) (lent table A fA pending) result (lent table C fC pending)
+      → CountsRun state first n (image_state table A fA pending) succeeded (image_state table B fB pending) → CountsRun state (first + n) 1 (image_state table B fB pending) result (image_state table C fC pending) → CountsRun state first (n + 1) (image_state table A fA pending) result (image_state table C fC pending)
   run-then n A fA B fB result C fC one two =
       parts-then state table pending (λ c. false) (named_in fA.header) first n A fA B fB result C fC one
-      (subst (λ (h : Header). CountsPart state (part_of (λ c. false) (first + n)) (named_in h) (first + n) 1 (lent table B fB pending) result (lent table C fC pending)) one.header two)
+      (subst (λ (h : Header). CountsPart state (part_of (λ c. false) (first + n)) (named_in h) (first + n) 1 (image_state table B fB pending) result (image_state table C fC pending)) one.header two)
 
-  pub run-within : (n N : ℕ) → n ≤ N → (A : MetadataCaches S) (fA : ImageFile S) (fault : Fault) (B : MetadataCaches S) (fB : ImageFile S) → CountsRun state first n (lent table A fA pending) (failed fault) (lent table B fB pending) → CountsRun state first N (lent table A fA pending) (failed fault) (lent table B fB pending)
+  pub run-within : (n N : ℕ) → n ≤ N → (A : MetadataCaches S) (fA : ImageFile S) (fault : Fault) (B : MetadataCaches S) (fB : ImageFile S) → CountsRun state first n (image_state table A fA pending) (failed fault) (image_state table B fB pending) → CountsRun state first N (image_state table A fA pending) (failed fault) (image_state table B fB pending)
   run-within n N le A fA = parts-within state table pending (λ c. false) (named_in fA.header) first n N le A fA
 
 -- and where those are passed over whose block isn't named.
 module _ {S : Type 0} (state : S → StorageState) (table : TableValue) (pending : List FreeEntry) where
   abbrev unnamed_in : Header → ℕ → Bool
-  unnamed_in h c = block_offset (slice_index table.words (c / counters_of_block h.fields)) == 0
+  unnamed_in h c = block_offset (slice_index table.raw_entries (c / counters_of_block h.fields)) == 0
 
-  pub named-run-none : (first : ℕ) (old : MetadataCaches S) (before : ImageFile S) → CountsNamed state first 0 (lent table old before pending) succeeded (lent table old before pending)
+  pub named-run-none : (first : ℕ) (old : MetadataCaches S) (before : ImageFile S) → CountsReferenced state first 0 (image_state table old before pending) succeeded (image_state table old before pending)
   named-run-none first old before = parts-none state table pending (unnamed_in before.header) (λ c. ⊤) first old before
 
   pub named-run-then : (first n : ℕ) (A : MetadataCaches S) (fA : ImageFile S) (B : MetadataCaches S) (fB : ImageFile S) (result : Result Unit Fault) (C : MetadataCaches S) (fC : ImageFile S)
-      → CountsNamed state first n (lent table A fA pending) succeeded (lent table B fB pending) → CountsNamed state (first + n) 1 (lent table B fB pending) result (lent table C fC pending) → CountsNamed state first (n + 1) (lent table A fA pending) result (lent table C fC pending)
+      → CountsReferenced state first n (image_state table A fA pending) succeeded (image_state table B fB pending) → CountsReferenced state (first + n) 1 (image_state table B fB pending) result (image_state table C fC pending) → CountsReferenced state first (n + 1) (image_state table A fA pending) result (image_state table C fC pending)
   named-run-then first n A fA B fB result C fC one two =
       parts-then state table pending (unnamed_in fA.header) (λ c. ⊤) first n A fA B fB result C fC one
-      (subst (λ (h : Header). CountsPart state (part_of (unnamed_in h) (first + n)) (λ c. ⊤) (first + n) 1 (lent table B fB pending) result (lent table C fC pending)) one.header two)
+      (subst (λ (h : Header). CountsPart state (part_of (unnamed_in h) (first + n)) (λ c. ⊤) (first + n) 1 (image_state table B fB pending) result (image_state table C fC pending)) one.header two)
 
-  pub named-run-within : (first n N : ℕ) → n ≤ N → (A : MetadataCaches S) (fA : ImageFile S) (fault : Fault) (B : MetadataCaches S) (fB : ImageFile S) → CountsNamed state first n (lent table A fA pending) (failed fault) (lent table B fB pending) → CountsNamed state first N (lent table A fA pending) (failed fault) (lent table B fB pending)
+  pub named-run-within : (first n N : ℕ) → n ≤ N → (A : MetadataCaches S) (fA : ImageFile S) (fault : Fault) (B : MetadataCaches S) (fB : ImageFile S) → CountsReferenced state first n (image_state table A fA pending) (failed fault) (image_state table B fB pending) → CountsReferenced state first N (image_state table A fA pending) (failed fault) (image_state table B fB pending)
   named-run-within first n N le A fA = parts-within state table pending (unnamed_in fA.header) (λ c. ⊤) first n N le A fA
 
   -- A cluster is passed over,
-  pub passed-over : (c : ℕ) (old : MetadataCaches S) (before : ImageFile S) → block_offset (slice_index table.words (c / counters_of_block before.header.fields)) ≡ 0 → CountsNamed state c 1 (lent table old before pending) succeeded (lent table old before pending)
+  pub passed-over : (c : ℕ) (old : MetadataCaches S) (before : ImageFile S) → block_offset (slice_index table.raw_entries (c / counters_of_block before.header.fields)) ≡ 0 → CountsReferenced state c 1 (image_state table old before pending) succeeded (image_state table old before pending)
   passed-over c old before none =
       let nothing : (d : ℕ) → named_part table (counters_of_block before.header.fields) c 1 d ≡ 0 = λ d. elim (cases_eq d c) [
         | inl same ↦ subst (λ n. named_part table (counters_of_block before.header.fields) c 1 n ≡ 0) (sym same) (unnamed-part _ (covers c (run_of c 1)) none)
@@ -240,7 +240,7 @@ module _ {S : Type 0} (state : S → StorageState) (table : TableValue) (pending
   -- or counted where its block is named.
   module _ (c : ℕ) (old : MetadataCaches S) (before : ImageFile S) where
     abbrev Named : ℕ → Type 0
-    Named d = block_offset (slice_index table.words (d / counters_of_block before.header.fields)) ≢ 0
+    Named d = block_offset (slice_index table.raw_entries (d / counters_of_block before.header.fields)) ≢ 0
 
     abbrev Could : (ℕ → Type 0) → Type 0
     Could ready = IsTrue (state before.image).shape.keeps × (order_of old ≡ L2DependsOnRb) × IsSound (metadata_of state before old table pending)
@@ -252,7 +252,7 @@ module _ {S : Type 0} (state : S → StorageState) (table : TableValue) (pending
     named-ready : Named c → Could (λ d. ⊤) → Could Named
     named-ready some holds = (holds.0, holds.1, holds.2, λ d above below. ((holds.3 d above below).0, subst Named (only d above below) some))
 
-    pub counted-named : (result : Result Unit Fault) (new : MetadataCaches S) (after : ImageFile S) → Named c → CountsRun state c 1 (lent table old before pending) result (lent table new after pending) → CountsNamed state c 1 (lent table old before pending) result (lent table new after pending)
+    pub counted-named : (result : Result Unit Fault) (new : MetadataCaches S) (after : ImageFile S) → Named c → CountsRun state c 1 (image_state table old before pending) result (image_state table new after pending) → CountsReferenced state c 1 (image_state table old before pending) result (image_state table new after pending)
     counted-named result new after some run =
         let le = run.inside in
         let same : (d : ℕ) → covers d (run_of c run.part) ≡ named_part table (counters_of_block before.header.fields) c run.part d = λ d. elim (cases_eq d c) [
@@ -264,15 +264,15 @@ module _ {S : Type 0} (state : S → StorageState) (table : TableValue) (pending
           inside = run.inside;
           whole = run.whole;
           shape = run.shape;
-          later = run.later;
+          counts_not_fallen = run.counts_not_fallen;
           faults = run.faults;
-          quiet = λ order free.
-              quietly-otherwise (WasNotCutOff result) (λ d. covers d (run_of c run.part)) (λ _. 0) (named_part table (counters_of_block before.header.fields) c run.part) (λ _. 0)
-              (state before.image) (metadata_of state before old table pending) (state after.image) (metadata_of state after new table pending) (λ sound d. let is = same d in omega (arith, is)) (λ sound d used none. none) (run.quiet order free);
+          guest_unchanged = λ order free.
+              quietly-otherwise (HadNoResourceError result) (λ d. covers d (run_of c run.part)) (λ _. 0) (named_part table (counters_of_block before.header.fields) c run.part) (λ _. 0)
+              (state before.image) (metadata_of state before old table pending) (state after.image) (metadata_of state after new table pending) (λ sound d. let is = same d in omega (arith, is)) (λ sound d used none. none) (run.guest_unchanged order free);
           raised = λ order keeps sound free whole d. let is = same d in let more = run.raised order keeps sound free whole d in omega (arith, is, more);
           order = run.order;
           header = run.header;
-          loose = run.loose;
+          keeps_unpinned_room = run.keeps_unpinned_room;
           room = run.room;
           cause = fails-weaker _ _ (counting-weaker (named-ready some) (λ any loose. loose) refl) (λ same. same) result run.cause;
         }

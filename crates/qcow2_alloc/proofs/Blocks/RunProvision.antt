@@ -7,7 +7,7 @@ use Rattle.imago_storage.specs.declared.fault.Fault.{Fault}
 use Rattle.imago_storage.specs.declared.fault.Fault.TheVariants.{CacheFull, Limit}
 use Rattle.qcow2_types.specs.Counts.{counters_of_block}
 use Rattle.qcow2_types.specs.Words.{block_offset}
-use Rattle.qcow2_metadata.specs.Places.{IsInReach}
+use Rattle.qcow2_metadata.specs.Places.{IsAddressable}
 use Rattle.qcow2_metadata.specs.Tables.{TableValue}
 use Rattle.qcow2_alloc.specs.declared.allocation.readying_runs.Provision.{Provision}
 use Rattle.qcow2_alloc.specs.declared.allocation.readying_runs.Provision.TheVariants.{Complete, Extended}
@@ -18,11 +18,11 @@ use Rattle.qcow2_alloc.specs.Allocating.{MakesBlocks, missing}
 use Rattle.qcow2_alloc.specs.Allocators.{metadata_of}
 use Rattle.qcow2_alloc.specs.Caches.{order_of}
 use Rattle.qcow2_alloc.specs.FillingBlocks.{FillsFrom}
-use Rattle.qcow2_alloc.specs.Going.{IsMild}
+use Rattle.qcow2_alloc.specs.Going.{IsNotResourceError}
 use Rattle.qcow2_alloc.specs.GrowingTables.{Leaks, GrowsTable}
-use Rattle.qcow2_alloc.specs.Quiet.{Metadata, IsSound}
+use Rattle.qcow2_alloc.specs.GuestView.{Metadata, IsSound}
 use Rattle.qcow2_alloc.specs.ReadyingBlocks.{HasMade, HasMore, NoneCanBeMade, ReadiesBlocks}
-use Rattle.qcow2_alloc.specs.State.{lent, metadata, with_mark, AllocatorState}
+use Rattle.qcow2_alloc.specs.State.{image_state, metadata, with_first_free, AllocatorState}
 use Rattle.qcow2_alloc.proofs.Causes.{cause-weaker, fails-weaker}
 use Rattle.qcow2_alloc.proofs.Blocks.BlockCreationCalls.{allocating-weaker}
 use Rattle.qcow2_alloc.proofs.Blocks.BlockRows.{refused, so}
@@ -54,20 +54,20 @@ module _ {S : Type 0} (state : S → StorageState) (at first last : ℕ) (s : Al
   Knows P = order_of s.caches ≡ L2DependsOnRb → IsTrue (state s.file.image).shape.keeps → IsSound Start → P
 
   -- The table has words for all: blocks are made.
-  pub blocks-ready : last < length s.table.words → (result : Result Provision Fault) (table' : TableValue) (new : MetadataCaches S) (after : ImageFile S) (mark' : ℕ) → mark' ≡ s.mark → MakesBlocks state first (last + 1) s.image result (lent table' new after s.pending)
-      → Knows (OnOk result (FillsFrom s.mark first (last + 1) Start (metadata_of state after new table' s.pending))) → ReadiesBlocks state at first last s result (with_mark (lent table' new after s.pending) mark')
-  blocks-ready inside result table' new after mark' still makes fills = record {
+  pub blocks-ready : last < length s.table.raw_entries → (result : Result Provision Fault) (table' : TableValue) (new : MetadataCaches S) (after : ImageFile S) (mark' : ℕ) → mark' ≡ s.mark → MakesBlocks state first (last + 1) s.image result (image_state table' new after s.pending)
+      → Knows (OnOk result (FillsFrom s.mark first (last + 1) Start (metadata_of state after new table' s.pending))) → ReadiesBlocks state at first last s result (with_first_free (image_state table' new after s.pending) mark')
+  blocks-ready inside result table' new after mark' has_no_dirty_data makes fills = record {
     leaked = λ _. 0;
     leaks = leaks-none _ _ result;
     step = makes.step;
-    mark = still;
+    mark = has_no_dirty_data;
     idle = makes.idle;
     ready = named result makes.named;
     further = more result makes.fewer;
     made = λ order keeps sound. filled result (fills order keeps sound);
     once = λ inside. (refl, makes.header, makes.long);
     grew = λ past. absurd (omega (arith, past, inside));
-    kept = λ past. absurd (omega (arith, past, inside));
+    unchanged_on_error = λ past. absurd (omega (arith, past, inside));
     barred = λ past. absurd (omega (arith, past, inside));
     cause = fails-weaker _ _ (allocating-weaker (λ holds. holds) (λ any loose. loose) far-all refl) (λ same. same) result makes.cause;
   }
@@ -76,7 +76,7 @@ module _ {S : Type 0} (state : S → StorageState) (at first last : ℕ) (s : Al
       filled (Ok made) is = λ some. inl (inside, makes.long, is)
       filled (Err fault) is = tt
 
-      named : (r : Result Provision Fault) → OnOk r ((i : ℕ) → first ≤ i → i < last + 1 → block_offset (slice_index table'.words i) ≢ 0) → IfOk r (λ made. made ≡ Complete → (i : ℕ) → first ≤ i → i ≤ last → block_offset (slice_index table'.words i) ≢ 0)
+      named : (r : Result Provision Fault) → OnOk r ((i : ℕ) → first ≤ i → i < last + 1 → block_offset (slice_index table'.raw_entries i) ≢ 0) → IfOk r (λ made. made ≡ Complete → (i : ℕ) → first ≤ i → i ≤ last → block_offset (slice_index table'.raw_entries i) ≢ 0)
       named (Ok made) all = λ idle i above below. all i above (omega (arith, below))
       named (Err fault) all = tt
 
@@ -84,13 +84,13 @@ module _ {S : Type 0} (state : S → StorageState) (at first last : ℕ) (s : Al
       more (Ok made) fewer = λ some. inr (makes.long, fewer some)
       more (Err fault) fewer = tt
 
-      far-all : (number : ℕ) → ((i : ℕ) × (first ≤ i) × (i < last + 1) × (number ≤ i * counters_of_block s.file.header.fields) × (IsInReach s.file.header.fields.cluster_bits number → ⊥)) → Knows (NoneCanBeMade s.mark at first last number Start)
+      far-all : (number : ℕ) → ((i : ℕ) × (first ≤ i) × (i < last + 1) × (number ≤ i * counters_of_block s.file.header.fields) × (IsAddressable s.file.header.fields.cluster_bits number → ⊥)) → Knows (NoneCanBeMade s.mark at first last number Start)
       far-all number (i, above, below, le, far) order keeps sound = inl (λ all.
-          let near : IsInReach s.file.header.fields.cluster_bits (i * counters_of_block s.file.header.fields) = all i above (omega (arith, below)) in
+          let near : IsAddressable s.file.header.fields.cluster_bits (i * counters_of_block s.file.header.fields) = all i above (omega (arith, below)) in
           let more = mul-le-mul_right (2 ^ s.file.header.fields.cluster_bits) le in
           far (omega (arith, near, more)))
 
-  module _ (past : length s.table.words ≤ last) (s' : AllocatorState S) where
+  module _ (past : length s.table.raw_entries ≤ last) (s' : AllocatorState S) where
     -- It hasn't: it grows,
     pub table-ready : last ≤ at → GrowsTable state at s (Ok tt) s' → ReadiesBlocks state at first last s (so Extended) s'
     table-ready behind grows = record {
@@ -104,7 +104,7 @@ module _ {S : Type 0} (state : S → StorageState) (at first last : ℕ) (s : Al
       made = λ order keeps sound some. inr (past, grows.grown order keeps sound);
       once = λ inside. absurd (omega (arith, inside, past));
       grew = λ past. (let above = grows.enough.enough.above in omega (arith, above, past, behind), grows.waits);
-      kept = λ past. tt;
+      unchanged_on_error = λ past. tt;
       barred = λ past order keeps sound number is. absurd (cc is);
       cause = grows.cause;
     }
@@ -122,10 +122,10 @@ module _ {S : Type 0} (state : S → StorageState) (at first last : ℕ) (s : Al
       made = λ order keeps sound. tt;
       once = λ inside. absurd (omega (arith, inside, past));
       grew = λ past. tt;
-      kept = λ past. grows.kept;
+      unchanged_on_error = λ past. grows.unchanged_on_error;
       barred = λ past order keeps sound number is.
-          let mild : IsMild fault = subst (λ (f : Fault). IsMild f) (sym (limit-of fault number is)) tt in
-          let still = grows.stays mild in
-          record { header = still.1; table = still.0; counts = grows.barred order keeps sound number (ap (λ (f : Fault). Err f) (limit-of fault number is)) };
+          let not_resource_error : IsNotResourceError fault = subst (λ (f : Fault). IsNotResourceError f) (sym (limit-of fault number is)) tt in
+          let has_no_dirty_data = grows.stays not_resource_error in
+          record { header = has_no_dirty_data.1; table = has_no_dirty_data.0; counts = grows.barred order keeps sound number (ap (λ (f : Fault). Err f) (limit-of fault number is)) };
       cause = cause-weaker (allocating-weaker (λ holds. holds) (λ any loose. loose) (λ number none order keeps sound. inr (past, none order keeps sound)) refl) fault grows.cause;
     }

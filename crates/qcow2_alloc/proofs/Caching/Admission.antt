@@ -4,7 +4,7 @@ use Rattle.std.specs.Prelude.{◌⊎◌, nat_eq, MatchResult}
 use Rattle.std.specs.List.{AllByRecursion}
 use Rattle.std.specs.Map.{lookup}
 use Rattle.imago_storage.specs.State.{StorageState}
-use Rattle.imago_storage.specs.Calls.{Kept}
+use Rattle.imago_storage.specs.Calls.{UnchangedButFaults}
 use Rattle.imago_storage.specs.declared.fault.Fault.{Fault}
 use Rattle.imago_storage.specs.declared.fault.Fault.TheVariants.{CacheFull}
 use Rattle.qcow2_alloc.specs.declared.async_lru_cache.Admission.{Admission}
@@ -17,7 +17,7 @@ use Rattle.qcow2_alloc.specs.Cache.{cache_kind, FlushedAt, Evicted, MadeRoom, Lo
 use Rattle.qcow2_alloc.specs.Finding.{LetsIn}
 use Rattle.qcow2_alloc.specs.Going.{CachedStep, WritesTables, WritesBlocks, Behind}
 use Rattle.qcow2_alloc.specs.Memory.{Cached}
-use Rattle.qcow2_alloc.specs.Safety.{AreTablesClean, AreBlocksClean}
+use Rattle.qcow2_alloc.specs.WellFormedness.{AreTablesClean, AreBlocksClean}
 use Rattle.qcow2_alloc.proofs.Flushing.WriteSequences.{kept-same}
 use Rattle.qcow2_alloc.proofs.Caching.EntryLoads.{is-there}
 use Rattle.qcow2_alloc.proofs.Caching.Rooms.{room-way}
@@ -57,9 +57,9 @@ blocks-none a b c c' result did all =
     (answered result none.0, none.1, ap (λ x. record { tables = c'.tables; blocks = x }) none.2 ∙ ap (λ x. record { tables = x; blocks = c.blocks }) did.0)
 
 module _ {V D : Type 0} (state : D → StorageState) (loads : D → ℕ → Result V Fault → D → Type 0) (flushes : D → ℕ → V → Result Unit Fault → D → V → Type 0)
-    (loading : (old new : D) (key : ℕ) (answer : Result V Fault) → loads old key answer new → Kept (state old) (state new)) where
+    (loading : (old new : D) (key : ℕ) (answer : Result V Fault) → loads old key answer new → UnchangedButFaults (state old) (state new)) where
   -- A load only reads.
-  loaded-kept : (key : ℕ) (mid : D) (entries : List (ℕ × Slot V)) (result : Result Admission Fault) (after : D) (es' : List (ℕ × Slot V)) → Loaded loads key mid entries result after es' → Kept (state mid) (state after)
+  loaded-kept : (key : ℕ) (mid : D) (entries : List (ℕ × Slot V)) (result : Result Admission Fault) (after : D) (es' : List (ℕ × Slot V)) → Loaded loads key mid entries result after es' → UnchangedButFaults (state mid) (state after)
   loaded-kept key mid entries (Ok made) after es' (is, value, load, list) = loading mid after key (Ok value) load
   loaded-kept key mid entries (Err fault) after es' (same, why) = elim why [ inl load ↦ loading mid after key (Err fault) load | inr short ↦ loading mid after key (Ok short.1) short.2 ]
 
@@ -76,7 +76,7 @@ module _ {V D : Type 0} (state : D → StorageState) (loads : D → ℕ → Resu
       (asked : (old new : D) (key : ℕ) (value value' : V) (answer : Result Unit Fault) → flushes old key value answer new value' → asks (state old) key value answer (state new) value') where
     flushed-so : (key : ℕ) (before : D) (es : List (ℕ × Slot V)) (answer : Result Unit Fault) (after : D) (es' : List (ℕ × Slot V)) → FlushedAt nat_eq flushes key before es answer after es'
         → FlushedAt nat_eq asks key (state before) es answer (state after) es'
-    flushed-so key before es answer after es' at = record { slot = at.slot; value = at.value; there = at.there; flush = asked before after key at.slot.value at.value answer at.flush; entries = at.entries }
+    flushed-so key before es answer after es' at = record { slot = at.slot; value = at.value; slot_found = at.slot_found; flush = asked before after key at.slot.value at.value answer at.flush; entries = at.entries }
 
     pub lets-in : (cap key : ℕ) (before : D) (es : List (ℕ × Slot V)) (result : Result Admission Fault) (after : D) (es' : List (ℕ × Slot V)) → lookup (nat_eq key) es ≡ None → cap ≤ length es
         → Readied (cache_kind nat_eq loads flushes cap) true key before es result after es' → LetsIn asks (state before) es (done_of result) (state after) es'
@@ -94,7 +94,7 @@ module _ {V D : Type 0} (state : D → StorageState) (loads : D → ℕ → Resu
 
         by-room : (k : ℕ) (room : Result Admission Fault) (mid : D) (entries : List (ℕ × Slot V)) → Evicted nat_eq flushes k before es room mid entries → LoadedAfter loads key mid entries room result after es'
             → (between : StorageState) × (answer : Result Unit Fault) × (flushed : List (ℕ × Slot V)) × FlushedAt nat_eq asks k (state before) es answer between flushed
-            × MatchResult answer (λ _. Kept between (state after)) (λ fault. (done_of result ≡ Err fault) × (state after ≡ between) × (es' ≡ flushed))
+            × MatchResult answer (λ _. UnchangedButFaults between (state after)) (λ fault. (done_of result ≡ Err fault) × (state after ≡ between) × (es' ≡ flushed))
         by-room k (Ok Granted) mid entries (is, flushed, at, removed) later = (state mid, Ok tt, flushed, flushed-so k before es (Ok tt) mid flushed at, loaded-kept key mid entries result after es' later)
         by-room k (Ok Denied) mid entries (is, flushed, at, removed) later = absurd (cc)
         by-room k (Err fault) mid entries at later = (state mid, Err fault, entries, flushed-so k before es (Err fault) mid entries at, (ap done_of later.0, ap state later.1, later.2))
@@ -112,11 +112,11 @@ module _ {V D : Type 0} (state : D → StorageState) (loads : D → ℕ → Resu
     evicted-still : (k : ℕ) (before : D) (es : List (ℕ × Slot V)) (room : Result Admission Fault) (mid : D) (entries : List (ℕ × Slot V)) → Evicted nat_eq flushes k before es room mid entries → AreClean es
         → (state mid ≡ state before) × AreClean entries
     evicted-still k before es (Ok made) mid entries (is, flushed, at, removed) all =
-        let clean = all-at (λ (e : ℕ × Slot V). Clean e.1.value) k es at.slot at.there all in
+        let clean = all-at (λ (e : ℕ × Slot V). Clean e.1.value) k es at.slot at.slot_found all in
         let f = flushing before mid k at.slot.value at.value (Ok tt) clean at.flush in
         (f.1, subst AreClean (sym removed) (all-removed (λ (e : ℕ × Slot V). Clean e.1.value) (nat_eq k) es all))
     evicted-still k before es (Err fault) mid entries at all =
-        let clean = all-at (λ (e : ℕ × Slot V). Clean e.1.value) k es at.slot at.there all in
+        let clean = all-at (λ (e : ℕ × Slot V). Clean e.1.value) k es at.slot at.slot_found all in
         let f = flushing before mid k at.slot.value at.value (Err fault) clean at.flush in
         absurd (let no = f.0 in cc)
 
@@ -128,18 +128,18 @@ module _ {V D : Type 0} (state : D → StorageState) (loads : D → ℕ → Resu
     ]
 
     pub readied-still : (cap : ℕ) (may_flush : Bool) (key : ℕ) (before : D) (es : List (ℕ × Slot V)) (result : Result Admission Fault) (after : D) (es' : List (ℕ × Slot V)) → Readied (cache_kind nat_eq loads flushes cap) may_flush key before es result after es'
-        → AreClean es → Kept (state before) (state after) × AreClean es'
+        → AreClean es → UnchangedButFaults (state before) (state after) × AreClean es'
     readied-still cap may_flush key before es result after es' r all = elim (is-there (lookup (nat_eq key) es)) [
-      | inl there ↦ let f = r.found there in (subst (λ (d : D). Kept (state before) (state d)) (sym f.1) (kept-same (state before)), subst AreClean (sym f.2) all)
+      | inl there ↦ let f = r.found there in (subst (λ (d : D). UnchangedButFaults (state before) (state d)) (sym f.1) (kept-same (state before)), subst AreClean (sym f.2) all)
       | inr none ↦ let m = r.missed none in let room = room-still cap may_flush before es m.room m.mid m.entries m.made all in by-room m.room m.mid m.entries room.0 room.1 m.loaded
     ]
       where
-        asked-none : (mid : D) (entries : List (ℕ × Slot V)) → state mid ≡ state before → AreClean entries → after ≡ mid → es' ≡ entries → Kept (state before) (state after) × AreClean es'
-        asked-none mid entries same clean is list = (subst (λ (s : StorageState). Kept (state before) s) (sym (ap state is ∙ same)) (kept-same (state before)), subst AreClean (sym list) clean)
+        asked-none : (mid : D) (entries : List (ℕ × Slot V)) → state mid ≡ state before → AreClean entries → after ≡ mid → es' ≡ entries → UnchangedButFaults (state before) (state after) × AreClean es'
+        asked-none mid entries same clean is list = (subst (λ (s : StorageState). UnchangedButFaults (state before) s) (sym (ap state is ∙ same)) (kept-same (state before)), subst AreClean (sym list) clean)
 
-        by-room : (room : Result Admission Fault) (mid : D) (entries : List (ℕ × Slot V)) → state mid ≡ state before → AreClean entries → LoadedAfter loads key mid entries room result after es' → Kept (state before) (state after) × AreClean es'
+        by-room : (room : Result Admission Fault) (mid : D) (entries : List (ℕ × Slot V)) → state mid ≡ state before → AreClean entries → LoadedAfter loads key mid entries room result after es' → UnchangedButFaults (state before) (state after) × AreClean es'
         by-room (Ok Granted) mid entries same clean later =
-            (subst (λ (s : StorageState). Kept s (state after)) same (loaded-kept key mid entries result after es' later), loaded-clean key mid entries result after es' later clean)
+            (subst (λ (s : StorageState). UnchangedButFaults s (state after)) same (loaded-kept key mid entries result after es' later), loaded-clean key mid entries result after es' later clean)
         by-room (Ok Denied) mid entries same clean later = asked-none mid entries same clean later.1 later.2
         by-room (Err fault) mid entries same clean later = asked-none mid entries same clean later.1 later.2
 
@@ -154,9 +154,9 @@ module _ (order : CacheDependency) (a b : StorageState) (c c' : Cached) (answer 
   pub tables-idle : ((order ≡ RbDependsOnL2 → ⊥) → NothingDone) → (order ≡ RbDependsOnL2 → WritesTables a c answer b c') → AreTablesClean c → NothingDone
   tables-idle idle did clean = elim (is-order order RbDependsOnL2) [ inl is ↦ tables-none a b c c' answer (did is) clean | inr other ↦ idle other ]
 
-  pub tables-still : ((order ≡ RbDependsOnL2 → ⊥) → NothingDone) → (order ≡ RbDependsOnL2 → WritesTables a c answer b c') → AreTablesClean c → AreBlocksClean c → Kept a b × AreTablesClean c' × AreBlocksClean c'
+  pub tables-still : ((order ≡ RbDependsOnL2 → ⊥) → NothingDone) → (order ≡ RbDependsOnL2 → WritesTables a c answer b c') → AreTablesClean c → AreBlocksClean c → UnchangedButFaults a b × AreTablesClean c' × AreBlocksClean c'
   tables-still idle did tables blocks = let none = tables-idle idle did tables in
-      (subst (λ (s : StorageState). Kept a s) (sym none.1) (kept-same a), subst AreTablesClean (sym none.2) tables, subst AreBlocksClean (sym none.2) blocks)
+      (subst (λ (s : StorageState). UnchangedButFaults a s) (sym none.1) (kept-same a), subst AreTablesClean (sym none.2) tables, subst AreBlocksClean (sym none.2) blocks)
 
 -- Something is done behind what comes first, once that is;
 pub behind-done : (comes_first : Type 0) (First Done : CachedStep) (a b d : StorageState) (c e c' : Cached) (result : Result Unit Fault)

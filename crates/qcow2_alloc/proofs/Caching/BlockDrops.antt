@@ -15,16 +15,16 @@ use Rattle.qcow2_types.proofs.Counting.Parts.{block-inside}
 use Rattle.qcow2_metadata.specs.Blocks.{Block}
 use Rattle.qcow2_alloc.specs.declared.async_lru_cache.Slot.{Slot}
 use Rattle.qcow2_alloc.specs.Changes.{StaysAsItIs}
-use Rattle.qcow2_alloc.specs.Freeing.{NamesBlock}
+use Rattle.qcow2_alloc.specs.Freeing.{ReferencesBlock}
 use Rattle.qcow2_alloc.specs.Memory.{Cached, table_patch, block_patch, memory}
-use Rattle.qcow2_alloc.specs.Quiet.{Metadata, IsSound, IsQuiet, in_memory, counted, named_at_all}
+use Rattle.qcow2_alloc.specs.GuestView.{Metadata, IsSound, GuestUnchanged, in_memory, counted, referenced_at_all}
 use Rattle.qcow2_alloc.proofs.Caching.SingleEntries.{block-kind-laws, safe-with}
 use Rattle.qcow2_alloc.proofs.Caching.EntryTraffic.{distinct-without, away-of}
 use Rattle.qcow2_alloc.proofs.Memory.EntryKinds.{block_kind}
 use Rattle.qcow2_alloc.proofs.Blocks.TableBlocks.{named-block}
 use Rattle.qcow2_alloc.proofs.Memory.Patches.{all-weaker, place-there}
 use Rattle.qcow2_alloc.proofs.Caching.Places.{Place, place-of-key}
-use Rattle.qcow2_alloc.proofs.Quiet.QuietFlushes.{used-quiet}
+use Rattle.qcow2_alloc.proofs.GuestView.QuietFlushes.{used-quiet}
 use Rattle.qcow2_alloc.proofs.Caching.SearchOutcomes.{all-removed}
 use Rattle.qcow2_alloc.proofs.Memory.KeptWords.{structure-named}
 use Rattle.std.proofs.lemmas.Nat.{pow_pos}
@@ -66,7 +66,7 @@ patches-removed size key (e ∷ es) clean = elim (cases_Bool (nat_eq key e.0)) [
 ]
 
 -- A word of the refcount table names its block.
-pub block-names : (m : Metadata) (i key : ℕ) → i < refcount_table_entries m.header.fields → block_at m.file m.header.fields i ≡ key * cluster_size m.header.fields → key ≢ 0 → 0 < named_at_all m key
+pub block-names : (m : Metadata) (i key : ℕ) → i < refcount_table_entries m.header.fields → block_at m.file m.header.fields i ≡ key * cluster_size m.header.fields → key ≢ 0 → 0 < referenced_at_all m key
 block-names m i key inside place some =
     let part = block-part m.file m.header.fields (meets m.header.fields key) i inside (λ none. place-there (cluster_size m.header.fields) key (pow_pos m.header.fields.cluster_bits) some (sym place ∙ none)) in
     let one : meets m.header.fields key (block_at m.file m.header.fields i) (cluster_size m.header.fields) ≡ 1 = ap (λ n. meets m.header.fields key n (cluster_size m.header.fields)) place ∙ meets-own m.header.fields key in
@@ -74,14 +74,14 @@ block-names m i key inside place some =
     omega (arith, part, one, all)
 
 -- So does one of the table in memory.
-pub never-unnamed : (m : Metadata) → IsSound m → (key : ℕ) → named_at_all m key ≡ 0 → NamesBlock m.table key → ⊥
+pub never-unnamed : (m : Metadata) → IsSound m → (key : ℕ) → referenced_at_all m key ≡ 0 → ReferencesBlock m.table key → ⊥
 never-unnamed m sound key none (i, named) =
-    let n = named-block m.file m.header m.table i sound.table key sound.safe.consistent named in
+    let n = named-block m.file m.header m.table i sound.table key sound.well_formed.consistent named in
     let inside = block-inside m.file m.header.fields i (λ empty. place-there (cluster_size m.header.fields) key (pow_pos m.header.fields.cluster_bits) n.some (sym n.place ∙ empty)) in
     let some = block-names m i key inside n.place n.some in
     omega (arith, none, some)
 
-module _ (m : Metadata) (key : ℕ) (sound : IsSound m) (unnamed : named_at_all m key ≡ 0) where
+module _ (m : Metadata) (key : ℕ) (sound : IsSound m) (not_referenced : referenced_at_all m key ≡ 0) where
   -- A block that no word names waits for no write.
   pub unnamed-clean : AllByRecursion (λ e. e.0 ≡ key → e.1.value.modified ≡ false) m.cached.blocks
   unnamed-clean = all-weaker _ _ (λ e is here. elim (cases_Bool e.1.value.modified) [
@@ -89,9 +89,9 @@ module _ (m : Metadata) (key : ℕ) (sound : IsSound m) (unnamed : named_at_all 
     | inl on ↦
         let live = is.modified on in
         let some = block-names m live.0 e.0 live.1 live.2 live.3 in
-        let none : named_at_all m e.0 ≡ 0 = subst (λ n. named_at_all m n ≡ 0) (sym here) unnamed in
+        let none : referenced_at_all m e.0 ≡ 0 = subst (λ n. referenced_at_all m n ≡ 0) (sym here) not_referenced in
         absurd (omega (arith, some, none))
-  ]) m.cached.blocks sound.safe.blocks
+  ]) m.cached.blocks sound.well_formed.blocks
 
   abbrev pub forgotten : Cached
   forgotten = record m.cached { blocks = remove_entry (nat_eq key) m.cached.blocks }
@@ -101,13 +101,13 @@ module _ (m : Metadata) (key : ℕ) (sound : IsSound m) (unnamed : named_at_all 
       let same : memory m.file m.header.fields forgotten ≡ in_memory m =
       ap (λ (l : List Patch). over m.file (filter_map (table_patch (cluster_size m.header.fields)) m.cached.tables ++ l)) (patches-removed (cluster_size m.header.fields) key m.cached.blocks unnamed-clean) in
       record {
-        safe = safe-with block_kind block-kind-laws m.file m.header m.order m.cached.tables m.cached.blocks (remove_entry (nat_eq key) m.cached.blocks) sound.safe same
-            (record { apart = (removed-apart key m.cached.blocks sound.safe.blocks_apart).1; fit = all-removed _ (nat_eq key) m.cached.blocks sound.safe.blocks });
+        well_formed = safe-with block_kind block-kind-laws m.file m.header m.order m.cached.tables m.cached.blocks (remove_entry (nat_eq key) m.cached.blocks) sound.well_formed same
+            (record { apart = (removed-apart key m.cached.blocks sound.well_formed.blocks_apart).1; fit = all-removed _ (nat_eq key) m.cached.blocks sound.well_formed.blocks });
         memory_same = same;
       }
 
   -- It may be dropped, and isn't cached then.
-  pub forgotten-quiet : IsSound (record m { cached = forgotten }) × IsQuiet (λ _. 0) (λ _. 0) m (record m { cached = forgotten })
+  pub forgotten-quiet : IsSound (record m { cached = forgotten }) × GuestUnchanged (λ _. 0) (λ _. 0) m (record m { cached = forgotten })
   forgotten-quiet = used-quiet m forgotten sound forgotten-stays
 
   pub forgotten-counts : (c : ℕ) → counted (record m { cached = forgotten }) c ≡ counted m c

@@ -5,40 +5,40 @@ use Rattle.std.specs.Map.{lookup, remove_entry}
 use Rattle.std.proofs.lemmas.Bool.{cases_eq}
 use Rattle.qcow2_types.specs.Bytes.{Bytes}
 use Rattle.qcow2_types.specs.Counts.{count}
-use Rattle.qcow2_types.specs.Versions.{named}
+use Rattle.qcow2_types.specs.Versions.{references_in_either}
 use Rattle.qcow2_alloc.specs.declared.cache.MetadataCaches.{MetadataCaches}
 use Rattle.qcow2_alloc.specs.Caches.{cached_in, KeepsTables}
 use Rattle.qcow2_alloc.specs.CachesLending.{with_blocks}
 use Rattle.qcow2_alloc.specs.Finding.{PinsNothing}
 use Rattle.qcow2_alloc.specs.Memory.{Cached}
 use Rattle.qcow2_alloc.specs.MovingTables.{StaysInMemory, ForgetsRun, IsPinnedWithin, with_cached}
-use Rattle.qcow2_alloc.specs.Quiet.{Metadata, counted, named_at_all, IsSound}
+use Rattle.qcow2_alloc.specs.GuestView.{Metadata, counted, referenced_at_all, IsSound}
 use Rattle.qcow2_alloc.proofs.Caching.Entries.{remove_absent}
 use Rattle.qcow2_alloc.proofs.Caching.BlockDrops.{forgotten-quiet, forgotten-stays, removed-apart}
-use Rattle.qcow2_alloc.proofs.Quiet.QuietFlushes.{quiet-none}
+use Rattle.qcow2_alloc.proofs.GuestView.QuietFlushes.{quiet-none}
 use Rattle.qcow2_alloc.proofs.Caching.Pins.{pinned-there, pins-removed}
-use Rattle.qcow2_alloc.proofs.Quiet.QuietSequences.{quiet-then, quiet-otherwise}
+use Rattle.qcow2_alloc.proofs.GuestView.QuietSequences.{quiet-then, quiet-otherwise}
 
 -- What stays in memory is counted and named as it was.
 pub memory-counts : (m : Metadata) (cached' : Cached) → StaysInMemory m (with_cached m cached') → (c : ℕ) → counted (with_cached m cached') c ≡ counted m c
 memory-counts m cached' stays c = ap (λ (g : Bytes). count g m.header.fields c) stays.memory_same
 
-pub memory-names : (m : Metadata) (cached' : Cached) → StaysInMemory m (with_cached m cached') → (c : ℕ) → named_at_all (with_cached m cached') c ≡ named_at_all m c
-memory-names m cached' stays c = ap (λ (g : Bytes). named m.file g m.header.fields c) stays.memory_same
+pub memory-names : (m : Metadata) (cached' : Cached) → StaysInMemory m (with_cached m cached') → (c : ℕ) → referenced_at_all (with_cached m cached') c ≡ referenced_at_all m c
+memory-names m cached' stays c = ap (λ (g : Bytes). references_in_either m.file g m.header.fields c) stays.memory_same
 
 -- It may do so again.
 stays-then : (m m1 m2 : Metadata) → IsSound m → StaysInMemory m m1 → StaysInMemory m1 m2 → StaysInMemory m m2
 stays-then m m1 m2 sound one two = record {
   sound = two.sound;
-  quiet = quiet-otherwise m m2 (λ c. 0 + 0) (λ c. 0 + 0) (λ _. 0) (λ _. 0) (λ c. refl) (λ c used none. refl)
-      (quiet-then m m1 m2 (λ _. 0) (λ _. 0) (λ _. 0) (λ _. 0) sound one.sound (λ c some. refl) one.quiet two.quiet);
+  guest_unchanged = quiet-otherwise m m2 (λ c. 0 + 0) (λ c. 0 + 0) (λ _. 0) (λ _. 0) (λ c. refl) (λ c used none. refl)
+      (quiet-then m m1 m2 (λ _. 0) (λ _. 0) (λ _. 0) (λ _. 0) sound one.sound (λ c some. refl) one.guest_unchanged two.guest_unchanged);
   memory_same = two.memory_same ∙ one.memory_same;
 }
 
 -- Nothing is forgotten of no clusters,
 pub forgets-none : (first : ℕ) (cached : Cached) → ForgetsRun first 0 cached (Ok tt) cached
 forgets-none first cached = record {
-  stays = λ m sound free. (record { sound = sound; quiet = quiet-none (with_cached m cached) sound; memory_same = refl }, λ d from to. absurd (omega (arith, from, to)));
+  stays = λ m sound free. (record { sound = sound; guest_unchanged = quiet-none (with_cached m cached) sound; memory_same = refl }, λ d from to. absurd (omega (arith, from, to)));
 }
 
 -- then of one more.
@@ -46,13 +46,13 @@ pub forgets-then : (first n : ℕ) (old mid new : Cached) → new ≡ record mid
 forgets-then first n old mid new is one = subst (λ (c : Cached). ForgetsRun first (n + 1) old (Ok tt) c) (sym is) (record {
   stays = λ m sound free.
       let was = one.stays m sound (λ d from to. free d from (omega (arith, to))) in
-      let unnamed : named_at_all (with_cached m mid) (first + n) ≡ 0 = memory-names (with_cached m old) mid was.0 (first + n) ∙ free (first + n) (omega arith) (omega arith) in
-      let forgotten = forgotten-quiet (with_cached m mid) (first + n) was.0.sound unnamed in
+      let not_referenced : referenced_at_all (with_cached m mid) (first + n) ≡ 0 = memory-names (with_cached m old) mid was.0 (first + n) ∙ free (first + n) (omega arith) (omega arith) in
+      let forgotten = forgotten-quiet (with_cached m mid) (first + n) was.0.sound not_referenced in
       let next : StaysInMemory (with_cached m mid) (with_cached m (record mid { blocks = remove_entry (nat_eq (first + n)) mid.blocks })) =
-      record { sound = forgotten.0; quiet = forgotten.1; memory_same = (forgotten-stays (with_cached m mid) (first + n) was.0.sound unnamed).memory_same } in (
+      record { sound = forgotten.0; guest_unchanged = forgotten.1; memory_same = (forgotten-stays (with_cached m mid) (first + n) was.0.sound not_referenced).memory_same } in (
         stays-then (with_cached m old) (with_cached m mid) (with_cached m (record mid { blocks = remove_entry (nat_eq (first + n)) mid.blocks })) sound was.0 next,
         λ d from to. elim (cases_eq d (first + n)) [
-          | inl here ↦ subst (λ (k : ℕ). lookup (nat_eq k) (remove_entry (nat_eq (first + n)) mid.blocks) ≡ None) (sym here) (removed-apart (first + n) mid.blocks was.0.sound.safe.blocks_apart).0
+          | inl here ↦ subst (λ (k : ℕ). lookup (nat_eq k) (remove_entry (nat_eq (first + n)) mid.blocks) ≡ None) (sym here) (removed-apart (first + n) mid.blocks was.0.sound.well_formed.blocks_apart).0
           | inr away ↦ remove_absent (nat_eq (first + n)) (nat_eq d) mid.blocks (was.1 d from (omega (arith, to, away)))
         ],
       );

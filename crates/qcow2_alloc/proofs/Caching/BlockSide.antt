@@ -11,7 +11,7 @@ use Rattle.qcow2_types.specs.Bytes.{bytes_of}
 use Rattle.qcow2_types.specs.Counts.{counters_of_block}
 use Rattle.qcow2_types.specs.Words.{max_offset}
 use Rattle.qcow2_types.specs.Header.{Fields}
-use Rattle.qcow2_metadata.specs.Places.{IsInReach}
+use Rattle.qcow2_metadata.specs.Places.{IsAddressable}
 use Rattle.qcow2_metadata.specs.Blocks.{Block}
 use Rattle.qcow2_alloc.specs.CachedKinds.{block_entries, by_blocks}
 use Rattle.qcow2_alloc.specs.declared.cache.CacheDependency.TheVariants.{RbDependsOnL2}
@@ -21,9 +21,9 @@ use Rattle.qcow2_alloc.specs.Backends.{BlockLoaded}
 use Rattle.qcow2_alloc.specs.Caches.{HasRoomOf, cached_in, order_of}
 use Rattle.qcow2_alloc.specs.Causes.{HasCause, FailsFor}
 use Rattle.qcow2_alloc.specs.Finding.{search_causes}
-use Rattle.qcow2_alloc.specs.Going.{Going, Always, ReadyBlocks, WasNotCutOff, AreTablesInReach, WritesTables, writing_causes}
+use Rattle.qcow2_alloc.specs.Going.{WritesBackCached, Always, ReadyBlocks, HadNoResourceError, AreTablesAddressable, WritesTables, writing_causes}
 use Rattle.qcow2_alloc.specs.Memory.{Cached, written}
-use Rattle.qcow2_alloc.specs.Safety.{IsCachedBlock}
+use Rattle.qcow2_alloc.specs.WellFormedness.{IsCachedBlock}
 use Rattle.qcow2_alloc.proofs.Causes.{storage-cause}
 use Rattle.qcow2_alloc.proofs.Caching.SingleEntries.{block-kind-laws}
 use Rattle.qcow2_alloc.proofs.Caching.Admission.{tables-idle}
@@ -37,24 +37,24 @@ use Rattle.qcow2_alloc.proofs.Memory.EntryKinds.{block_kind}
 use Rattle.qcow2_alloc.proofs.Memory.SafeLaws.{safe-reach}
 
 -- A load that wasn't cut off leaves the count of faults as it was.
-block-load-counted : (h : Fields) (key : ℕ) (old : StorageState) (result : Result Block Fault) (new : StorageState) → BlockLoaded h key old result new → WasNotCutOff result → new.faults ≡ old.faults
+block-load-counted : (h : Fields) (key : ℕ) (old : StorageState) (result : Result Block Fault) (new : StorageState) → BlockLoaded h key old result new → HadNoResourceError result → new.faults ≡ old.faults
 block-load-counted h key old (Ok block) new loaded whole = loaded.faults
-block-load-counted h key old (Err fault) new loaded mild = elim (cases_lt max_offset (key * 2 ^ h.cluster_bits)) [
+block-load-counted h key old (Err fault) new loaded not_resource_error = elim (cases_lt max_offset (key * 2 ^ h.cluster_bits)) [
   | inl far ↦ ap (λ (s : StorageState). s.faults) (loaded.out (λ reach. omega (arith, far, reach))).1
-  | inr reach ↦ absurd (never-mild old.faults new.faults fault (loaded.err reach) mild)
+  | inr reach ↦ absurd (never-mild old.faults new.faults fault (loaded.err reach) not_resource_error)
 ]
 
 -- what is known of a load's answer
 block-loading : (h : Fields) (key : ℕ) (old : StorageState) (answer : Result Block Fault) (new : StorageState) → BlockLoaded h key old answer new
-    → (old.faults ≤ new.faults) × FailsFor (search_causes (IsInReach h.cluster_bits key) ⊥ old.faults new.faults) answer
-block-loading h key old (Ok block) new loaded = (loaded.later, loaded.faults)
+    → (old.faults ≤ new.faults) × FailsFor (search_causes (IsAddressable h.cluster_bits key) ⊥ old.faults new.faults) answer
+block-loading h key old (Ok block) new loaded = (loaded.counts_not_fallen, loaded.faults)
 block-loading h key old (Err fault) new loaded = (
-  loaded.later,
+  loaded.counts_not_fallen,
   elim (cases_lt max_offset (key * 2 ^ h.cluster_bits)) [
     | inl far ↦
         let out = loaded.out (λ reach. omega (arith, far, reach)) in
         let is : fault ≡ DamagedTable = (let e = out.0 in cc) in
-        subst (λ (q : Fault). HasCause (search_causes (IsInReach h.cluster_bits key) ⊥ old.faults new.faults) q) (sym is) (λ reach. omega (arith, far, reach))
+        subst (λ (q : Fault). HasCause (search_causes (IsAddressable h.cluster_bits key) ⊥ old.faults new.faults) q) (sym is) (λ reach. omega (arith, far, reach))
     | inr reach ↦ storage-cause _ _ _ (omega arith) (omega arith) fault (loaded.err reach)
   ],
 )
@@ -76,32 +76,32 @@ module _ {S : Type 0} (state : S → StorageState) where
   block-laws = record {
     parts = record { bytes = block_kind.bytes; OtherFits = block_kind.OtherFits; ahead = block_kind.ahead; behind = block_kind.behind };
     entries = block-kind-laws;
-    kept = λ h key a answer b load. load.kept;
+    kept = λ h key a answer b load. load.unchanged_but_faults;
     reads = λ h key a value b load. load.ok.1;
     clean = λ f h key. refl;
     fits = λ h key a value b load shaped. loaded-fits h key a value b load;
     counts = block-loading;
-    still = block-load-counted;
+    has_no_dirty_data = block-load-counted;
     keeps = block-kept;
     counted = block-counted;
     cleaned = flushed-clean;
     flushed = block-flushed;
-    stays = λ f H order tables es safe x left key value free. block-stays f H order (record { tables = tables; blocks = es }) safe x left key value free;
+    stays = λ f H order tables es well_formed x left key value free. block-stays f H order (record { tables = tables; blocks = es }) well_formed x left key value free;
     rest_is = λ tables es. refl;
-    near = λ f H order tables es safe. (safe-reach f H (record { tables = tables; blocks = es }) order safe).0;
+    near = λ f H order tables es well_formed. (safe-reach f H (record { tables = tables; blocks = es }) order well_formed).0;
     lets = λ tables es es' a b result l. (refl, l);
     idle = tables-idle;
   }
 
   module _ (old : MetadataCaches S) (before : ImageFile S) (answer : Result Unit Fault) (mid : MetadataCaches S) (between : ImageFile S) where
     -- what tables are written for
-    pub tables-first : Going before.header (order_of old) Always (answer ≡ Ok tt) (state before.image) (cached_in old) (state between.image) (cached_in mid) → written (cached_in mid) ≡ written (cached_in old)
+    pub tables-first : WritesBackCached before.header (order_of old) Always (answer ≡ Ok tt) (state before.image) (cached_in old) (state between.image) (cached_in mid) → written (cached_in mid) ≡ written (cached_in old)
         → OnOk answer (ReadyBlocks (order_of mid) (cached_in mid)) → ((order_of old ≡ RbDependsOnL2 → ⊥) → (answer ≡ Ok tt) × (mid ≡ old) × (between ≡ before))
         → (mid.rb ≡ old.rb) × (mid.order ≡ old.order) × (between.header ≡ before.header) → HasRoomOf old mid
-        → FailsFor (writing_causes (AreTablesInReach (cached_in old)) (state before.image).faults (state between.image).faults) answer → (WasNotCutOff answer → IsFaultless (state before.image) (state between.image))
+        → FailsFor (writing_causes (AreTablesAddressable (cached_in old)) (state before.image).faults (state between.image).faults) answer → (HadNoResourceError answer → IsFaultless (state before.image) (state between.image))
         → (order_of old ≡ RbDependsOnL2 → WritesTables (state before.image) (cached_in old) answer (state between.image) (cached_in mid)) → WrittenFirst (block_entries state) (by_blocks old) before answer (by_blocks mid) between
     tables-first going kept ready idle others room cause faults did = record {
-      going = going;
+      writes_back_cached = going;
       kept = ap (λ (c : Cached). c.tables) kept;
       ready = ready;
       idle = λ no. let i = idle no in (i.0, ap by_blocks i.1, i.2);

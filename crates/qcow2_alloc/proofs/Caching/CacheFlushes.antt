@@ -10,7 +10,7 @@ use Rattle.qcow2_alloc.specs.declared.file.ImageFile.{ImageFile}
 use Rattle.qcow2_alloc.specs.Backends.{Flushed}
 use Rattle.qcow2_alloc.specs.Cache.{FlushedEach, fault_of}
 use Rattle.qcow2_alloc.specs.Causes.{FailsFor}
-use Rattle.qcow2_alloc.specs.Going.{Going, WasNotCutOff, writing_causes}
+use Rattle.qcow2_alloc.specs.Going.{WritesBackCached, HadNoResourceError, writing_causes}
 use Rattle.qcow2_alloc.proofs.Caching.Sides.{SideLaws, Reach, Ready}
 use Rattle.qcow2_alloc.proofs.Flushing.FlushRefusals.{Counted, each-counted, each-faultless}
 use Rattle.qcow2_alloc.proofs.Flushing.WriteSequences.{going-weaker, each-flushed}
@@ -19,11 +19,11 @@ use Rattle.qcow2_alloc.proofs.Freeing.Lists.{on_ok_from}
 
 -- What that does.
 pub record AllFlushed {S V W A B : Type 0} (side : CachedKind S V W) (old : Beside S V W A B) (before : ImageFile S) (result : Result Unit Fault) (after : ImageFile S) (es' : List (ℕ × Slot V)) : Type 0 where
-  pub going : Going before.header old.order (Ready side old.order) (result ≡ Ok tt) (side.state before.image) (cached_of side old) (side.state after.image) (side.cached old.other.slots.entries es')
+  pub writes_back_cached : WritesBackCached before.header old.order (Ready side old.order) (result ≡ Ok tt) (side.state before.image) (cached_of side old) (side.state after.image) (side.cached old.other.slots.entries es')
   pub clean : OnOk result (AreClean side.writes es')
   pub header : after.header ≡ before.header
   pub cause : FailsFor (writing_causes (AreInReach side.writes old.own.slots.entries) (side.state before.image).faults (side.state after.image).faults) result
-  pub faults : WasNotCutOff result → IsFaultless (side.state before.image) (side.state after.image)
+  pub faults : HadNoResourceError result → IsFaultless (side.state before.image) (side.state after.image)
   pub kept : map (as_written side.writes) es' ≡ map (as_written side.writes) old.own.slots.entries
   pub told : FlushedEach (Flushed side.writes) (side.state before.image) old.own.slots.entries (fault_of result) (side.state after.image) es'
 
@@ -36,14 +36,14 @@ module _ {S V W A B : Type 0} (side : CachedKind S V W) (laws : SideLaws side) (
   counted a key v answer b v' flush = laws.counted key v (state a) (state b) answer v' flush.1
 
   each-goes : (front : List (ℕ × Slot V)) (key : ℕ) (slot : Slot V) (back : List (ℕ × Slot V)) (a b : ImageFile S) (answer : Result Unit Fault) (v : V) → flushes_of side a key slot.value answer b v
-      → Going before.header old.order (Ready side old.order) (answer ≡ Ok tt) (state a) (side.cached old.other.slots.entries (front ++ (key, slot) ∷ back)) (state b) (side.cached old.other.slots.entries (front ++ (key, record slot { value = v }) ∷ back))
+      → WritesBackCached before.header old.order (Ready side old.order) (answer ≡ Ok tt) (state a) (side.cached old.other.slots.entries (front ++ (key, slot) ∷ back)) (state b) (side.cached old.other.slots.entries (front ++ (key, record slot { value = v }) ∷ back))
   each-goes front key slot back a b answer v flush =
-      going-weaker before.header old.order (Ready side old.order) (WasNotCutOff answer) (answer ≡ Ok tt) _ _ _ _ (λ done. subst (λ (r : Result Unit Fault). WasNotCutOff r) (sym done) tt)
+      going-weaker before.header old.order (Ready side old.order) (HadNoResourceError answer) (answer ≡ Ok tt) _ _ _ _ (λ done. subst (λ (r : Result Unit Fault). HadNoResourceError r) (sym done) tt)
       (laws.flushed before.header old.order old.other.slots.entries front key slot back (state a) (state b) answer v flush.1)
 
   pub all-flushed : AllFlushed side old before result after es'
   all-flushed = record {
-    going = going-weaker before.header old.order (Ready side old.order) (fault_of result ≡ None) (result ≡ Ok tt) _ _ _ _ (λ done. ap fault_of done)
+    writes_back_cached = going-weaker before.header old.order (Ready side old.order) (fault_of result ≡ None) (result ≡ Ok tt) _ _ _ _ (λ done. ap fault_of done)
         (each-flushed state (flushes_of side) before.header old.order (Ready side old.order) (side.cached old.other.slots.entries) each-goes old.own.slots.entries before (fault_of result) after es' did);
     clean = on_ok_from result (λ done. each-made (flushes_of side) (λ v. side.writes.modified v ≡ false) (λ a key v b v' flush. laws.cleaned key v (state a) (state b) v' flush.1)
         before old.own.slots.entries (fault_of result) after es' did (ap fault_of done));

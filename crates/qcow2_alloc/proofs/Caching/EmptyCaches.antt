@@ -8,16 +8,16 @@ use Rattle.qcow2_types.specs.Entries.{l2_table}
 use Rattle.qcow2_types.specs.Counts.{count}
 use Rattle.qcow2_types.specs.References.{structure, contents, of_copied, meets, refs}
 use Rattle.qcow2_types.specs.Consistency.{IsConsistent, shares_structure, is_false_copied, is_under_counted}
-use Rattle.qcow2_types.specs.Versions.{named, copied, NamedApart}
+use Rattle.qcow2_types.specs.Versions.{references_in_either, copied, ReferencedOnce}
 use Rattle.qcow2_types.proofs.Counting.Either.{named-clean}
 use Rattle.qcow2_types.proofs.Counting.Slots.{contents-slots, slots-same}
 use Rattle.qcow2_alloc.specs.declared.cache.CacheDependency.TheVariants.{Unset}
 use Rattle.std.specs.List.{IsDistinct}
-use Rattle.qcow2_alloc.specs.Safety.{Safe}
+use Rattle.qcow2_alloc.specs.WellFormedness.{WellFormed}
 
 -- what is consistent by itself
 module _ (f : Bytes) (H : Header) (was : IsConsistent f H) where
-  named-once : (c : ℕ) → named f f H.fields c ≡ refs f H.fields c
+  named-once : (c : ℕ) → references_in_either f f H.fields c ≡ refs f H.fields c
   named-once c = named-clean f f H.fields c (λ i j live. refl)
 
   copied-once : (c : ℕ) → copied f f H.fields c ≡ contents f H.fields (of_copied H.fields (meets H.fields c))
@@ -37,7 +37,7 @@ module _ (f : Bytes) (H : Header) (was : IsConsistent f H) where
   unfolding is_under_counted
   covered c = let counted = was.counted c in grind (arith, nat_tests)
 
-  apart : NamedApart f f H.fields
+  apart : ReferencedOnce f f H.fields
   apart c some = elim (cases_eq (structure f H.fields (meets H.fields c)) 0) [
     | inl none ↦
         let one : refs f H.fields c ≡ 1 = by-copied c (λ e. omega (arith, some, none, e, copied-once c)) in
@@ -45,7 +45,7 @@ module _ (f : Bytes) (H : Header) (was : IsConsistent f H) where
     | inr there ↦ let one : refs f H.fields c ≡ 1 = by-structure c there in omega (arith, one, named-once c)
   ]
 
-  pub empty-safe : Safe f H (record { tables = []; blocks = [] }) Unset
+  pub empty-safe : WellFormed f H (record { tables = []; blocks = [] }) Unset
   unfolding over IsDistinct
   empty-safe = record {
     consistent = was;

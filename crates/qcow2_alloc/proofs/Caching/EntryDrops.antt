@@ -9,7 +9,7 @@ use Rattle.qcow2_types.specs.Header.{Header, cluster_size}
 use Rattle.qcow2_alloc.specs.declared.async_lru_cache.Slot.{Slot}
 use Rattle.qcow2_alloc.specs.declared.cache.CacheDependency.{CacheDependency}
 use Rattle.qcow2_alloc.specs.Cache.{kept_pinned}
-use Rattle.qcow2_alloc.specs.Dropping.{StaysSafe}
+use Rattle.qcow2_alloc.specs.Dropping.{StaysWellFormed}
 use Rattle.qcow2_alloc.specs.Memory.{memory}
 use Rattle.qcow2_alloc.proofs.Caching.SingleEntries.{EntryLaws, safe-with}
 use Rattle.qcow2_alloc.proofs.Memory.EntryKinds.{EntryKind, no-patches}
@@ -40,11 +40,11 @@ module _ {V : Type 0} where
 
 -- All that isn't pinned is, where nothing of it is to be written.
 pub entries-dropped : {V W : Type 0} (kind : EntryKind V W) (laws : EntryLaws kind) (rest : List (ℕ × Slot W)) (es : List (ℕ × Slot V)) (order : CacheDependency)
-    → AllByRecursion (λ e. kind.writes.modified e.1.value ≡ false) es → StaysSafe (kind.put rest es) (kind.put rest (kept_pinned es)) order
+    → AllByRecursion (λ e. kind.writes.modified e.1.value ≡ false) es → StaysWellFormed (kind.put rest es) (kind.put rest (kept_pinned es)) order
 entries-dropped kind laws rest es order clean = record {
   memory_same = same;
-  safe = λ f H safe. let are = laws.own f H order rest es safe in
-      safe-with kind laws f H order rest es (kept_pinned es) safe (same f H) (record { apart = distinct-kept es are.apart; fit = all-kept _ es are.fit });
+  well_formed = λ f H well_formed. let are = laws.own f H order rest es well_formed in
+      safe-with kind laws f H order rest es (kept_pinned es) well_formed (same f H) (record { apart = distinct-kept es are.apart; fit = all-kept _ es are.fit });
 }
   where
     same : (f : Bytes) (H : Header) → memory f H.fields (kind.put rest (kept_pinned es)) ≡ memory f H.fields (kind.put rest es)

@@ -12,7 +12,7 @@ use Rattle.qcow2_alloc.specs.declared.async_lru_cache.Slot.{Slot}
 use Rattle.qcow2_alloc.specs.declared.cache.CacheDependency.{CacheDependency}
 use Rattle.qcow2_alloc.specs.declared.file.ImageFile.{ImageFile}
 use Rattle.qcow2_alloc.specs.Cache.{cache_kind, Evicted, MadeRoom, Loaded, LoadedAfter, Readied}
-use Rattle.qcow2_alloc.specs.Going.{Going, IsMild, WasNotCutOff}
+use Rattle.qcow2_alloc.specs.Going.{WritesBackCached, IsNotResourceError, HadNoResourceError}
 use Rattle.qcow2_alloc.specs.Memory.{Cached}
 use Rattle.qcow2_alloc.proofs.Caching.Entries.{remove_absent}
 use Rattle.qcow2_alloc.proofs.Caching.Places.{place-of-key}
@@ -28,7 +28,7 @@ is-there None = inr refl
 module _ {S V W : Type 0} (side : CachedKind S V W) (laws : SideLaws side) (H : Header) (order : CacheDependency) (rest : List (ℕ × Slot W)) (Ready : Cached → Type 0) (ready : (A B : List (ℕ × Slot V)) → Ready (side.cached rest A) → Ready (side.cached rest B)) where
   -- The image goes on so, with those entries and then with these.
   abbrev pub Goes : Type 0 → ImageFile S → List (ℕ × Slot V) → ImageFile S → List (ℕ × Slot V) → Type 0
-  Goes ok before es after es' = Going H order Ready ok (side.state before.image) (side.cached rest es) (side.state after.image) (side.cached rest es')
+  Goes ok before es after es' = WritesBackCached H order Ready ok (side.state before.image) (side.cached rest es) (side.state after.image) (side.cached rest es')
 
   -- one call behind another
   pub goes-then : (ok ok' : Type 0) (before mid after : ImageFile S) (es list es' : List (ℕ × Slot V)) → Goes ok before es mid list → Goes ok' mid list after es' → Goes (ok × ok') before es after es'
@@ -47,21 +47,21 @@ module _ {S V W : Type 0} (side : CachedKind S V W) (laws : SideLaws side) (H : 
 
   -- The entry is loaded.
   loaded : (key : ℕ) (before : ImageFile S) (es : List (ℕ × Slot V)) (result : Result Admission Fault) (after : ImageFile S) (es' : List (ℕ × Slot V)) → lookup (nat_eq key) es ≡ None → before.header ≡ H → Loaded (loads_of side) key before es result after es'
-      → Goes (WasNotCutOff result) before es after es'
+      → Goes (HadNoResourceError result) before es after es'
   loaded key before es (Ok made) after es' none f (is, value, load, entries) =
       subst (λ (l : List (ℕ × Slot V)). Goes ⊤ before es after l) (sym entries) (comes-quietly side laws H order rest Ready ready key value es (side.state before.image) (side.state after.image) (from-header key before (Ok value) after f load) none)
   loaded key before es (Err fault) after es' none f (same, why) =
-      subst (λ (l : List (ℕ × Slot V)). Goes (IsMild fault) before es after l) (sym same)
+      subst (λ (l : List (ℕ × Slot V)). Goes (IsNotResourceError fault) before es after l) (sym same)
       (elim why [
         | inl load ↦ asked-quietly side laws H order rest Ready ready key (Err fault) es (side.state before.image) (side.state after.image) (from-header key before (Err fault) after f load)
-        | inr full ↦ goes-weaker ⊤ (IsMild fault) before after es es (λ w. tt) (asked-quietly side laws H order rest Ready ready key (Ok full.1) es (side.state before.image) (side.state after.image) (from-header key before (Ok full.1) after f full.2))
+        | inr full ↦ goes-weaker ⊤ (IsNotResourceError fault) before after es es (λ w. tt) (asked-quietly side laws H order rest Ready ready key (Ok full.1) es (side.state before.image) (side.state after.image) (from-header key before (Ok full.1) after f full.2))
       ])
 
   -- Without leave to flush nothing is written.
   pub readied-quietly : (cap : ℕ) (key : ℕ) (before : ImageFile S) (es : List (ℕ × Slot V)) (result : Result Admission Fault) (after : ImageFile S) (es' : List (ℕ × Slot V)) → before.header ≡ H → Readied (cache_kind nat_eq (loads_of side) (flushes_of side) cap) false key before es result after es'
-      → Goes (WasNotCutOff result) before es after es'
+      → Goes (HadNoResourceError result) before es after es'
   readied-quietly cap key before es result after es' f r = elim (is-there (lookup (nat_eq key) es)) [
-    | inl there ↦ let found = r.found there in stays (WasNotCutOff result) before es after es' found.1 found.2
+    | inl there ↦ let found = r.found there in stays (HadNoResourceError result) before es after es' found.1 found.2
     | inr none ↦
         let m = r.missed none in
         elim (cases_lt (length es) cap) [
@@ -71,17 +71,17 @@ module _ {S V W : Type 0} (side : CachedKind S V W) (laws : SideLaws side) (H : 
   ]
     where
       by-room : lookup (nat_eq key) es ≡ None → (room : Result Admission Fault) (mid : ImageFile S) (entries : List (ℕ × Slot V)) → room ≡ Ok Granted → mid ≡ before → entries ≡ es → LoadedAfter (loads_of side) key mid entries room result after es'
-          → Goes (WasNotCutOff result) before es after es'
+          → Goes (HadNoResourceError result) before es after es'
       by-room none room mid entries is same same' later =
           let load : Loaded (loads_of side) key before es result after es' =
           subst (λ (d : ImageFile S). Loaded (loads_of side) key d es result after es') same (subst (λ (l : List (ℕ × Slot V)). Loaded (loads_of side) key mid l result after es') same' (subst (λ (q : Result Admission Fault). LoadedAfter (loads_of side) key mid entries q result after es') is later)) in
           loaded key before es result after es' none f load
 
       no-room : (room : Result Admission Fault) (mid : ImageFile S) (entries : List (ℕ × Slot V)) → room ≡ Ok Denied → mid ≡ before → entries ≡ es → LoadedAfter (loads_of side) key mid entries room result after es'
-          → Goes (WasNotCutOff result) before es after es'
+          → Goes (HadNoResourceError result) before es after es'
       no-room room mid entries is same same' later =
           let full : (result ≡ Ok Denied) × (after ≡ mid) × (es' ≡ entries) = subst (λ (q : Result Admission Fault). LoadedAfter (loads_of side) key mid entries q result after es') is later in
-          stays (WasNotCutOff result) before es after es' (full.1 ∙ same) (full.2 ∙ same')
+          stays (HadNoResourceError result) before es after es' (full.1 ∙ same) (full.2 ∙ same')
 
 -- No key comes where room is made: not where one goes,
 module _ {V D : Type 0} (loads : D → ℕ → Result V Fault → D → Type 0) (flushes : D → ℕ → V → Result Unit Fault → D → V → Type 0) where
@@ -103,9 +103,9 @@ module _ {S V W : Type 0} (side : CachedKind S V W) (laws : SideLaws side) (H : 
 
   -- one is flushed, and removed where that succeeded
   evicted : (key : ℕ) (before : ImageFile S) (es : List (ℕ × Slot V)) (result : Result Admission Fault) (after : ImageFile S) (es' : List (ℕ × Slot V)) → Evicted nat_eq (flushes_of side) key before es result after es'
-      → Here (WasNotCutOff result) before es after es'
+      → Here (HadNoResourceError result) before es after es'
   evicted key before es (Ok made) after es' (is, mid, at, removed) =
-      let p = place-of-key key es at.slot at.there in
+      let p = place-of-key key es at.slot at.slot_found in
       let one : Here ⊤ before es after (p.front ++ (key, record at.slot { value = at.value }) ∷ p.back) =
       subst (λ (l : List (ℕ × Slot V)). Here ⊤ before l after (p.front ++ (key, record at.slot { value = at.value }) ∷ p.back)) (sym p.is)
       (laws.flushed H order rest p.front key at.slot p.back (side.state before.image) (side.state after.image) (Ok tt) at.value at.flush.1) in
@@ -114,16 +114,16 @@ module _ {S V W : Type 0} (side : CachedKind S V W) (laws : SideLaws side) (H : 
       (goes-weaker side laws H order rest (Ready side order) (ready-same side laws H order rest) (⊤ × ⊤) ⊤ before after es (p.front ++ p.back) (λ w. (tt, tt))
       (goes-then side laws H order rest (Ready side order) (ready-same side laws H order rest) ⊤ ⊤ before after after es (p.front ++ (key, record at.slot { value = at.value }) ∷ p.back) (p.front ++ p.back) one two))
   evicted key before es (Err fault) after es' at =
-      let p = place-of-key key es at.slot at.there in
-      subst (λ (l : List (ℕ × Slot V)). Here (IsMild fault) before es after l) (sym (at.entries ∙ p.set (record at.slot { value = at.value })))
-      (subst (λ (l : List (ℕ × Slot V)). Here (IsMild fault) before l after (p.front ++ (key, record at.slot { value = at.value }) ∷ p.back)) (sym p.is)
+      let p = place-of-key key es at.slot at.slot_found in
+      subst (λ (l : List (ℕ × Slot V)). Here (IsNotResourceError fault) before es after l) (sym (at.entries ∙ p.set (record at.slot { value = at.value })))
+      (subst (λ (l : List (ℕ × Slot V)). Here (IsNotResourceError fault) before l after (p.front ++ (key, record at.slot { value = at.value }) ∷ p.back)) (sym p.is)
       (laws.flushed H order rest p.front key at.slot p.back (side.state before.image) (side.state after.image) (Err fault) at.value at.flush.1))
 
   -- Room is made.
   pub room-made : (cap : ℕ) (may_flush : Bool) (before : ImageFile S) (es : List (ℕ × Slot V)) (result : Result Admission Fault) (after : ImageFile S) (es' : List (ℕ × Slot V)) → MadeRoom (cache_kind nat_eq (loads_of side) (flushes_of side) cap) may_flush before es result after es'
-      → Here (WasNotCutOff result) before es after es'
+      → Here (HadNoResourceError result) before es after es'
   room-made cap may_flush before es result after es' made = elim (room-way (cache_kind nat_eq (loads_of side) (flushes_of side) cap) may_flush before es result after es' made) [
-    | inl same ↦ stays side laws H order rest (Ready side order) (ready-same side laws H order rest) (WasNotCutOff result) before es after es' same.device same.entries
+    | inl same ↦ stays side laws H order rest (Ready side order) (ready-same side laws H order rest) (HadNoResourceError result) before es after es' same.device same.entries
     | inr gone ↦ evicted gone.key before es result after es' gone.evicted
   ]
 
@@ -133,26 +133,26 @@ module _ {S V W : Type 0} (side : CachedKind S V W) (laws : SideLaws side) (H : 
 
   -- It is found or loaded.
   pub readied : (cap : ℕ) (may_flush : Bool) (key : ℕ) (before : ImageFile S) (es : List (ℕ × Slot V)) (result : Result Admission Fault) (after : ImageFile S) (es' : List (ℕ × Slot V)) → before.header ≡ H → Readied (cache_kind nat_eq (loads_of side) (flushes_of side) cap) may_flush key before es result after es'
-      → Here (WasNotCutOff result) before es after es'
+      → Here (HadNoResourceError result) before es after es'
   readied cap may_flush key before es result after es' f r = elim (is-there (lookup (nat_eq key) es)) [
-    | inl there ↦ let f = r.found there in stays side laws H order rest (Ready side order) (ready-same side laws H order rest) (WasNotCutOff result) before es after es' f.1 f.2
+    | inl there ↦ let f = r.found there in stays side laws H order rest (Ready side order) (ready-same side laws H order rest) (HadNoResourceError result) before es after es' f.1 f.2
     | inr none ↦ let m = r.missed none in by-room none m.room m.mid m.entries m.made m.loaded
   ]
     where
       by-room : lookup (nat_eq key) es ≡ None → (room : Result Admission Fault) (mid : ImageFile S) (entries : List (ℕ × Slot V)) → MadeRoom (cache_kind nat_eq (loads_of side) (flushes_of side) cap) may_flush before es room mid entries → LoadedAfter (loads_of side) key mid entries room result after es'
-          → Here (WasNotCutOff result) before es after es'
+          → Here (HadNoResourceError result) before es after es'
       by-room none (Ok Granted) mid entries made later =
-          goes-weaker side laws H order rest (Ready side order) (ready-same side laws H order rest) (⊤ × WasNotCutOff result) (WasNotCutOff result) before after es es' (λ w. (tt, w))
-          (goes-then side laws H order rest (Ready side order) (ready-same side laws H order rest) ⊤ (WasNotCutOff result) before mid after es entries es' (room-made cap may_flush before es (Ok Granted) mid entries made)
+          goes-weaker side laws H order rest (Ready side order) (ready-same side laws H order rest) (⊤ × HadNoResourceError result) (HadNoResourceError result) before after es es' (λ w. (tt, w))
+          (goes-then side laws H order rest (Ready side order) (ready-same side laws H order rest) ⊤ (HadNoResourceError result) before mid after es entries es' (room-made cap may_flush before es (Ok Granted) mid entries made)
           (loaded side laws H order rest (Ready side order) (ready-same side laws H order rest) key mid entries result after es' (room-absent (loads_of side) (flushes_of side) cap may_flush key before es (Ok Granted) mid entries made refl none) (room-fits cap may_flush before es (Ok Granted) mid entries made f) later))
       by-room none (Ok Denied) mid entries made later =
-          subst (λ (d : ImageFile S). Here (WasNotCutOff result) before es d es') (sym later.1)
-          (subst (λ (l : List (ℕ × Slot V)). Here (WasNotCutOff result) before es mid l) (sym later.2)
-          (goes-weaker side laws H order rest (Ready side order) (ready-same side laws H order rest) ⊤ (WasNotCutOff result) before mid es entries (λ w. tt) (room-made cap may_flush before es (Ok Denied) mid entries made)))
+          subst (λ (d : ImageFile S). Here (HadNoResourceError result) before es d es') (sym later.1)
+          (subst (λ (l : List (ℕ × Slot V)). Here (HadNoResourceError result) before es mid l) (sym later.2)
+          (goes-weaker side laws H order rest (Ready side order) (ready-same side laws H order rest) ⊤ (HadNoResourceError result) before mid es entries (λ w. tt) (room-made cap may_flush before es (Ok Denied) mid entries made)))
       by-room none (Err fault) mid entries made later =
-          subst (λ (r : Result Admission Fault). Here (WasNotCutOff r) before es after es') (sym later.0)
-          (subst (λ (d : ImageFile S). Here (IsMild fault) before es d es') (sym later.1)
-          (subst (λ (l : List (ℕ × Slot V)). Here (IsMild fault) before es mid l) (sym later.2)
+          subst (λ (r : Result Admission Fault). Here (HadNoResourceError r) before es after es') (sym later.0)
+          (subst (λ (d : ImageFile S). Here (IsNotResourceError fault) before es d es') (sym later.1)
+          (subst (λ (l : List (ℕ × Slot V)). Here (IsNotResourceError fault) before es mid l) (sym later.2)
           (room-made cap may_flush before es (Err fault) mid entries made)))
 
 -- With leave to flush it never says that there is no room.

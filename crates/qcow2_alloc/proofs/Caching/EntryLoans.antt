@@ -26,4 +26,4 @@ module _ {S V W A B T : Type 0} (cache : OneCache S V W A B) (cluster : ℕ) (do
       → UsesEntry cache cluster does (cached_file old before) result (cached_file new after)
   entry-used lent entry result value' is holds used =
       let h = subst (λ r. Left r value') is holds refl in
-      inr (record { mid = h.0; found = h.1; value = entry.now; value' = value'; there = h.2; used = used; left = h.3 })
+      inr (record { mid = h.0; found = h.1; value = entry.now; value' = value'; value_cached = h.2; used = used; left = h.3 })

@@ -3,7 +3,7 @@ use Rattle.std.proofs.Common.{◌≡◌, ℕ, ◌<◌, ◌≤◌, refl, arith, a
 use Rattle.std.specs.Prelude.{nat_eq, map}
 use Rattle.std.specs.Map.{lookup}
 use Rattle.imago_storage.specs.State.{StorageState}
-use Rattle.imago_storage.specs.Calls.{Kept}
+use Rattle.imago_storage.specs.Calls.{UnchangedButFaults}
 use Rattle.imago_storage.specs.declared.fault.Fault.{Fault}
 use Rattle.qcow2_types.specs.Bytes.{bytes_of}
 use Rattle.qcow2_alloc.specs.CachedKinds.{AreInReach, Beside, CachedKind, WritesOther, as_written, cached_of, flushes_of, loads_of}
@@ -15,13 +15,13 @@ use Rattle.qcow2_alloc.specs.Cache.{cache_kind, Inserted, with_entries}
 use Rattle.qcow2_alloc.specs.Causes.{FailsFor}
 use Rattle.qcow2_alloc.specs.Finding.{IsPinnedFull, LetsEntryIn, search_causes}
 use Rattle.qcow2_alloc.specs.Putting.{EntryInserted, IsNew, refusal_of}
-use Rattle.qcow2_alloc.specs.Going.{Going, Always, WasNotCutOff, IsMild}
+use Rattle.qcow2_alloc.specs.Going.{WritesBackCached, Always, HadNoResourceError, IsNotResourceError}
 use Rattle.qcow2_alloc.specs.Memory.{memory}
-use Rattle.qcow2_alloc.specs.Safety.{Safe, IsLeft}
+use Rattle.qcow2_alloc.specs.WellFormedness.{WellFormed, IsCrashImage}
 use Rattle.qcow2_alloc.proofs.Flushing.FlushRefusals.{writing-implies, never-refused}
 use Rattle.qcow2_alloc.proofs.Causes.{cause-weaker}
 use Rattle.qcow2_alloc.proofs.Flushing.WriteSequences.{kept-same, going-none, going-under, going-safely}
-use Rattle.qcow2_alloc.proofs.Caching.PutOutcomes.{put_of, IsBarred, inserted-put, inserted-counted, inserted-related, never-barred, put-then, way-flushed, way-barred, inserted-lets-in, inserted-barred, quiet, put-back}
+use Rattle.qcow2_alloc.proofs.Caching.PutOutcomes.{put_of, IsBarred, inserted-put, inserted-counted, inserted-related, never-barred, put-then, way-flushed, way-barred, inserted-lets-in, inserted-barred, guest_unchanged, put-back}
 use Rattle.qcow2_alloc.proofs.Caching.PutsInOrder.{put-going, put-quietly}
 use Rattle.qcow2_alloc.proofs.Caching.Admission.{behind-done, behind-refused}
 use Rattle.qcow2_alloc.proofs.Caching.Pins.{pins-none}
@@ -43,10 +43,10 @@ module _ {S V W A B : Type 0} (side : CachedKind S V W) (laws : SideLaws side) (
       (λ a key v answer b v' flush. laws.counted key v (side.state a.image) (side.state b.image) answer v' flush.1) old.own.slots.cap may_flush cluster value between old.own.slots.entries after es' result i)
 
   -- What is new fits behind calls that keep the image.
-  fresh-stays : Safe (bytes_of (side.state before.image).bytes) before.header (cached_of side old) old.order → IsNew side cluster value old before → (b : StorageState)
-      → IsLeft (bytes_of (side.state before.image).bytes) (memory (bytes_of (side.state before.image).bytes) before.header.fields (cached_of side old)) before.header (bytes_of b.bytes) → FitsIn side before.header cluster value b
-  fresh-stays safe fresh b left =
-      (fresh.clean, laws.stays (bytes_of (side.state before.image).bytes) before.header old.order old.other.slots.entries old.own.slots.entries safe (bytes_of b.bytes) left cluster value fresh.free fresh.fits)
+  fresh-stays : WellFormed (bytes_of (side.state before.image).bytes) before.header (cached_of side old) old.order → IsNew side cluster value old before → (b : StorageState)
+      → IsCrashImage (bytes_of (side.state before.image).bytes) (memory (bytes_of (side.state before.image).bytes) before.header.fields (cached_of side old)) before.header (bytes_of b.bytes) → FitsIn side before.header cluster value b
+  fresh-stays well_formed fresh b left =
+      (fresh.clean, laws.stays (bytes_of (side.state before.image).bytes) before.header old.order old.other.slots.entries old.own.slots.entries well_formed (bytes_of b.bytes) left cluster value fresh.free fresh.fits)
 
   -- What is put without leave to flush
   module _ (new : Beside S V W A B) (after : ImageFile S) (same : new ≡ record old { own = with_entries old.own new.own.slots.entries }) where
@@ -55,19 +55,19 @@ module _ {S V W A B : Type 0} (side : CachedKind S V W) (laws : SideLaws side) (
     put-quiet result not es' i =
         let es = old.own.slots.entries in
         let cap = old.own.slots.cap in
-        let ok = WasNotCutOff (refusal_of (put_of result)) in
-        let q = quiet (loads_of side) (flushes_of side) cap cluster value before es after es' result not i in
-        let kept : Kept (side.state before.image) (side.state after.image) = subst (λ (d : ImageFile S). Kept (side.state before.image) (side.state d.image)) (sym q.file) (kept-same (side.state before.image)) in
+        let ok = HadNoResourceError (refusal_of (put_of result)) in
+        let q = guest_unchanged (loads_of side) (flushes_of side) cap cluster value before es after es' result not i in
+        let kept : UnchangedButFaults (side.state before.image) (side.state after.image) = subst (λ (d : ImageFile S). UnchangedButFaults (side.state before.image) (side.state d.image)) (sym q.file) (kept-same (side.state before.image)) in
         record {
-          going = subst (λ (d : ImageFile S). Going before.header old.order (λ _. IsNew side cluster value old before) ok (side.state before.image) (cached_of side old) (side.state d.image) (side.cached old.other.slots.entries es')) (sym q.file)
+          writes_back_cached = subst (λ (d : ImageFile S). WritesBackCached before.header old.order (λ _. IsNew side cluster value old before) ok (side.state before.image) (cached_of side old) (side.state d.image) (side.cached old.other.slots.entries es')) (sym q.file)
               (put-quietly side laws before.header old.order old.other.slots.entries cluster value (side.state before.image) (cached_of side old) _ fresh-stays
               ok (side.state before.image) es es' _ (going-none before.header old.order Always ok (side.state before.image) (cached_of side old)) q.absent q.way);
           put = inserted-put (loads_of side) (flushes_of side) (as_written side.writes) kept-by cap false cluster value before es after es' result not i;
           flushed = λ k slot way there. absurd (way-barred (loads_of side) (flushes_of side) cap cluster value before es after es' result not i k slot way there);
           roomy = λ none room. (kept, refl);
-          kept = refl;
+          other_unchanged = refl;
           apart = λ no. refl;
-          behind = λ none full. absurd (inserted-barred (λ (d : ImageFile S). side.state d.image) (loads_of side) (flushes_of side) (Flushed side.writes) (λ a b key v v' answer flush. flush.1)
+          evicts_when_full = λ none full. absurd (inserted-barred (λ (d : ImageFile S). side.state d.image) (loads_of side) (flushes_of side) (Flushed side.writes) (λ a b key v v' answer flush. flush.1)
               cap cluster value before es after es' none full result not i);
           others = (refl, ap (λ (d : ImageFile S). d.header) q.file);
           room = (refl, refl);
@@ -109,15 +109,15 @@ module _ {S V W A B : Type 0} (side : CachedKind S V W) (laws : SideLaws side) (
         let mid = record old { other = other } in
         let alone : (old.order ≡ side.first → ⊥) → side.state between.image ≡ side.state before.image = (λ no. ap (λ (d : ImageFile S). side.state d.image) (w.idle no).2) in
         record {
-          going = put-going side laws before.header old.order other.slots.entries cluster value (side.state before.image) (cached_of side old) (IsNew side cluster value old before) fresh-stays
-              cap between es after es' (Ok tt ≡ Ok tt) refl w.going w.ready result i;
+          writes_back_cached = put-going side laws before.header old.order other.slots.entries cluster value (side.state before.image) (cached_of side old) (IsNew side cluster value old before) fresh-stays
+              cap between es after es' (Ok tt ≡ Ok tt) refl w.writes_back_cached w.ready result i;
           put = inserted-put (loads_of side) (flushes_of side) (as_written side.writes) kept-by cap true cluster value between es after es' result not i;
           flushed = λ k slot way there. put-then result (λ x. record { mid = side.state between.image; between = cached_of side mid; alone = alone; first = w.did; flush = (x.0, x.1.1) })
               (way-flushed (loads_of side) (flushes_of side) cap cluster value between es after es' result i k slot way there);
           roomy = not-roomy;
-          kept = w.kept;
+          other_unchanged = w.kept;
           apart = λ no. ap (λ (c : Beside S V W A B). c.other) (w.idle no).1;
-          behind = λ none room. behind-done (old.order ≡ side.first) (WritesOther side) (LetsEntryIn side) (side.state before.image) (side.state between.image) (side.state after.image) (cached_of side old) (cached_of side mid) _ (refusal_of (put_of result))
+          evicts_when_full = λ none room. behind-done (old.order ≡ side.first) (WritesOther side) (LetsEntryIn side) (side.state before.image) (side.state between.image) (side.state after.image) (cached_of side old) (cached_of side mid) _ (refusal_of (put_of result))
               (λ no. (alone no, ap (λ (c : Beside S V W A B). cached_of side c) (w.idle no).1)) w.did
               (laws.lets other.slots.entries es es' (side.state between.image) (side.state after.image) (refusal_of (put_of result))
               (inserted-lets-in (λ (d : ImageFile S). side.state d.image) (loads_of side) (flushes_of side) (Flushed side.writes) (λ a b key v v' answer flush. flush.1)
@@ -143,14 +143,14 @@ module _ {S V W A B : Type 0} (side : CachedKind S V W) (laws : SideLaws side) (
         let own = ap (λ (c : Beside S V W A B). c.own.slots.entries) w.same in
         let some = first-some side laws old before mid between fault w in
         record {
-          going = going-under before.header old.order (IsNew side cluster value old before) (IsMild fault) (side.state before.image) (side.state between.image) (cached_of side old) (cached_of side mid)
-              (going-safely before.header old.order Always (Err fault ≡ Ok tt) (IsMild fault) _ _ _ _ w.faults (λ safe mild. absurd (never-refused _ _ _ fault (laws.near _ _ _ _ _ safe) mild w.cause)) w.going);
+          writes_back_cached = going-under before.header old.order (IsNew side cluster value old before) (IsNotResourceError fault) (side.state before.image) (side.state between.image) (cached_of side old) (cached_of side mid)
+              (going-safely before.header old.order Always (Err fault ≡ Ok tt) (IsNotResourceError fault) _ _ _ _ w.faults (λ well_formed not_resource_error. absurd (never-refused _ _ _ fault (laws.near _ _ _ _ _ well_formed) not_resource_error w.cause)) w.writes_back_cached);
           put = record { over = λ there. tt; added = λ none. tt; refused = (refl, inl (ap (λ l. map (as_written side.writes) l) own)); pinned = pins-none old.own.slots.entries mid.own.slots.entries own };
           flushed = λ k slot way there. tt;
           roomy = not-roomy;
-          kept = w.kept;
+          other_unchanged = w.kept;
           apart = λ no. absurd (some no);
-          behind = λ none room. behind-refused (old.order ≡ side.first) (WritesOther side) (LetsEntryIn side) (side.state before.image) (side.state between.image) (cached_of side old) (cached_of side mid) fault some w.did;
+          evicts_when_full = λ none room. behind-refused (old.order ≡ side.first) (WritesOther side) (LetsEntryIn side) (side.state before.image) (side.state between.image) (cached_of side old) (cached_of side mid) fault some w.did;
           others = (ap (λ (c : Beside S V W A B). c.order) w.same, w.header);
           room = (ap (λ (c : Beside S V W A B). c.own.slots.cap) w.same, w.room);
           cause = cause-weaker (writing-implies _ (omega arith) (omega arith) (λ far f. far f.1)) fault w.cause;

@@ -3,7 +3,7 @@ use Rattle.std.proofs.Common.{◌≡◌, ℕ, ◌≤◌, refl, arith, ap, sym, s
 use Rattle.std.specs.Prelude.{nat_eq, map, IsSome}
 use Rattle.std.specs.Map.{lookup}
 use Rattle.imago_storage.specs.State.{StorageState}
-use Rattle.imago_storage.specs.Calls.{Kept}
+use Rattle.imago_storage.specs.Calls.{UnchangedButFaults}
 use Rattle.imago_storage.specs.declared.fault.Fault.{Fault}
 use Rattle.qcow2_types.specs.Bytes.{bytes_of}
 use Rattle.qcow2_types.specs.Header.{Header}
@@ -17,7 +17,7 @@ use Rattle.qcow2_alloc.specs.Backends.{Flushed}
 use Rattle.qcow2_alloc.specs.Cache.{cache_kind, Readied, with_entries}
 use Rattle.qcow2_alloc.specs.Causes.{FailsFor}
 use Rattle.qcow2_alloc.specs.Finding.{EntryFound, LetsEntryIn, Sought, IsPinnedFull, search_causes}
-use Rattle.qcow2_alloc.specs.Going.{Always, WasNotCutOff}
+use Rattle.qcow2_alloc.specs.Going.{Always, HadNoResourceError}
 use Rattle.qcow2_alloc.proofs.Flushing.FlushRefusals.{writing-implies, never-refused}
 use Rattle.qcow2_alloc.proofs.Causes.{cause-weaker}
 use Rattle.qcow2_alloc.proofs.Flushing.WriteSequences.{kept-same, going-weaker, going-ready, going-safely}
@@ -59,7 +59,7 @@ module _ {S V W : Type 0} (side : CachedKind S V W) (laws : SideLaws side) (clus
           cap may_flush cluster before es result after es' r).1
 
     -- what it asks for where nothing is modified
-    side-still : AreClean side.writes es → Kept (side.state before.image) (side.state after.image) × AreClean side.writes es'
+    side-still : AreClean side.writes es → UnchangedButFaults (side.state before.image) (side.state after.image) × AreClean side.writes es'
     side-still =
         readied-still (λ (d : ImageFile S). side.state d.image) (loads_of side) (flushes_of side) (λ a b key answer load. laws.kept a.header.fields key (side.state a.image) answer (side.state b.image) load.1)
         (λ v. side.writes.modified v ≡ false) (λ a b key value load. ap side.writes.modified (laws.reads a.header.fields key (side.state a.image) value (side.state b.image) load.1) ∙ laws.clean (bytes_of (side.state a.image).bytes) a.header.fields key)
@@ -77,21 +77,21 @@ module _ {S V W : Type 0} (side : CachedKind S V W) (laws : SideLaws side) (clus
         let cap = old.own.slots.cap in
         let header = header-stays false cap before es result after es' r in
         record {
-          going = going-weaker before.header old.order Always (WasNotCutOff result) (WasNotCutOff (done_of result)) _ _ _ _ (whole-done result)
+          writes_back_cached = going-weaker before.header old.order Always (HadNoResourceError result) (HadNoResourceError (done_of result)) _ _ _ _ (whole-done result)
               (readied-quietly side laws before.header old.order old.other.slots.entries Always (λ A B r. r) cap cluster before es result after es' refl r);
           hit = λ there. let f = r.found there in (ap done_of f.0, ap (λ (l : List (ℕ × Slot V)). record old { own = with_entries old.own l }) f.2, f.1);
-          there = found-there result _ not r.there;
+          found_cached = found-there result _ not r.granted_is_cached;
           sought = side-sought false cap before es result after es' r before.header header not;
           roomy = λ roomy. (
             roomy-kept (loads_of side) (flushes_of side) (λ (d : ImageFile S). side.state d.image) cap false cluster before es result after es'
                 (λ a b answer load. laws.kept a.header.fields cluster (side.state a.image) answer (side.state b.image) load.1) (kept-same (side.state before.image)) roomy r,
             refl,
           );
-          kept = refl;
+          other_unchanged = refl;
           apart = λ no. refl;
-          behind = λ none full. absurd (not (never-now (λ (d : ImageFile S). side.state d.image) (loads_of side) (flushes_of side)
+          evicts_when_full = λ none full. absurd (not (never-now (λ (d : ImageFile S). side.state d.image) (loads_of side) (flushes_of side)
               (λ a b key answer load. laws.kept a.header.fields key (side.state a.image) answer (side.state b.image) load.1) cap cluster before es result after es' none full r));
-          still = λ own other. let k = side-still false cap before es result after es' r own in (k.0, k.1, other);
+          has_no_dirty_data = λ own other. let k = side-still false cap before es result after es' r own in (k.0, k.1, other);
           others = (refl, header);
           room = (refl, refl);
           cause = side-counts false cap before es result after es' r before.header header (side.state before.image).faults refl (AreInReach side.other_writes old.other.slots.entries);
@@ -134,25 +134,25 @@ module _ {S V W : Type 0} (side : CachedKind S V W) (laws : SideLaws side) (clus
           let mid = record old { other = other } in
           let header = header-stays true cap between es result after es' r ∙ w.header in
           record {
-            going = going-weaker before.header old.order Always (WasNotCutOff result) (WasNotCutOff (done_of result)) _ _ _ _ (whole-done result)
-                (going-ready before.header old.order (Before side old.order) (Ok tt ≡ Ok tt) (WasNotCutOff result) (side.state before.image) (side.state between.image) (side.state after.image)
-                (cached_of side old) (cached_of side mid) _ refl w.ready w.going
+            writes_back_cached = going-weaker before.header old.order Always (HadNoResourceError result) (HadNoResourceError (done_of result)) _ _ _ _ (whole-done result)
+                (going-ready before.header old.order (Before side old.order) (Ok tt ≡ Ok tt) (HadNoResourceError result) (side.state before.image) (side.state between.image) (side.state after.image)
+                (cached_of side old) (cached_of side mid) _ refl w.ready w.writes_back_cached
                 (readied side laws before.header old.order other.slots.entries cap true cluster between es result after es' w.header r));
             hit = not-there;
-            there = found-there result _ not r.there;
+            found_cached = found-there result _ not r.granted_is_cached;
             sought = side-sought true cap between es result after es' r before.header header not;
             roomy = λ roomy. absurd (omega (arith, roomy, full));
-            kept = w.kept;
+            other_unchanged = w.kept;
             apart = λ no. ap (λ (c : Beside S V W A B). c.other) (w.idle no).1;
-            behind = λ none room. behind-done (old.order ≡ side.first) (WritesOther side) (LetsEntryIn side) (side.state before.image) (side.state between.image) (side.state after.image) (cached_of side old) (cached_of side mid) _ (done_of result)
+            evicts_when_full = λ none room. behind-done (old.order ≡ side.first) (WritesOther side) (LetsEntryIn side) (side.state before.image) (side.state between.image) (side.state after.image) (cached_of side old) (cached_of side mid) _ (done_of result)
                 (λ no. (ap (λ (f : ImageFile S). side.state f.image) (w.idle no).2, ap (λ (c : Beside S V W A B). cached_of side c) (w.idle no).1)) w.did
                 (laws.lets other.slots.entries es es' (side.state between.image) (side.state after.image) (done_of result)
                 (lets-in (λ (d : ImageFile S). side.state d.image) (loads_of side) (flushes_of side) (λ a b key answer load. laws.kept a.header.fields key (side.state a.image) answer (side.state b.image) load.1)
                 (Flushed side.writes) (λ a b key value value' answer flush. flush.1) cap cluster between es result after es' absent full r));
-            still = λ own rest.
+            has_no_dirty_data = λ own rest.
                 let n = first-idle side laws old before mid between (Ok tt) w rest in
                 let k = side-still true cap between es result after es' r own in
-                (subst (λ (s : StorageState). Kept s (side.state after.image)) n.1 k.0, k.1, subst (λ (l : List (ℕ × Slot W)). AreClean side.other_writes l) (sym n.2) rest);
+                (subst (λ (s : StorageState). UnchangedButFaults s (side.state after.image)) n.1 k.0, k.1, subst (λ (l : List (ℕ × Slot W)). AreClean side.other_writes l) (sym n.2) rest);
             others = (refl, header);
             room = (refl, w.room);
             cause = side-counts true cap between es result after es' r before.header header (side.state before.image).faults w.cause (AreInReach side.other_writes old.other.slots.entries);
@@ -172,15 +172,15 @@ module _ {S V W : Type 0} (side : CachedKind S V W) (laws : SideLaws side) (clus
           let own = ap (λ (c : Beside S V W A B). c.own.slots.entries) w.same in
           let some = first-some side laws old before mid between fault w in
           record {
-            going = going-safely before.header old.order Always (Err fault ≡ Ok tt) (WasNotCutOff {T = Unit} (Err fault)) _ _ _ _ w.faults (λ safe mild. absurd (never-refused _ _ _ fault (laws.near _ _ _ _ _ safe) mild w.cause)) w.going;
+            writes_back_cached = going-safely before.header old.order Always (Err fault ≡ Ok tt) (HadNoResourceError {T = Unit} (Err fault)) _ _ _ _ w.faults (λ well_formed not_resource_error. absurd (never-refused _ _ _ fault (laws.near _ _ _ _ _ well_formed) not_resource_error w.cause)) w.writes_back_cached;
             hit = not-there;
-            there = tt;
-            sought = record { there = not-there; loaded = λ none. tt; refused = inl (ap (λ l. map (as_written side.writes) l) own); pinned = pins-none old.own.slots.entries mid.own.slots.entries own };
+            found_cached = tt;
+            sought = record { unchanged_if_cached = not-there; loaded = λ none. tt; refused = inl (ap (λ l. map (as_written side.writes) l) own); pinned = pins-none old.own.slots.entries mid.own.slots.entries own };
             roomy = λ roomy. absurd (omega (arith, roomy, full));
-            kept = w.kept;
+            other_unchanged = w.kept;
             apart = λ no. absurd (some no);
-            behind = λ none room. behind-refused (old.order ≡ side.first) (WritesOther side) (LetsEntryIn side) (side.state before.image) (side.state between.image) (cached_of side old) (cached_of side mid) fault some w.did;
-            still = λ clean rest. absurd (let n = (first-idle side laws old before mid between (Err fault) w rest).0 in cc);
+            evicts_when_full = λ none room. behind-refused (old.order ≡ side.first) (WritesOther side) (LetsEntryIn side) (side.state before.image) (side.state between.image) (cached_of side old) (cached_of side mid) fault some w.did;
+            has_no_dirty_data = λ clean rest. absurd (let n = (first-idle side laws old before mid between (Err fault) w rest).0 in cc);
             others = (ap (λ (c : Beside S V W A B). c.order) w.same, w.header);
             room = (ap (λ (c : Beside S V W A B). c.own.slots.cap) w.same, w.room);
             cause = cause-weaker (writing-implies _ (omega arith) (omega arith) (λ far f. far f.2)) fault w.cause;

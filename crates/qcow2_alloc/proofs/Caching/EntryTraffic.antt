@@ -9,7 +9,7 @@ use Rattle.qcow2_types.specs.Header.{Header}
 use Rattle.qcow2_alloc.specs.declared.async_lru_cache.Slot.{Slot}
 use Rattle.qcow2_alloc.specs.declared.cache.CacheDependency.{CacheDependency}
 use Rattle.qcow2_alloc.specs.Memory.{memory}
-use Rattle.qcow2_alloc.specs.Safety.{Safe}
+use Rattle.qcow2_alloc.specs.WellFormedness.{WellFormed}
 use Rattle.qcow2_alloc.proofs.Caching.SingleEntries.{EntryLaws, are-safe, entry-fits, entry-leaves, entry-over, others-safe, over-rest, safe-with}
 use Rattle.qcow2_alloc.proofs.Memory.EntryKinds.{EntryKind, AreEntries}
 use Rattle.qcow2_alloc.proofs.Memory.Patches.{all-append, all-front, all-back}
@@ -59,33 +59,33 @@ module _ {V : Type 0} (Fits : ℕ → V → Type 0) (front : List (ℕ × Slot V
 module _ {V W : Type 0} (kind : EntryKind V W) (laws : EntryLaws kind) (f : Bytes) (H : Header) (order : CacheDependency)
     (rest : List (ℕ × Slot W)) (front : List (ℕ × Slot V)) (key : ℕ) (slot : Slot V) (back : List (ℕ × Slot V)) where
   -- One that isn't modified leaves,
-  pub leaves-safe : kind.writes.modified slot.value ≡ false → Safe f H (kind.put rest (front ++ (key, slot) ∷ back)) order
-      → Safe f H (kind.put rest (front ++ back)) order
-  leaves-safe clean safe = safe-with kind laws f H order rest (front ++ (key, slot) ∷ back) (front ++ back) safe
+  pub leaves-safe : kind.writes.modified slot.value ≡ false → WellFormed f H (kind.put rest (front ++ (key, slot) ∷ back)) order
+      → WellFormed f H (kind.put rest (front ++ back)) order
+  leaves-safe clean well_formed = safe-with kind laws f H order rest (front ++ (key, slot) ∷ back) (front ++ back) well_formed
       (entry-leaves kind laws f H rest front key slot back clean)
-      (entries-left (kind.Fits f H.fields) front key slot back (are-safe kind laws f H rest front key slot back order safe))
+      (entries-left (kind.Fits f H.fields) front key slot back (are-safe kind laws f H rest front key slot back order well_formed))
 
   -- or comes,
   pub comes-safe : (es : List (ℕ × Slot V)) → kind.writes.modified slot.value ≡ false → AllByRecursion (λ y. nat_eq key y ≡ false) (keys_of es)
-      → kind.Fits f H.fields key slot.value → Safe f H (kind.put rest es) order → Safe f H (kind.put rest ((key, slot) ∷ es)) order
+      → kind.Fits f H.fields key slot.value → WellFormed f H (kind.put rest es) order → WellFormed f H (kind.put rest ((key, slot) ∷ es)) order
   unfolding IsDistinct
-  comes-safe es clean away fits safe =
-      let are = laws.own f H order rest es safe in
-      safe-with kind laws f H order rest es ((key, slot) ∷ es) safe (sym (entry-leaves kind laws f H rest [] key slot es clean))
+  comes-safe es clean away fits well_formed =
+      let are = laws.own f H order rest es well_formed in
+      safe-with kind laws f H order rest es ((key, slot) ∷ es) well_formed (sym (entry-leaves kind laws f H rest [] key slot es clean))
       (record { apart = (away, are.apart); fit = (fits, are.fit) })
 
   -- and any is used again.
-  module _ (safe : Safe f H (kind.put rest (front ++ (key, slot) ∷ back)) order) where
+  module _ (well_formed : WellFormed f H (kind.put rest (front ++ (key, slot) ∷ back)) order) where
     pub entry-first : memory f H.fields (kind.put rest ((key, slot) ∷ front ++ back)) ≡ memory f H.fields (kind.put rest (front ++ (key, slot) ∷ back))
     entry-first = elim (cases_Bool (kind.writes.modified slot.value)) [
       | inr clean ↦ sym (entry-leaves kind laws f H rest [] key slot (front ++ back) clean) ∙ entry-leaves kind laws f H rest front key slot back clean
       | inl modified ↦
-          entry-over kind laws f H rest [] key slot (front ++ back) safe.consistent (entry-fits kind laws f H rest front key slot back order safe) modified
-          (others-safe kind laws f H rest front key slot back order safe).fit tt tt
-          ∙ sym (over-rest kind laws f H rest front key slot back order safe modified)
+          entry-over kind laws f H rest [] key slot (front ++ back) well_formed.consistent (entry-fits kind laws f H rest front key slot back order well_formed) modified
+          (others-safe kind laws f H rest front key slot back order well_formed).fit tt tt
+          ∙ sym (over-rest kind laws f H rest front key slot back order well_formed modified)
     ]
 
-    pub first-safe : Safe f H (kind.put rest ((key, slot) ∷ front ++ back)) order
-    first-safe = safe-with kind laws f H order rest (front ++ (key, slot) ∷ back) ((key, slot) ∷ front ++ back) safe entry-first
-        (entries-first (kind.Fits f H.fields) front key slot back (are-safe kind laws f H rest front key slot back order safe) slot
-        (entry-fits kind laws f H rest front key slot back order safe))
+    pub first-safe : WellFormed f H (kind.put rest ((key, slot) ∷ front ++ back)) order
+    first-safe = safe-with kind laws f H order rest (front ++ (key, slot) ∷ back) ((key, slot) ∷ front ++ back) well_formed entry-first
+        (entries-first (kind.Fits f H.fields) front key slot back (are-safe kind laws f H rest front key slot back order well_formed) slot
+        (entry-fits kind laws f H rest front key slot back order well_formed))

@@ -4,8 +4,8 @@ use Rattle.std.specs.Prelude.{◌⊎◌, IsErr, MatchOption, MatchResult, nat_eq
 use Rattle.std.specs.Map.{lookup}
 use Rattle.std.proofs.lemmas.Bool.{cases_Bool, cases_lt}
 use Rattle.imago_storage.specs.State.{StorageState, unit_of}
-use Rattle.imago_storage.specs.Calls.{Kept}
-use Rattle.imago_storage.specs.Through.{Put}
+use Rattle.imago_storage.specs.Calls.{UnchangedButFaults}
+use Rattle.imago_storage.specs.Through.{WriteOutcome}
 use Rattle.imago_storage.specs.declared.fault.Fault.{Fault}
 use Rattle.imago_storage.proofs.Composing.{through_longer}
 use Rattle.qcow2_types.specs.TableBytes.{table_bytes}
@@ -33,11 +33,11 @@ use Rattle.qcow2_alloc.proofs.Flushing.Turns.{each-related}
 pub same-long : (old new : StorageState) → new ≡ old → IsNoShorter old new
 same-long old new same = let stays = ap (λ (s : StorageState). length s.bytes) same in omega (arith, stays)
 
-pub kept-long : (old new : StorageState) → Kept old new → IsNoShorter old new
+pub kept-long : (old new : StorageState) → UnchangedButFaults old new → IsNoShorter old new
 kept-long old new kept = let stays = ap (λ (l : List ℕ). length l) kept.bytes in omega (arith, stays)
 
 -- nor one that is written.
-pub put-long : (old new : StorageState) (at : ℕ) (bytes : List ℕ) (result : Result Unit Fault) → Put old new at bytes result → IsNoShorter old new
+pub put-long : (old new : StorageState) (at : ℕ) (bytes : List ℕ) (result : Result Unit Fault) → WriteOutcome old new at bytes result → IsNoShorter old new
 put-long old new at bytes (Ok done) put = through_longer (unit_of old.shape) old new at bytes put.answer
 put-long old new at bytes (Err fault) put = put.answer.no_shorter
 
@@ -56,7 +56,7 @@ module _ {V : Type 0} (kind : WrittenKind V)
 
 table-long : (old : StorageState) (key : ℕ) (table : TableValue) (result : Result Unit Fault) (new : StorageState) (table' : TableValue)
     → TableFlushed old key table result new table' → IsNoShorter old new
-table-long = entry-long written_tables (λ t place old new result once. put-long old new place (table_bytes t.words) result once.put)
+table-long = entry-long written_tables (λ t place old new result once. put-long old new place (table_bytes t.raw_entries) result once.put)
 
 block-long : (old : StorageState) (key : ℕ) (block : Block) (result : Result Unit Fault) (new : StorageState) (block' : Block)
     → BlockFlushed old key block result new block' → IsNoShorter old new
@@ -118,7 +118,7 @@ announced-long order old cached result new cached' idle written = elim (is-order
 module _ (old : StorageState) (es : List (ℕ × Slot Block)) (result : Result Unit Fault) (new : StorageState) (es' : List (ℕ × Slot Block)) where
   -- what is done once the one that goes is flushed
   abbrev IsDone : StorageState → Result Unit Fault → List (ℕ × Slot Block) → Type 0
-  IsDone mid answer flushed = MatchResult answer (λ _. Kept mid new) (λ fault. (result ≡ Err fault) × (new ≡ mid) × (es' ≡ flushed))
+  IsDone mid answer flushed = MatchResult answer (λ _. UnchangedButFaults mid new) (λ fault. (result ≡ Err fault) × (new ≡ mid) × (es' ≡ flushed))
 
   done-long : (mid : StorageState) (answer : Result Unit Fault) (flushed : List (ℕ × Slot Block)) → IsDone mid answer flushed → IsNoShorter mid new
   done-long mid (Ok done) flushed kept = kept-long mid new kept
@@ -150,7 +150,7 @@ module _ {S : Type 0} (state : S → StorageState) where
     | inr none ↦ elim (cases_lt (length (cached_in old).blocks) old.rb.slots.cap) [
       | inl roomy ↦ kept-long (state before.image) (state after.image) (found.roomy roomy).0
       | inr full ↦ behind-long (order_of old ≡ RbDependsOnL2) (is-order (order_of old) RbDependsOnL2) WritesTables (LetsEntryIn (block_entries state)) tables-long block-let-in
-          (state before.image) (cached_in old) result (state after.image) (cached_in new) (found.behind none full)
+          (state before.image) (cached_in old) result (state after.image) (cached_in new) (found.evicts_when_full none full)
     ]
   ]
 

@@ -15,12 +15,12 @@ use Rattle.qcow2_metadata.specs.Blocks.{Block}
 use Rattle.qcow2_alloc.specs.declared.async_lru_cache.Slot.{Slot}
 use Rattle.qcow2_alloc.specs.declared.cache.CacheDependency.{CacheDependency}
 use Rattle.qcow2_alloc.specs.Memory.{Cached, memory}
-use Rattle.qcow2_alloc.specs.Safety.{Safe, IsLeft, IsCachedTable, IsCachedBlock}
+use Rattle.qcow2_alloc.specs.WellFormedness.{WellFormed, IsCrashImage, IsCachedTable, IsCachedBlock}
 use Rattle.qcow2_alloc.proofs.Memory.FittingWords.{table-still, block-still}
 use Rattle.qcow2_alloc.proofs.Memory.MemoryWords.{table-same, block-same}
 use Rattle.qcow2_alloc.proofs.Memory.Patches.{all-weaker, places-differ}
 
-module _ (f : Bytes) (H : Header) (order : CacheDependency) (cached : Cached) (safe : Safe f H cached order) (x : Bytes) (left : IsLeft f (memory f H.fields cached) H x) where
+module _ (f : Bytes) (H : Header) (order : CacheDependency) (cached : Cached) (well_formed : WellFormed f H cached order) (x : Bytes) (left : IsCrashImage f (memory f H.fields cached) H x) where
   -- what memory has of the file is also left of it
   same-left : (place : ℕ) → Same f (memory f H.fields cached) place (cluster_size H.fields) → Same f x place (cluster_size H.fields)
   same-left place same k lt = elim (left.bytes (place + k)) [ inl was ↦ was | inr now ↦ now ∙ same k lt ]
@@ -34,12 +34,12 @@ module _ (f : Bytes) (H : Header) (order : CacheDependency) (cached : Cached) (s
   ]) es free
 
   pub table-stays : (key : ℕ) (t : TableValue) → AllByRecursion (λ e. e.0 ≡ key → e.1.value.modified ≡ false) cached.tables → IsCachedTable f H.fields key t → IsCachedTable x H.fields key t
-  table-stays key t free = table-still f x H.fields left.words.places key
+  table-stays key t free = table-still f x H.fields left.raw_entries.places key
       (λ i j at live. word-same f x (l2_table f H.fields i) (cluster_size H.fields) j
-      (same-left (l2_table f H.fields i) (table-same f H safe.consistent cached safe.tables safe.blocks i live.in_l1 live.is_there (apart-from (λ (s : Slot TableValue). s.value.modified) key (l2_table f H.fields i) cached.tables at free)))
+      (same-left (l2_table f H.fields i) (table-same f H well_formed.consistent cached well_formed.tables well_formed.blocks i live.in_l1 live.is_there (apart-from (λ (s : Slot TableValue). s.value.modified) key (l2_table f H.fields i) cached.tables at free)))
       (words-fit H.fields j live.in_table)) t
 
   pub block-stays : (key : ℕ) (b : Block) → AllByRecursion (λ e. e.0 ≡ key → e.1.value.modified ≡ false) cached.blocks → IsCachedBlock f H.fields key b → IsCachedBlock x H.fields key b
-  block-stays key b free = block-still f x H.fields left.words.places key
+  block-stays key b free = block-still f x H.fields left.raw_entries.places key
       (λ i inside some at. same-left (block_at f H.fields i)
-      (block-same f H safe.consistent cached safe.tables safe.blocks i inside some (apart-from (λ (s : Slot Block). s.value.modified) key (block_at f H.fields i) cached.blocks at free))) b
+      (block-same f H well_formed.consistent cached well_formed.tables well_formed.blocks i inside some (apart-from (λ (s : Slot Block). s.value.modified) key (block_at f H.fields i) cached.blocks at free))) b

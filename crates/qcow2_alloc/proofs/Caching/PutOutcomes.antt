@@ -5,7 +5,7 @@ use Rattle.std.specs.List.{AllByRecursion}
 use Rattle.std.specs.Map.{lookup, set_value}
 use Rattle.std.proofs.lemmas.Bool.{cases_Bool, cases_lt}
 use Rattle.imago_storage.specs.State.{StorageState}
-use Rattle.imago_storage.specs.Calls.{Kept}
+use Rattle.imago_storage.specs.Calls.{UnchangedButFaults}
 use Rattle.imago_storage.specs.declared.fault.Fault.{Fault}
 use Rattle.imago_storage.specs.declared.fault.Fault.TheVariants.{CacheFull}
 use Rattle.qcow2_alloc.specs.declared.async_lru_cache.Admission.{Admission}
@@ -62,7 +62,7 @@ module _ {V D : Type 0} (loads : D → ℕ → Result V Fault → D → Type 0) 
   -- What the put leaves,
   over-put : IsSome (lookup (nat_eq key) es) → (result : Result (Option V) (Fault × V)) → Overwritten nat_eq flushes (key, value) before es result after es' → PutInto written cap key value es (put_of result) es'
   over-put there (Ok back) (none, mid, at, list) =
-      let is = over-list at.slot at.there mid at.value at.entries list in
+      let is = over-list at.slot at.slot_found mid at.value at.entries list in
       record {
         over = λ t. is;
         added = λ none. absurd (let no = subst (λ (o : Option (Slot V)). IsSome o) none there in cc);
@@ -70,13 +70,13 @@ module _ {V D : Type 0} (loads : D → ℕ → Result V Fault → D → Type 0) 
         pinned = subst (λ l. PinsNothing es l) (sym is) (pins-hit key es value);
       }
   over-put there (Err refused) (back, at) =
-      let p = place-of-key key es at.slot at.there in
+      let p = place-of-key key es at.slot at.slot_found in
       let w = record at.slot { value = at.value } in
       record {
         over = λ t. tt;
         added = λ none. tt;
         refused = (back, inl (ap (λ l. map written l) (at.entries ∙ p.set w) ∙ mapped-same written p.front (key, w) (key, at.slot) p.back (kept key at.slot before after (Err refused.0) at.value at.flush) ∙ ap (λ l. map written l) (sym p.is)));
-        pinned = subst (λ l. PinsNothing es l) (sym at.entries) (pins-set key es at.slot w at.there refl);
+        pinned = subst (λ l. PinsNothing es l) (sym at.entries) (pins-set key es at.slot w at.slot_found refl);
       }
 
   not-there : {X : Type 0} → lookup (nat_eq key) es ≡ None → IsSome (lookup (nat_eq key) es) → X
@@ -130,7 +130,7 @@ module _ {V D : Type 0} (state : D → StorageState) (loads : D → ℕ → Resu
   over-counted : (result : Result (Option V) (Fault × V)) → Overwritten nat_eq flushes (key, value) before es result after es' → Counts result
   over-counted (Ok back) (none, mid, at, list) = (step before key at.slot.value (Ok tt) after at.value at.flush).counts
   over-counted (Err refused) (back, at) =
-      cause-weaker (writing-implies _ (omega arith) (omega arith) (λ far all. far (all-at (λ (e : ℕ × Slot V). Reach e.0 e.1.value) key es at.slot at.there all))) refused.0 (step before key at.slot.value (Err refused.0) after at.value at.flush).counts
+      cause-weaker (writing-implies _ (omega arith) (omega arith) (λ far all. far (all-at (λ (e : ℕ × Slot V). Reach e.0 e.1.value) key es at.slot at.slot_found all))) refused.0 (step before key at.slot.value (Err refused.0) after at.value at.flush).counts
 
   added-counted : (room : Result Admission Fault) (entries : List (ℕ × Slot V)) → FailsFor (search_causes (AllByRecursion (λ (e : ℕ × Slot V). Reach e.0 e.1.value) es) (IsPinnedFull cap es) (state before).faults (state after).faults) (done_of room)
       → (result : Result (Option V) (Fault × V)) → PutAfter (key, value) entries room result es' → Counts result
@@ -196,7 +196,7 @@ module _ {V D : Type 0} (loads : D → ℕ → Result V Fault → D → Type 0) 
 
   at-flushed : (k : ℕ) (slot : Slot V) → lookup (nat_eq k) es ≡ Some slot → (entries : List (ℕ × Slot V)) → FlushedAt nat_eq flushes k before es (Ok tt) after entries → Flushes k slot
   at-flushed k slot there entries at =
-      let same : at.slot ≡ slot = (let e = sym at.there ∙ there in cc) in
+      let same : at.slot ≡ slot = (let e = sym at.slot_found ∙ there in cc) in
       (at.value, subst (λ (s : Slot V). flushes before k s.value (Ok tt) after at.value) same at.flush)
 
   over-flushed : (slot : Slot V) → lookup (nat_eq key) es ≡ Some slot → (result : Result (Option V) (Fault × V)) → Overwritten nat_eq flushes (key, value) before es result after es' → OnOk (put_of result) (Flushes key slot)
@@ -255,11 +255,11 @@ module _ {V D : Type 0} (state : D → StorageState) (loads : D → ℕ → Resu
 
       by-room : (k : ℕ) (room : Result Admission Fault) → Evicted nat_eq flushes k before es room after entries → PutAfter (key, value) entries room result es'
           → (mid : StorageState) × (answer : Result Unit Fault) × (flushed : List (ℕ × Slot V)) × FlushedAt nat_eq asks k (state before) es answer mid flushed
-          × MatchResult answer (λ _. Kept mid (state after)) (λ fault. (Refused result ≡ Err fault) × (state after ≡ mid) × (es' ≡ flushed))
+          × MatchResult answer (λ _. UnchangedButFaults mid (state after)) (λ fault. (Refused result ≡ Err fault) × (state after ≡ mid) × (es' ≡ flushed))
       by-room k (Ok made) (is, flushed, at, removed) put =
-          (state after, Ok tt, flushed, record { slot = at.slot; value = at.value; there = at.there; flush = asked before after k at.slot.value at.value (Ok tt) at.flush; entries = at.entries }, kept-same (state after))
+          (state after, Ok tt, flushed, record { slot = at.slot; value = at.value; slot_found = at.slot_found; flush = asked before after k at.slot.value at.value (Ok tt) at.flush; entries = at.entries }, kept-same (state after))
       by-room k (Err fault) at put =
-          (state after, Err fault, entries, record { slot = at.slot; value = at.value; there = at.there; flush = asked before after k at.slot.value at.value (Err fault) at.flush; entries = at.entries }, (ap Refused put.0, refl, put.1))
+          (state after, Err fault, entries, record { slot = at.slot; value = at.value; slot_found = at.slot_found; flush = asked before after k at.slot.value at.value (Err fault) at.flush; entries = at.entries }, (ap Refused put.0, refl, put.1))
 
   pub inserted-lets-in : (result : Result (Option V) (Fault × V)) → Inserted (cache_kind nat_eq loads flushes cap) true (key, value) before es result after es' → LetsIn asks (state before) es (Refused result) (state after) es'
   inserted-lets-in result i = let a = i.fresh none in room-lets-in a.room a.entries a.made result a.put
@@ -274,13 +274,13 @@ module _ {V D : Type 0} (state : D → StorageState) (loads : D → ℕ → Resu
 -- It is put where nothing has to be written before.
 module _ {V D : Type 0} (loads : D → ℕ → Result V Fault → D → Type 0) (flushes : D → ℕ → V → Result Unit Fault → D → V → Type 0) (cap key : ℕ) (value : V) (before : D) (es : List (ℕ × Slot V)) (after : D) (es' : List (ℕ × Slot V)) where
   -- what a put without leave to flush does
-  pub record IsQuiet (result : Result (Option V) (Fault × V)) : Type 0 where
+  pub record GuestUnchanged (result : Result (Option V) (Fault × V)) : Type 0 where
     pub file : after ≡ before
     pub absent : lookup (nat_eq key) es ≡ None
     pub way : (es' ≡ es) ⊎ ((es' ≡ (key, record { value = value; pins = 0 }) ∷ es) × (result ≡ Ok None))
 
   quiet-put : lookup (nat_eq key) es ≡ None → (room : Result Admission Fault) (entries : List (ℕ × Slot V)) → MadeRoom (cache_kind nat_eq loads flushes cap) false before es room after entries → (result : Result (Option V) (Fault × V)) → (IsBarred result → ⊥)
-      → PutAfter (key, value) entries room result es' → IsQuiet result
+      → PutAfter (key, value) entries room result es' → GuestUnchanged result
   quiet-put none room entries made result not later = elim (cases_lt (length es) cap) [
     | inl roomy ↦
         let r = made.roomy roomy in
@@ -294,8 +294,8 @@ module _ {V D : Type 0} (loads : D → ℕ → Result V Fault → D → Type 0) 
         absurd (not (subst (λ (q : Result (Option V) (Fault × V)). IsBarred q) (sym barred.0) tt))
   ]
 
-  pub quiet : (result : Result (Option V) (Fault × V)) → (IsBarred result → ⊥) → Inserted (cache_kind nat_eq loads flushes cap) false (key, value) before es result after es' → IsQuiet result
-  quiet result not i = elim (is-there (lookup (nat_eq key) es)) [
+  pub guest_unchanged : (result : Result (Option V) (Fault × V)) → (IsBarred result → ⊥) → Inserted (cache_kind nat_eq loads flushes cap) false (key, value) before es result after es' → GuestUnchanged result
+  guest_unchanged result not i = elim (is-there (lookup (nat_eq key) es)) [
     | inr none ↦ let added = i.fresh none in quiet-put none added.room added.entries added.made result not added.put
     | inl there ↦ absurd (not (subst (λ (q : Result (Option V) (Fault × V)). IsBarred q) (sym (i.barred there refl).0) tt))
   ]

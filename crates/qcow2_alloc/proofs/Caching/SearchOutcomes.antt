@@ -6,7 +6,7 @@ use Rattle.std.specs.List.{AllByRecursion}
 use Rattle.std.specs.Map.{lookup, remove_entry}
 use Rattle.std.proofs.lemmas.Bool.{cases_Bool, cases_lt, eqb-true, lt-ltb, le-ltb}
 use Rattle.imago_storage.specs.State.{StorageState}
-use Rattle.imago_storage.specs.Calls.{Kept}
+use Rattle.imago_storage.specs.Calls.{UnchangedButFaults}
 use Rattle.imago_storage.specs.declared.fault.Fault.{Fault}
 use Rattle.imago_storage.specs.declared.fault.Fault.TheVariants.{CacheFull}
 use Rattle.qcow2_alloc.specs.declared.async_lru_cache.Admission.{Admission}
@@ -15,7 +15,7 @@ use Rattle.qcow2_alloc.specs.declared.async_lru_cache.Slot.{Slot}
 use Rattle.qcow2_alloc.specs.Cache.{cache_kind, Evicted, MadeRoom, Loaded, LoadedAfter, Readied, victim}
 use Rattle.qcow2_alloc.specs.Causes.{HasCause, FailsFor}
 use Rattle.qcow2_alloc.specs.Finding.{with_room, IsPinnedFull, PinsNothing, Sought, search_causes}
-use Rattle.qcow2_alloc.specs.Going.{WasNotCutOff}
+use Rattle.qcow2_alloc.specs.Going.{HadNoResourceError}
 use Rattle.qcow2_alloc.proofs.Causes.{Implies, cause-weaker, fails-weaker}
 use Rattle.qcow2_alloc.proofs.Flushing.FlushRefusals.{Counted, writing-implies}
 use Rattle.qcow2_alloc.proofs.Caching.Pins.{pins-none, pins-then, pins-removed, pins-set, pins-new}
@@ -29,7 +29,7 @@ done_of (Ok found) = Ok tt
 done_of (Err fault) = Err fault
 
 -- what holds of the one holds of the other
-pub whole-done : (r : Result Admission Fault) → WasNotCutOff (done_of r) → WasNotCutOff r
+pub whole-done : (r : Result Admission Fault) → HadNoResourceError (done_of r) → HadNoResourceError r
 whole-done (Ok found) w = tt
 whole-done (Err fault) w = w
 
@@ -120,10 +120,10 @@ module _ {V D : Type 0} (loads : D → ℕ → Result V Fault → D → Type 0) 
     | inr gone ↦
         let k = gone.key in
         let at = gone.evicted in
-        let p = place-of-key k es at.slot at.there in
+        let p = place-of-key k es at.slot at.slot_found in
         let w = record at.slot { value = at.value } in (
           ap (λ l. map written l) (at.entries ∙ p.set w) ∙ mapped-same written p.front (k, w) (k, at.slot) p.back (kept k at.slot before after (Err fault) at.value at.flush) ∙ ap (λ l. map written l) (sym p.is),
-          subst (λ l. PinsNothing es l) (sym at.entries) (pins-set k es at.slot w at.there refl),
+          subst (λ l. PinsNothing es l) (sym at.entries) (pins-set k es at.slot w at.slot_found refl),
         )
   ]
 
@@ -144,7 +144,7 @@ module _ {V D : Type 0} (loads : D → ℕ → Result V Fault → D → Type 0) 
       → ((mid : D) (value : V) → loads mid key (Ok value) after → value ≡ read) → (result ≡ Ok Denied → ⊥)
       → Readied (cache_kind nat_eq loads flushes cap) may_flush key before es result after es' → Sought written cap key read es (done_of result) es'
   sought written kept read cap may_flush key before es result after es' reads not r = record {
-    there = λ there. (r.found there).2;
+    unchanged_if_cached = λ there. (r.found there).2;
     loaded = λ none. let m = r.missed none in by-load m.room m.mid m.entries m.made result (λ v l. reads m.mid v l) not m.loaded;
     refused = by-refusal result r;
     pinned = elim (is-there (lookup (nat_eq key) es)) [
@@ -207,20 +207,20 @@ module _ {V D : Type 0} (loads : D → ℕ → Result V Fault → D → Type 0) 
 
   -- Where there is room nothing is written.
   pub roomy-kept : (state : D → StorageState) (cap : ℕ) (may_flush : Bool) (key : ℕ) (before : D) (es : List (ℕ × Slot V)) (result : Result Admission Fault) (after : D) (es' : List (ℕ × Slot V))
-      → ((old new : D) (answer : Result V Fault) → loads old key answer new → Kept (state old) (state new)) → Kept (state before) (state before)
-      → length es < cap → Readied (cache_kind nat_eq loads flushes cap) may_flush key before es result after es' → Kept (state before) (state after)
+      → ((old new : D) (answer : Result V Fault) → loads old key answer new → UnchangedButFaults (state old) (state new)) → UnchangedButFaults (state before) (state before)
+      → length es < cap → Readied (cache_kind nat_eq loads flushes cap) may_flush key before es result after es' → UnchangedButFaults (state before) (state after)
   roomy-kept state cap may_flush key before es result after es' loading same roomy r = elim (is-there (lookup (nat_eq key) es)) [
-    | inl there ↦ subst (λ (d : D). Kept (state before) (state d)) (sym (r.found there).1) same
+    | inl there ↦ subst (λ (d : D). UnchangedButFaults (state before) (state d)) (sym (r.found there).1) same
     | inr none ↦ let m = r.missed none in let made = m.made.roomy roomy in by-room m.room m.mid m.entries made.0 made.1 m.loaded
   ]
     where
-      by-answer : (result : Result Admission Fault) (mid : D) (entries : List (ℕ × Slot V)) → Loaded loads key mid entries result after es' → Kept (state mid) (state after)
+      by-answer : (result : Result Admission Fault) (mid : D) (entries : List (ℕ × Slot V)) → Loaded loads key mid entries result after es' → UnchangedButFaults (state mid) (state after)
       by-answer (Ok found) mid entries (is, value, load, list) = loading mid after (Ok value) load
       by-answer (Err fault) mid entries (same, why) = elim why [ inl load ↦ loading mid after (Err fault) load | inr full ↦ loading mid after (Ok full.1) full.2 ]
 
-      by-room : (room : Result Admission Fault) (mid : D) (entries : List (ℕ × Slot V)) → room ≡ Ok Granted → mid ≡ before → LoadedAfter loads key mid entries room result after es' → Kept (state before) (state after)
+      by-room : (room : Result Admission Fault) (mid : D) (entries : List (ℕ × Slot V)) → room ≡ Ok Granted → mid ≡ before → LoadedAfter loads key mid entries room result after es' → UnchangedButFaults (state before) (state after)
       by-room room mid entries is same later =
-          subst (λ (d : D). Kept (state d) (state after)) same (by-answer result mid entries (subst (λ (q : Result Admission Fault). LoadedAfter loads key mid entries q result after es') is later))
+          subst (λ (d : D). UnchangedButFaults (state d) (state after)) same (by-answer result mid entries (subst (λ (q : Result Admission Fault). LoadedAfter loads key mid entries q result after es') is later))
 
 -- Why it is refused.
 module _ {V D : Type 0} (state : D → StorageState) (loads : D → ℕ → Result V Fault → D → Type 0) (flushes : D → ℕ → V → Result Unit Fault → D → V → Type 0) (Reach : ℕ → V → Type 0)
@@ -244,7 +244,7 @@ module _ {V D : Type 0} (state : D → StorageState) (loads : D → ℕ → Resu
       by-eviction key (Err fault) at =
           let c = step before key at.slot.value (Err fault) after at.value at.flush in (
             c.rising,
-            cause-weaker (writing-implies _ (omega arith) (omega arith) (λ far all. far (all-at (λ (e : ℕ × Slot V). Reach e.0 e.1.value) key es at.slot at.there all))) fault c.counts,
+            cause-weaker (writing-implies _ (omega arith) (omega arith) (λ far all. far (all-at (λ (e : ℕ × Slot V). Reach e.0 e.1.value) key es at.slot at.slot_found all))) fault c.counts,
           )
 
   -- how the load of the key counts
@@ -272,7 +272,7 @@ module _ {V D : Type 0} (state : D → StorageState) (loads : D → ℕ → Resu
       where
         by-load : (mid : D) (result : Result Admission Fault) → (state mid).faults ≡ (state before).faults → FailsFor (search_causes (fine after key) (IsPinnedFull cap es) (state mid).faults (state after).faults) (done_of result)
             → FailsFor (search_causes (fine after key × AllByRecursion (λ (e : ℕ × Slot V). Reach e.0 e.1.value) es) (IsPinnedFull cap es) (state before).faults (state after).faults) (done_of result)
-        by-load mid result same counts = fails-weaker _ _ (search-wider (λ f. f.0) (λ f. f) (omega (arith, same)) (omega arith)) (λ still. still ∙ same) (done_of result) counts
+        by-load mid result same counts = fails-weaker _ _ (search-wider (λ f. f.0) (λ f. f) (omega (arith, same)) (omega arith)) (λ has_no_dirty_data. has_no_dirty_data ∙ same) (done_of result) counts
 
         by-room : (room : Result Admission Fault) (mid : D) (entries : List (ℕ × Slot V))
             → ((state before).faults ≤ (state mid).faults) × FailsFor (search_causes (AllByRecursion (λ (e : ℕ × Slot V). Reach e.0 e.1.value) es) (IsPinnedFull cap es) (state before).faults (state mid).faults) (done_of room)

@@ -13,7 +13,7 @@ use Rattle.qcow2_types.proofs.Changes.Patches.{IsPatch, clear-apart}
 use Rattle.qcow2_alloc.specs.declared.async_lru_cache.Slot.{Slot}
 use Rattle.qcow2_alloc.specs.declared.cache.CacheDependency.{CacheDependency}
 use Rattle.qcow2_alloc.specs.Memory.{table_patch, block_patch, patches, memory}
-use Rattle.qcow2_alloc.specs.Safety.{Safe}
+use Rattle.qcow2_alloc.specs.WellFormedness.{WellFormed}
 use Rattle.qcow2_alloc.proofs.Memory.EntryKinds.{EntryKind, AreEntries, IsSafeMemory, table_kind, block_kind, patch_of, patches-all, safe-in-memory, safe-of}
 use Rattle.qcow2_alloc.proofs.Memory.Patches.{all-append, all-front, all-back, all-weaker, all-both, others-before, others-behind, places-differ, table-is-patch, block-is-patch, table-clear-of-block, block-clear-of-table}
 
@@ -28,12 +28,12 @@ pub record EntryLaws {V W : Type 0} (kind : EntryKind V W) : Type 0 where
       → AllByRecursion (IsClear (key * cluster_size H.fields) (length (kind.bytes v))) (kind.ahead (cluster_size H.fields) rest)
       × AllByRecursion (IsClear (key * cluster_size H.fields) (length (kind.bytes v))) (kind.behind (cluster_size H.fields) rest)
   pub own : (f : Bytes) (H : Header) (order : CacheDependency) (rest : List (ℕ × Slot W)) (es : List (ℕ × Slot V))
-      → Safe f H (kind.put rest es) order → AreEntries (kind.Fits f H.fields) es
+      → WellFormed f H (kind.put rest es) order → AreEntries (kind.Fits f H.fields) es
   pub others : (f : Bytes) (H : Header) (order : CacheDependency) (rest : List (ℕ × Slot W)) (es : List (ℕ × Slot V))
-      → Safe f H (kind.put rest es) order → AreEntries (kind.OtherFits f H.fields) rest
-  pub safe : (f : Bytes) (H : Header) (order : CacheDependency) (rest : List (ℕ × Slot W)) (es : List (ℕ × Slot V)) → IsConsistent f H
+      → WellFormed f H (kind.put rest es) order → AreEntries (kind.OtherFits f H.fields) rest
+  pub well_formed : (f : Bytes) (H : Header) (order : CacheDependency) (rest : List (ℕ × Slot W)) (es : List (ℕ × Slot V)) → IsConsistent f H
       → AreEntries (kind.Fits f H.fields) es → AreEntries (kind.OtherFits f H.fields) rest
-      → IsSafeMemory f (memory f H.fields (kind.put rest es)) H order → Safe f H (kind.put rest es) order
+      → IsSafeMemory f (memory f H.fields (kind.put rest es)) H order → WellFormed f H (kind.put rest es) order
 
 pub table-kind-laws : EntryLaws table_kind
 table-kind-laws = record {
@@ -44,9 +44,9 @@ table-kind-laws = record {
     patches-all block_kind _ (cluster_size H.fields) blocks
         (all-weaker _ _ (λ e it m. table-clear-of-block f H was key t is modified e.0 e.1.value it m) blocks are),
   );
-  own = λ f H order blocks es safe. record { apart = safe.tables_apart; fit = safe.tables };
-  others = λ f H order blocks es safe. record { apart = safe.blocks_apart; fit = safe.blocks };
-  safe = λ f H order blocks es was own others m. safe-of f H order (record { tables = es; blocks = blocks }) was own others m;
+  own = λ f H order blocks es well_formed. record { apart = well_formed.tables_apart; fit = well_formed.tables };
+  others = λ f H order blocks es well_formed. record { apart = well_formed.blocks_apart; fit = well_formed.blocks };
+  well_formed = λ f H order blocks es was own others m. safe-of f H order (record { tables = es; blocks = blocks }) was own others m;
 }
 
 pub block-kind-laws : EntryLaws block_kind
@@ -59,9 +59,9 @@ block-kind-laws = record {
         (all-weaker _ _ (λ e it m. block-clear-of-table f H was key b is modified e.0 e.1.value it m) tables are),
     tt,
   );
-  own = λ f H order tables es safe. record { apart = safe.blocks_apart; fit = safe.blocks };
-  others = λ f H order tables es safe. record { apart = safe.tables_apart; fit = safe.tables };
-  safe = λ f H order tables es was own others m. safe-of f H order (record { tables = tables; blocks = es }) was others own m;
+  own = λ f H order tables es well_formed. record { apart = well_formed.blocks_apart; fit = well_formed.blocks };
+  others = λ f H order tables es well_formed. record { apart = well_formed.tables_apart; fit = well_formed.tables };
+  well_formed = λ f H order tables es was own others m. safe-of f H order (record { tables = tables; blocks = es }) was others own m;
 }
 
 module _ {V W : Type 0} (kind : EntryKind V W) (laws : EntryLaws kind) where
@@ -142,12 +142,12 @@ module _ {V W : Type 0} (kind : EntryKind V W) (laws : EntryLaws kind) where
             ∙ ap (λ (ps : List Patch). splice (over f ps) (key * cluster_size H.fields) (kind.bytes slot.value)) (sym patches-left)
 
     -- The same where all is safe.
-    module _ (order : CacheDependency) (safe : Safe f H (kind.put rest (front ++ (key, slot) ∷ back)) order) where
+    module _ (order : CacheDependency) (well_formed : WellFormed f H (kind.put rest (front ++ (key, slot) ∷ back)) order) where
       pub are-safe : AreEntries (kind.Fits f H.fields) (front ++ (key, slot) ∷ back)
-      are-safe = laws.own f H order rest (front ++ (key, slot) ∷ back) safe
+      are-safe = laws.own f H order rest (front ++ (key, slot) ∷ back) well_formed
 
       pub others-safe : AreEntries (kind.OtherFits f H.fields) rest
-      others-safe = laws.others f H order rest (front ++ (key, slot) ∷ back) safe
+      others-safe = laws.others f H order rest (front ++ (key, slot) ∷ back) well_formed
 
       front-fit : AllByRecursion (λ (e : ℕ × Slot V). kind.Fits f H.fields e.0 e.1.value) front
       front-fit = all-front _ front ((key, slot) ∷ back) are-safe.fit
@@ -160,15 +160,15 @@ module _ {V W : Type 0} (kind : EntryKind V W) (laws : EntryLaws kind) where
 
       module _ (modified : kind.writes.modified slot.value ≡ true) where
         pub entry-shows : (k : ℕ) → k < length (kind.bytes slot.value) → g (key * cluster_size H.fields + k) ≡ slice_index (kind.bytes slot.value) k
-        entry-shows = shows safe.consistent entry-fits modified others-safe.fit (others-before key slot front back are-safe.apart) front-fit
+        entry-shows = shows well_formed.consistent entry-fits modified others-safe.fit (others-before key slot front back are-safe.apart) front-fit
 
         pub over-rest : g ≡ splice (memory f H.fields (kind.put rest (front ++ back))) (key * cluster_size H.fields) (kind.bytes slot.value)
-        over-rest = entry-over safe.consistent entry-fits modified others-safe.fit (others-before key slot front back are-safe.apart) front-fit
+        over-rest = entry-over well_formed.consistent entry-fits modified others-safe.fit (others-before key slot front back are-safe.apart) front-fit
 
         clear-after : AllByRecursion IsAway after
         clear-after = all-append _ _ _
-            (clear-own safe.consistent entry-fits modified others-safe.fit back (others-behind key slot front back are-safe.apart) back-fit.1)
-            (laws.clear f H safe.consistent key slot.value entry-fits modified rest others-safe.fit).1
+            (clear-own well_formed.consistent entry-fits modified others-safe.fit back (others-behind key slot front back are-safe.apart) back-fit.1)
+            (laws.clear f H well_formed.consistent key slot.value entry-fits modified rest others-safe.fit).1
 
         -- Once it is written, and not modified, memory is what it was.
         pub entry-settled : (settled : Slot V) → kind.writes.modified settled.value ≡ false
@@ -178,7 +178,7 @@ module _ {V W : Type 0} (kind : EntryKind V W) (laws : EntryLaws kind) where
             ∙ over-settled f before own after clear-after ∙ ap (λ (ps : List Patch). over f ps) (sym (patches-with modified))
 
   -- What is safe stays so with other entries, where memory is the same.
-  pub safe-with : (f : Bytes) (H : Header) (order : CacheDependency) (rest : List (ℕ × Slot W)) (old new : List (ℕ × Slot V)) → Safe f H (kind.put rest old) order
-      → memory f H.fields (kind.put rest new) ≡ memory f H.fields (kind.put rest old) → AreEntries (kind.Fits f H.fields) new → Safe f H (kind.put rest new) order
-  safe-with f H order rest old new safe same are = laws.safe f H order rest new safe.consistent are (laws.others f H order rest old safe)
-      (subst (λ (b : Bytes). IsSafeMemory f b H order) (sym same) (safe-in-memory f H (kind.put rest old) order safe))
+  pub safe-with : (f : Bytes) (H : Header) (order : CacheDependency) (rest : List (ℕ × Slot W)) (old new : List (ℕ × Slot V)) → WellFormed f H (kind.put rest old) order
+      → memory f H.fields (kind.put rest new) ≡ memory f H.fields (kind.put rest old) → AreEntries (kind.Fits f H.fields) new → WellFormed f H (kind.put rest new) order
+  safe-with f H order rest old new well_formed same are = laws.well_formed f H order rest new well_formed.consistent are (laws.others f H order rest old well_formed)
+      (subst (λ (b : Bytes). IsSafeMemory f b H order) (sym same) (safe-in-memory f H (kind.put rest old) order well_formed))

@@ -12,8 +12,8 @@ use Rattle.imago_storage.specs.declared.fault.Fault.{Fault}
 use Rattle.imago_storage.specs.declared.fault.Fault.TheVariants.{Limit, DamagedTable, Memory, Storage}
 use Rattle.qcow2_types.specs.Bytes.{bytes_of}
 use Rattle.qcow2_types.specs.Words.{Layout, max_offset}
-use Rattle.qcow2_types.specs.Header.{Fields, Shaped, cluster_size, words_of_cluster, layout_of}
-use Rattle.qcow2_metadata.specs.Tables.{TableValue, Kind, WhyNotLoaded, HasUnsound, l2_words, words_in}
+use Rattle.qcow2_types.specs.Header.{Fields, Shaped, cluster_size, entries_of_cluster, layout_of}
+use Rattle.qcow2_metadata.specs.Tables.{TableValue, Kind, WhyNotLoaded, HasUnsound, l2_table_kind, raw_entries_in}
 use Rattle.qcow2_alloc.specs.CachedKinds.{IsTableFine, by_tables, table_entries}
 use Rattle.qcow2_alloc.specs.declared.cache.CacheDependency.TheVariants.{L2DependsOnRb}
 use Rattle.qcow2_alloc.specs.declared.cache.MetadataCaches.{MetadataCaches}
@@ -22,9 +22,9 @@ use Rattle.qcow2_alloc.specs.Backends.{TableLoaded, l2_words_in}
 use Rattle.qcow2_alloc.specs.Caches.{HasRoomOf, cached_in, order_of}
 use Rattle.qcow2_alloc.specs.Causes.{HasCause, FailsFor}
 use Rattle.qcow2_alloc.specs.Finding.{search_causes}
-use Rattle.qcow2_alloc.specs.Going.{Going, Always, ReadyTables, IsMild, WasNotCutOff, AreBlocksInReach, WritesBlocks, writing_causes}
+use Rattle.qcow2_alloc.specs.Going.{WritesBackCached, Always, ReadyTables, IsNotResourceError, HadNoResourceError, AreBlocksAddressable, WritesBlocks, writing_causes}
 use Rattle.qcow2_alloc.specs.Memory.{Cached, written}
-use Rattle.qcow2_alloc.specs.Safety.{IsCachedTable}
+use Rattle.qcow2_alloc.specs.WellFormedness.{IsCachedTable}
 use Rattle.qcow2_alloc.proofs.Caching.SingleEntries.{table-kind-laws}
 use Rattle.qcow2_alloc.proofs.Caching.Admission.{blocks-idle}
 use Rattle.qcow2_alloc.proofs.Caching.Sides.{SideLaws, WrittenFirst}
@@ -36,26 +36,26 @@ use Rattle.qcow2_alloc.proofs.Memory.EntryKinds.{table_kind}
 use Rattle.qcow2_alloc.proofs.Memory.SafeLaws.{safe-reach}
 
 -- A load that wasn't cut off leaves the count of faults as it was.
-pub load-counted : (kind : Kind) (layout : Layout) (words : List ℕ) (old new : ℕ) (fault : Fault) → WhyNotLoaded kind layout words old new fault → IsMild fault → new ≡ old
-load-counted kind layout words old new (Limit n) why mild = why.2
-load-counted kind layout words old new DamagedTable why mild = why.1
-load-counted kind layout words old new Memory why mild = absurd mild
-load-counted kind layout words old new Storage why mild = absurd mild
-load-counted kind layout words old new fault why mild = absurd why
+pub load-counted : (kind : Kind) (layout : Layout) (raw_entries : List ℕ) (old new : ℕ) (fault : Fault) → WhyNotLoaded kind layout raw_entries old new fault → IsNotResourceError fault → new ≡ old
+load-counted kind layout raw_entries old new (Limit n) why not_resource_error = why.2
+load-counted kind layout raw_entries old new DamagedTable why not_resource_error = why.1
+load-counted kind layout raw_entries old new Memory why not_resource_error = absurd not_resource_error
+load-counted kind layout raw_entries old new Storage why not_resource_error = absurd not_resource_error
+load-counted kind layout raw_entries old new fault why not_resource_error = absurd why
 
-table-load-counted : (h : Fields) (key : ℕ) (old : StorageState) (result : Result TableValue Fault) (new : StorageState) → TableLoaded h key old result new → WasNotCutOff result → new.faults ≡ old.faults
+table-load-counted : (h : Fields) (key : ℕ) (old : StorageState) (result : Result TableValue Fault) (new : StorageState) → TableLoaded h key old result new → HadNoResourceError result → new.faults ≡ old.faults
 table-load-counted h key old (Ok table) new loaded whole = loaded.faults
-table-load-counted h key old (Err fault) new loaded mild = elim (cases_lt max_offset (key * 2 ^ h.cluster_bits)) [
+table-load-counted h key old (Err fault) new loaded not_resource_error = elim (cases_lt max_offset (key * 2 ^ h.cluster_bits)) [
   | inl far ↦ ap (λ (s : StorageState). s.faults) (loaded.out (λ reach. omega (arith, far, reach))).1
-  | inr reach ↦ load-counted l2_words (layout_of h) (l2_words_in old h key) old.faults new.faults fault (loaded.err reach) mild
+  | inr reach ↦ load-counted l2_table_kind (layout_of h) (l2_words_in old h key) old.faults new.faults fault (loaded.err reach) not_resource_error
 ]
 
 -- what is known of a load's answer
 table-loading : (h : Fields) (key : ℕ) (old : StorageState) (answer : Result TableValue Fault) (new : StorageState) → TableLoaded h key old answer new
     → (old.faults ≤ new.faults) × FailsFor (search_causes (IsTableFine (bytes_of new.bytes) h key) ⊥ old.faults new.faults) answer
-table-loading h key old (Ok table) new loaded = (loaded.later, loaded.faults)
+table-loading h key old (Ok table) new loaded = (loaded.counts_not_fallen, loaded.faults)
 table-loading h key old (Err fault) new loaded = (
-  loaded.later,
+  loaded.counts_not_fallen,
   elim (cases_lt max_offset (key * 2 ^ h.cluster_bits)) [
     | inl far ↦
         let out = loaded.out (λ reach. omega (arith, far, reach)) in
@@ -65,13 +65,13 @@ table-loading h key old (Err fault) new loaded = (
   ],
 )
   where
-    by-fault : (fault : Fault) → WhyNotLoaded l2_words (layout_of h) (words_in (bytes_of old.bytes) (key * cluster_size h) (words_of_cluster h)) old.faults new.faults fault
+    by-fault : (fault : Fault) → WhyNotLoaded l2_table_kind (layout_of h) (raw_entries_in (bytes_of old.bytes) (key * cluster_size h) (entries_of_cluster h)) old.faults new.faults fault
         → HasCause (search_causes (IsTableFine (bytes_of new.bytes) h key) ⊥ old.faults new.faults) fault
     by-fault Memory why = tt
     by-fault Storage why = why
-    by-fault DamagedTable why = λ fine. fine.sound (subst (λ (l : List ℕ). HasUnsound l2_words (layout_of h) (words_in (bytes_of l) (key * cluster_size h) (words_of_cluster h))) (sym loaded.kept.bytes) why.0)
+    by-fault DamagedTable why = λ fine. fine.sound (subst (λ (l : List ℕ). HasUnsound l2_table_kind (layout_of h) (raw_entries_in (bytes_of l) (key * cluster_size h) (entries_of_cluster h))) (sym loaded.unchanged_but_faults.bytes) why.0)
     by-fault (Limit n) why =
-        let long : length (words_in (bytes_of old.bytes) (key * cluster_size h) (words_of_cluster h)) ≡ words_of_cluster h = length-map-range_with_len _ 0 (words_of_cluster h) in
+        let long : length (raw_entries_in (bytes_of old.bytes) (key * cluster_size h) (entries_of_cluster h)) ≡ entries_of_cluster h = length-map-range_with_len _ 0 (entries_of_cluster h) in
         let small : 2 ^ h.cluster_bits ≤ 2 ^ 21 = pow-le-pow_right (omega arith) loaded.narrow in
         let is = why.0 in
         let more = why.1 in
@@ -85,13 +85,13 @@ loaded-fits h key old value new loaded shaped = record {
   placed = ap (λ (t : TableValue). t.cluster) loaded.ok.1 ∙ some-words;
   layout = ap (λ (t : TableValue). t.layout) loaded.ok.1;
   modified = λ m. absurd (let off = ap (λ (t : TableValue). t.modified) loaded.ok.1 in let both = sym off ∙ m in cc);
-  clean = λ m live. ap (λ (t : TableValue). t.words) loaded.ok.1;
+  clean = λ m live. ap (λ (t : TableValue). t.raw_entries) loaded.ok.1;
 }
   where
-    some-words : (if words_of_cluster h == 0 then None else Some key) ≡ Some key
+    some-words : (if entries_of_cluster h == 0 then None else Some key) ≡ Some key
     some-words =
         let large : 2 ^ 9 ≤ 2 ^ h.cluster_bits = pow-le-pow_right (omega arith) shaped.low in
-        let some : 1 ≤ words_of_cluster h = le-div 1 (2 ^ h.cluster_bits) 8 (omega arith) (omega (arith, large)) in
+        let some : 1 ≤ entries_of_cluster h = le-div 1 (2 ^ h.cluster_bits) 8 (omega arith) (omega (arith, large)) in
         grind (arith, nat_tests)
 
 module _ {S : Type 0} (state : S → StorageState) where
@@ -99,32 +99,32 @@ module _ {S : Type 0} (state : S → StorageState) where
   table-laws = record {
     parts = record { bytes = table_kind.bytes; OtherFits = table_kind.OtherFits; ahead = table_kind.ahead; behind = table_kind.behind };
     entries = table-kind-laws;
-    kept = λ h key a answer b load. load.kept;
+    kept = λ h key a answer b load. load.unchanged_but_faults;
     reads = λ h key a value b load. load.ok.1;
     clean = λ f h key. refl;
     fits = loaded-fits;
     counts = table-loading;
-    still = table-load-counted;
+    has_no_dirty_data = table-load-counted;
     keeps = table-kept;
     counted = table-counted;
     cleaned = flushed-clean;
     flushed = λ H order blocks front key slot back a b answer value flush. table-flushed H order front key slot back blocks a b answer value flush;
-    stays = λ f H order blocks es safe x left key value free. table-stays f H order (record { tables = es; blocks = blocks }) safe x left key value free;
+    stays = λ f H order blocks es well_formed x left key value free. table-stays f H order (record { tables = es; blocks = blocks }) well_formed x left key value free;
     rest_is = λ blocks es. refl;
-    near = λ f H order blocks es safe. (safe-reach f H (record { tables = es; blocks = blocks }) order safe).1;
+    near = λ f H order blocks es well_formed. (safe-reach f H (record { tables = es; blocks = blocks }) order well_formed).1;
     lets = λ blocks es es' a b result l. (refl, l);
     idle = blocks-idle;
   }
 
   module _ (old : MetadataCaches S) (before : ImageFile S) (answer : Result Unit Fault) (mid : MetadataCaches S) (between : ImageFile S) where
     -- what blocks are written for
-    pub blocks-first : Going before.header (order_of old) Always (answer ≡ Ok tt) (state before.image) (cached_in old) (state between.image) (cached_in mid) → written (cached_in mid) ≡ written (cached_in old)
+    pub blocks-first : WritesBackCached before.header (order_of old) Always (answer ≡ Ok tt) (state before.image) (cached_in old) (state between.image) (cached_in mid) → written (cached_in mid) ≡ written (cached_in old)
         → OnOk answer (ReadyTables (order_of mid) (cached_in mid)) → ((order_of old ≡ L2DependsOnRb → ⊥) → (answer ≡ Ok tt) × (mid ≡ old) × (between ≡ before))
         → (mid.l2 ≡ old.l2) × (mid.order ≡ old.order) × (between.header ≡ before.header) → HasRoomOf old mid
-        → FailsFor (writing_causes (AreBlocksInReach (cached_in old)) (state before.image).faults (state between.image).faults) answer → (WasNotCutOff answer → IsFaultless (state before.image) (state between.image))
+        → FailsFor (writing_causes (AreBlocksAddressable (cached_in old)) (state before.image).faults (state between.image).faults) answer → (HadNoResourceError answer → IsFaultless (state before.image) (state between.image))
         → (order_of old ≡ L2DependsOnRb → WritesBlocks (state before.image) (cached_in old) answer (state between.image) (cached_in mid)) → WrittenFirst (table_entries state) (by_tables old) before answer (by_tables mid) between
     blocks-first going kept ready idle others room cause faults did = record {
-      going = going;
+      writes_back_cached = going;
       kept = ap (λ (c : Cached). c.blocks) kept;
       ready = ready;
       idle = λ no. let i = idle no in (i.0, ap by_tables i.1, i.2);

@@ -9,55 +9,55 @@ use Rattle.qcow2_metadata.specs.Blocks.{Block}
 use Rattle.qcow2_metadata.specs.Tables.{TableValue}
 use Rattle.qcow2_alloc.specs.declared.cache.MetadataCaches.{MetadataCaches}
 use Rattle.qcow2_alloc.specs.declared.file.ImageFile.{ImageFile}
-use Rattle.qcow2_alloc.specs.Allocators.{UsesBlock, BlockUsed, named_block}
+use Rattle.qcow2_alloc.specs.Allocators.{UsesBlock, BlockUsed, referenced_block}
 use Rattle.qcow2_alloc.specs.Caches.{cached_in, HasRoomOf, KeepsTables, cached_file}
 use Rattle.qcow2_alloc.specs.Finding.{BlockFound, IsPinnedFull, PinsNothing, pinned_in}
-use Rattle.qcow2_alloc.specs.Freeing.{HasSpareRoom, IsLoose}
+use Rattle.qcow2_alloc.specs.Freeing.{HasUnpinnedSlot, HasUnpinnedRoom}
 use Rattle.qcow2_alloc.specs.Memory.{Cached, written, written_table}
 use Rattle.qcow2_alloc.proofs.Caching.Pins.{full-pinned, pinned-less, pins-hit, pins-none, pins-then}
 
 -- There is still room to spare where nothing was pinned and the room is the same,
-pub spare-on : {S : Type 0} (old new : MetadataCaches S) → PinsNothing (cached_in old).blocks (cached_in new).blocks → new.rb.slots.cap ≡ old.rb.slots.cap → HasSpareRoom old → HasSpareRoom new
+pub spare-on : {S : Type 0} (old new : MetadataCaches S) → PinsNothing (cached_in old).blocks (cached_in new).blocks → new.rb.slots.cap ≡ old.rb.slots.cap → HasUnpinnedSlot old → HasUnpinnedSlot new
 spare-on old new pins room spare = let le = pins.among (λ _. true) in omega (arith, le, room, spare)
 
 -- and the blocks that are pinned are named,
-pub loose-on : {S : Type 0} (table : TableValue) (old new : MetadataCaches S) → PinsNothing (cached_in old).blocks (cached_in new).blocks → new.rb.slots.cap ≡ old.rb.slots.cap → (any : Bool) → IsLoose table old any → IsLoose table new any
+pub loose-on : {S : Type 0} (table : TableValue) (old new : MetadataCaches S) → PinsNothing (cached_in old).blocks (cached_in new).blocks → new.rb.slots.cap ≡ old.rb.slots.cap → (any : Bool) → HasUnpinnedRoom table old any → HasUnpinnedRoom table new any
 loose-on table old new pins room any loose = record {
   room = spare-on old new pins room loose.room;
   named = λ key some. loose.named key (let le = pins.among (nat_eq key) in omega (arith, le, some));
 }
 
 -- also by another table that names them still.
-pub loose-named : {S : Type 0} (table table' : TableValue) (caches : MetadataCaches S) → ((i key : ℕ) → named_block table i ≡ Some key → named_block table' i ≡ Some key) → (any : Bool) → IsLoose table caches any → IsLoose table' caches any
+pub loose-named : {S : Type 0} (table table' : TableValue) (caches : MetadataCaches S) → ((i key : ℕ) → referenced_block table i ≡ Some key → referenced_block table' i ≡ Some key) → (any : Bool) → HasUnpinnedRoom table caches any → HasUnpinnedRoom table' caches any
 loose-named table table' caches kept any loose = record {
   room = loose.room;
   named = λ key some. let there = loose.named key some in (there.0, (there.1.0, kept there.1.0 key there.1.1));
 }
 
 abbrev named_by : ℕ → ℕ → Option ℕ
-named_by word bits = if word == 0 then None else Some (word / 2 ^ bits)
+named_by raw_entry bits = if raw_entry == 0 then None else Some (raw_entry / 2 ^ bits)
 
 -- One does where its words are what they were.
-pub name-kept : (table table' : TableValue) (i key : ℕ) → table'.layout.cluster_bits ≡ table.layout.cluster_bits → (block_offset (slice_index table.words i) ≢ 0 → block_offset (slice_index table'.words i) ≡ block_offset (slice_index table.words i))
-    → named_block table i ≡ Some key → named_block table' i ≡ Some key
-name-kept table table' i key bits still named = elim (cases_eq (block_offset (slice_index table.words i)) 0) [
+pub name-kept : (table table' : TableValue) (i key : ℕ) → table'.layout.cluster_bits ≡ table.layout.cluster_bits → (block_offset (slice_index table.raw_entries i) ≢ 0 → block_offset (slice_index table'.raw_entries i) ≡ block_offset (slice_index table.raw_entries i))
+    → referenced_block table i ≡ Some key → referenced_block table' i ≡ Some key
+name-kept table table' i key bits has_no_dirty_data named = elim (cases_eq (block_offset (slice_index table.raw_entries i)) 0) [
   | inl none ↦ absurd (let no : None ≡ Some key = sym (rw none refl) ∙ named in cc)
-  | inr some ↦ ap (λ w. named_by w table'.layout.cluster_bits) (still some) ∙ ap (λ b. named_by (block_offset (slice_index table.words i)) b) bits ∙ named
+  | inr some ↦ ap (λ w. named_by w table'.layout.cluster_bits) (has_no_dirty_data some) ∙ ap (λ b. named_by (block_offset (slice_index table.raw_entries i)) b) bits ∙ named
 ]
 
 -- Where none is pinned, none bars the place of a new one in any image.
-pub loose-none : {S : Type 0} (table : TableValue) (caches : MetadataCaches S) → pinned_in (cached_in caches).blocks ≡ 0 → 0 < caches.rb.slots.cap → IsLoose table caches false
+pub loose-none : {S : Type 0} (table : TableValue) (caches : MetadataCaches S) → pinned_in (cached_in caches).blocks ≡ 0 → 0 < caches.rb.slots.cap → HasUnpinnedRoom table caches false
 loose-none table caches none some = record {
   room = omega (arith, none, some);
   named = λ key is. absurd (let le = pinned-less (nat_eq key) (cached_in caches).blocks in omega (arith, le, none, is));
 }
 
 -- It is so too where some might be pinned.
-pub loose-all : {S : Type 0} (table : TableValue) (caches : MetadataCaches S) (any : Bool) → IsLoose table caches any → IsLoose table caches true
+pub loose-all : {S : Type 0} (table : TableValue) (caches : MetadataCaches S) (any : Bool) → HasUnpinnedRoom table caches any → HasUnpinnedRoom table caches true
 loose-all table caches any loose = record { room = loose.room; named = λ key some. (refl, (loose.named key some).1) }
 
 -- Where there is room to spare it can be made.
-pub loose-never : {S : Type 0} (table : TableValue) (caches : MetadataCaches S) (any : Bool) → IsLoose table caches any → IsPinnedFull caches.rb.slots.cap (cached_in caches).blocks → ⊥
+pub loose-never : {S : Type 0} (table : TableValue) (caches : MetadataCaches S) (any : Bool) → HasUnpinnedRoom table caches any → IsPinnedFull caches.rb.slots.cap (cached_in caches).blocks → ⊥
 loose-never table caches any loose full = let all = full-pinned (cached_in caches).blocks full in let spare = loose.room in omega (arith, all, spare)
 
 -- L2 tables are kept where what is cached is but for what was written.
@@ -75,7 +75,7 @@ pub record KeepsPins {S : Type 0} (old : MetadataCaches S) (before : ImageFile S
 pub record StaysLoose {S : Type 0} (table : TableValue) (old : MetadataCaches S) (before : ImageFile S) (new : MetadataCaches S) (after : ImageFile S) : Type 0 where
   pub header : after.header ≡ before.header
   pub order : new.order ≡ old.order
-  pub loose : (any : Bool) → IsLoose table old any → IsLoose table new any
+  pub loose : (any : Bool) → HasUnpinnedRoom table old any → HasUnpinnedRoom table new any
   pub room : KeepsTables old new
 
 pub stays-loose : {S : Type 0} (table : TableValue) (old : MetadataCaches S) (before : ImageFile S) (new : MetadataCaches S) (after : ImageFile S) → KeepsPins old before new after → StaysLoose table old before new after
@@ -88,7 +88,7 @@ module _ {S : Type 0} (state : S → StorageState) where
     header = found.others.1;
     order = found.others.0;
     pins = found.sought.pinned;
-    room = record { tables = found.room.1; blocks = found.room.0; entries = found.kept };
+    room = record { tables = found.room.1; blocks = found.room.0; entries = found.other_unchanged };
   }
 
   pub found-stays : (table : TableValue) (key : ℕ) (old : MetadataCaches S) (before : ImageFile S) (answer : Result Unit Fault) (new : MetadataCaches S) (after : ImageFile S) → BlockFound state key old before answer new after → StaysLoose table old before new after

@@ -2,7 +2,7 @@
 use Rattle.std.proofs.Common.{◌≡◌, ℕ, ◌*◌, ◌^◌, ◌<◌, refl, ap, sym, subst, ◌∙◌, List, true, false, length, Result, Option, Some, Bool}
 use Rattle.std.specs.Prelude.{slice_index}
 use Rattle.imago_storage.specs.State.{StorageState}
-use Rattle.imago_storage.specs.Through.{PutAtOnce}
+use Rattle.imago_storage.specs.Through.{AtomicWriteOutcome}
 use Rattle.imago_storage.specs.declared.fault.Fault.{Fault}
 use Rattle.qcow2_types.specs.Bytes.{bytes_of}
 use Rattle.qcow2_types.specs.TableBytes.{block_bytes}
@@ -14,7 +14,7 @@ use Rattle.qcow2_metadata.specs.Blocks.{Block, BlockPut}
 use Rattle.qcow2_alloc.specs.declared.async_lru_cache.Slot.{Slot}
 use Rattle.qcow2_alloc.specs.declared.cache.CacheDependency.{CacheDependency}
 use Rattle.qcow2_alloc.specs.Backends.{BlockFlushed, written_blocks}
-use Rattle.qcow2_alloc.specs.Going.{Going, ReadyBlocks, WasNotCutOff}
+use Rattle.qcow2_alloc.specs.Going.{WritesBackCached, ReadyBlocks, HadNoResourceError}
 use Rattle.qcow2_alloc.proofs.Caching.SingleEntries.{block-kind-laws}
 use Rattle.qcow2_alloc.proofs.Flushing.EntryFlushes.{done_so, entry-clean, kind-flushed}
 use Rattle.qcow2_alloc.proofs.Flushing.BlockWriteBacks.{cached-block-written}
@@ -27,12 +27,12 @@ noted b key placed modified = ap (λ (c : Option ℕ). record b { cluster = c; m
 -- Whatever it is, where it wasn't cut off.
 pub block-flushed : (H : Header) (order : CacheDependency) (tables : List (ℕ × Slot TableValue)) (front : List (ℕ × Slot Block)) (key : ℕ) (here : Slot Block) (back : List (ℕ × Slot Block)) (old new : StorageState)
     → (result : Result Unit Fault) (value : Block) → BlockFlushed old key here.value result new value
-    → Going H order (ReadyBlocks order) (WasNotCutOff result) old (blocks_with tables front key here back) new (blocks_with tables front key (record here { value = value }) back)
+    → WritesBackCached H order (ReadyBlocks order) (HadNoResourceError result) old (blocks_with tables front key here back) new (blocks_with tables front key (record here { value = value }) back)
 block-flushed H order tables front key here back old new =
     kind-flushed block_kind block-kind-laws H order (ReadyBlocks order) tables front key here back old new (λ slot r. r)
     (λ modified is. noted here.value key is.placed modified) (λ is. ap (λ (n : ℕ). 2 ^ n) is.cluster_bits)
-    (λ result done. subst (λ (l : List ℕ). PutAtOnce old new (key * 2 ^ here.value.cluster_bits) l result) (is-bytes result done) done.put)
-    (λ modified done safe ready. cached-block-written (bytes_of old.bytes) H tables front key here back order safe modified ready
+    (λ result done. subst (λ (l : List ℕ). AtomicWriteOutcome old new (key * 2 ^ here.value.cluster_bits) l result) (is-bytes result done) done.put)
+    (λ modified done well_formed ready. cached-block-written (bytes_of old.bytes) H tables front key here back order well_formed modified ready
     (subst (λ (l : List ℕ). (k : ℕ) → k < length here.value.counters → counter_of (bytes_of l) (2 ^ here.value.order) 0 k ≡ slice_index here.value.counters k) (is-bytes done_so done) done.packs.each)
     (record here { value = record here.value { cluster = Some key; modified = false } }) refl refl refl refl refl)
   where

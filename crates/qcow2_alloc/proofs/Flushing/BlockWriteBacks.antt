@@ -11,7 +11,7 @@ use Rattle.qcow2_types.specs.Header.{Header, Shaped, cluster_size, refcount_tabl
 use Rattle.qcow2_types.specs.Counts.{block_at, count, counter, counter_of, counters_of_block}
 use Rattle.qcow2_types.specs.References.{refs}
 use Rattle.qcow2_types.specs.TableBytes.{block_bytes}
-use Rattle.qcow2_types.specs.Frames.{Same, Outside, Kept, block}
+use Rattle.qcow2_types.specs.Frames.{Same, Outside, SameStructureOutside, block}
 use Rattle.qcow2_types.specs.Steps.{BlockWritten}
 use Rattle.qcow2_types.specs.Versions.{SamePlaces, IsBetween, KeepsSlots}
 use Rattle.qcow2_types.proofs.Changes.BlockSteps.{block-kept, block-written, counters-written}
@@ -25,7 +25,7 @@ use Rattle.qcow2_alloc.specs.declared.async_lru_cache.Slot.{Slot}
 use Rattle.qcow2_alloc.specs.declared.cache.CacheDependency.{CacheDependency}
 use Rattle.qcow2_alloc.specs.declared.cache.CacheDependency.TheVariants.{Unset, L2DependsOnRb, RbDependsOnL2}
 use Rattle.qcow2_alloc.specs.Memory.{memory}
-use Rattle.qcow2_alloc.specs.Safety.{IsCachedTable, IsCachedBlock, IsOrdered, Safe, AreTablesClean}
+use Rattle.qcow2_alloc.specs.WellFormedness.{IsCachedTable, IsCachedBlock, IsOrdered, WellFormed, AreTablesClean}
 use Rattle.qcow2_alloc.proofs.Memory.Patches.{all-weaker, places-differ, place-there, shaped-in}
 use Rattle.qcow2_alloc.proofs.Caching.SingleEntries.{block-kind-laws, entry-fits}
 use Rattle.qcow2_alloc.proofs.Flushing.EntryWriteBacks.{EntryWritten, entry-written, fills, shown}
@@ -37,13 +37,13 @@ block-number : (i k : ℕ) → block i ≡ block k → i ≡ k
 block-number i k same = cc
 
 module _ (f : Bytes) (H : Header) (tables : List (ℕ × Slot TableValue)) (front : List (ℕ × Slot Block)) (key : ℕ) (here : Slot Block) (back : List (ℕ × Slot Block)) (order : CacheDependency)
-    (safe : Safe f H (blocks_with tables front key here back) order) (modified : here.value.modified ≡ true)
+    (well_formed : WellFormed f H (blocks_with tables front key here back) order) (modified : here.value.modified ≡ true)
     (ready : order ≡ RbDependsOnL2 → AreTablesClean (blocks_with tables front key here back)) where
   abbrev g : Bytes
   g = memory f H.fields (blocks_with tables front key here back)
 
   this : IsCachedBlock f H.fields key here.value
-  this = entry-fits block_kind block-kind-laws f H tables front key here back order safe
+  this = entry-fits block_kind block-kind-laws f H tables front key here back order well_formed
 
   abbrev r : ℕ
   r = (this.modified modified).0
@@ -61,16 +61,16 @@ module _ (f : Bytes) (H : Header) (tables : List (ℕ × Slot TableValue)) (fron
   bytes = block_bytes here.value.order here.value.counters
 
   fits : Shaped H.fields
-  fits = shaped-in f H safe.consistent
+  fits = shaped-in f H well_formed.consistent
 
   all : length bytes ≡ cluster_size H.fields
-  all = fills block_kind block-kind-laws f H order tables front key here back safe modified (block_at f H.fields r) place
+  all = fills block_kind block-kind-laws f H order tables front key here back well_formed modified (block_at f H.fields r) place
 
   show : (k : ℕ) → k < cluster_size H.fields → slice_index bytes k ≡ g (block_at f H.fields r + k)
-  show = shown block_kind block-kind-laws f H order tables front key here back safe modified (block_at f H.fields r) place
+  show = shown block_kind block-kind-laws f H order tables front key here back well_formed modified (block_at f H.fields r) place
 
   places : SamePlaces f g H.fields
-  places = places-in-memory f H safe.consistent (blocks_with tables front key here back) safe.tables safe.blocks
+  places = places-in-memory f H well_formed.consistent (blocks_with tables front key here back) well_formed.tables well_formed.blocks
 
   abbrev x : Bytes
   x = splice f (block_at f H.fields r) bytes
@@ -78,9 +78,9 @@ module _ (f : Bytes) (H : Header) (tables : List (ℕ × Slot TableValue)) (fron
   outside : Outside f x (block_at f H.fields r) (length bytes)
   outside = splice-is-outside f (block_at f H.fields r) bytes
 
-  keeps : Kept f x H.fields (block r)
+  keeps : SameStructureOutside f x H.fields (block r)
   keeps = let some : 0 < cluster_size H.fields = pow_pos H.fields.cluster_bits in
-      block-kept f H safe.consistent r there x (block_at f H.fields r) (length bytes) (omega (arith, some, all)) outside (omega arith) (omega (arith, all))
+      block-kept f H well_formed.consistent r there x (block_at f H.fields r) (length bytes) (omega (arith, some, all)) outside (omega arith) (omega (arith, all))
 
   -- what its clusters are counted is what memory says
   counts-here : (c : ℕ) → c / counters_of_block H.fields ≡ r → (block_at x H.fields r ≡ block_at f H.fields r) → count x H.fields c ≡ count g H.fields c
@@ -96,18 +96,18 @@ module _ (f : Bytes) (H : Header) (tables : List (ℕ × Slot TableValue)) (fron
   words-kept : AreTablesClean (blocks_with tables front key here back) → KeepsSlots f g H.fields
   words-kept clean = record {
     places = places;
-    slots = λ i j live. slot-same f H safe.consistent (blocks_with tables front key here back) safe.tables safe.blocks i j live
+    slots = λ i j live. slot-same f H well_formed.consistent (blocks_with tables front key here back) well_formed.tables well_formed.blocks i j live
         (all-weaker _ _ (λ e off m. absurd (let both = sym off ∙ m in cc)) tables clean);
   }
 
   covers-by : (o : CacheDependency) → order ≡ o → IsOrdered o f g H.fields → (c : ℕ) → refs f H.fields c ≤ count g H.fields c
   covers-by Unset is both c = let a = refs-file f g H.fields c in let b = both.0.cached c in omega (arith, a, b)
   covers-by L2DependsOnRb is first c = let a = refs-file f g H.fields c in let b = first.cached c in omega (arith, a, b)
-  covers-by RbDependsOnL2 is first c = let a = refs-kept f g H.fields c (words-kept (ready is)) in let b = safe.covered c in omega (arith, a, b)
+  covers-by RbDependsOnL2 is first c = let a = refs-kept f g H.fields c (words-kept (ready is)) in let b = well_formed.covered c in omega (arith, a, b)
 
   written : BlockWritten f x H r
-  written = block-written f H safe.consistent r there x (block_at f H.fields r) (length bytes) outside (omega arith) (omega (arith, all))
-      (λ c own. let a = covers-by order refl safe.ordered c in let b = counts-here c own same_place in omega (arith, a, b))
+  written = block-written f H well_formed.consistent r there x (block_at f H.fields r) (length bytes) outside (omega arith) (omega (arith, all))
+      (λ c own. let a = covers-by order refl well_formed.ordered c in let b = counts-here c own same_place in omega (arith, a, b))
 
   counts : (c : ℕ) → (count x H.fields c ≡ count f H.fields c) ⊎ (count x H.fields c ≡ count g H.fields c)
   counts c = elim (cases_eq (c / counters_of_block H.fields) r) [
@@ -118,14 +118,14 @@ module _ (f : Bytes) (H : Header) (tables : List (ℕ × Slot TableValue)) (fron
   ordered-by : (o : CacheDependency) → order ≡ o → IsOrdered o f g H.fields → IsOrdered o x g H.fields
   ordered-by Unset is both = (block-before-tables f x g H.fields both.0 written.keeps counts, block-without-order f x g H.fields both.0 both.1 written.keeps counts)
   ordered-by L2DependsOnRb is first = block-before-tables f x g H.fields first written.keeps counts
-  ordered-by RbDependsOnL2 is first = block-after-tables f x g H.fields first (words-kept (ready is)) safe.covered written.keeps counts
+  ordered-by RbDependsOnL2 is first = block-after-tables f x g H.fields first (words-kept (ready is)) well_formed.covered written.keeps counts
 
   between : IsBetween f x g H.fields
   between = between-kept f x g H.fields written.keeps
 
   -- cached tables, and blocks at other places, fit the file as before
   table-kept : (cluster : ℕ) (other : TableValue) → IsCachedTable f H.fields cluster other → IsCachedTable x H.fields cluster other
-  table-kept cluster other = table-still f x H.fields between.places cluster (λ k j at live. keeps.words k j live (λ e. cc)) other
+  table-kept cluster other = table-still f x H.fields between.places cluster (λ k j at live. keeps.raw_entries k j live (λ e. cc)) other
 
   block-kept-at : (cluster : ℕ) (other : Block) → key ≢ cluster → IsCachedBlock f H.fields cluster other → IsCachedBlock x H.fields cluster other
   block-kept-at cluster other apart =
@@ -157,5 +157,5 @@ module _ (f : Bytes) (H : Header) (tables : List (ℕ × Slot TableValue)) (fron
 
     -- What is cached stays safe.
     pub cached-block-written : EntryWritten f (splice f (key * cluster_size H.fields) (block_bytes here.value.order here.value.counters)) H order (blocks_with tables front key here back) (blocks_with tables front key settled back)
-    cached-block-written = entry-written block_kind block-kind-laws f H order tables front key here back safe modified (block_at f H.fields r) place
-        written.consistent between (ordered-by order refl safe.ordered) block-kept-at table-kept settled clean settled-is
+    cached-block-written = entry-written block_kind block-kind-laws f H order tables front key here back well_formed modified (block_at f H.fields r) place
+        written.consistent between (ordered-by order refl well_formed.ordered) block-kept-at table-kept settled clean settled-is

@@ -4,7 +4,7 @@ use Rattle.std.proofs.lemmas.Bool.{cases_Bool, cases_lt}
 use Rattle.imago_storage.specs.State.{StorageState}
 use Rattle.imago_storage.specs.declared.fault.Fault.{Fault}
 use Rattle.qcow2_types.specs.Words.{max_offset}
-use Rattle.qcow2_metadata.specs.Places.{IsInReach}
+use Rattle.qcow2_metadata.specs.Places.{IsAddressable}
 use Rattle.qcow2_metadata.specs.Tables.{TableValue}
 use Rattle.qcow2_metadata.specs.Blocks.{Block}
 use Rattle.qcow2_alloc.specs.declared.async_lru_cache.Slot.{Slot}
@@ -25,7 +25,7 @@ entry-kept kind written marks key slot old result new v' flushed = elim (cases_B
     as-one : (v : _) → v' ≡ v → written (key, record slot { value = v }) ≡ written (key, slot) → written (key, record slot { value = v' }) ≡ written (key, slot)
     as-one v same is = ap (λ (w : _). written (key, record slot { value = w })) same ∙ is
 
-    by-answer : (result : Result Unit Fault) → Flushed kind old key slot.value result new v' → kind.modified slot.value ≡ true → IsInReach (kind.cluster_bits slot.value) key
+    by-answer : (result : Result Unit Fault) → Flushed kind old key slot.value result new v' → kind.modified slot.value ≡ true → IsAddressable (kind.cluster_bits slot.value) key
         → written (key, record slot { value = v' }) ≡ written (key, slot)
     by-answer (Ok done) flushed modified reach = as-one (kind.marked slot.value key false) (flushed.ok modified) (marks key slot false)
     by-answer (Err fault) flushed modified reach = as-one (kind.marked slot.value key true) (flushed.err modified reach) (marks key slot true)

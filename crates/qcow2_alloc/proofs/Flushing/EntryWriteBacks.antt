@@ -10,7 +10,7 @@ use Rattle.qcow2_types.proofs.Changes.Stops.{apart-falls}
 use Rattle.qcow2_alloc.specs.declared.async_lru_cache.Slot.{Slot}
 use Rattle.qcow2_alloc.specs.declared.cache.CacheDependency.{CacheDependency}
 use Rattle.qcow2_alloc.specs.Memory.{Cached, memory}
-use Rattle.qcow2_alloc.specs.Safety.{IsLeft, IsOrdered, Safe}
+use Rattle.qcow2_alloc.specs.WellFormedness.{IsCrashImage, IsOrdered, WellFormed}
 use Rattle.qcow2_alloc.proofs.Caching.SingleEntries.{EntryLaws, are-safe, entry-fits, entry-settled, entry-shows, others-safe}
 use Rattle.qcow2_alloc.proofs.Caching.EntryTraffic.{keys-with}
 use Rattle.qcow2_alloc.proofs.Memory.EntryKinds.{EntryKind, IsSafeMemory}
@@ -19,13 +19,13 @@ use Rattle.qcow2_alloc.proofs.Memory.Patches.{all-append, all-front, all-back, a
 
 -- One was written to file f, which is x then.
 pub record EntryWritten (f x : Bytes) (H : Header) (order : CacheDependency) (cached cached' : Cached) : Type 0 where
-  pub safe : Safe x H cached' order
+  pub well_formed : WellFormed x H cached' order
   pub memory_same : memory x H.fields cached' ≡ memory f H.fields cached
-  pub left : IsLeft f (memory f H.fields cached) H x
+  pub left : IsCrashImage f (memory f H.fields cached) H x
 
 module _ {V W : Type 0} (kind : EntryKind V W) (laws : EntryLaws kind) (f : Bytes) (H : Header) (order : CacheDependency)
     (rest : List (ℕ × Slot W)) (front : List (ℕ × Slot V)) (key : ℕ) (here : Slot V) (back : List (ℕ × Slot V))
-    (safe : Safe f H (kind.put rest (front ++ (key, here) ∷ back)) order) (modified : kind.writes.modified here.value ≡ true)
+    (well_formed : WellFormed f H (kind.put rest (front ++ (key, here) ∷ back)) order) (modified : kind.writes.modified here.value ≡ true)
     (place : ℕ) (at : place ≡ key * cluster_size H.fields) where
   abbrev g : Bytes
   g = memory f H.fields (kind.put rest (front ++ (key, here) ∷ back))
@@ -35,11 +35,11 @@ module _ {V W : Type 0} (kind : EntryKind V W) (laws : EntryLaws kind) (f : Byte
 
   -- It fills its cluster, as memory shows.
   pub fills : length (kind.bytes here.value) ≡ cluster_size H.fields
-  fills = (laws.is_patch f H safe.consistent key here.value (entry-fits kind laws f H rest front key here back order safe) modified).long
+  fills = (laws.is_patch f H well_formed.consistent key here.value (entry-fits kind laws f H rest front key here back order well_formed) modified).long
 
   pub shown : (k : ℕ) → k < cluster_size H.fields → slice_index (kind.bytes here.value) k ≡ g (place + k)
   shown k less = subst (λ t. slice_index (kind.bytes here.value) k ≡ g (t + k)) (sym at)
-      (sym (entry-shows kind laws f H rest front key here back order safe modified k (omega (arith, less, fills))))
+      (sym (entry-shows kind laws f H rest front key here back order well_formed modified k (omega (arith, less, fills))))
 
   -- Each entry at another place, and each of the other kind, fits as before.
   module _ (consistent : IsConsistent x H) (between : IsBetween f x g H.fields) (ordered : IsOrdered order x g H.fields)
@@ -53,13 +53,13 @@ module _ {V W : Type 0} (kind : EntryKind V W) (laws : EntryLaws kind) (f : Byte
         → EntryWritten f (splice f (key * cluster_size H.fields) (kind.bytes here.value)) H order (kind.put rest (front ++ (key, here) ∷ back))
         (kind.put rest (front ++ (key, settled) ∷ back))
     entry-written settled clean fits =
-        let are = are-safe kind laws f H rest front key here back order safe in
-        let beside = others-safe kind laws f H rest front key here back order safe in
+        let are = are-safe kind laws f H rest front key here back order well_formed in
+        let beside = others-safe kind laws f H rest front key here back order well_formed in
         let same : memory x H.fields (kind.put rest (front ++ (key, settled) ∷ back)) ≡ g =
         subst (λ t. memory (splice f t (kind.bytes here.value)) H.fields (kind.put rest (front ++ (key, settled) ∷ back)) ≡ g) (sym at)
-        (entry-settled kind laws f H rest front key here back order safe modified settled clean) in
+        (entry-settled kind laws f H rest front key here back order well_formed modified settled clean) in
         subst (λ t. EntryWritten f (splice f t (kind.bytes here.value)) H order (kind.put rest (front ++ (key, here) ∷ back)) (kind.put rest (front ++ (key, settled) ∷ back))) at (record {
-          safe = laws.safe x H order rest (front ++ (key, settled) ∷ back) consistent
+          well_formed = laws.well_formed x H order rest (front ++ (key, settled) ∷ back) consistent
               (record {
                 apart = subst (λ (ks : List ℕ). IsDistinct nat_eq ks) (keys-with front key here settled back) are.apart;
                 fit = all-append _ front ((key, settled) ∷ back)
@@ -67,7 +67,7 @@ module _ {V W : Type 0} (kind : EntryKind V W) (laws : EntryLaws kind) (f : Byte
                     (fits, kept-all back (others-behind key here front back are.apart) (all-back _ front ((key, here) ∷ back) are.fit).1);
               })
               (record { apart = beside.apart; fit = all-weaker _ _ (λ e is. others e.0 e.1.value is) rest beside.fit })
-              (subst (λ (m : Bytes). IsSafeMemory x m H order) (sym same) (record { apart = apart-falls f x g H.fields between safe.apart; ordered = ordered; covered = safe.covered }));
+              (subst (λ (m : Bytes). IsSafeMemory x m H order) (sym same) (record { apart = apart-falls f x g H.fields between well_formed.apart; ordered = ordered; covered = well_formed.covered }));
           memory_same = same;
-          left = record { consistent = consistent; words = between; bytes = written-either f g place (kind.bytes here.value) (λ k inside. shown k (omega (arith, inside, fills))) };
+          left = record { consistent = consistent; raw_entries = between; bytes = written-either f g place (kind.bytes here.value) (λ k inside. shown k (omega (arith, inside, fills))) };
         })

@@ -3,7 +3,7 @@ use Rattle.std.proofs.Common.{◌≡◌, ℕ, refl, ap, sym, subst, ◌∙◌, i
 use Rattle.std.specs.Prelude.{IfSome, MatchOption, not, cond, ◌&&◌}
 use Rattle.imago_storage.specs.State.{StorageState}
 use Rattle.imago_storage.specs.Calls.{Cause, IsFaultless}
-use Rattle.imago_storage.specs.Through.{Put}
+use Rattle.imago_storage.specs.Through.{WriteOutcome}
 use Rattle.imago_storage.specs.declared.fault.Fault.{Fault}
 use Rattle.imago_storage.specs.declared.fault.Fault.TheVariants.{Memory, Storage}
 use Rattle.qcow2_metadata.specs.Blocks.{Block}
@@ -11,8 +11,8 @@ use Rattle.qcow2_alloc.specs.declared.cache.MetadataCaches.{MetadataCaches}
 use Rattle.qcow2_alloc.specs.declared.file.ImageFile.{ImageFile}
 use Rattle.qcow2_alloc.specs.Allocators.{UsesBlock}
 use Rattle.qcow2_alloc.specs.Caches.{cached_file}
-use Rattle.qcow2_alloc.specs.Cache.{is_mild, latest}
-use Rattle.qcow2_alloc.specs.Going.{IsMild, WasNotCutOff}
+use Rattle.qcow2_alloc.specs.Cache.{is_not_resource_error, latest}
+use Rattle.qcow2_alloc.specs.Going.{IsNotResourceError, HadNoResourceError}
 
 -- One that leaves all as it was does so,
 pub faultless-same : (old new : StorageState) → new ≡ old → IsFaultless old new
@@ -23,44 +23,44 @@ pub faultless-then : {a b c r s t : ℕ} → (b ≡ a) × (s ≡ r) → (c ≡ b
 faultless-then first second = (second.0 ∙ first.0, second.1 ∙ first.1)
 
 -- A storage's refusal isn't mild.
-pub never-mild : (old new : ℕ) (fault : Fault) → Cause old new fault → IsMild fault → ⊥
-never-mild old new Memory cause mild = mild
-never-mild old new Storage cause mild = mild
-never-mild old new fault cause mild = cause
+pub never-mild : (old new : ℕ) (fault : Fault) → Cause old new fault → IsNotResourceError fault → ⊥
+never-mild old new Memory cause not_resource_error = not_resource_error
+never-mild old new Storage cause not_resource_error = not_resource_error
+never-mild old new fault cause not_resource_error = cause
 
 -- So a write that it didn't cut off failed no request.
-pub put-faultless : (old new : StorageState) (at : ℕ) (bytes : List ℕ) (result : Result Unit Fault) → Put old new at bytes result → WasNotCutOff result → IsFaultless old new
+pub put-faultless : (old new : StorageState) (at : ℕ) (bytes : List ℕ) (result : Result Unit Fault) → WriteOutcome old new at bytes result → HadNoResourceError result → IsFaultless old new
 put-faultless old new at bytes (Ok done) put whole = (put.answer.faults, put.answer.refusals)
 put-faultless old new at bytes (Err fault) put whole = absurd (never-mild old.faults new.faults fault put.answer.cause whole)
 
-mild-tested : (fault : Fault) → IsMild fault → is_mild fault ≡ true
-mild-tested Memory mild = absurd mild
-mild-tested Storage mild = absurd mild
-mild-tested fault mild = refl
+mild-tested : (fault : Fault) → IsNotResourceError fault → is_not_resource_error fault ≡ true
+mild-tested Memory not_resource_error = absurd not_resource_error
+mild-tested Storage not_resource_error = absurd not_resource_error
+mild-tested fault not_resource_error = refl
 
-tested-mild : (fault : Fault) → is_mild fault ≡ true → IsMild fault
+tested-mild : (fault : Fault) → is_not_resource_error fault ≡ true → IsNotResourceError fault
 tested-mild Memory is = absurd (cc is)
 tested-mild Storage is = absurd (cc is)
 tested-mild fault is = tt
 
 -- A fault that is told of several is mild only where each is.
-pub mild-later : (first : Option Fault) (result : Result Unit Fault) → IfSome (latest first result) IsMild → IfSome first IsMild × WasNotCutOff result
-mild-later first (Ok done) mild = (mild, tt)
-mild-later None (Err fault) mild = (tt, mild)
-mild-later (Some earlier) (Err fault) mild = by-test (is_mild earlier) (is_mild fault) refl refl mild
+pub mild-later : (first : Option Fault) (result : Result Unit Fault) → IfSome (latest first result) IsNotResourceError → IfSome first IsNotResourceError × HadNoResourceError result
+mild-later first (Ok done) not_resource_error = (not_resource_error, tt)
+mild-later None (Err fault) not_resource_error = (tt, not_resource_error)
+mild-later (Some earlier) (Err fault) not_resource_error = by-test (is_not_resource_error earlier) (is_not_resource_error fault) refl refl not_resource_error
   where
-    by-test : (one two : Bool) → is_mild earlier ≡ one → is_mild fault ≡ two → IsMild (cond (not one && two) earlier fault) → IsMild earlier × IsMild fault
+    by-test : (one two : Bool) → is_not_resource_error earlier ≡ one → is_not_resource_error fault ≡ two → IsNotResourceError (cond (not one && two) earlier fault) → IsNotResourceError earlier × IsNotResourceError fault
     by-test true two is is' told = (tested-mild earlier is, told)
     by-test false true is is' told = absurd (let no = sym is ∙ mild-tested earlier told in cc)
     by-test false false is is' told = absurd (let no = sym is' ∙ mild-tested fault told in cc)
 
 module _ {S T : Type 0} (state : S → StorageState) (does : Block → Result T Fault → Block → Type 0) (old : MetadataCaches S) (before : ImageFile S) (result : Result T Fault) (new : MetadataCaches S) (after : ImageFile S) where
   -- The use of a cached block fails no request where it wasn't cut off,
-  uses-faultless : (key : ℕ) → UsesBlock state key does (cached_file old before) result (cached_file new after) → WasNotCutOff result → IsFaultless (state before.image) (state after.image)
-  uses-faultless key (inl (fault, is, found)) whole = found.going.faults (subst (λ (r : Result T Fault). WasNotCutOff r) is whole)
-  uses-faultless key (inr used) whole = used.found.going.faults tt
+  uses-faultless : (key : ℕ) → UsesBlock state key does (cached_file old before) result (cached_file new after) → HadNoResourceError result → IsFaultless (state before.image) (state after.image)
+  uses-faultless key (inl (fault, is, found)) whole = found.writes_back_cached.faults (subst (λ (r : Result T Fault). HadNoResourceError r) is whole)
+  uses-faultless key (inr used) whole = used.found.writes_back_cached.faults tt
 
   -- nor does that of one that a word names, if it names one.
-  pub named-faultless : (o : Option ℕ) (Refused : Type 0) → MatchOption o (Refused × (new ≡ old) × (after ≡ before)) (λ key. UsesBlock state key does (cached_file old before) result (cached_file new after)) → WasNotCutOff result → IsFaultless (state before.image) (state after.image)
+  pub named-faultless : (o : Option ℕ) (Refused : Type 0) → MatchOption o (Refused × (new ≡ old) × (after ≡ before)) (λ key. UsesBlock state key does (cached_file old before) result (cached_file new after)) → HadNoResourceError result → IsFaultless (state before.image) (state after.image)
   named-faultless None Refused refused whole = faultless-same (state before.image) (state after.image) (ap (λ (f : ImageFile S). state f.image) refused.2)
   named-faultless (Some key) Refused uses whole = uses-faultless key uses whole

@@ -10,7 +10,7 @@ use Rattle.qcow2_metadata.specs.Blocks.{Block}
 use Rattle.qcow2_alloc.specs.declared.async_lru_cache.Slot.{Slot}
 use Rattle.qcow2_alloc.specs.declared.cache.CacheDependency.{CacheDependency}
 use Rattle.qcow2_alloc.specs.Backends.{TableFlushed, written_tables}
-use Rattle.qcow2_alloc.specs.Going.{Going, ReadyTables, WasNotCutOff}
+use Rattle.qcow2_alloc.specs.Going.{WritesBackCached, ReadyTables, HadNoResourceError}
 use Rattle.qcow2_alloc.proofs.Caching.SingleEntries.{table-kind-laws}
 use Rattle.qcow2_alloc.proofs.Flushing.EntryFlushes.{done_so, entry-clean, kind-flushed}
 use Rattle.qcow2_alloc.proofs.Flushing.TableWriteBacks.{cached-table-written}
@@ -23,11 +23,11 @@ noted t key placed modified = ap (λ (c : Option ℕ). record t { cluster = c; m
 -- Whatever it is, where it wasn't cut off.
 pub table-flushed : (H : Header) (order : CacheDependency) (front : List (ℕ × Slot TableValue)) (key : ℕ) (here : Slot TableValue) (back : List (ℕ × Slot TableValue)) (blocks : List (ℕ × Slot Block)) (old new : StorageState)
     → (result : Result Unit Fault) (value : TableValue) → TableFlushed old key here.value result new value
-    → Going H order (ReadyTables order) (WasNotCutOff result) old (tables_with front key here back blocks) new (tables_with front key (record here { value = value }) back blocks)
+    → WritesBackCached H order (ReadyTables order) (HadNoResourceError result) old (tables_with front key here back blocks) new (tables_with front key (record here { value = value }) back blocks)
 table-flushed H order front key here back blocks old new =
     kind-flushed table_kind table-kind-laws H order (ReadyTables order) blocks front key here back old new (λ slot r. r)
     (λ modified is. noted here.value key is.placed modified) (λ is. ap (λ (l : Layout). 2 ^ l.cluster_bits) is.layout) (λ result put. put)
-    (λ modified put safe ready. cached-table-written (bytes_of old.bytes) H front key here back blocks order safe modified ready
+    (λ modified put well_formed ready. cached-table-written (bytes_of old.bytes) H front key here back blocks order well_formed modified ready
     (record here { value = record here.value { cluster = Some key; modified = false } }) refl refl refl refl)
 
 -- One that is flushed isn't modified then.

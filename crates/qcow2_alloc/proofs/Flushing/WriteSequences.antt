@@ -1,9 +1,9 @@
 -- Writes of cached tables and blocks, one behind the other.
 use Rattle.std.proofs.Common.{◌≡◌, ℕ, ◌≤◌, refl, arith, ap, sym, subst, ◌∙◌, List, [], ◌∷◌, ◌++◌, inl, inr, Option, None, Result, Ok, Err}
 use Rattle.std.specs.Prelude.{IsTrue}
-use Rattle.imago_storage.specs.State.{StorageState, Rose, InStep, Shape}
-use Rattle.imago_storage.specs.Calls.{Kept, IsFaultless}
-use Rattle.imago_storage.specs.Through.{Stops}
+use Rattle.imago_storage.specs.State.{StorageState, HasRisen, CrashImageIsBytes, Shape}
+use Rattle.imago_storage.specs.Calls.{UnchangedButFaults, IsFaultless}
+use Rattle.imago_storage.specs.Through.{EachCrashImage}
 use Rattle.imago_storage.proofs.Composing.{keeps_on, no_stops, stops_both, later_same, later_both, rose_before, rose_behind}
 use Rattle.qcow2_types.specs.Bytes.{Bytes, bytes_of}
 use Rattle.qcow2_types.specs.Header.{Header}
@@ -19,23 +19,23 @@ use Rattle.qcow2_alloc.proofs.Flushing.FaultlessCalls.{faultless-then}
 use Rattle.qcow2_alloc.proofs.Flushing.Turns.{none-later}
 use Rattle.qcow2_alloc.specs.declared.cache.CacheDependency.{CacheDependency}
 use Rattle.qcow2_alloc.specs.Memory.{Cached, memory}
-use Rattle.qcow2_alloc.specs.Safety.{Safe, IsLeft, IsCalm, IsSettled}
-use Rattle.qcow2_alloc.specs.Going.{Going, CachedStep, Always, InTurn}
+use Rattle.qcow2_alloc.specs.WellFormedness.{WellFormed, IsCrashImage, NoChangeRefused, IsSettled}
+use Rattle.qcow2_alloc.specs.Going.{WritesBackCached, CachedStep, Always, InTurn}
 
 -- A file may be left as it is,
-pub left-same : (f g : Bytes) (H : Header) → IsConsistent f H → IsLeft f g H f
-left-same f g H was = record { consistent = was; words = record { places = places-refl f H.fields; slots = λ i j live. inl refl }; bytes = λ p. inl refl }
+pub left-same : (f g : Bytes) (H : Header) → IsConsistent f H → IsCrashImage f g H f
+left-same f g H was = record { consistent = was; raw_entries = record { places = places-refl f H.fields; slots = λ i j live. inl refl }; bytes = λ p. inl refl }
 
 -- and a file that is left behind one that is left is left.
-pub left-then : (f x g : Bytes) (H : Header) (y : Bytes) → IsLeft f g H x → IsLeft x g H y → IsLeft f g H y
+pub left-then : (f x g : Bytes) (H : Header) (y : Bytes) → IsCrashImage f g H x → IsCrashImage x g H y → IsCrashImage f g H y
 left-then f x g H y first second = record {
   consistent = second.consistent;
-  words = record {
-    places = record { l1 = λ i. second.words.places.l1 i ∙ first.words.places.l1 i; blocks = λ i. second.words.places.blocks i ∙ first.words.places.blocks i };
+  raw_entries = record {
+    places = record { l1 = λ i. second.raw_entries.places.l1 i ∙ first.raw_entries.places.l1 i; blocks = λ i. second.raw_entries.places.blocks i ∙ first.raw_entries.places.blocks i };
     slots = λ i j live.
-        let live' : Live (l2_table x H.fields) H.fields i j = record { in_l1 = live.in_l1; is_there = (λ e. live.is_there (sym (first.words.places.l1 i) ∙ e)); in_table = live.in_table } in
-        elim (second.words.slots i j live') [
-          | inl same ↦ elim (first.words.slots i j live) [ inl was ↦ inl (same ∙ was) | inr now ↦ inr (same ∙ now) ]
+        let live' : Live (l2_table x H.fields) H.fields i j = record { in_l1 = live.in_l1; is_there = (λ e. live.is_there (sym (first.raw_entries.places.l1 i) ∙ e)); in_table = live.in_table } in
+        elim (second.raw_entries.slots i j live') [
+          | inl same ↦ elim (first.raw_entries.slots i j live) [ inl was ↦ inl (same ∙ was) | inr now ↦ inr (same ∙ now) ]
           | inr now ↦ inr now
         ];
   };
@@ -46,60 +46,60 @@ left-then f x g H y first second = record {
 }
 
 module _ (H : Header) (order : CacheDependency) (Ready : Cached → Type 0) where
-  pub settled-same : (f : List ℕ) (cached : Cached) → Safe (bytes_of f) H cached order → IsSettled H order f cached f cached
-  settled-same f cached safe = record { safe = safe; memory_same = refl; left = left-same (bytes_of f) (memory (bytes_of f) H.fields cached) H safe.consistent }
+  pub settled-same : (f : List ℕ) (cached : Cached) → WellFormed (bytes_of f) H cached order → IsSettled H order f cached f cached
+  settled-same f cached well_formed = record { well_formed = well_formed; memory_same = refl; left = left-same (bytes_of f) (memory (bytes_of f) H.fields cached) H well_formed.consistent }
 
   -- none,
-  pub going-none : (ok : Type 0) (old : StorageState) (cached : Cached) → Going H order Ready ok old cached old cached
+  pub going-none : (ok : Type 0) (old : StorageState) (cached : Cached) → WritesBackCached H order Ready ok old cached old cached
   going-none ok old cached = record {
     shape = refl;
-    later = later_same old;
+    counts_not_fallen = later_same old;
     faults = λ o. (refl, refl);
     ready = λ r. r;
-    passes = λ keeps safe ready calm. (λ same. same, no_stops _ old old refl refl);
-    holds = λ keeps safe ready why. settled-same old.bytes cached safe;
+    passes = λ keeps well_formed ready no_change_refused. (λ same. same, no_stops _ old old refl refl);
+    holds = λ keeps well_formed ready why. settled-same old.bytes cached well_formed;
   }
 
   settled-then : (a b c : List ℕ) (A B C : Cached) → IsSettled H order a A b B → IsSettled H order b B c C → IsSettled H order a A c C
   settled-then a b c A B C first second = record {
-    safe = second.safe;
+    well_formed = second.well_formed;
     memory_same = second.memory_same ∙ first.memory_same;
-    left = left-then (bytes_of a) (bytes_of b) (memory (bytes_of a) H.fields A) H (bytes_of c) first.left (subst (λ (g : Bytes). IsLeft (bytes_of b) g H (bytes_of c)) first.memory_same second.left);
+    left = left-then (bytes_of a) (bytes_of b) (memory (bytes_of a) H.fields A) H (bytes_of c) first.left (subst (λ (g : Bytes). IsCrashImage (bytes_of b) g H (bytes_of c)) first.memory_same second.left);
   }
 
 -- Some more, also where the first make ready for the second.
 pub going-both-from : (H : Header) (order : CacheDependency) (Ready Ready' : Cached → Type 0) (ok ok' : Type 0) (a b c : StorageState) (A B C : Cached)
-    → (IsTrue a.shape.keeps → Safe (bytes_of a.bytes) H A order → Ready A → IsSettled H order a.bytes A b.bytes B → Ready' B) → (Ready A → Ready C)
-    → Going H order Ready ok a A b B → Going H order Ready' ok' b B c C → Going H order Ready (ok × ok') a A c C
+    → (IsTrue a.shape.keeps → WellFormed (bytes_of a.bytes) H A order → Ready A → IsSettled H order a.bytes A b.bytes B → Ready' B) → (Ready A → Ready C)
+    → WritesBackCached H order Ready ok a A b B → WritesBackCached H order Ready' ok' b B c C → WritesBackCached H order Ready (ok × ok') a A c C
 going-both-from H order Ready Ready' ok ok' a b c A B C from stays first second = record {
   shape = second.shape ∙ first.shape;
-  later = later_both a b c first.later second.later;
+  counts_not_fallen = later_both a b c first.counts_not_fallen second.counts_not_fallen;
   faults = λ both. faultless-then (first.faults both.0) (second.faults both.1);
   ready = stays;
-  passes = λ keeps safe ready calm.
-      let calm-first : Rose a.refusals b.refusals → ⊥ = λ r. calm (rose_before a.refusals b.refusals c.refusals r second.later.refusals) in
-      let calm-second : Rose b.refusals c.refusals → ⊥ = λ r. calm (rose_behind a.refusals b.refusals c.refusals first.later.refusals r) in
-      let one = first.passes keeps safe ready calm-first in
-      let mid : InStep a → IsTrue a.shape.tells → IsSettled H order a.bytes A b.bytes B = λ same tells. first.holds keeps safe ready (inr (record { calm = calm-first; in_step = same; tells = tells })) in
-      let two : (same : InStep a) (tells : IsTrue a.shape.tells) → (InStep b → InStep c) × Stops (λ x. IsLeft (bytes_of b.bytes) (memory (bytes_of b.bytes) H.fields B) H (bytes_of x)) b c =
-      λ same tells. second.passes (keeps_on a b first.shape keeps) (mid same tells).safe (from keeps safe ready (mid same tells)) calm-second in (
+  passes = λ keeps well_formed ready no_change_refused.
+      let calm-first : HasRisen a.refusals b.refusals → ⊥ = λ r. no_change_refused (rose_before a.refusals b.refusals c.refusals r second.counts_not_fallen.refusals) in
+      let calm-second : HasRisen b.refusals c.refusals → ⊥ = λ r. no_change_refused (rose_behind a.refusals b.refusals c.refusals first.counts_not_fallen.refusals r) in
+      let one = first.passes keeps well_formed ready calm-first in
+      let mid : CrashImageIsBytes a → IsTrue a.shape.tells → IsSettled H order a.bytes A b.bytes B = λ same tells. first.holds keeps well_formed ready (inr (record { no_change_refused = calm-first; crash_image_is_bytes = same; tells = tells })) in
+      let two : (same : CrashImageIsBytes a) (tells : IsTrue a.shape.tells) → (CrashImageIsBytes b → CrashImageIsBytes c) × EachCrashImage (λ x. IsCrashImage (bytes_of b.bytes) (memory (bytes_of b.bytes) H.fields B) H (bytes_of x)) b c =
+      λ same tells. second.passes (keeps_on a b first.shape keeps) (mid same tells).well_formed (from keeps well_formed ready (mid same tells)) calm-second in (
         λ same tells' keeps'. (two same (tells_back tells')).0 (one.0 same) tells' keeps',
         λ same tells keeps'.
             let m = mid same tells in
-            stops_both (λ x. IsLeft (bytes_of a.bytes) (memory (bytes_of a.bytes) H.fields A) H (bytes_of x)) (λ x. IsLeft (bytes_of b.bytes) (memory (bytes_of b.bytes) H.fields B) H (bytes_of x))
-            (λ x. IsLeft (bytes_of a.bytes) (memory (bytes_of a.bytes) H.fields A) H (bytes_of x)) a b c first.shape one.0 (λ _ x l. l)
-            (λ _ x l. left-then (bytes_of a.bytes) (bytes_of b.bytes) (memory (bytes_of a.bytes) H.fields A) H (bytes_of x) m.left (subst (λ (g : Bytes). IsLeft (bytes_of b.bytes) g H (bytes_of x)) m.memory_same l))
+            stops_both (λ x. IsCrashImage (bytes_of a.bytes) (memory (bytes_of a.bytes) H.fields A) H (bytes_of x)) (λ x. IsCrashImage (bytes_of b.bytes) (memory (bytes_of b.bytes) H.fields B) H (bytes_of x))
+            (λ x. IsCrashImage (bytes_of a.bytes) (memory (bytes_of a.bytes) H.fields A) H (bytes_of x)) a b c first.shape one.0 (λ _ x l. l)
+            (λ _ x l. left-then (bytes_of a.bytes) (bytes_of b.bytes) (memory (bytes_of a.bytes) H.fields A) H (bytes_of x) m.left (subst (λ (g : Bytes). IsCrashImage (bytes_of b.bytes) g H (bytes_of x)) m.memory_same l))
             one.1 (two same tells).1 same tells keeps',
       );
-  holds = λ keeps safe ready why.
-      let calm-first : IsCalm a c → IsCalm a b = λ k. record { calm = (λ r. k.calm (rose_before a.refusals b.refusals c.refusals r second.later.refusals)); in_step = k.in_step; tells = k.tells } in
-      let m = first.holds keeps safe ready (elim why [ inl both ↦ inl both.0 | inr k ↦ inr (calm-first k) ]) in
-      let calm-second : IsCalm a c → IsCalm b c = λ k. record {
-        calm = (λ r. k.calm (rose_behind a.refusals b.refusals c.refusals first.later.refusals r));
-        in_step = (first.passes keeps safe ready (calm-first k).calm).0 k.in_step;
+  holds = λ keeps well_formed ready why.
+      let calm-first : NoChangeRefused a c → NoChangeRefused a b = λ k. record { no_change_refused = (λ r. k.no_change_refused (rose_before a.refusals b.refusals c.refusals r second.counts_not_fallen.refusals)); crash_image_is_bytes = k.crash_image_is_bytes; tells = k.tells } in
+      let m = first.holds keeps well_formed ready (elim why [ inl both ↦ inl both.0 | inr k ↦ inr (calm-first k) ]) in
+      let calm-second : NoChangeRefused a c → NoChangeRefused b c = λ k. record {
+        no_change_refused = (λ r. k.no_change_refused (rose_behind a.refusals b.refusals c.refusals first.counts_not_fallen.refusals r));
+        crash_image_is_bytes = (first.passes keeps well_formed ready (calm-first k).no_change_refused).0 k.crash_image_is_bytes;
         tells = tells_on' k.tells;
       } in
-      settled-then H order Ready a.bytes b.bytes c.bytes A B C m (second.holds (keeps_on a b first.shape keeps) m.safe (from keeps safe ready m) (elim why [ inl both ↦ inl both.1 | inr k ↦ inr (calm-second k) ]));
+      settled-then H order Ready a.bytes b.bytes c.bytes A B C m (second.holds (keeps_on a b first.shape keeps) m.well_formed (from keeps well_formed ready m) (elim why [ inl both ↦ inl both.1 | inr k ↦ inr (calm-second k) ]));
 }
   where
     tells_back : IsTrue c.shape.tells → IsTrue a.shape.tells
@@ -108,107 +108,107 @@ going-both-from H order Ready Ready' ok ok' a b c A B C from stays first second 
     tells_on' : IsTrue a.shape.tells → IsTrue b.shape.tells
     tells_on' = subst (λ (s : Shape). IsTrue s.tells) (sym first.shape)
 
-pub going-both : (H : Header) (order : CacheDependency) (Ready : Cached → Type 0) (ok ok' : Type 0) (a b c : StorageState) (A B C : Cached) → Going H order Ready ok a A b B → Going H order Ready ok' b B c C → Going H order Ready (ok × ok') a A c C
-going-both H order Ready ok ok' a b c A B C first second = going-both-from H order Ready Ready ok ok' a b c A B C (λ keeps safe r m. first.ready r) (λ r. second.ready (first.ready r)) first second
+pub going-both : (H : Header) (order : CacheDependency) (Ready : Cached → Type 0) (ok ok' : Type 0) (a b c : StorageState) (A B C : Cached) → WritesBackCached H order Ready ok a A b B → WritesBackCached H order Ready ok' b B c C → WritesBackCached H order Ready (ok × ok') a A c C
+going-both H order Ready ok ok' a b c A B C first second = going-both-from H order Ready Ready ok ok' a b c A B C (λ keeps well_formed r m. first.ready r) (λ r. second.ready (first.ready r)) first second
 
 -- what succeeded may be said otherwise
-pub going-weaker : (H : Header) (order : CacheDependency) (Ready : Cached → Type 0) (ok ok' : Type 0) (a b : StorageState) (A B : Cached) → (ok' → ok) → Going H order Ready ok a A b B → Going H order Ready ok' a A b B
+pub going-weaker : (H : Header) (order : CacheDependency) (Ready : Cached → Type 0) (ok ok' : Type 0) (a b : StorageState) (A B : Cached) → (ok' → ok) → WritesBackCached H order Ready ok a A b B → WritesBackCached H order Ready ok' a A b B
 going-weaker H order Ready ok ok' a b A B from h = record {
   shape = h.shape;
-  later = h.later;
+  counts_not_fallen = h.counts_not_fallen;
   faults = λ o. h.faults (from o);
   ready = h.ready;
   passes = h.passes;
-  holds = λ keeps safe ready why. h.holds keeps safe ready (elim why [ inl done ↦ inl (from done) | inr calm ↦ inr calm ]);
+  holds = λ keeps well_formed ready why. h.holds keeps well_formed ready (elim why [ inl done ↦ inl (from done) | inr no_change_refused ↦ inr no_change_refused ]);
 }
 
 -- also from what is safe
-pub going-safely : (H : Header) (order : CacheDependency) (Ready : Cached → Type 0) (ok ok' : Type 0) (a b : StorageState) (A B : Cached) → (ok' → IsFaultless a b) → (Safe (bytes_of a.bytes) H A order → ok' → ok) → Going H order Ready ok a A b B → Going H order Ready ok' a A b B
+pub going-safely : (H : Header) (order : CacheDependency) (Ready : Cached → Type 0) (ok ok' : Type 0) (a b : StorageState) (A B : Cached) → (ok' → IsFaultless a b) → (WellFormed (bytes_of a.bytes) H A order → ok' → ok) → WritesBackCached H order Ready ok a A b B → WritesBackCached H order Ready ok' a A b B
 going-safely H order Ready ok ok' a b A B faultless from h = record {
   shape = h.shape;
-  later = h.later;
+  counts_not_fallen = h.counts_not_fallen;
   faults = faultless;
   ready = h.ready;
   passes = h.passes;
-  holds = λ keeps safe ready why. h.holds keeps safe ready (elim why [ inl done ↦ inl (from safe done) | inr calm ↦ inr calm ]);
+  holds = λ keeps well_formed ready why. h.holds keeps well_formed ready (elim why [ inl done ↦ inl (from well_formed done) | inr no_change_refused ↦ inr no_change_refused ]);
 }
 
 -- All entries of a cache are flushed, from the last to the first.
 module _ {V D : Type 0} (state : D → StorageState) (flushes : D → ℕ → V → Result Unit Fault → D → V → Type 0) (H : Header) (order : CacheDependency) (Ready : Cached → Type 0) (put : List (ℕ × Slot V) → Cached)
     (step : (front : List (ℕ × Slot V)) (key : ℕ) (slot : Slot V) (back : List (ℕ × Slot V)) (old new : D) (result : Result Unit Fault) (value : V) → flushes old key slot.value result new value
-    → Going H order Ready (result ≡ Ok tt) (state old) (put (front ++ (key, slot) ∷ back)) (state new) (put (front ++ (key, record slot { value = value }) ∷ back))) where
+    → WritesBackCached H order Ready (result ≡ Ok tt) (state old) (put (front ++ (key, slot) ∷ back)) (state new) (put (front ++ (key, record slot { value = value }) ∷ back))) where
   each-behind : (front es : List (ℕ × Slot V)) (before : D) (outcome : Option Fault) (after : D) (es' : List (ℕ × Slot V)) → FlushedEach flushes before es outcome after es'
-      → Going H order Ready (outcome ≡ None) (state before) (put (front ++ es)) (state after) (put (front ++ es'))
+      → WritesBackCached H order Ready (outcome ≡ None) (state before) (put (front ++ es)) (state after) (put (front ++ es'))
   each-behind front [] before outcome after es' flushed =
-      subst (λ (d : D). Going H order Ready (outcome ≡ None) (state before) (put (front ++ [])) (state d) (put (front ++ es'))) (sym flushed.1)
-      (subst (λ (l : List (ℕ × Slot V)). Going H order Ready (outcome ≡ None) (state before) (put (front ++ [])) (state before) (put (front ++ l))) (sym flushed.2)
+      subst (λ (d : D). WritesBackCached H order Ready (outcome ≡ None) (state before) (put (front ++ [])) (state d) (put (front ++ es'))) (sym flushed.1)
+      (subst (λ (l : List (ℕ × Slot V)). WritesBackCached H order Ready (outcome ≡ None) (state before) (put (front ++ [])) (state before) (put (front ++ l))) (sym flushed.2)
       (going-none H order Ready (outcome ≡ None) (state before) (put (front ++ []))))
   each-behind front (e ∷ es) before outcome after es' (mid, first, rest, earlier, result, value, flush, worst, is) =
       let one = each-behind (front ++ e ∷ []) es before first mid rest earlier in
-      let one' : Going H order Ready (first ≡ None) (state before) (put (front ++ e ∷ es)) (state mid) (put (front ++ e ∷ rest)) =
-      subst (λ (l : List (ℕ × Slot V)). Going H order Ready (first ≡ None) (state before) (put l) (state mid) (put (front ++ e ∷ rest))) (append_assoc front (e ∷ []) es)
-      (subst (λ (l : List (ℕ × Slot V)). Going H order Ready (first ≡ None) (state before) (put ((front ++ e ∷ []) ++ es)) (state mid) (put l)) (append_assoc front (e ∷ []) rest) one) in
+      let one' : WritesBackCached H order Ready (first ≡ None) (state before) (put (front ++ e ∷ es)) (state mid) (put (front ++ e ∷ rest)) =
+      subst (λ (l : List (ℕ × Slot V)). WritesBackCached H order Ready (first ≡ None) (state before) (put l) (state mid) (put (front ++ e ∷ rest))) (append_assoc front (e ∷ []) es)
+      (subst (λ (l : List (ℕ × Slot V)). WritesBackCached H order Ready (first ≡ None) (state before) (put ((front ++ e ∷ []) ++ es)) (state mid) (put l)) (append_assoc front (e ∷ []) rest) one) in
       let both = going-both H order Ready (first ≡ None) (result ≡ Ok tt) (state before) (state mid) (state after) (put (front ++ e ∷ es)) (put (front ++ e ∷ rest)) (put (front ++ with_value e value ∷ rest)) one' (step front e.0 e.1 rest mid after result value flush) in
-      subst (λ (l : List (ℕ × Slot V)). Going H order Ready (outcome ≡ None) (state before) (put (front ++ e ∷ es)) (state after) (put (front ++ l))) (sym is)
+      subst (λ (l : List (ℕ × Slot V)). WritesBackCached H order Ready (outcome ≡ None) (state before) (put (front ++ e ∷ es)) (state after) (put (front ++ l))) (sym is)
       (going-weaker H order Ready ((first ≡ None) × (result ≡ Ok tt)) (outcome ≡ None) (state before) (state after) (put (front ++ e ∷ es)) (put (front ++ with_value e value ∷ rest)) (λ none. none-later first result (sym worst ∙ none)) both)
 
   pub each-flushed : (es : List (ℕ × Slot V)) (before : D) (outcome : Option Fault) (after : D) (es' : List (ℕ × Slot V)) → FlushedEach flushes before es outcome after es'
-      → Going H order Ready (outcome ≡ None) (state before) (put es) (state after) (put es')
+      → WritesBackCached H order Ready (outcome ≡ None) (state before) (put es) (state after) (put es')
   each-flushed = each-behind []
 
 -- What is always so is so under any premise.
-pub going-under : (H : Header) (order : CacheDependency) (P : Type 0) (ok : Type 0) (a b : StorageState) (A B : Cached) → Going H order Always ok a A b B → Going H order (λ _. P) ok a A b B
+pub going-under : (H : Header) (order : CacheDependency) (P : Type 0) (ok : Type 0) (a b : StorageState) (A B : Cached) → WritesBackCached H order Always ok a A b B → WritesBackCached H order (λ _. P) ok a A b B
 going-under H order P ok a b A B h = record {
   shape = h.shape;
-  later = h.later;
+  counts_not_fallen = h.counts_not_fallen;
   faults = h.faults;
   ready = λ r. r;
-  passes = λ keeps safe r. h.passes keeps safe tt;
-  holds = λ keeps safe r. h.holds keeps safe tt;
+  passes = λ keeps well_formed r. h.passes keeps well_formed tt;
+  holds = λ keeps well_formed r. h.holds keeps well_formed tt;
 }
 
 -- What may be written at once,
-pub going-now : (H : Header) (order : CacheDependency) (Ready : Cached → Type 0) (ok : Type 0) (a b : StorageState) (A B : Cached) → Ready A → Going H order Ready ok a A b B → Going H order Always ok a A b B
+pub going-now : (H : Header) (order : CacheDependency) (Ready : Cached → Type 0) (ok : Type 0) (a b : StorageState) (A B : Cached) → Ready A → WritesBackCached H order Ready ok a A b B → WritesBackCached H order Always ok a A b B
 going-now H order Ready ok a b A B ready h = record {
   shape = h.shape;
-  later = h.later;
+  counts_not_fallen = h.counts_not_fallen;
   faults = h.faults;
   ready = λ r. tt;
-  passes = λ keeps safe r. h.passes keeps safe ready;
-  holds = λ keeps safe r. h.holds keeps safe ready;
+  passes = λ keeps well_formed r. h.passes keeps well_formed ready;
+  holds = λ keeps well_formed r. h.holds keeps well_formed ready;
 }
 
 -- or after calls that saw to it.
-pub going-ready : (H : Header) (order : CacheDependency) (Ready : Cached → Type 0) (ok ok' : Type 0) (a b c : StorageState) (A B C : Cached) → ok → Ready B → Going H order Always ok a A b B → Going H order Ready ok' b B c C → Going H order Always ok' a A c C
+pub going-ready : (H : Header) (order : CacheDependency) (Ready : Cached → Type 0) (ok ok' : Type 0) (a b c : StorageState) (A B C : Cached) → ok → Ready B → WritesBackCached H order Always ok a A b B → WritesBackCached H order Ready ok' b B c C → WritesBackCached H order Always ok' a A c C
 going-ready H order Ready ok ok' a b c A B C done ready first second =
     going-weaker H order Always (ok × ok') ok' a c A C (λ d. (done, d)) (going-both H order Always ok ok' a b c A B C first (going-now H order Ready ok' b c B C ready second))
 
 -- So it goes on where the header and the order are what they were.
 pub going-next : (Ready : CacheDependency → Cached → Type 0) (H H' : Header) (order order' : CacheDependency) (ok ok' : Type 0) (a b c : StorageState) (A B C : Cached) → H' ≡ H → order' ≡ order → ok → Ready order' B
-    → Going H order Always ok a A b B → Going H' order' (Ready order') ok' b B c C → Going H order Always ok' a A c C
+    → WritesBackCached H order Always ok a A b B → WritesBackCached H' order' (Ready order') ok' b B c C → WritesBackCached H order Always ok' a A c C
 going-next Ready H H' order order' ok ok' a b c A B C header same done ready first second =
     going-ready H order (Ready order) ok ok' a b c A B C done (subst (λ (o : CacheDependency). Ready o B) same ready) first
-    (subst (λ (h : Header). Going h order (Ready order) ok' b B c C) header (subst (λ (o : CacheDependency). Going H' o (Ready o) ok' b B c C) same second))
+    (subst (λ (h : Header). WritesBackCached h order (Ready order) ok' b B c C) header (subst (λ (o : CacheDependency). WritesBackCached H' o (Ready o) ok' b B c C) same second))
 
-pub kept-same : (s : StorageState) → Kept s s
-kept-same s = record { shape = refl; bytes = refl; refusals = refl; stop = refl; past = refl }
+pub kept-same : (s : StorageState) → UnchangedButFaults s s
+kept-same s = record { shape = refl; bytes = refl; refusals = refl; crash_image = refl; past_crash_images = refl }
 
 -- A call that makes no request, and after which what is cached is as safe.
-pub going-quiet : (H : Header) (order : CacheDependency) (Ready : Cached → Type 0) (ok : Type 0) (a b : StorageState) (A B : Cached) → Kept a b → a.faults ≤ b.faults → (ok → b.faults ≡ a.faults) → (Ready A → Ready B)
-    → (Ready A → Safe (bytes_of a.bytes) H A order → Safe (bytes_of a.bytes) H B order) → (Ready A → memory (bytes_of a.bytes) H.fields B ≡ memory (bytes_of a.bytes) H.fields A) → Going H order Ready ok a A b B
+pub going-quiet : (H : Header) (order : CacheDependency) (Ready : Cached → Type 0) (ok : Type 0) (a b : StorageState) (A B : Cached) → UnchangedButFaults a b → a.faults ≤ b.faults → (ok → b.faults ≡ a.faults) → (Ready A → Ready B)
+    → (Ready A → WellFormed (bytes_of a.bytes) H A order → WellFormed (bytes_of a.bytes) H B order) → (Ready A → memory (bytes_of a.bytes) H.fields B ≡ memory (bytes_of a.bytes) H.fields A) → WritesBackCached H order Ready ok a A b B
 going-quiet H order Ready ok a b A B kept faults same-count ready safely same = record {
   shape = kept.shape;
-  later = record { faults = faults; refusals = omega (arith, kept.refusals) };
+  counts_not_fallen = record { faults = faults; refusals = omega (arith, kept.refusals) };
   faults = λ o. (same-count o, kept.refusals);
   ready = ready;
-  passes = λ keeps safe r calm. (
-    λ was tells' keeps'. kept.stop ∙ was (back (λ s. IsTrue s.tells) tells') (back (λ s. IsTrue s.keeps) keeps') ∙ sym kept.bytes,
-    no_stops _ a b kept.stop kept.past,
+  passes = λ keeps well_formed r no_change_refused. (
+    λ was tells' keeps'. kept.crash_image ∙ was (back (λ s. IsTrue s.tells) tells') (back (λ s. IsTrue s.keeps) keeps') ∙ sym kept.bytes,
+    no_stops _ a b kept.crash_image kept.past_crash_images,
   );
-  holds = λ keeps safe r why. record {
-    safe = subst (λ (l : List ℕ). Safe (bytes_of l) H B order) (sym kept.bytes) (safely r safe);
+  holds = λ keeps well_formed r why. record {
+    well_formed = subst (λ (l : List ℕ). WellFormed (bytes_of l) H B order) (sym kept.bytes) (safely r well_formed);
     memory_same = ap (λ (l : List ℕ). memory (bytes_of l) H.fields B) kept.bytes ∙ same r;
-    left = subst (λ (l : List ℕ). IsLeft (bytes_of a.bytes) (memory (bytes_of a.bytes) H.fields A) H (bytes_of l)) (sym kept.bytes) (left-same (bytes_of a.bytes) (memory (bytes_of a.bytes) H.fields A) H safe.consistent);
+    left = subst (λ (l : List ℕ). IsCrashImage (bytes_of a.bytes) (memory (bytes_of a.bytes) H.fields A) H (bytes_of l)) (sym kept.bytes) (left-same (bytes_of a.bytes) (memory (bytes_of a.bytes) H.fields A) H well_formed.consistent);
   };
 }
   where

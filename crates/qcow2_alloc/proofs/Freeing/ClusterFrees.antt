@@ -19,60 +19,60 @@ use Rattle.qcow2_alloc.specs.declared.cache.CacheDependency.{CacheDependency}
 use Rattle.qcow2_alloc.specs.declared.cache.CacheDependency.TheVariants.{RbDependsOnL2}
 use Rattle.qcow2_alloc.specs.declared.cache.MetadataCaches.{MetadataCaches}
 use Rattle.qcow2_alloc.specs.declared.file.ImageFile.{ImageFile}
-use Rattle.qcow2_alloc.specs.Allocators.{metadata_of, named_block, Lowers, LowersCluster, UsesBlock, BlockUsed}
+use Rattle.qcow2_alloc.specs.Allocators.{metadata_of, referenced_block, DecrementsCounter, DecrementsCluster, UsesBlock, BlockUsed}
 use Rattle.qcow2_alloc.specs.Cache.{hit}
 use Rattle.qcow2_alloc.specs.Caches.{cached_in, order_of, cached_file}
 use Rattle.qcow2_alloc.specs.CachesLending.{with_blocks}
 use Rattle.qcow2_alloc.specs.Causes.{FailsFor}
 use Rattle.qcow2_alloc.specs.Changes.{CachesBlock, IsStillCovered}
 use Rattle.qcow2_alloc.specs.Finding.{BlockFound, IsPinnedFull, search_causes}
-use Rattle.qcow2_alloc.specs.Freeing.{HasSpareRoom, IsWholeOrCalm, freeing_causes}
-use Rattle.qcow2_metadata.specs.Places.{IsInReach}
+use Rattle.qcow2_alloc.specs.Freeing.{HasUnpinnedSlot, NoErrorOrNoChangeRefused, freeing_causes}
+use Rattle.qcow2_metadata.specs.Places.{IsAddressable}
 use Rattle.qcow2_alloc.specs.FreeList.{listed}
-use Rattle.qcow2_alloc.specs.Going.{WasNotCutOff, AreTablesInReach, AreBlocksInReach}
+use Rattle.qcow2_alloc.specs.Going.{HadNoResourceError, AreTablesAddressable, AreBlocksAddressable}
 use Rattle.qcow2_alloc.specs.Memory.{memory}
-use Rattle.qcow2_alloc.specs.Quiet.{Metadata, IsSound, IsQuiet, Quietly, counted, in_memory, metadata_in, one_at}
+use Rattle.qcow2_alloc.specs.GuestView.{Metadata, IsSound, GuestUnchanged, PreservesGuest, counted, in_memory, metadata_in, one_at}
 use Rattle.qcow2_alloc.proofs.Causes.{Implies, cause-weaker}
 use Rattle.qcow2_alloc.proofs.Blocks.TableBlocks.{named-block}
 use Rattle.qcow2_alloc.proofs.Memory.CounterChanges.{cached-count, counter-lowered}
-use Rattle.qcow2_alloc.proofs.Quiet.QuietCounters.{free-quiet, here-one, waiting-covered, metadata-covered}
-use Rattle.qcow2_alloc.proofs.Quiet.QuietSequences.{quietly-then}
+use Rattle.qcow2_alloc.proofs.GuestView.QuietCounters.{free-quiet, here-one, waiting-covered, metadata-covered}
+use Rattle.qcow2_alloc.proofs.GuestView.QuietSequences.{quietly-then}
 use Rattle.qcow2_alloc.proofs.Caching.EntryUses.{block-used}
 use Rattle.qcow2_alloc.proofs.Caching.Places.{slot-of}
 use Rattle.qcow2_alloc.proofs.Memory.SafeLaws.{safe-reach}
 use Rattle.qcow2_alloc.proofs.Caching.SearchOutcomes.{all-at}
 use Rattle.qcow2_alloc.proofs.Memory.Patches.{shaped-in}
-use Rattle.qcow2_alloc.specs.Safety.{IsCachedBlock}
+use Rattle.qcow2_alloc.specs.WellFormedness.{IsCachedBlock}
 use Rattle.qcow2_types.proofs.Counting.Counters.{some-counters}
 use Rattle.qcow2_alloc.proofs.Blocks.ClusterBlocks.{counted-block}
 use Rattle.qcow2_alloc.proofs.Caching.UnpinnedCaches.{KeepsPins, named-keeps}
 use Rattle.qcow2_alloc.proofs.Caching.Pins.{full-pinned}
-use Rattle.qcow2_alloc.proofs.Quiet.QuietFlushes.{quiet-none, used-quiet, flushes-quietly, quietly-weaker, memory-quietly}
+use Rattle.qcow2_alloc.proofs.GuestView.QuietFlushes.{quiet-none, used-quiet, flushes-quietly, quietly-weaker, memory-quietly}
 
 -- The block that the refcount table in memory names stands where the file's does.
-pub named-there : (m : Metadata) (i key : ℕ) → IsSound m → named_block m.table i ≡ Some key → (block_at m.file m.header.fields i ≡ key * cluster_size m.header.fields) × (key ≢ 0)
-named-there m i key sound is = let named = named-block m.file m.header m.table i sound.table key sound.safe.consistent is in (named.place, named.some)
+pub named-there : (m : Metadata) (i key : ℕ) → IsSound m → referenced_block m.table i ≡ Some key → (block_at m.file m.header.fields i ≡ key * cluster_size m.header.fields) × (key ≢ 0)
+named-there m i key sound is = let named = named-block m.file m.header m.table i sound.table key sound.well_formed.consistent is in (named.place, named.some)
 
 module _ {S : Type 0} (state : S → StorageState) (table : TableValue) where
   abbrev At : MetadataCaches S → ImageFile S → List FreeEntry → Metadata
   At caches file pending = metadata_of state file caches table pending
 
-  abbrev still : ℕ → ℕ
-  still c = 0
+  abbrev has_no_dirty_data : ℕ → ℕ
+  has_no_dirty_data c = 0
 
   -- A search of a block is quiet.
   pub search-calmly : (key : ℕ) (pending : List FreeEntry) (old : MetadataCaches S) (before : ImageFile S) (answer : Result Unit Fault) (mid : MetadataCaches S) (after : ImageFile S) → BlockFound state key old before answer mid after
-      → Quietly (IsWholeOrCalm answer (state before.image) (state after.image)) still still (state before.image) (At old before pending) (state after.image) (At mid after pending)
+      → PreservesGuest (NoErrorOrNoChangeRefused answer (state before.image) (state after.image)) has_no_dirty_data has_no_dirty_data (state before.image) (At old before pending) (state after.image) (At mid after pending)
   search-calmly key pending old before answer mid after found =
       let m = At old before pending in
-      let quiet = flushes-quietly m (WasNotCutOff answer) (state before.image) (state after.image) (cached_in mid) refl found.going in
-      subst (λ (h : Header). Quietly (IsWholeOrCalm answer (state before.image) (state after.image)) still still (state before.image) m (state after.image) (record m { file = bytes_of (state after.image).bytes; cached = cached_in mid; header = h; order = order_of mid })) (sym found.others.1)
-      (subst (λ (o : CacheDependency). Quietly (IsWholeOrCalm answer (state before.image) (state after.image)) still still (state before.image) m (state after.image) (record m { file = bytes_of (state after.image).bytes; cached = cached_in mid; order = o })) (sym found.others.0) quiet)
+      let guest_unchanged = flushes-quietly m (HadNoResourceError answer) (state before.image) (state after.image) (cached_in mid) refl found.writes_back_cached in
+      subst (λ (h : Header). PreservesGuest (NoErrorOrNoChangeRefused answer (state before.image) (state after.image)) has_no_dirty_data has_no_dirty_data (state before.image) m (state after.image) (record m { file = bytes_of (state after.image).bytes; cached = cached_in mid; header = h; order = order_of mid })) (sym found.others.1)
+      (subst (λ (o : CacheDependency). PreservesGuest (NoErrorOrNoChangeRefused answer (state before.image) (state after.image)) has_no_dirty_data has_no_dirty_data (state before.image) m (state after.image) (record m { file = bytes_of (state after.image).bytes; cached = cached_in mid; order = o })) (sym found.others.0) guest_unchanged)
 
   pub search-quietly : (key : ℕ) (pending : List FreeEntry) (old : MetadataCaches S) (before : ImageFile S) (answer : Result Unit Fault) (mid : MetadataCaches S) (after : ImageFile S) → BlockFound state key old before answer mid after
-      → Quietly (WasNotCutOff answer) still still (state before.image) (At old before pending) (state after.image) (At mid after pending)
+      → PreservesGuest (HadNoResourceError answer) has_no_dirty_data has_no_dirty_data (state before.image) (At old before pending) (state after.image) (At mid after pending)
   search-quietly key pending old before answer mid after found =
-      quietly-weaker _ (WasNotCutOff answer) still still (state before.image) (At old before pending) (state after.image) (At mid after pending) (λ sound whole. inl whole) (search-calmly key pending old before answer mid after found)
+      quietly-weaker _ (HadNoResourceError answer) has_no_dirty_data has_no_dirty_data (state before.image) (At old before pending) (state after.image) (At mid after pending) (λ sound whole. inl whole) (search-calmly key pending old before answer mid after found)
 
   module _ (c : ℕ) (pending pending' : List FreeEntry) where
     -- what waits once the answer is known
@@ -86,7 +86,7 @@ module _ {S : Type 0} (state : S → StorageState) (table : TableValue) where
       pub metadata : (d : ℕ) → listed (metadata_in pending') d ≤ listed (metadata_in pending) d
       pub may : (order_of old ≡ RbDependsOnL2) ⊎ (0 < listed (metadata_in pending) c)
 
-    module _ (key : ℕ) (mid : MetadataCaches S) (after : ImageFile S) (loses : LosesOne mid) (named : named_block table (c / counters_of_block after.header.fields) ≡ Some key)
+    module _ (key : ℕ) (mid : MetadataCaches S) (after : ImageFile S) (loses : LosesOne mid) (named : referenced_block table (c / counters_of_block after.header.fields) ≡ Some key)
         (block : Block) (there : option_map (λ (s : Slot Block). s.value) (lookup (nat_eq key) (cached_in mid).blocks) ≡ Some block) where
       abbrev Was : Metadata
       Was = At mid after pending
@@ -95,17 +95,17 @@ module _ {S : Type 0} (state : S → StorageState) (table : TableValue) where
       index = c % counters_of_block after.header.fields
 
       caches-it : IsSound Was → CachesBlock Was.file Was.header.fields Was.cached key c block
-      caches-it sound = let place = named-there Was (c / counters_of_block after.header.fields) key sound named in record { there = there; counts = place.0; some = place.1 }
+      caches-it sound = let place = named-there Was (c / counters_of_block after.header.fields) key sound named in record { block_cached = there; counts = place.0; cluster_nonzero = place.1 }
 
       -- what the counter is
       pub counter-is : IsSound Was → counted Was c ≡ slice_index block.counters index
-      counter-is sound = cached-count Was.file Was.header Was.cached Was.order key c block sound.safe (caches-it sound)
+      counter-is sound = cached-count Was.file Was.header Was.cached Was.order key c block sound.well_formed (caches-it sound)
 
       abbrev Result' : Result Unit Fault → Block → Type 0
-      Result' result block' = IsSound (At (with_blocks mid (hit (nat_eq key) (cached_in mid).blocks block')) after (left result)) × IsQuiet still still Was (At (with_blocks mid (hit (nat_eq key) (cached_in mid).blocks block')) after (left result))
+      Result' result block' = IsSound (At (with_blocks mid (hit (nat_eq key) (cached_in mid).blocks block')) after (left result)) × GuestUnchanged has_no_dirty_data has_no_dirty_data Was (At (with_blocks mid (hit (nat_eq key) (cached_in mid).blocks block')) after (left result))
 
       refused : (fault : Fault) → IsSound Was → Result' (Err fault) block
-      refused fault sound = used-quiet Was (record (cached_in mid) { blocks = hit (nat_eq key) (cached_in mid).blocks block }) sound (block-used Was.file Was.header Was.cached Was.order key sound.safe block there)
+      refused fault sound = used-quiet Was (record (cached_in mid) { blocks = hit (nat_eq key) (cached_in mid).blocks block }) sound (block-used Was.file Was.header Was.cached Was.order key sound.well_formed block there)
 
       lowered : IsSound Was → 0 < slice_index block.counters index → Result' (Ok tt) (with_counter block index (slice_index block.counters index - 1))
       lowered sound some =
@@ -114,13 +114,13 @@ module _ {S : Type 0} (state : S → StorageState) (table : TableValue) where
           (record { block = block; caches = caches-it sound; blocks = refl; tables = refl }) (is ∙ omega (arith, some)) loses.one loses.metadata
 
       -- Once it is found it is lowered, or that is refused.
-      pub lower-quietly : (ok : Type 0) (result : Result Unit Fault) (block' : Block) → Lowers index block result block'
-          → Quietly ok still still (state after.image) Was (state after.image) (At (with_blocks mid (hit (nat_eq key) (cached_in mid).blocks block')) after (left result))
-      lower-quietly ok result block' lowers = memory-quietly ok still still (state after.image) Was _ (λ sound whole. elim (cases_lt index (length block.counters)) [
+      pub lower-quietly : (ok : Type 0) (result : Result Unit Fault) (block' : Block) → DecrementsCounter index block result block'
+          → PreservesGuest ok has_no_dirty_data has_no_dirty_data (state after.image) Was (state after.image) (At (with_blocks mid (hit (nat_eq key) (cached_in mid).blocks block')) after (left result))
+      lower-quietly ok result block' lowers = memory-quietly ok has_no_dirty_data has_no_dirty_data (state after.image) Was _ (λ sound whole. elim (cases_lt index (length block.counters)) [
         | inr past ↦ let out = lowers.out past in so (Err DamagedTable) block out.0 out.1 (refused DamagedTable sound)
         | inl inside ↦ elim (cases_eq (slice_index block.counters index) 0) [
           | inl none ↦ let out = lowers.none inside none in so (Err Counter) block out.0 out.1 (refused Counter sound)
-          | inr some ↦ let done = lowers.some inside (omega (arith, some)) in so (Ok tt) (with_counter block index (slice_index block.counters index - 1)) done.0 done.1 (lowered sound (omega (arith, some)))
+          | inr some ↦ let done = lowers.if_counted inside (omega (arith, some)) in so (Ok tt) (with_counter block index (slice_index block.counters index - 1)) done.0 done.1 (lowered sound (omega (arith, some)))
         ]
       ])
         where
@@ -134,16 +134,16 @@ module _ {S : Type 0} (state : S → StorageState) (table : TableValue) where
           elim loses.may [ inl order ↦ waiting-covered Was c n sound order (omega (arith, own, one)) more | inr some ↦ metadata-covered Was c n sound some ]
 
       -- Other clusters are counted as they were.
-      pub others-counted : IsSound Was → (result : Result Unit Fault) (block' : Block) → Lowers index block result block' → (d : ℕ) → d ≢ c → counted (At (with_blocks mid (hit (nat_eq key) (cached_in mid).blocks block')) after (left result)) d ≡ counted Was d
+      pub others-counted : IsSound Was → (result : Result Unit Fault) (block' : Block) → DecrementsCounter index block result block' → (d : ℕ) → d ≢ c → counted (At (with_blocks mid (hit (nat_eq key) (cached_in mid).blocks block')) after (left result)) d ≡ counted Was d
       others-counted sound result block' lowers d away = elim (cases_lt index (length block.counters)) [
         | inr past ↦ same-counted (lowers.out past).1
         | inl inside ↦ elim (cases_eq (slice_index block.counters index) 0) [
           | inl none ↦ same-counted (lowers.none inside none).1
           | inr some ↦
               let n = slice_index block.counters index - 1 in
-              let done = lowers.some inside (omega (arith, some)) in
+              let done = lowers.if_counted inside (omega (arith, some)) in
               let more : counted Was c ≡ n + 1 = counter-is sound ∙ omega (arith, some) in
-              let changed = counter-lowered Was.file Was.header Was.cached (record (cached_in mid) { blocks = hit (nat_eq key) (cached_in mid).blocks (with_counter block index n) }) Was.order key c n sound.safe
+              let changed = counter-lowered Was.file Was.header Was.cached (record (cached_in mid) { blocks = hit (nat_eq key) (cached_in mid).blocks (with_counter block index n) }) Was.order key c n sound.well_formed
               (record { block = block; caches = caches-it sound; blocks = refl; tables = refl }) more (covers sound n more) in
               subst (λ (b : Block). count (memory Was.file Was.header.fields (record (cached_in mid) { blocks = hit (nat_eq key) (cached_in mid).blocks b })) Was.header.fields d ≡ counted Was d) (sym done.1) (changed.written.others d away)
         ]
@@ -151,7 +151,7 @@ module _ {S : Type 0} (state : S → StorageState) (table : TableValue) where
         where
           same-counted : block' ≡ block → counted (At (with_blocks mid (hit (nat_eq key) (cached_in mid).blocks block')) after (left result)) d ≡ counted Was d
           same-counted same = subst (λ (b : Block). count (memory Was.file Was.header.fields (record (cached_in mid) { blocks = hit (nat_eq key) (cached_in mid).blocks b })) Was.header.fields d ≡ counted Was d) (sym same)
-              (ap (λ g. count g Was.header.fields d) (block-used Was.file Was.header Was.cached Was.order key sound.safe block there).memory_same)
+              (ap (λ g. count g Was.header.fields d) (block-used Was.file Was.header Was.cached Was.order key sound.well_formed block there).memory_same)
 
       -- In a sound image there is the counter, and it isn't 0.
       pub counter-there : IsSound Was → (0 < listed pending c) → (index < length block.counters) × (0 < slice_index block.counters index)
@@ -159,9 +159,9 @@ module _ {S : Type 0} (state : S → StorageState) (table : TableValue) where
           let was = sound.covered c in
           let is = counter-is sound in
           let found = slot-of (lookup (nat_eq key) (cached_in mid).blocks) block there in
-          let fits : IsCachedBlock Was.file Was.header.fields key found.0.value = all-at (λ (e : ℕ × Slot Block). IsCachedBlock Was.file Was.header.fields e.0 e.1.value) key (cached_in mid).blocks found.0 found.1 sound.safe.blocks in
+          let fits : IsCachedBlock Was.file Was.header.fields key found.0.value = all-at (λ (e : ℕ × Slot Block). IsCachedBlock Was.file Was.header.fields e.0 e.1.value) key (cached_in mid).blocks found.0 found.1 sound.well_formed.blocks in
           let long : length block.counters ≡ counters_of_block Was.header.fields = ap (λ (b : Block). length b.counters) (sym found.2) ∙ fits.long in
-          (rw long (mod_below c (counters_of_block Was.header.fields) (some-counters Was.header.fields (shaped-in Was.file Was.header sound.safe.consistent))), omega (arith, was, is, waits))
+          (rw long (mod_below c (counters_of_block Was.header.fields) (some-counters Was.header.fields (shaped-in Was.file Was.header sound.well_formed.consistent))), omega (arith, was, is, waits))
 
     -- It is found and lowered, or that is refused.
     module _ (old : MetadataCaches S) (before : ImageFile S) (result : Result Unit Fault) (new : MetadataCaches S) (after : ImageFile S) (loses : LosesOne old) where
@@ -172,45 +172,45 @@ module _ {S : Type 0} (state : S → StorageState) (table : TableValue) where
       New = At new after (left result)
 
       abbrev Done : Type 0
-      Done = IsWholeOrCalm result (state before.image) (state after.image)
+      Done = NoErrorOrNoChangeRefused result (state before.image) (state after.image)
 
       loses-still : (mid : MetadataCaches S) → mid.order ≡ old.order → LosesOne mid
       loses-still mid same = record { one = loses.one; metadata = loses.metadata; may = elim loses.may [ inl order ↦ inl (same ∙ order) | inr some ↦ inr some ] }
 
-      named-still : (key : ℕ) → named_block table (c / counters_of_block before.header.fields) ≡ Some key → after.header ≡ before.header → named_block table (c / counters_of_block after.header.fields) ≡ Some key
-      named-still key named same = subst (λ (h : Header). named_block table (c / counters_of_block h.fields) ≡ Some key) (sym same) named
+      named-still : (key : ℕ) → referenced_block table (c / counters_of_block before.header.fields) ≡ Some key → after.header ≡ before.header → referenced_block table (c / counters_of_block after.header.fields) ≡ Some key
+      named-still key named same = subst (λ (h : Header). referenced_block table (c / counters_of_block h.fields) ≡ Some key) (sym same) named
 
-      used-quietly : (key : ℕ) → named_block table (c / counters_of_block before.header.fields) ≡ Some key → BlockUsed state key (Lowers (c % counters_of_block before.header.fields)) (cached_file old before) result (cached_file new after)
-          → Quietly Done still still (state before.image) Old (state after.image) New
+      used-quietly : (key : ℕ) → referenced_block table (c / counters_of_block before.header.fields) ≡ Some key → BlockUsed state key (DecrementsCounter (c % counters_of_block before.header.fields)) (cached_file old before) result (cached_file new after)
+          → PreservesGuest Done has_no_dirty_data has_no_dirty_data (state before.image) Old (state after.image) New
       used-quietly key named u =
           let header = u.found.others.1 in
-          let lowers : Lowers (c % counters_of_block after.header.fields) u.value result u.value' = subst (λ (h : Header). Lowers (c % counters_of_block h.fields) u.value result u.value') (sym header) u.used in
-          subst (λ (m : MetadataCaches S). Quietly Done still still (state before.image) Old (state after.image) (At m after (left result))) (sym u.left)
-          (quietly-then ⊤ Done still still still still (state before.image) Old (state after.image) (At u.mid after pending) (state after.image) _ tt (λ sound d some. refl)
+          let lowers : DecrementsCounter (c % counters_of_block after.header.fields) u.value result u.value' = subst (λ (h : Header). DecrementsCounter (c % counters_of_block h.fields) u.value result u.value') (sym header) u.used in
+          subst (λ (m : MetadataCaches S). PreservesGuest Done has_no_dirty_data has_no_dirty_data (state before.image) Old (state after.image) (At m after (left result))) (sym u.left)
+          (quietly-then ⊤ Done has_no_dirty_data has_no_dirty_data has_no_dirty_data has_no_dirty_data (state before.image) Old (state after.image) (At u.mid after pending) (state after.image) _ tt (λ sound d some. refl)
           (search-quietly key pending old before (Ok tt) u.mid after u.found)
-          (lower-quietly key u.mid after (loses-still u.mid u.found.others.0) (named-still key named header) u.value u.there Done result u.value' lowers))
+          (lower-quietly key u.mid after (loses-still u.mid u.found.others.0) (named-still key named header) u.value u.value_cached Done result u.value' lowers))
 
-      uses-quietly : (key : ℕ) → named_block table (c / counters_of_block before.header.fields) ≡ Some key → UsesBlock state key (Lowers (c % counters_of_block before.header.fields)) (cached_file old before) result (cached_file new after)
-          → Quietly Done still still (state before.image) Old (state after.image) New
+      uses-quietly : (key : ℕ) → referenced_block table (c / counters_of_block before.header.fields) ≡ Some key → UsesBlock state key (DecrementsCounter (c % counters_of_block before.header.fields)) (cached_file old before) result (cached_file new after)
+          → PreservesGuest Done has_no_dirty_data has_no_dirty_data (state before.image) Old (state after.image) New
       uses-quietly key named (inl (fault, is, found)) =
-          subst (λ (q : Result Unit Fault). Quietly (IsWholeOrCalm q (state before.image) (state after.image)) still still (state before.image) Old (state after.image) (At new after (left q))) (sym is) (search-calmly key pending old before (Err fault) new after found)
+          subst (λ (q : Result Unit Fault). PreservesGuest (NoErrorOrNoChangeRefused q (state before.image) (state after.image)) has_no_dirty_data has_no_dirty_data (state before.image) Old (state after.image) (At new after (left q))) (sym is) (search-calmly key pending old before (Err fault) new after found)
       uses-quietly key named (inr u) = used-quietly key named u
 
       abbrev Nothing : Type 0
       Nothing = (result ≡ Err DamagedTable) × (new ≡ old) × (after ≡ before)
 
-      stays-quietly : Nothing → Quietly Done still still (state before.image) Old (state after.image) New
+      stays-quietly : Nothing → PreservesGuest Done has_no_dirty_data has_no_dirty_data (state before.image) Old (state after.image) New
       stays-quietly (is, same, same') =
-          subst (λ (q : Result Unit Fault). Quietly Done still still (state before.image) Old (state after.image) (At new after (left q))) (sym is)
-          (subst (λ (m : MetadataCaches S). Quietly Done still still (state before.image) Old (state after.image) (At m after pending)) (sym same)
-          (subst (λ (f : ImageFile S). Quietly Done still still (state before.image) Old (state f.image) (At old f pending)) (sym same')
-          (memory-quietly Done still still (state before.image) Old Old (λ sound whole. (sound, quiet-none Old sound)))))
+          subst (λ (q : Result Unit Fault). PreservesGuest Done has_no_dirty_data has_no_dirty_data (state before.image) Old (state after.image) (At new after (left q))) (sym is)
+          (subst (λ (m : MetadataCaches S). PreservesGuest Done has_no_dirty_data has_no_dirty_data (state before.image) Old (state after.image) (At m after pending)) (sym same)
+          (subst (λ (f : ImageFile S). PreservesGuest Done has_no_dirty_data has_no_dirty_data (state before.image) Old (state f.image) (At old f pending)) (sym same')
+          (memory-quietly Done has_no_dirty_data has_no_dirty_data (state before.image) Old Old (λ sound whole. (sound, quiet-none Old sound)))))
 
-      pub cluster-freed : LowersCluster state table c (cached_file old before) result (cached_file new after) → Quietly Done still still (state before.image) Old (state after.image) New
-      cluster-freed = by-name (named_block table (c / counters_of_block before.header.fields)) refl
+      pub cluster-freed : DecrementsCluster state table c (cached_file old before) result (cached_file new after) → PreservesGuest Done has_no_dirty_data has_no_dirty_data (state before.image) Old (state after.image) New
+      cluster-freed = by-name (referenced_block table (c / counters_of_block before.header.fields)) refl
         where
-          by-name : (o : Option ℕ) → named_block table (c / counters_of_block before.header.fields) ≡ o → MatchOption o Nothing (λ key. UsesBlock state key (Lowers (c % counters_of_block before.header.fields)) (cached_file old before) result (cached_file new after))
-              → Quietly Done still still (state before.image) Old (state after.image) New
+          by-name : (o : Option ℕ) → referenced_block table (c / counters_of_block before.header.fields) ≡ o → MatchOption o Nothing (λ key. UsesBlock state key (DecrementsCounter (c % counters_of_block before.header.fields)) (cached_file old before) result (cached_file new after))
+              → PreservesGuest Done has_no_dirty_data has_no_dirty_data (state before.image) Old (state after.image) New
           by-name None named nothing = stays-quietly nothing
           by-name (Some key) named uses = uses-quietly key named uses
 
@@ -219,11 +219,11 @@ module _ {S : Type 0} (state : S → StorageState) (table : TableValue) where
 
       -- Why it is refused, where the cluster waits.
       abbrev Counts : Result Unit Fault → Type 0
-      Counts q = FailsFor (freeing_causes Holds (HasSpareRoom old) (state before.image).faults (state after.image).faults) q
+      Counts q = FailsFor (freeing_causes Holds (HasUnpinnedSlot old) (state before.image).faults (state after.image).faults) q
 
-      search-frees : (key : ℕ) → named_block table (c / counters_of_block before.header.fields) ≡ Some key → 0 < listed pending c
-          → Implies (search_causes (IsInReach before.header.fields.cluster_bits key × AreBlocksInReach (cached_in old) × AreTablesInReach (cached_in old)) (IsPinnedFull old.rb.slots.cap (cached_in old).blocks) (state before.image).faults (state after.image).faults)
-          (freeing_causes Holds (HasSpareRoom old) (state before.image).faults (state after.image).faults)
+      search-frees : (key : ℕ) → referenced_block table (c / counters_of_block before.header.fields) ≡ Some key → 0 < listed pending c
+          → Implies (search_causes (IsAddressable before.header.fields.cluster_bits key × AreBlocksAddressable (cached_in old) × AreTablesAddressable (cached_in old)) (IsPinnedFull old.rb.slots.cap (cached_in old).blocks) (state before.image).faults (state after.image).faults)
+          (freeing_causes Holds (HasUnpinnedSlot old) (state before.image).faults (state after.image).faults)
       search-frees key named waits = record {
         before = omega arith;
         after = omega arith;
@@ -231,35 +231,35 @@ module _ {S : Type 0} (state : S → StorageState) (table : TableValue) where
             let was = holds.1.covered c in
             let there = counted-block Old holds.1 c (omega (arith, was, waits)) in
             let same : there.key ≡ key = (let e = sym there.names ∙ named in cc) in
-            let reach = safe-reach Old.file Old.header Old.cached Old.order holds.1.safe in
-            wrong (subst (λ n. IsInReach before.header.fields.cluster_bits n) same there.reach, reach.1, reach.0);
+            let reach = safe-reach Old.file Old.header Old.cached Old.order holds.1.well_formed in
+            wrong (subst (λ n. IsAddressable before.header.fields.cluster_bits n) same there.reach, reach.1, reach.0);
         counter = absurd;
         full = λ all spare. let full = full-pinned (cached_in old).blocks all in omega (arith, full, spare);
         limit = λ number. absurd;
       }
 
-      used-caused : (key : ℕ) → named_block table (c / counters_of_block before.header.fields) ≡ Some key → BlockUsed state key (Lowers (c % counters_of_block before.header.fields)) (cached_file old before) result (cached_file new after) → 0 < listed pending c → Counts result
+      used-caused : (key : ℕ) → referenced_block table (c / counters_of_block before.header.fields) ≡ Some key → BlockUsed state key (DecrementsCounter (c % counters_of_block before.header.fields)) (cached_file old before) result (cached_file new after) → 0 < listed pending c → Counts result
       used-caused key named u waits =
           let header = u.found.others.1 in
-          let lowers : Lowers (c % counters_of_block after.header.fields) u.value result u.value' = subst (λ (h : Header). Lowers (c % counters_of_block h.fields) u.value result u.value') (sym header) u.used in
+          let lowers : DecrementsCounter (c % counters_of_block after.header.fields) u.value result u.value' = subst (λ (h : Header). DecrementsCounter (c % counters_of_block h.fields) u.value result u.value') (sym header) u.used in
           let there : Holds → (c % counters_of_block after.header.fields < length u.value.counters) × (0 < slice_index u.value.counters (c % counters_of_block after.header.fields)) = λ holds.
-          counter-there key u.mid after (loses-still u.mid u.found.others.0) (named-still key named header) u.value u.there ((search-quietly key pending old before (Ok tt) u.mid after u.found).holds holds.0 holds.1 tt).0 waits in
+          counter-there key u.mid after (loses-still u.mid u.found.others.0) (named-still key named header) u.value u.value_cached ((search-quietly key pending old before (Ok tt) u.mid after u.found).holds holds.0 holds.1 tt).0 waits in
           elim (cases_lt (c % counters_of_block after.header.fields) (length u.value.counters)) [
             | inr past ↦ subst (λ (q : Result Unit Fault). Counts q) (sym (lowers.out past).0) (λ holds. let inside = (there holds).0 in omega (arith, past, inside))
             | inl inside ↦ elim (cases_eq (slice_index u.value.counters (c % counters_of_block after.header.fields)) 0) [
               | inl none ↦ subst (λ (q : Result Unit Fault). Counts q) (sym (lowers.none inside none).0) (λ holds. let some = (there holds).1 in omega (arith, none, some))
-              | inr some ↦ subst (λ (q : Result Unit Fault). Counts q) (sym (lowers.some inside (omega (arith, some))).0) u.found.cause
+              | inr some ↦ subst (λ (q : Result Unit Fault). Counts q) (sym (lowers.if_counted inside (omega (arith, some))).0) u.found.cause
             ]
           ]
 
-      pub freeing-caused : LowersCluster state table c (cached_file old before) result (cached_file new after) → 0 < listed pending c → Counts result
-      freeing-caused = by-name (named_block table (c / counters_of_block before.header.fields)) refl
+      pub freeing-caused : DecrementsCluster state table c (cached_file old before) result (cached_file new after) → 0 < listed pending c → Counts result
+      freeing-caused = by-name (referenced_block table (c / counters_of_block before.header.fields)) refl
         where
-          by-uses : (key : ℕ) → named_block table (c / counters_of_block before.header.fields) ≡ Some key → UsesBlock state key (Lowers (c % counters_of_block before.header.fields)) (cached_file old before) result (cached_file new after) → 0 < listed pending c → Counts result
+          by-uses : (key : ℕ) → referenced_block table (c / counters_of_block before.header.fields) ≡ Some key → UsesBlock state key (DecrementsCounter (c % counters_of_block before.header.fields)) (cached_file old before) result (cached_file new after) → 0 < listed pending c → Counts result
           by-uses key named (inl (fault, is, found)) waits = subst (λ (q : Result Unit Fault). Counts q) (sym is) (cause-weaker (search-frees key named waits) fault found.cause)
           by-uses key named (inr u) waits = used-caused key named u waits
 
-          by-name : (o : Option ℕ) → named_block table (c / counters_of_block before.header.fields) ≡ o → MatchOption o Nothing (λ key. UsesBlock state key (Lowers (c % counters_of_block before.header.fields)) (cached_file old before) result (cached_file new after)) → 0 < listed pending c → Counts result
+          by-name : (o : Option ℕ) → referenced_block table (c / counters_of_block before.header.fields) ≡ o → MatchOption o Nothing (λ key. UsesBlock state key (DecrementsCounter (c % counters_of_block before.header.fields)) (cached_file old before) result (cached_file new after)) → 0 < listed pending c → Counts result
           by-name None named nothing waits = subst (λ (q : Result Unit Fault). Counts q) (sym nothing.0) (λ holds.
               let was = holds.1.covered c in
               let there = counted-block Old holds.1 c (omega (arith, was, waits)) in
@@ -267,31 +267,31 @@ module _ {S : Type 0} (state : S → StorageState) (table : TableValue) where
           by-name (Some key) named uses waits = by-uses key named uses waits
 
       -- Other clusters are counted as they were.
-      pub counts-stay : LowersCluster state table c (cached_file old before) result (cached_file new after) → Holds → Done → (d : ℕ) → d ≢ c → counted New d ≡ counted Old d
-      counts-stay = by-name (named_block table (c / counters_of_block before.header.fields)) refl
+      pub counts-stay : DecrementsCluster state table c (cached_file old before) result (cached_file new after) → Holds → Done → (d : ℕ) → d ≢ c → counted New d ≡ counted Old d
+      counts-stay = by-name (referenced_block table (c / counters_of_block before.header.fields)) refl
         where
-          in-mid : (key : ℕ) (answer : Result Unit Fault) (mid : MetadataCaches S) → BlockFound state key old before answer mid after → Holds → IsWholeOrCalm answer (state before.image) (state after.image) → (d : ℕ) → counted (At mid after pending) d ≡ counted Old d
+          in-mid : (key : ℕ) (answer : Result Unit Fault) (mid : MetadataCaches S) → BlockFound state key old before answer mid after → Holds → NoErrorOrNoChangeRefused answer (state before.image) (state after.image) → (d : ℕ) → counted (At mid after pending) d ≡ counted Old d
           in-mid key answer mid found holds why d =
-              let settled = found.going.holds holds.0 holds.1.safe tt why in
+              let settled = found.writes_back_cached.holds holds.0 holds.1.well_formed tt why in
               subst (λ (h : Header). count (memory (bytes_of (state after.image).bytes) h.fields (cached_in mid)) h.fields d ≡ counted Old d) (sym found.others.1) (ap (λ g. count g before.header.fields d) settled.memory_same)
 
-          by-used : (key : ℕ) → named_block table (c / counters_of_block before.header.fields) ≡ Some key → BlockUsed state key (Lowers (c % counters_of_block before.header.fields)) (cached_file old before) result (cached_file new after) → Holds → (d : ℕ) → d ≢ c → counted New d ≡ counted Old d
+          by-used : (key : ℕ) → referenced_block table (c / counters_of_block before.header.fields) ≡ Some key → BlockUsed state key (DecrementsCounter (c % counters_of_block before.header.fields)) (cached_file old before) result (cached_file new after) → Holds → (d : ℕ) → d ≢ c → counted New d ≡ counted Old d
           by-used key named u holds d away =
               let header = u.found.others.1 in
-              let lowers : Lowers (c % counters_of_block after.header.fields) u.value result u.value' = subst (λ (h : Header). Lowers (c % counters_of_block h.fields) u.value result u.value') (sym header) u.used in
+              let lowers : DecrementsCounter (c % counters_of_block after.header.fields) u.value result u.value' = subst (λ (h : Header). DecrementsCounter (c % counters_of_block h.fields) u.value result u.value') (sym header) u.used in
               subst (λ (m : MetadataCaches S). counted (At m after (left result)) d ≡ counted Old d) (sym u.left)
-              (others-counted key u.mid after (loses-still u.mid u.found.others.0) (named-still key named header) u.value u.there ((search-quietly key pending old before (Ok tt) u.mid after u.found).holds holds.0 holds.1 tt).0 result u.value' lowers d away
+              (others-counted key u.mid after (loses-still u.mid u.found.others.0) (named-still key named header) u.value u.value_cached ((search-quietly key pending old before (Ok tt) u.mid after u.found).holds holds.0 holds.1 tt).0 result u.value' lowers d away
               ∙ in-mid key (Ok tt) u.mid u.found holds (inl tt) d)
 
-          by-uses : (key : ℕ) → named_block table (c / counters_of_block before.header.fields) ≡ Some key → UsesBlock state key (Lowers (c % counters_of_block before.header.fields)) (cached_file old before) result (cached_file new after) → Holds → Done → (d : ℕ) → d ≢ c → counted New d ≡ counted Old d
-          by-uses key named (inl (fault, is, found)) holds why d away = in-mid key (Err fault) new found holds (subst (λ (q : Result Unit Fault). IsWholeOrCalm q (state before.image) (state after.image)) is why) d
+          by-uses : (key : ℕ) → referenced_block table (c / counters_of_block before.header.fields) ≡ Some key → UsesBlock state key (DecrementsCounter (c % counters_of_block before.header.fields)) (cached_file old before) result (cached_file new after) → Holds → Done → (d : ℕ) → d ≢ c → counted New d ≡ counted Old d
+          by-uses key named (inl (fault, is, found)) holds why d away = in-mid key (Err fault) new found holds (subst (λ (q : Result Unit Fault). NoErrorOrNoChangeRefused q (state before.image) (state after.image)) is why) d
           by-uses key named (inr u) holds why d away = by-used key named u holds d away
 
-          by-name : (o : Option ℕ) → named_block table (c / counters_of_block before.header.fields) ≡ o → MatchOption o Nothing (λ key. UsesBlock state key (Lowers (c % counters_of_block before.header.fields)) (cached_file old before) result (cached_file new after))
+          by-name : (o : Option ℕ) → referenced_block table (c / counters_of_block before.header.fields) ≡ o → MatchOption o Nothing (λ key. UsesBlock state key (DecrementsCounter (c % counters_of_block before.header.fields)) (cached_file old before) result (cached_file new after))
               → Holds → Done → (d : ℕ) → d ≢ c → counted New d ≡ counted Old d
           by-name None named (is, same, same') holds why d away =
               subst (λ (m : MetadataCaches S). counted (At m after (left result)) d ≡ counted Old d) (sym same) (subst (λ (f : ImageFile S). counted (At old f (left result)) d ≡ counted Old d) (sym same') refl)
           by-name (Some key) named uses holds why d away = by-uses key named uses holds why d away
 
-      pub freeing-stays : LowersCluster state table c (cached_file old before) result (cached_file new after) → KeepsPins old before new after
-      freeing-stays = named-keeps state (named_block table (c / counters_of_block before.header.fields)) (Lowers (c % counters_of_block before.header.fields)) (result ≡ Err DamagedTable) old before result new after
+      pub freeing-stays : DecrementsCluster state table c (cached_file old before) result (cached_file new after) → KeepsPins old before new after
+      freeing-stays = named-keeps state (referenced_block table (c / counters_of_block before.header.fields)) (DecrementsCounter (c % counters_of_block before.header.fields)) (result ≡ Err DamagedTable) old before result new after

@@ -17,13 +17,13 @@ use Rattle.qcow2_metadata.specs.Tables.{TableValue}
 use Rattle.qcow2_alloc.specs.declared.cache.CacheDependency.{CacheDependency}
 use Rattle.qcow2_alloc.specs.declared.cache.MetadataCaches.{MetadataCaches}
 use Rattle.qcow2_alloc.specs.declared.file.ImageFile.{ImageFile}
-use Rattle.qcow2_alloc.specs.Allocators.{metadata_of, LowersCluster, named_block, Lowers}
+use Rattle.qcow2_alloc.specs.Allocators.{metadata_of, DecrementsCluster, referenced_block, DecrementsCounter}
 use Rattle.qcow2_alloc.specs.Caches.{cached_in, order_of, cached_file}
-use Rattle.qcow2_alloc.specs.Freeing.{IsUnbarred, Frees, MayFree, IsWholeOrCalm, freeing_causes, counting_causes}
+use Rattle.qcow2_alloc.specs.Freeing.{IsUnbarred, Frees, MayFree, NoErrorOrNoChangeRefused, freeing_causes, counting_causes}
 use Rattle.qcow2_alloc.specs.FreeList.{entry_at, shorter, shortened, listed}
-use Rattle.qcow2_alloc.specs.Going.{WasNotCutOff}
-use Rattle.qcow2_alloc.specs.Quiet.{Metadata, IsSound, IsQuiet, counted, in_memory, waiting, waiting_metadata, metadata_in}
-use Rattle.qcow2_alloc.specs.State.{AllocatorState, lent, metadata, with_mark}
+use Rattle.qcow2_alloc.specs.Going.{HadNoResourceError}
+use Rattle.qcow2_alloc.specs.GuestView.{Metadata, IsSound, GuestUnchanged, counted, in_memory, waiting, waiting_metadata, metadata_in}
+use Rattle.qcow2_alloc.specs.State.{AllocatorState, image_state, metadata, with_first_free}
 use Rattle.qcow2_alloc.proofs.Causes.{Implies, fails-weaker}
 use Rattle.qcow2_alloc.proofs.Flushing.FaultlessCalls.{faultless-then, named-faultless}
 use Rattle.qcow2_alloc.proofs.Freeing.ClusterFrees.{LosesOne, left, cluster-freed, freeing-caused, counts-stay, freeing-stays}
@@ -32,10 +32,10 @@ use Rattle.qcow2_alloc.proofs.Caching.FileLengths.{named-long}
 use Rattle.qcow2_alloc.proofs.Caching.UnpinnedCaches.{spare-on}
 use Rattle.qcow2_alloc.proofs.Memory.Patches.{shaped-in}
 use Rattle.qcow2_alloc.proofs.Caching.Pins.{pins-none, pins-then}
-use Rattle.qcow2_alloc.proofs.Quiet.QuietCounters.{here-one}
-use Rattle.qcow2_alloc.proofs.Quiet.QuietFlushes.{quiet-none, memory-quietly}
-use Rattle.qcow2_alloc.proofs.Quiet.QuietSequences.{calm-behind, calmly-then}
-use Rattle.qcow2_alloc.proofs.Quiet.QuietEntries.{metadata-remove}
+use Rattle.qcow2_alloc.proofs.GuestView.QuietCounters.{here-one}
+use Rattle.qcow2_alloc.proofs.GuestView.QuietFlushes.{quiet-none, memory-quietly}
+use Rattle.qcow2_alloc.proofs.GuestView.QuietSequences.{calm-behind, calmly-then}
+use Rattle.qcow2_alloc.proofs.GuestView.QuietEntries.{metadata-remove}
 use Rattle.qcow2_alloc.proofs.Freeing.ClusterOccurrences.{listed-remove, covers-none}
 use Rattle.imago_storage.proofs.Composing.{keeps_on}
 use Rattle.std.specs.List.{remove}
@@ -44,26 +44,26 @@ use Rattle.std.proofs.lemmas.List.Edits.{length-remove}
 -- No cluster is counted past the 64 bits of its number.
 far-uncounted : (m : Metadata) → IsSound m → (c : ℕ) → 2 ^ 64 ≤ c → counted m c ≡ 0
 far-uncounted m sound c far =
-    let loads = sound.safe.consistent.readable.loads in
+    let loads = sound.well_formed.consistent.readable.loads in
     let limited = header-limited true m.file m.header loads in
     let size = greatest-cluster true m.file m.header loads in
     let width = least-width true m.file m.header loads in
-    let some = some-counters m.header.fields (shaped-in m.file m.header sound.safe.consistent) in
+    let some = some-counters m.header.fields (shaped-in m.file m.header sound.well_formed.consistent) in
     let few : counters_of_block m.header.fields ≤ 2 ^ 24 = (let le = div-le_self (cluster_size m.header.fields * 8) (counter_bits m.header.fields) in omega (arith, le, size)) in
     let both : refcount_table_entries m.header.fields * counters_of_block m.header.fields ≤ 2 ^ 20 * 2 ^ 24 = mul-le-mul limited.refcount_entries few in
     count-beyond (in_memory m) m.header.fields c some (omega (arith, both, far))
 
 -- What waits may be listed otherwise.
-waits-quiet : (m : Metadata) (es : List FreeEntry) → IsSound m → ((d : ℕ) → listed es d ≡ waiting m d) → ((d : ℕ) → listed (metadata_in es) d ≤ waiting_metadata m d) → IsSound (record m { pending = es }) × IsQuiet (λ _. 0) (λ _. 0) m (record m { pending = es })
+waits-quiet : (m : Metadata) (es : List FreeEntry) → IsSound m → ((d : ℕ) → listed es d ≡ waiting m d) → ((d : ℕ) → listed (metadata_in es) d ≤ waiting_metadata m d) → IsSound (record m { pending = es }) × GuestUnchanged (λ _. 0) (λ _. 0) m (record m { pending = es })
 waits-quiet m es sound same less =
-    let quiet = quiet-none m sound in (
+    let guest_unchanged = quiet-none m sound in (
       record {
-        safe = sound.safe;
+        well_formed = sound.well_formed;
         table = sound.table;
         covered = λ c. let was = sound.covered c in let is = same c in omega (arith, was, is);
-        unnamed = λ c some. let le = less c in sound.unnamed c (omega (arith, some, le));
+        not_referenced = λ c some. let le = less c in sound.not_referenced c (omega (arith, some, le));
       },
-      record { shows = quiet.shows; words = quiet.words; kept = quiet.kept; apart = quiet.apart; waits = λ c used none. let is = same c in omega (arith, is); law = λ c. let is = same c in omega (arith, is) },
+      record { shows = guest_unchanged.shows; raw_entries = guest_unchanged.raw_entries; used_bytes_unchanged = guest_unchanged.used_bytes_unchanged; apart = guest_unchanged.apart; waits = λ c used none. let is = same c in omega (arith, is); law = λ c. let is = same c in omega (arith, is) },
     )
 
 module _ {S : Type 0} (state : S → StorageState) (table : TableValue) (es : List FreeEntry) (i : ℕ) (inside : i < length es) (some : 0 < (entry_at es i).count) where
@@ -104,21 +104,21 @@ module _ {S : Type 0} (state : S → StorageState) (table : TableValue) (es : Li
   ]
   fell mark (Err fault) = inl refl
 
-  pub last-freed : (old : MetadataCaches S) (before : ImageFile S) (mark : ℕ) (result : Result Unit Fault) (new : MetadataCaches S) (after : ImageFile S) → MayFree (order_of old) (entry_at es i) → LowersCluster state table c (cached_file old before) result (cached_file new after)
-      → Frees state (with_mark (lent table old before es) mark) result (with_mark (lent table new after (left state table c es (shortened es i 1) result)) (moved mark result))
+  pub last-freed : (old : MetadataCaches S) (before : ImageFile S) (mark : ℕ) (result : Result Unit Fault) (new : MetadataCaches S) (after : ImageFile S) → MayFree (order_of old) (entry_at es i) → DecrementsCluster state table c (cached_file old before) result (cached_file new after)
+      → Frees state (with_first_free (image_state table old before es) mark) result (with_first_free (image_state table new after (left state table c es (shortened es i 1) result)) (moved mark result))
   last-freed old before mark result new after may lowers =
       let l = loses old may in
       let stays = freeing-stays state table c es (shortened es i 1) old before result new after l lowers in
-      let quiet = cluster-freed state table c es (shortened es i 1) old before result new after l lowers in
+      let guest_unchanged = cluster-freed state table c es (shortened es i 1) old before result new after l lowers in
       record {
-        faults = named-faultless state (Lowers (c % counters_of_block before.header.fields)) old before result new after (named_block table (c / counters_of_block before.header.fields)) (result ≡ Err DamagedTable) lowers;
-        quiet = quiet;
-        marked = λ keeps sound why marked d below. by-result result (quiet.holds keeps sound why).0 below (λ away under. let same = counts-stay state table c es (shortened es i 1) old before result new after l lowers (keeps, sound) why d away in let was = marked d under in omega (arith, same, was));
+        faults = named-faultless state (DecrementsCounter (c % counters_of_block before.header.fields)) old before result new after (referenced_block table (c / counters_of_block before.header.fields)) (result ≡ Err DamagedTable) lowers;
+        guest_unchanged = guest_unchanged;
+        marked = λ keeps sound why marked d below. by-result result (guest_unchanged.holds keeps sound why).0 below (λ away under. let same = counts-stay state table c es (shortened es i 1) old before result new after l lowers (keeps, sound) why d away in let was = marked d under in omega (arith, same, was));
         lower = falls mark result;
         fallen = fell mark result;
         header = stays.header;
-        no_shorter = named-long state (Lowers (c % counters_of_block before.header.fields)) old before result new after
-            (named_block table (c / counters_of_block before.header.fields)) (result ≡ Err DamagedTable) lowers;
+        no_shorter = named-long state (DecrementsCounter (c % counters_of_block before.header.fields)) old before result new after
+            (referenced_block table (c / counters_of_block before.header.fields)) (result ≡ Err DamagedTable) lowers;
         pins = stays.pins;
         room = stays.room;
         less = less result;
@@ -135,12 +135,12 @@ module _ {S : Type 0} (state : S → StorageState) (table : TableValue) (es : Li
       ]
 
   -- An entry past the greatest number isn't one of a sound image.
-  pub far-refused : (old : MetadataCaches S) (before : ImageFile S) (mark : ℕ) → 2 ^ 64 ≤ c → Frees state (with_mark (lent table old before es) mark) (Err DamagedTable) (with_mark (lent table old before es) mark)
+  pub far-refused : (old : MetadataCaches S) (before : ImageFile S) (mark : ℕ) → 2 ^ 64 ≤ c → Frees state (with_first_free (image_state table old before es) mark) (Err DamagedTable) (with_first_free (image_state table old before es) mark)
   far-refused old before mark far =
       let m = metadata_of state before old table es in
       record {
         faults = λ whole. (refl, refl);
-        quiet = memory-quietly _ (λ _. 0) (λ _. 0) (state before.image) m m (λ sound whole. (sound, quiet-none m sound));
+        guest_unchanged = memory-quietly _ (λ _. 0) (λ _. 0) (state before.image) m m (λ sound whole. (sound, quiet-none m sound));
         marked = λ keeps sound whole marked. marked;
         lower = omega arith;
         fallen = inl refl;
@@ -190,7 +190,7 @@ module _ {S : Type 0} (state : S → StorageState) where
       let m = metadata state s.image in
       record {
         faults = λ whole. (refl, refl);
-        quiet = memory-quietly _ (λ _. 0) (λ _. 0) (state s.file.image) m m (λ sound whole. (sound, quiet-none m sound));
+        guest_unchanged = memory-quietly _ (λ _. 0) (λ _. 0) (state s.file.image) m m (λ sound whole. (sound, quiet-none m sound));
         marked = λ keeps sound whole marked. marked;
         lower = omega arith;
         fallen = inl refl;
@@ -206,7 +206,7 @@ module _ {S : Type 0} (state : S → StorageState) where
   -- and some more.
   pub frees-then : (a b : AllocatorState S) (result : Result Unit Fault) (c : AllocatorState S) → Frees state a freed b → Frees state b result c → Frees state a result c
   frees-then a b result c first second =
-      let on : IsTrue (state a.file.image).shape.keeps → IsTrue (state b.file.image).shape.keeps = keeps_on (state a.file.image) (state b.file.image) first.quiet.shape in
+      let on : IsTrue (state a.file.image).shape.keeps → IsTrue (state b.file.image).shape.keeps = keeps_on (state a.file.image) (state b.file.image) first.guest_unchanged.shape in
       let le = first.lower in
       let le' = second.lower in
       let few = first.fewer in
@@ -215,8 +215,8 @@ module _ {S : Type 0} (state : S → StorageState) where
       let long' = second.no_shorter in
       record {
         faults = λ whole. faultless-then (first.faults tt) (second.faults whole);
-        quiet = calmly-then _ (WasNotCutOff result) (λ _. 0) (λ _. 0) (λ _. 0) (λ _. 0) (state a.file.image) (metadata state a.image) (state b.file.image) (metadata state b.image) (state c.file.image) (metadata state c.image) (inl tt) (λ sound d some. refl) first.quiet second.quiet;
-        marked = λ keeps sound why marked. second.marked (on keeps) (first.quiet.holds keeps sound (inl tt)).0 (behind keeps sound why) (first.marked keeps sound (inl tt) marked);
+        guest_unchanged = calmly-then _ (HadNoResourceError result) (λ _. 0) (λ _. 0) (λ _. 0) (λ _. 0) (state a.file.image) (metadata state a.image) (state b.file.image) (metadata state b.image) (state c.file.image) (metadata state c.image) (inl tt) (λ sound d some. refl) first.guest_unchanged second.guest_unchanged;
+        marked = λ keeps sound why marked. second.marked (on keeps) (first.guest_unchanged.holds keeps sound (inl tt)).0 (behind keeps sound why) (first.marked keeps sound (inl tt) marked);
         lower = omega (arith, le, le');
         fallen = fallen-then a.mark b.mark c.mark a.pending b.pending c.pending first.less second.less first.fallen second.fallen;
         header = second.header ∙ first.header;
@@ -225,17 +225,17 @@ module _ {S : Type 0} (state : S → StorageState) where
         room = record { tables = second.room.tables ∙ first.room.tables; blocks = second.room.blocks ∙ first.room.blocks; entries = second.room.entries ∙ first.room.entries };
         less = λ d. let l = first.less d in let l' = second.less d in omega (arith, l, l');
         fewer = omega (arith, few, few');
-        cause = fails-weaker _ _ (freeing-weaker (λ holds. (on holds.0, (first.quiet.holds holds.0 holds.1 (inl tt)).0)) (spare-on a.caches b.caches first.pins first.room.blocks) first.cause) (λ same. same ∙ first.cause) result second.cause;
+        cause = fails-weaker _ _ (freeing-weaker (λ holds. (on holds.0, (first.guest_unchanged.holds holds.0 holds.1 (inl tt)).0)) (spare-on a.caches b.caches first.pins first.room.blocks) first.cause) (λ same. same ∙ first.cause) result second.cause;
       }
     where
-      behind : IsTrue (state a.file.image).shape.keeps → IsSound (metadata state a.image) → IsWholeOrCalm result (state a.file.image) (state c.file.image) → IsWholeOrCalm result (state b.file.image) (state c.file.image)
+      behind : IsTrue (state a.file.image).shape.keeps → IsSound (metadata state a.image) → NoErrorOrNoChangeRefused result (state a.file.image) (state c.file.image) → NoErrorOrNoChangeRefused result (state b.file.image) (state c.file.image)
       behind keeps sound why = elim why [
         | inl whole ↦ inl whole
-        | inr calm ↦ inr (calm-behind _ (λ _. 0) (λ _. 0) (state a.file.image) (metadata state a.image) (state b.file.image) (metadata state b.image) (state c.file.image) keeps sound first.quiet second.quiet.later calm)
+        | inr no_change_refused ↦ inr (calm-behind _ (λ _. 0) (λ _. 0) (state a.file.image) (metadata state a.image) (state b.file.image) (metadata state b.image) (state c.file.image) keeps sound first.guest_unchanged second.guest_unchanged.counts_not_fallen no_change_refused)
       ]
 
   -- An entry of no clusters is taken off the list.
-  pub empty-removed : (s : AllocatorState S) (i : ℕ) → i < length s.pending → (entry_at s.pending i).count ≡ 0 → Frees state s freed (with_mark (lent s.table s.caches s.file (remove s.pending i)) s.mark)
+  pub empty-removed : (s : AllocatorState S) (i : ℕ) → i < length s.pending → (entry_at s.pending i).count ≡ 0 → Frees state s freed (with_first_free (image_state s.table s.caches s.file (remove s.pending i)) s.mark)
   empty-removed s i inside none =
       let m = metadata state s.image in
       let es = s.pending in
@@ -244,7 +244,7 @@ module _ {S : Type 0} (state : S → StorageState) where
       let long = length-remove es i inside in
       record {
         faults = λ whole. (refl, refl);
-        quiet = memory-quietly _ (λ _. 0) (λ _. 0) (state s.file.image) m (record m { pending = remove es i }) (λ sound whole. waits-quiet m (remove es i) sound less metadata);
+        guest_unchanged = memory-quietly _ (λ _. 0) (λ _. 0) (state s.file.image) m (record m { pending = remove es i }) (λ sound whole. waits-quiet m (remove es i) sound less metadata);
         marked = λ keeps sound whole marked. marked;
         lower = omega arith;
         fallen = inl refl;

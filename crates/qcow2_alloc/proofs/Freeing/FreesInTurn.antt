@@ -19,19 +19,19 @@ use Rattle.qcow2_alloc.specs.Allocators.{metadata_of}
 use Rattle.qcow2_alloc.specs.Caches.{cached_in, order_of, HasRoomOf}
 use Rattle.qcow2_alloc.specs.Causes.{FailsFor}
 use Rattle.qcow2_alloc.specs.Finding.{PinsNothing}
-use Rattle.qcow2_alloc.specs.Freeing.{Frees, IsMarked, IsWholeOrCalm, data_in}
+use Rattle.qcow2_alloc.specs.Freeing.{Frees, NoneFreeBefore, NoErrorOrNoChangeRefused, data_in}
 use Rattle.qcow2_alloc.specs.FreeList.{entry_at}
-use Rattle.qcow2_alloc.specs.Going.{Going, Always, IsNoShorter, AreBlocksInReach, WasNotCutOff, writing_causes}
+use Rattle.qcow2_alloc.specs.Going.{WritesBackCached, Always, IsNoShorter, AreBlocksAddressable, HadNoResourceError, writing_causes}
 use Rattle.qcow2_alloc.specs.Memory.{Cached, memory, written, written_block}
-use Rattle.qcow2_alloc.specs.Quiet.{Metadata, IsSound, Quietly, metadata_in}
-use Rattle.qcow2_alloc.specs.Safety.{Safe, IsCalm}
-use Rattle.qcow2_alloc.specs.State.{AllocatorState, lent, metadata, with_mark}
+use Rattle.qcow2_alloc.specs.GuestView.{Metadata, IsSound, PreservesGuest, metadata_in}
+use Rattle.qcow2_alloc.specs.WellFormedness.{WellFormed, NoChangeRefused}
+use Rattle.qcow2_alloc.specs.State.{AllocatorState, image_state, metadata, with_first_free}
 use Rattle.qcow2_alloc.proofs.Flushing.FlushRefusals.{never-refused, writing-implies}
 use Rattle.qcow2_alloc.proofs.Causes.{cause-weaker}
 use Rattle.qcow2_alloc.proofs.Caching.UnpinnedCaches.{kept-tables}
 use Rattle.qcow2_alloc.proofs.Caching.Pins.{pins-written}
-use Rattle.qcow2_alloc.proofs.Quiet.QuietAnnouncements.{announced-quietly, whole-quietly}
-use Rattle.qcow2_alloc.proofs.Quiet.QuietFlushes.{flushes-quietly, quietly-weaker}
+use Rattle.qcow2_alloc.proofs.GuestView.QuietAnnouncements.{announced-quietly, whole-quietly}
+use Rattle.qcow2_alloc.proofs.GuestView.QuietFlushes.{flushes-quietly, quietly-weaker}
 use Rattle.qcow2_alloc.proofs.Memory.SafeLaws.{safe-reach}
 
 -- The order is announced.
@@ -44,7 +44,7 @@ module _ {S : Type 0} (state : S → StorageState) (s : AllocatorState S) (new :
   New = metadata_of state after new s.table s.pending
 
   abbrev Goes : Result Unit Fault → Type 0
-  Goes result = Going s.file.header (order_of s.caches) Always (result ≡ Ok tt) (state s.file.image) (cached_in s.caches) (state after.image) (cached_in new)
+  Goes result = WritesBackCached s.file.header (order_of s.caches) Always (result ≡ Ok tt) (state s.file.image) (cached_in s.caches) (state after.image) (cached_in new)
 
   pins-still : PinsNothing (cached_in s.caches).blocks (cached_in new).blocks
   pins-still = pins-written written_block (λ e. e.0) (λ e. e.1.pins) (λ e. (refl, refl)) (cached_in s.caches).blocks (cached_in new).blocks (ap (λ (c : Cached). c.blocks) kept)
@@ -52,23 +52,23 @@ module _ {S : Type 0} (state : S → StorageState) (s : AllocatorState S) (new :
   abbrev Succeeds : Result Unit Fault → Type 0
   Succeeds result = result ≡ Ok tt
 
-  still-marked : (result : Result Unit Fault) → Goes result → IsTrue (state s.file.image).shape.keeps → IsSound Old → Succeeds result ⊎ IsCalm (state s.file.image) (state after.image) → IsMarked Old s.mark → IsMarked New s.mark
+  still-marked : (result : Result Unit Fault) → Goes result → IsTrue (state s.file.image).shape.keeps → IsSound Old → Succeeds result ⊎ NoChangeRefused (state s.file.image) (state after.image) → NoneFreeBefore Old s.mark → NoneFreeBefore New s.mark
   still-marked result going keeps sound why marked d below =
-      let settled = going.holds keeps sound.safe tt why in
+      let settled = going.holds keeps sound.well_formed tt why in
       let was = marked d below in
       subst (λ (h : Header). 0 < count (memory (bytes_of (state after.image).bytes) h.fields (cached_in new)) h.fields d) (sym header) (subst (λ (g : Bytes). 0 < count g s.file.header.fields d) (sym settled.memory_same) was)
 
-  pub announcing-frees : (result : Result Unit Fault) → Goes result → OnOk result (order_of new ≡ RbDependsOnL2) → OnErr result (order_of new ≡ order_of s.caches) → OnOk result ((f : Bytes) (H : Header) → Safe f H (cached_in new) (order_of s.caches) → Safe f H (cached_in new) RbDependsOnL2)
-      → FailsFor (writing_causes (AreBlocksInReach (cached_in s.caches)) (state s.file.image).faults (state after.image).faults) result → (WasNotCutOff result → IsFaultless (state s.file.image) (state after.image))
-      → IsNoShorter (state s.file.image) (state after.image) → Frees state s result (with_mark (lent s.table new after s.pending) s.mark)
-  announcing-frees (Ok done) going order stays safe counts faultless long =
-      let announced = announced-quietly Old RbDependsOnL2 (Ok tt) (state s.file.image) (state after.image) (cached_in new) refl going safe in
-      let quiet = whole-quietly Old (AreBlocksInReach (cached_in s.caches)) (state s.file.image).faults (state after.image).faults (Ok tt) (λ _. 0) (λ _. 0) (state s.file.image) (state after.image) _ (λ reach. reach.1) counts announced in
+  pub announcing-frees : (result : Result Unit Fault) → Goes result → OnOk result (order_of new ≡ RbDependsOnL2) → OnErr result (order_of new ≡ order_of s.caches) → OnOk result ((f : Bytes) (H : Header) → WellFormed f H (cached_in new) (order_of s.caches) → WellFormed f H (cached_in new) RbDependsOnL2)
+      → FailsFor (writing_causes (AreBlocksAddressable (cached_in s.caches)) (state s.file.image).faults (state after.image).faults) result → (HadNoResourceError result → IsFaultless (state s.file.image) (state after.image))
+      → IsNoShorter (state s.file.image) (state after.image) → Frees state s result (with_first_free (image_state s.table new after s.pending) s.mark)
+  announcing-frees (Ok done) going order stays well_formed counts faultless long =
+      let announced = announced-quietly Old RbDependsOnL2 (Ok tt) (state s.file.image) (state after.image) (cached_in new) refl going well_formed in
+      let guest_unchanged = whole-quietly Old (AreBlocksAddressable (cached_in s.caches)) (state s.file.image).faults (state after.image).faults (Ok tt) (λ _. 0) (λ _. 0) (state s.file.image) (state after.image) _ (λ reach. reach.1) counts announced in
       record {
         faults = faultless;
-        quiet = quietly-weaker ⊤ _ (λ _. 0) (λ _. 0) (state s.file.image) Old (state after.image) New (λ sound why. tt)
-            (subst (λ (h : Header). Quietly ⊤ (λ _. 0) (λ _. 0) (state s.file.image) Old (state after.image) (record Old { file = bytes_of (state after.image).bytes; header = h; cached = cached_in new; order = order_of new })) (sym header)
-            (subst (λ (o : CacheDependency). Quietly ⊤ (λ _. 0) (λ _. 0) (state s.file.image) Old (state after.image) (record Old { file = bytes_of (state after.image).bytes; cached = cached_in new; order = o })) (sym order) quiet));
+        guest_unchanged = quietly-weaker ⊤ _ (λ _. 0) (λ _. 0) (state s.file.image) Old (state after.image) New (λ sound why. tt)
+            (subst (λ (h : Header). PreservesGuest ⊤ (λ _. 0) (λ _. 0) (state s.file.image) Old (state after.image) (record Old { file = bytes_of (state after.image).bytes; header = h; cached = cached_in new; order = order_of new })) (sym header)
+            (subst (λ (o : CacheDependency). PreservesGuest ⊤ (λ _. 0) (λ _. 0) (state s.file.image) Old (state after.image) (record Old { file = bytes_of (state after.image).bytes; cached = cached_in new; order = o })) (sym order) guest_unchanged));
         marked = λ keeps sound why marked. still-marked (Ok done) going keeps sound (inl refl) marked;
         lower = omega arith;
         fallen = inl refl;
@@ -80,15 +80,15 @@ module _ {S : Type 0} (state : S → StorageState) (s : AllocatorState S) (new :
         fewer = omega arith;
         cause = counts;
       }
-  announcing-frees (Err fault) going order stays safe why faultless long =
+  announcing-frees (Err fault) going order stays well_formed why faultless long =
       let flushed = flushes-quietly Old (Succeeds (Err fault)) (state s.file.image) (state after.image) (cached_in new) refl going in
-      let cut : IsSound Old → IsWholeOrCalm (Err fault) (state s.file.image) (state after.image) → Succeeds (Err fault) ⊎ IsCalm (state s.file.image) (state after.image) =
-      λ sound why'. elim why' [ inl mild ↦ absurd (never-refused _ _ _ fault (safe-reach _ _ _ _ sound.safe).1 mild why) | inr calm ↦ inr calm ] in
+      let cut : IsSound Old → NoErrorOrNoChangeRefused (Err fault) (state s.file.image) (state after.image) → Succeeds (Err fault) ⊎ NoChangeRefused (state s.file.image) (state after.image) =
+      λ sound why'. elim why' [ inl not_resource_error ↦ absurd (never-refused _ _ _ fault (safe-reach _ _ _ _ sound.well_formed).1 not_resource_error why) | inr no_change_refused ↦ inr no_change_refused ] in
       record {
         faults = faultless;
-        quiet = quietly-weaker _ _ (λ _. 0) (λ _. 0) (state s.file.image) Old (state after.image) New cut
-            (subst (λ (h : Header). Quietly (Succeeds (Err fault) ⊎ IsCalm (state s.file.image) (state after.image)) (λ _. 0) (λ _. 0) (state s.file.image) Old (state after.image) (record Old { file = bytes_of (state after.image).bytes; header = h; cached = cached_in new; order = order_of new })) (sym header)
-            (subst (λ (o : CacheDependency). Quietly (Succeeds (Err fault) ⊎ IsCalm (state s.file.image) (state after.image)) (λ _. 0) (λ _. 0) (state s.file.image) Old (state after.image) (record Old { file = bytes_of (state after.image).bytes; cached = cached_in new; order = o })) (sym stays) flushed));
+        guest_unchanged = quietly-weaker _ _ (λ _. 0) (λ _. 0) (state s.file.image) Old (state after.image) New cut
+            (subst (λ (h : Header). PreservesGuest (Succeeds (Err fault) ⊎ NoChangeRefused (state s.file.image) (state after.image)) (λ _. 0) (λ _. 0) (state s.file.image) Old (state after.image) (record Old { file = bytes_of (state after.image).bytes; header = h; cached = cached_in new; order = order_of new })) (sym header)
+            (subst (λ (o : CacheDependency). PreservesGuest (Succeeds (Err fault) ⊎ NoChangeRefused (state s.file.image) (state after.image)) (λ _. 0) (λ _. 0) (state s.file.image) Old (state after.image) (record Old { file = bytes_of (state after.image).bytes; cached = cached_in new; order = o })) (sym stays) flushed));
         marked = λ keeps sound why' marked. still-marked (Err fault) going keeps sound (cut sound why') marked;
         lower = omega arith;
         fallen = inl refl;
@@ -98,7 +98,7 @@ module _ {S : Type 0} (state : S → StorageState) (s : AllocatorState S) (new :
         room = kept-tables s.caches new kept room;
         less = λ d. omega arith;
         fewer = omega arith;
-        cause = cause-weaker (writing-implies _ (omega arith) (omega arith) (λ far holds. far (safe-reach _ _ _ _ holds.1.safe).1)) fault why;
+        cause = cause-weaker (writing-implies _ (omega arith) (omega arith) (λ far holds. far (safe-reach _ _ _ _ holds.1.well_formed).1)) fault why;
       }
 
 -- The entries that held metadata are found one by one.

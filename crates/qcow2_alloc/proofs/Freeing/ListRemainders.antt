@@ -9,7 +9,7 @@ use Rattle.qcow2_alloc.specs.declared.cache.CacheDependency.{CacheDependency}
 use Rattle.qcow2_alloc.specs.declared.cache.CacheDependency.TheVariants.{RbDependsOnL2}
 use Rattle.qcow2_alloc.specs.FreeList.{entry_at, shorter, shortened}
 use Rattle.qcow2_alloc.specs.Freeing.{data_in, IsSublist, IsRest, IsRestInTurn, OrdersFreeing}
-use Rattle.qcow2_alloc.specs.Quiet.{metadata_in}
+use Rattle.qcow2_alloc.specs.GuestView.{metadata_in}
 use Rattle.qcow2_alloc.proofs.Freeing.FreesInTurn.{filter-takes, filter-drops}
 
 -- Each entry is left of all,
@@ -95,22 +95,22 @@ shortened-nowhere (e ∷ es) = let same : e.count ≡ e.count - 0 = omega arith 
 
 -- What is left is some entries,
 pub rest-whole : (old left : List FreeEntry) → IsSublist left old → IsRest old left
-rest-whole old left some = record { kept = left; some = some; index = 0; done = 0; short = shortened-nowhere left; more = inl refl }
+rest-whole old left some = record { kept_entries = left; kept_from_old = some; index = 0; done = 0; short = shortened-nowhere left; more = inl refl }
 
 -- of which one may be shortened.
 pub rest-shortened : (old kept left : List FreeEntry) (i n : ℕ) → IsSublist kept old → n < (entry_at kept i).count → left ≡ shortened kept i n → IsRest old left
-rest-shortened old kept left i n some less is = record { kept = kept; some = some; index = i; done = n; short = is; more = inr less }
+rest-shortened old kept left i n some less is = record { kept_entries = kept; kept_from_old = some; index = i; done = n; short = is; more = inr less }
 
 -- Of guest data no metadata is left.
 pub rest-without-metadata : (old left : List FreeEntry) → IsRest (data_in old) left → metadata_in left ≡ []
 rest-without-metadata old left rest =
-    subst (λ l. metadata_in l ≡ []) (sym rest.short) (no-metadata (shortened rest.kept rest.index rest.done) (data-of-shortened rest.kept rest.index rest.done (data-sublist rest.kept (data_in old) rest.some (data-alone old))))
+    subst (λ l. metadata_in l ≡ []) (sym rest.short) (no-metadata (shortened rest.kept_entries rest.index rest.done) (data-of-shortened rest.kept_entries rest.index rest.done (data-sublist rest.kept_entries (data_in old) rest.kept_from_old (data-alone old))))
 
 pub rest-of-data : (old left : List FreeEntry) → IsRest (data_in old) left → IsRestInTurn old left
 rest-of-data old left rest = record {
-  rest = record {
-    kept = rest.kept;
-    some = sublist-then rest.kept (data_in old) old rest.some (sublist-filtered (λ (x : FreeEntry). not x.metadata) old);
+  remains = record {
+    kept_entries = rest.kept_entries;
+    kept_from_old = sublist-then rest.kept_entries (data_in old) old rest.kept_from_old (sublist-filtered (λ (x : FreeEntry). not x.metadata) old);
     index = rest.index;
     done = rest.done;
     short = rest.short;
@@ -121,11 +121,11 @@ rest-of-data old left rest = record {
 
 -- Nothing is left,
 pub rest-none : (old : List FreeEntry) → IsRestInTurn old []
-rest-none old = record { rest = rest-whole old [] tt; first = inl refl }
+rest-none old = record { remains = rest-whole old [] tt; first = inl refl }
 
 -- or guest data as it was,
 pub rest-with-data : (old left : List FreeEntry) → IsRest old left → data_in left ≡ data_in old → IsRestInTurn old left
-rest-with-data old left rest same = record { rest = rest; first = inr same }
+rest-with-data old left rest same = record { remains = rest; first = inr same }
 
 -- or everything.
 pub rest-all : (old : List FreeEntry) → IsRestInTurn old old
@@ -135,7 +135,7 @@ rest-all old = rest-with-data old old (rest-whole old old (sublist-all old)) ref
 pub order-announced : (external : Bool) (pending left : List FreeEntry) (old : CacheDependency) (result : Result Unit Fault) (new : CacheDependency) → new ≡ RbDependsOnL2 → external ≡ false → (data_in pending ≡ [] → ⊥) → metadata_in left ≡ [] → OrdersFreeing external pending left old result new
 order-announced external pending left old result new turned inside some gone = record {
   either = inr turned;
-  kept = λ why. elim why [ inl outside ↦ absurd (let no = sym outside ∙ inside in cc no) | inr (inl none) ↦ absurd (some none) | inr (inr more) ↦ absurd (more gone) ];
+  order_unchanged = λ why. elim why [ inl outside ↦ absurd (let no = sym outside ∙ inside in cc no) | inr (inl none) ↦ absurd (some none) | inr (inr more) ↦ absurd (more gone) ];
   announced = λ inside some. on-ok result;
 }
   where

@@ -6,9 +6,9 @@ use Rattle.std.proofs.lemmas.Bool.{cases_Bool}
 use Rattle.std.proofs.lemmas.List.Sums.{sum_by-cons}
 use Rattle.qcow2_types.specs.Pending.{FreeEntry}
 use Rattle.qcow2_alloc.specs.FreeList.{entry_at, shorter, tail_of, shortened, covers, listed}
-use Rattle.qcow2_alloc.specs.Quiet.{metadata_in, one_at}
+use Rattle.qcow2_alloc.specs.GuestView.{metadata_in, one_at}
 use Rattle.qcow2_alloc.proofs.Freeing.ClusterOccurrences.{listed-shortened, covers-parts, covers-one}
-use Rattle.qcow2_alloc.proofs.Quiet.QuietCounters.{here-one}
+use Rattle.qcow2_alloc.proofs.GuestView.QuietCounters.{here-one}
 
 -- one entry more
 listed-cons : (e : FreeEntry) (es : List FreeEntry) (c : ℕ) → listed (e ∷ es) c ≡ covers c e + listed es c

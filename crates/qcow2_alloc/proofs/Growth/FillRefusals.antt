@@ -14,25 +14,25 @@ use Rattle.qcow2_alloc.specs.declared.allocation.searching.Run.{Run}
 use Rattle.qcow2_alloc.specs.declared.cache.CacheDependency.TheVariants.{L2DependsOnRb}
 use Rattle.qcow2_alloc.specs.declared.cache.MetadataCaches.{MetadataCaches}
 use Rattle.qcow2_alloc.specs.declared.file.ImageFile.{ImageFile}
-use Rattle.qcow2_alloc.specs.Allocating.{CountsNamed, named_part}
+use Rattle.qcow2_alloc.specs.Allocating.{CountsReferenced, named_part}
 use Rattle.qcow2_alloc.specs.Allocators.{metadata_of}
 use Rattle.qcow2_alloc.specs.Caches.{order_of}
 use Rattle.qcow2_alloc.specs.Causes.{HasCause}
 use Rattle.qcow2_alloc.specs.FreeList.{covers}
-use Rattle.qcow2_alloc.specs.Freeing.{IsLoose, counting_causes}
-use Rattle.qcow2_alloc.specs.Going.{IsMild}
+use Rattle.qcow2_alloc.specs.Freeing.{HasUnpinnedRoom, counting_causes}
+use Rattle.qcow2_alloc.specs.Going.{IsNotResourceError}
 use Rattle.qcow2_alloc.specs.MakingRoom.{run_of}
-use Rattle.qcow2_alloc.specs.MovingTables.{IsUncounted, FillsRoom}
-use Rattle.qcow2_alloc.specs.Quiet.{Metadata, counted, IsSound}
-use Rattle.qcow2_alloc.specs.State.{ImageState, lent, metadata}
+use Rattle.qcow2_alloc.specs.MovingTables.{IsUncounted, FillsFreeArea}
+use Rattle.qcow2_alloc.specs.GuestView.{Metadata, counted, IsSound}
+use Rattle.qcow2_alloc.specs.State.{ImageState, image_state, metadata}
 use Rattle.qcow2_alloc.proofs.Causes.{cause-weaker}
 use Rattle.qcow2_alloc.proofs.Handing.CountSequences.{moved-none}
 use Rattle.qcow2_alloc.proofs.Blocks.RunCounts.{covers-behind}
 use Rattle.qcow2_alloc.proofs.Freeing.EntryFrees.{failed, counting-weaker}
 use Rattle.qcow2_alloc.proofs.Growth.LongerReftables.{covers-inside, covers-before}
-use Rattle.qcow2_alloc.proofs.Quiet.QuietPremises.{quietly-given}
-use Rattle.qcow2_alloc.proofs.Quiet.QuietSequences.{quiet-otherwise}
-use Rattle.qcow2_alloc.proofs.Quiet.QuietFlushes.{memory-quietly, quiet-none}
+use Rattle.qcow2_alloc.proofs.GuestView.QuietPremises.{quietly-given}
+use Rattle.qcow2_alloc.proofs.GuestView.QuietSequences.{quiet-otherwise}
+use Rattle.qcow2_alloc.proofs.GuestView.QuietFlushes.{memory-quietly, quiet-none}
 
 -- What is known of counts that were raised by a part of a run: each was raised from 0 to 1.
 part-raised : (w a b : ℕ) (m m' : ℕ) (first len part c : ℕ) → part ≤ len → ((first ≤ c) → c < first + len → m ≡ 0) → m' ≡ m + (if w == 0 then 0 else covers c (run_of first part)) → (m' ≡ m) ⊎ ((m ≡ 0) × (m' ≡ 1))
@@ -54,13 +54,13 @@ abbrev leaked-by : Fault → (ℕ → ℕ) → ℕ → ℕ
 leaked-by CacheFull handed c = handed c
 leaked-by fault handed c = 0
 
-leaked-same : (sound : Type 0) (loose : Bool → Type 0) (a b : ℕ) (fault : Fault) (handed : ℕ → ℕ) → IsMild fault → sound → HasCause (counting_causes sound loose a b) fault → (c : ℕ) → handed c ≡ leaked-by fault handed c
-leaked-same sound loose a b Memory handed mild s why c = absurd mild
-leaked-same sound loose a b Storage handed mild s why c = absurd mild
-leaked-same sound loose a b DamagedTable handed mild s why c = absurd (why s)
-leaked-same sound loose a b Counter handed mild s why c = absurd (why s)
-leaked-same sound loose a b CacheFull handed mild s why c = refl
-leaked-same sound loose a b other handed mild s why c = absurd why
+leaked-same : (sound : Type 0) (loose : Bool → Type 0) (a b : ℕ) (fault : Fault) (handed : ℕ → ℕ) → IsNotResourceError fault → sound → HasCause (counting_causes sound loose a b) fault → (c : ℕ) → handed c ≡ leaked-by fault handed c
+leaked-same sound loose a b Memory handed not_resource_error s why c = absurd not_resource_error
+leaked-same sound loose a b Storage handed not_resource_error s why c = absurd not_resource_error
+leaked-same sound loose a b DamagedTable handed not_resource_error s why c = absurd (why s)
+leaked-same sound loose a b Counter handed not_resource_error s why c = absurd (why s)
+leaked-same sound loose a b CacheFull handed not_resource_error s why c = refl
+leaked-same sound loose a b other handed not_resource_error s why c = absurd why
 
 leaked-none : (fault : Fault) (handed : ℕ → ℕ) → (failed fault ≡ Err CacheFull → ⊥) → (c : ℕ) → leaked-by fault handed c ≡ 0
 leaked-none CacheFull handed not c = absurd (not refl)
@@ -82,7 +82,7 @@ module _ {S : Type 0} (state : S → StorageState) (was : ImageState S) (run : R
   Sound = known × Keeps × IsSound m0
 
   -- Where the room wasn't filled the image has the table that it had.
-  module _ (fault : Fault) (D : MetadataCaches S) (fD : ImageFile S) (counts : CountsNamed state run.first run.len was (failed fault) (lent was.table D fD was.pending)) where
+  module _ (fault : Fault) (D : MetadataCaches S) (fD : ImageFile S) (counts : CountsReferenced state run.first run.len was (failed fault) (image_state was.table D fD was.pending)) where
     abbrev mD : Metadata
     mD = metadata_of state fD D was.table was.pending
 
@@ -92,59 +92,59 @@ module _ {S : Type 0} (state : S → StorageState) (was : ImageState S) (run : R
     all-known : Sound → Keeps × (order_of was.caches ≡ L2DependsOnRb) × IsSound m0 × ((c : ℕ) → run.first ≤ c → c < run.first + run.len → (counted m0 c ≡ 0) × ⊤)
     all-known s = (s.1, (free s.0).0, s.2, λ c from to. ((free s.0).1 c from to, tt))
 
-    why : HasCause (counting_causes Sound (IsLoose was.table was.caches) (state was.file.image).faults (state fD.image).faults) fault
+    why : HasCause (counting_causes Sound (HasUnpinnedRoom was.table was.caches) (state was.file.image).faults (state fD.image).faults) fault
     why = cause-weaker (counting-weaker all-known (λ any loose. loose) refl) fault counts.cause
 
-    pub not-filled : FillsRoom state known run copy was (failed fault) (lent was.table D fD was.pending)
+    pub not-filled : FillsFreeArea state known run copy was (failed fault) (image_state was.table D fD was.pending)
     not-filled = record {
       leaked = leaked-by fault handed;
-      leaks = record { none = leaked-none fault handed; pinned = λ sound loose. leaked-pinned Sound (IsLoose was.table was.caches) _ _ fault handed sound loose why };
+      leaks = record { none = leaked-none fault handed; pinned = λ sound loose. leaked-pinned Sound (HasUnpinnedRoom was.table was.caches) _ _ fault handed sound loose why };
       shape = counts.shape;
-      later = counts.later;
+      counts_not_fallen = counts.counts_not_fallen;
       faults = counts.faults;
-      quiet = λ e. quietly-given (IsMild fault) (leaked-by fault handed) (λ _. 0) (state was.file.image) m0 (state fD.image) mD counts.shape counts.later (λ keeps sound.
-          let q = counts.quiet (free e).0 (λ s. (free e).1) in
+      guest_unchanged = λ e. quietly-given (IsNotResourceError fault) (leaked-by fault handed) (λ _. 0) (state was.file.image) m0 (state fD.image) mD counts.shape counts.counts_not_fallen (λ keeps sound.
+          let q = counts.guest_unchanged (free e).0 (λ s. (free e).1) in
           record {
             shape = q.shape;
-            later = q.later;
+            counts_not_fallen = q.counts_not_fallen;
             passes = q.passes;
-            holds = λ k s mild.
-                let both = q.holds k s mild in
-                (both.0, quiet-otherwise m0 mD handed (λ _. 0) (leaked-by fault handed) (λ _. 0) (λ c. let is = leaked-same Sound (IsLoose was.table was.caches) _ _ fault handed mild (e, keeps, sound) why c in omega (arith, is)) (λ c used none. refl) both.1);
+            holds = λ k s not_resource_error.
+                let both = q.holds k s not_resource_error in
+                (both.0, quiet-otherwise m0 mD handed (λ _. 0) (leaked-by fault handed) (λ _. 0) (λ c. let is = leaked-same Sound (HasUnpinnedRoom was.table was.caches) _ _ fault handed not_resource_error (e, keeps, sound) why c in omega (arith, is)) (λ c used none. refl) both.1);
           });
-      raised = λ e keeps sound mild c.
-          part-raised (block_offset (slice_index was.table.words (c / counters_of_block was.file.header.fields))) 0 0 (counted m0 c) (counted mD c) run.first run.len counts.part c counts.inside ((free e).1 c)
-          (counts.raised (free e).0 keeps sound (free e).1 mild c);
+      raised = λ e keeps sound not_resource_error c.
+          part-raised (block_offset (slice_index was.table.raw_entries (c / counters_of_block was.file.header.fields))) 0 0 (counted m0 c) (counted mD c) run.first run.len counts.part c counts.inside ((free e).1 c)
+          (counts.raised (free e).0 keeps sound (free e).1 not_resource_error c);
       order = counts.order;
       moved = moved-none was.file.header fD.header counts.header;
       longer = omega arith;
-      loose = counts.loose;
+      keeps_unpinned_room = counts.keeps_unpinned_room;
       room = counts.room;
       counts = λ e keeps sound. tt;
       table_is = tt;
-      stays = λ mild. (refl, counts.header);
+      stays = λ not_resource_error. (refl, counts.header);
       cause = why;
     }
 
 -- Nothing was done.
 pub not-begun : {S : Type 0} (state : S → StorageState) (known : Type 0) (table : TableValue) (pending : List FreeEntry) (run : Run) (copy : TableValue) (caches : MetadataCaches S) (file : ImageFile S) (fault : Fault)
-    → HasCause (counting_causes (known × IsTrue (state file.image).shape.keeps × IsSound (metadata_of state file caches table pending)) (IsLoose table caches) (state file.image).faults (state file.image).faults) fault
-    → FillsRoom state known run copy (lent table caches file pending) (failed fault) (lent table caches file pending)
+    → HasCause (counting_causes (known × IsTrue (state file.image).shape.keeps × IsSound (metadata_of state file caches table pending)) (HasUnpinnedRoom table caches) (state file.image).faults (state file.image).faults) fault
+    → FillsFreeArea state known run copy (image_state table caches file pending) (failed fault) (image_state table caches file pending)
 not-begun state known table pending run copy caches file fault why = record {
   leaked = λ _. 0;
   leaks = record { none = λ not c. refl; pinned = λ sound loose c. refl };
   shape = refl;
-  later = later_same (state file.image);
-  faults = λ mild. (refl, refl);
-  quiet = λ e. memory-quietly (IsMild fault) (λ _. 0) (λ _. 0) (state file.image) (metadata_of state file caches table pending) (metadata_of state file caches table pending) (λ sound mild. (sound, quiet-none (metadata_of state file caches table pending) sound));
-  raised = λ e keeps sound mild c. inl refl;
+  counts_not_fallen = later_same (state file.image);
+  faults = λ not_resource_error. (refl, refl);
+  guest_unchanged = λ e. memory-quietly (IsNotResourceError fault) (λ _. 0) (λ _. 0) (state file.image) (metadata_of state file caches table pending) (metadata_of state file caches table pending) (λ sound not_resource_error. (sound, quiet-none (metadata_of state file caches table pending) sound));
+  raised = λ e keeps sound not_resource_error c. inl refl;
   counts = λ e keeps sound. tt;
   order = refl;
   moved = moved-none file.header file.header refl;
   longer = omega arith;
-  loose = λ any loose. loose;
+  keeps_unpinned_room = λ any loose. loose;
   room = record { tables = refl; blocks = refl; entries = refl };
   table_is = tt;
-  stays = λ mild. (refl, refl);
+  stays = λ not_resource_error. (refl, refl);
   cause = why;
 }

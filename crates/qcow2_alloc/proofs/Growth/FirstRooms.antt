@@ -9,7 +9,7 @@ use Rattle.qcow2_types.specs.Bytes.{sum_below}
 use Rattle.qcow2_types.specs.Words.{block_offset}
 use Rattle.qcow2_metadata.specs.Tables.{TableValue}
 use Rattle.qcow2_alloc.specs.declared.allocation.searching.Run.{Run}
-use Rattle.qcow2_alloc.specs.Growing.{lacks, lacking, needed_for, IsRoom, IsRoomSoFar, IsFirstRoom}
+use Rattle.qcow2_alloc.specs.Growing.{lacks, lacking, needed_for, IsFreeArea, IsFreeAreaSoFar, IsFirstFreeArea}
 use Rattle.qcow2_alloc.specs.MakingRoom.{rank}
 use Rattle.qcow2_alloc.specs.SearchingClusters.{IsFirstRun}
 use Rattle.qcow2_alloc.proofs.Growth.LongerReftables.{rank-new, rank-old}
@@ -174,7 +174,7 @@ index-near (suc i) k end some near =
 module _ (table : TableValue) (k : ℕ) where
   -- What is lacking for a run is lacking for a longer one.
   lacks-longer : (z t t' i : ℕ) → t ≤ t' → lacks table k z t i ≡ true → lacks table k z t' i ≡ true
-  lacks-longer z t t' i le is = tests-longer (block_offset (slice_index table.words i)) (z / k) i (i * k) z t t' le is
+  lacks-longer z t t' i le is = tests-longer (block_offset (slice_index table.raw_entries i)) (z / k) i (i * k) z t t' le is
 
   pub lacking-longer : (z t t' : ℕ) → t ≤ t' → lacking table k z t ≤ lacking table k z t'
   lacking-longer z t t' le =
@@ -186,42 +186,42 @@ module _ (table : TableValue) (k : ℕ) where
   -- None is lacking before the block of its first cluster, nor behind that of its last one.
   pub lacking-before : (z t : ℕ) → rank (lacks table k z t) (z / k) ≡ 0
   lacking-before z t =
-      let on = rank-stays (lacks table k z t) 0 (z / k) (λ i from to. tests-before (block_offset (slice_index table.words i)) (z / k) i (i * k) z t (omega (arith, to))) in
+      let on = rank-stays (lacks table k z t) 0 (z / k) (λ i from to. tests-before (block_offset (slice_index table.raw_entries i)) (z / k) i (i * k) z t (omega (arith, to))) in
       let at : rank (lacks table k z t) (0 + z / k) ≡ rank (lacks table k z t) (z / k) = ap (rank (lacks table k z t)) (omega arith) in
       sym at ∙ on ∙ rank-none (lacks table k z t)
 
   pub lacking-behind : (z t end : ℕ) → z + t ≤ end * k → end ≤ z + t → rank (lacks table k z t) end ≡ lacking table k z t
   lacking-behind z t end far near =
       let on : rank (lacks table k z t) (end + (z + t - end)) ≡ rank (lacks table k z t) end =
-      rank-stays (lacks table k z t) end (z + t - end) (λ i from to. let le : end * k ≤ i * k = mul-le-mul from (omega arith) in tests-behind (block_offset (slice_index table.words i)) (z / k) i (i * k) z t (omega (arith, le, far))) in
+      rank-stays (lacks table k z t) end (z + t - end) (λ i from to. let le : end * k ≤ i * k = mul-le-mul from (omega arith) in tests-behind (block_offset (slice_index table.raw_entries i)) (z / k) i (i * k) z t (omega (arith, le, far))) in
       let at : rank (lacks table k z t) (end + (z + t - end)) ≡ lacking table k z t = ap (rank (lacks table k z t)) (omega (arith, near)) in
       sym on ∙ at
 
   -- What is lacking counts a cluster of the run.
   pub lacks-inside : (z t i : ℕ) → lacks table k z t i ≡ true → (z / k ≤ i) × (i * k < z + t)
-  lacks-inside z t i is = tests-inside (block_offset (slice_index table.words i)) (z / k) i (i * k) z t is
+  lacks-inside z t i is = tests-inside (block_offset (slice_index table.raw_entries i)) (z / k) i (i * k) z t is
 
   -- and isn't there; where it isn't there and counts one, it is lacking.
-  pub lacks-none : (z t i : ℕ) → lacks table k z t i ≡ true → block_offset (slice_index table.words i) ≡ 0
-  lacks-none z t i is = elim (cases_eq (block_offset (slice_index table.words i)) 0) [
+  pub lacks-none : (z t i : ℕ) → lacks table k z t i ≡ true → block_offset (slice_index table.raw_entries i) ≡ 0
+  lacks-none z t i is = elim (cases_eq (block_offset (slice_index table.raw_entries i)) 0) [
     | inl none ↦ none
-    | inr some ↦ absurd (let no = tests-there (block_offset (slice_index table.words i)) (z / k) i (i * k) z t some in let both = sym no ∙ is in cc)
+    | inr some ↦ absurd (let no = tests-there (block_offset (slice_index table.raw_entries i)) (z / k) i (i * k) z t some in let both = sym no ∙ is in cc)
   ]
 
-  pub lacks-so : (z t i : ℕ) → block_offset (slice_index table.words i) ≡ 0 → z / k ≤ i → i * k < z + t → lacks table k z t i ≡ true
-  lacks-so z t i none from to = tests-here (block_offset (slice_index table.words i)) (z / k) i (i * k) z t none from to
+  pub lacks-so : (z t i : ℕ) → block_offset (slice_index table.raw_entries i) ≡ 0 → z / k ≤ i → i * k < z + t → lacks table k z t i ≡ true
+  lacks-so z t i none from to = tests-here (block_offset (slice_index table.raw_entries i)) (z / k) i (i * k) z t none from to
 
   -- What is counted one by one.
-  pub lacking-there : (z t i : ℕ) → block_offset (slice_index table.words i) ≢ 0 → rank (lacks table k z t) (suc i) ≡ rank (lacks table k z t) i
-  lacking-there z t i some = rank-old (lacks table k z t) i (tests-there (block_offset (slice_index table.words i)) (z / k) i (i * k) z t some)
+  pub lacking-there : (z t i : ℕ) → block_offset (slice_index table.raw_entries i) ≢ 0 → rank (lacks table k z t) (suc i) ≡ rank (lacks table k z t) i
+  lacking-there z t i some = rank-old (lacks table k z t) i (tests-there (block_offset (slice_index table.raw_entries i)) (z / k) i (i * k) z t some)
 
-  pub lacking-here : (z t i : ℕ) → block_offset (slice_index table.words i) ≡ 0 → z / k ≤ i → i * k < z + t → rank (lacks table k z t) (suc i) ≡ rank (lacks table k z t) i + 1
-  lacking-here z t i none from to = rank-new (lacks table k z t) i (tests-here (block_offset (slice_index table.words i)) (z / k) i (i * k) z t none from to)
+  pub lacking-here : (z t i : ℕ) → block_offset (slice_index table.raw_entries i) ≡ 0 → z / k ≤ i → i * k < z + t → rank (lacks table k z t) (suc i) ≡ rank (lacks table k z t) i + 1
+  lacking-here z t i none from to = rank-new (lacks table k z t) i (tests-here (block_offset (slice_index table.raw_entries i)) (z / k) i (i * k) z t none from to)
 
   -- No more blocks are lacking than a run meets.
   pub lacking-few : 0 < k → (z t : ℕ) → lacking table k z t ≤ t / k + 2
   lacking-few some z t = (rank-window (lacks table k z t) (z / k) (t / k + 2) (z + t) (λ i is.
-      let both = tests-inside (block_offset (slice_index table.words i)) (z / k) i (i * k) z t is in
+      let both = tests-inside (block_offset (slice_index table.raw_entries i)) (z / k) i (i * k) z t is in
       let from = both.0 in
       let to = both.1 in (
         from,
@@ -248,9 +248,9 @@ module _ (table : TableValue) (k : ℕ) where
 
   module _ (counts : ℕ → ℕ) (from n : ℕ) where
     -- The first run of the table alone may begin a room,
-    pub room-first : (start z : ℕ) → from ≤ start → ((y t : ℕ) → from ≤ y → y < start → IsRoom table k counts n y t → ⊥) → IsFirstRun counts start n z → IsRoomSoFar table k counts from n (record { first = z; len = n })
+    pub room-first : (start z : ℕ) → from ≤ start → ((y t : ℕ) → from ≤ y → y < start → IsFreeArea table k counts n y t → ⊥) → IsFirstRun counts start n z → IsFreeAreaSoFar table k counts from n (record { first = z; len = n })
     room-first start z le none run = record {
-      behind = let b = run.behind in omega (arith, le, b);
+      not_before_start = let b = run.not_before_start in omega (arith, le, b);
       free = run.free;
       least = λ y t above below room. elim (cases_lt y start) [
         | inl before ↦ none y t above before room
@@ -266,21 +266,21 @@ module _ (table : TableValue) (k : ℕ) where
     }
 
     -- it grows by what is lacking for it,
-    pub room-longer : (was : Run) → IsRoomSoFar table k counts from n was → IsFirstRun counts was.first (needed_for table k n was) was.first → IsRoomSoFar table k counts from n (record { first = was.first; len = needed_for table k n was })
+    pub room-longer : (was : Run) → IsFreeAreaSoFar table k counts from n was → IsFirstRun counts was.first (needed_for table k n was) was.first → IsFreeAreaSoFar table k counts from n (record { first = was.first; len = needed_for table k n was })
     room-longer was past run = record {
-      behind = past.behind;
+      not_before_start = past.not_before_start;
       free = run.free;
       least = past.least;
       short = λ t room. let le = lacking-longer was.first was.len t (past.short t room) in let is = room.enough in omega (arith, le, is);
     }
 
     -- and where that isn't free, none begins here.
-    pub room-over : (was : Run) (z : ℕ) → IsRoomSoFar table k counts from n was → IsFirstRun counts was.first (needed_for table k n was) z → z ≢ was.first → (y t : ℕ) → from ≤ y → y < was.first + 1 → IsRoom table k counts n y t → ⊥
+    pub room-over : (was : Run) (z : ℕ) → IsFreeAreaSoFar table k counts from n was → IsFirstRun counts was.first (needed_for table k n was) z → z ≢ was.first → (y t : ℕ) → from ≤ y → y < was.first + 1 → IsFreeArea table k counts n y t → ⊥
     room-over was z past run apart y t above below room = elim (cases_eq y was.first) [
       | inr other ↦ past.least y t above (omega (arith, below, other)) room
       | inl same ↦
-          let here : IsRoom table k counts n was.first t = subst (λ x. IsRoom table k counts n x t) same room in
-          let behind = run.behind in
+          let here : IsFreeArea table k counts n was.first t = subst (λ x. IsFreeArea table k counts n x t) same room in
+          let behind = run.not_before_start in
           let met = run.least was.first (omega arith) (omega (arith, behind, apart)) in
           let le = lacking-longer was.first was.len t (past.short t here) in
           let is = here.enough in
@@ -291,9 +291,9 @@ module _ (table : TableValue) (k : ℕ) where
     ]
 
     -- Where nothing more is lacking it is the first room.
-    pub room-found : (run : Run) → IsRoomSoFar table k counts from n run → run.len ≡ needed_for table k n run → IsFirstRoom table k counts from n run.first run.len
+    pub room-found : (run : Run) → IsFreeAreaSoFar table k counts from n run → run.len ≡ needed_for table k n run → IsFirstFreeArea table k counts from n run.first run.len
     room-found run past enough = record {
-      behind = past.behind;
+      not_before_start = past.not_before_start;
       room = record { enough = enough; free = past.free };
       least = past.least;
       short = past.short;

@@ -3,7 +3,7 @@ use Rattle.std.proofs.Common.{inl, ◌≡◌, ℕ, ◌++◌, refl, ap, subst, �
 use Rattle.std.specs.Prelude.{IsTrue, OnOk, IfErr}
 use Rattle.imago_storage.specs.State.{StorageState}
 use Rattle.imago_storage.specs.declared.fault.Fault.{Fault}
-use Rattle.qcow2_types.specs.Header.{Header, words_of_cluster}
+use Rattle.qcow2_types.specs.Header.{Header, entries_of_cluster}
 use Rattle.qcow2_types.specs.Counts.{counters_of_block}
 use Rattle.qcow2_types.specs.Words.{Layout}
 use Rattle.qcow2_metadata.specs.Tables.{IsGrownLength}
@@ -14,13 +14,13 @@ use Rattle.qcow2_alloc.specs.Allocating.{MovedTable}
 use Rattle.qcow2_alloc.specs.Allocators.{metadata_of}
 use Rattle.qcow2_alloc.specs.Caches.{order_of, KeepsTables}
 use Rattle.qcow2_alloc.specs.Causes.{HasCause}
-use Rattle.qcow2_alloc.specs.Freeing.{IsLoose}
-use Rattle.qcow2_alloc.specs.Going.{IsMild, WasNotCutOff}
+use Rattle.qcow2_alloc.specs.Freeing.{HasUnpinnedRoom}
+use Rattle.qcow2_alloc.specs.Going.{IsNotResourceError, HadNoResourceError}
 use Rattle.qcow2_alloc.specs.GrowingTables.{GrowsTable, TableGrown, table_run}
 use Rattle.qcow2_alloc.specs.HandingOut.{GrowsReftable, StaysInShape}
 use Rattle.qcow2_alloc.specs.MovingTables.{growing_causes}
-use Rattle.qcow2_alloc.specs.Quiet.{Metadata, IsSound}
-use Rattle.qcow2_alloc.specs.State.{ImageState, lent, metadata, with_mark, AllocatorState}
+use Rattle.qcow2_alloc.specs.GuestView.{Metadata, IsSound}
+use Rattle.qcow2_alloc.specs.State.{ImageState, image_state, metadata, with_first_free, AllocatorState}
 use Rattle.qcow2_alloc.proofs.Causes.{bare-weaker, cause-weaker, fails-weaker}
 use Rattle.qcow2_alloc.proofs.Blocks.BlockCreationCalls.{freeing-allocates}
 use Rattle.qcow2_alloc.proofs.Handing.CountSequences.{moved-none}
@@ -28,7 +28,7 @@ use Rattle.qcow2_alloc.proofs.Handing.BlocksBeforeTables.{Announced, no-place-as
 use Rattle.qcow2_alloc.proofs.Flushing.FaultlessCalls.{faultless-then}
 use Rattle.qcow2_alloc.proofs.Freeing.EntryFrees.{failed}
 use Rattle.qcow2_alloc.proofs.Caching.UnpinnedCaches.{loose-all}
-use Rattle.qcow2_alloc.proofs.Quiet.QuietFlushes.{memory-quietly, quiet-none}
+use Rattle.qcow2_alloc.proofs.GuestView.QuietFlushes.{memory-quietly, quiet-none}
 use Rattle.qcow2_alloc.proofs.Blocks.RunProvision.{leaks-none}
 
 module _ {S : Type 0} (state : S → StorageState) (at : ℕ) (s : AllocatorState S) (mid : MetadataCaches S) (between : ImageFile S) where
@@ -39,11 +39,11 @@ module _ {S : Type 0} (state : S → StorageState) (at : ℕ) (s : AllocatorStat
   Mid = metadata_of state between mid s.table s.pending
 
   -- Caches that are as loose as those were, and have as much room.
-  pub shape-behind : (result : Result Unit Fault) (s' : ImageState S) → Announced state s.image result (lent s.table mid between s.pending) → MovedTable between.header s'.file.header → ((any : Bool) → IsLoose s.table mid any → IsLoose s'.table s'.caches any) → KeepsTables mid s'.caches
+  pub shape-behind : (result : Result Unit Fault) (s' : ImageState S) → Announced state s.image result (image_state s.table mid between s.pending) → MovedTable between.header s'.file.header → ((any : Bool) → HasUnpinnedRoom s.table mid any → HasUnpinnedRoom s'.table s'.caches any) → KeepsTables mid s'.caches
       → StaysInShape s.image s'
   shape-behind result s' first moved loose room = record {
     moved = subst (λ (H : Header). MovedTable H s'.file.header) first.header moved;
-    loose = λ any all. loose any (first.loose any all);
+    keeps_unpinned_room = λ any all. loose any (first.loose any all);
     room = record { tables = room.tables ∙ first.room.tables; blocks = room.blocks ∙ first.room.blocks; entries = room.entries ∙ first.room.entries };
   }
 
@@ -53,41 +53,41 @@ module _ {S : Type 0} (state : S → StorageState) (at : ℕ) (s : AllocatorStat
     leaked = λ _. 0;
     leaks = leaks-none _ _ (failed fault);
     faults = λ whole. (refl, refl);
-    quiet = memory-quietly (WasNotCutOff (failed fault)) (λ _. 0) (λ _. 0) (state s.file.image) Start Start (λ sound whole. (sound, quiet-none Start sound));
+    guest_unchanged = memory-quietly (HadNoResourceError (failed fault)) (λ _. 0) (λ _. 0) (state s.file.image) Start Start (λ sound whole. (sound, quiet-none Start sound));
     raised = λ keeps sound whole c. inl refl;
     grown = λ keeps sound. tt;
     enough = tt;
     order = tt;
     mark = refl;
-    shape = record { moved = moved-none s.file.header s.file.header refl; loose = λ any loose. loose; room = record { tables = refl; blocks = refl; entries = refl } };
+    shape = record { moved = moved-none s.file.header s.file.header refl; keeps_unpinned_room = λ any loose. loose; room = record { tables = refl; blocks = refl; entries = refl } };
     waits = tt;
-    kept = refl;
-    stays = λ mild. (refl, refl);
+    unchanged_on_error = refl;
+    stays = λ not_resource_error. (refl, refl);
     cause = bare-weaker _ (λ apart known. apart (ap (λ (l : Layout). l.cluster_bits) known.1.table.layout)) (λ number long. ((λ keeps sound. inl long), refl)) fault why;
   }
 
   -- Where that was refused nothing grew,
-  pub not-announced : (fault : Fault) → Announced state s.image (failed fault) (lent s.table mid between s.pending) → GrowsReftable state at s (failed fault) (with_mark (lent s.table mid between s.pending) s.mark)
+  pub not-announced : (fault : Fault) → Announced state s.image (failed fault) (image_state s.table mid between s.pending) → GrowsReftable state at s (failed fault) (with_first_free (image_state s.table mid between s.pending) s.mark)
   not-announced fault first = record {
     leaked = λ _. 0;
     leaks = leaks-none _ _ (failed fault);
     faults = first.faults;
-    quiet = first.quiet;
+    guest_unchanged = first.guest_unchanged;
     raised = λ keeps sound whole c. inl (first.counts keeps sound whole c);
     grown = λ keeps sound. tt;
     enough = tt;
     order = tt;
     mark = refl;
-    shape = shape-behind (failed fault) (lent s.table mid between s.pending) first (moved-none between.header between.header refl) (λ any loose. loose) (record { tables = refl; blocks = refl; entries = refl });
+    shape = shape-behind (failed fault) (image_state s.table mid between s.pending) first (moved-none between.header between.header refl) (λ any loose. loose) (record { tables = refl; blocks = refl; entries = refl });
     waits = tt;
-    kept = refl;
-    stays = λ mild. (refl, first.header);
+    unchanged_on_error = refl;
+    stays = λ not_resource_error. (refl, first.header);
     cause = cause-weaker (freeing-allocates (λ holds. holds) (λ u. loose-all s.table s.caches u.0 u.2) refl) fault first.cause;
   }
 
   -- and else it grows as it does under that order.
-  module _ (first : Announced state s.image (Ok tt) (lent s.table mid between s.pending)) (result : Result Unit Fault) (s' : AllocatorState S)
-      (grows : GrowsTable state at (with_mark (lent s.table mid between s.pending) s.mark) result s') where
+  module _ (first : Announced state s.image (Ok tt) (image_state s.table mid between s.pending)) (result : Result Unit Fault) (s' : AllocatorState S)
+      (grows : GrowsTable state at (with_first_free (image_state s.table mid between s.pending) s.mark) result s') where
     abbrev End : Metadata
     End = metadata state s'.image
 
@@ -95,9 +95,9 @@ module _ {S : Type 0} (state : S → StorageState) (at : ℕ) (s : AllocatorStat
     grown (Ok done) keeps sound is = grown-as Start Mid first.header refl (first.counts keeps sound tt) s.mark at End is
     grown (Err fault) keeps sound is = tt
 
-    enough : (r : Result Unit Fault) → OnOk r (IsGrownLength (words_of_cluster between.header.fields) (counters_of_block between.header.fields) at (length s'.table.words))
-        → OnOk r (IsGrownLength (words_of_cluster s.file.header.fields) (counters_of_block s.file.header.fields) at (length s'.table.words))
-    enough (Ok done) is = subst (λ (H : Header). IsGrownLength (words_of_cluster H.fields) (counters_of_block H.fields) at (length s'.table.words)) first.header is
+    enough : (r : Result Unit Fault) → OnOk r (IsGrownLength (entries_of_cluster between.header.fields) (counters_of_block between.header.fields) at (length s'.table.raw_entries))
+        → OnOk r (IsGrownLength (entries_of_cluster s.file.header.fields) (counters_of_block s.file.header.fields) at (length s'.table.raw_entries))
+    enough (Ok done) is = subst (λ (H : Header). IsGrownLength (entries_of_cluster H.fields) (counters_of_block H.fields) at (length s'.table.raw_entries)) first.header is
     enough (Err fault) is = tt
 
     ordered : (r : Result Unit Fault) → OnOk r (order_of s'.caches ≡ L2DependsOnRb)
@@ -108,26 +108,26 @@ module _ {S : Type 0} (state : S → StorageState) (at : ℕ) (s : AllocatorStat
     waits (Ok done) is = subst (λ (H : Header). s'.pending ≡ s.pending ++ table_run H.fields) first.header is
     waits (Err fault) is = tt
 
-    stays : (r : Result Unit Fault) → IfErr r (λ fault. IsMild fault → (s'.table ≡ s.table) × (s'.file.header ≡ between.header)) → IfErr r (λ fault. IsMild fault → (s'.table ≡ s.table) × (s'.file.header ≡ s.file.header))
+    stays : (r : Result Unit Fault) → IfErr r (λ fault. IsNotResourceError fault → (s'.table ≡ s.table) × (s'.file.header ≡ between.header)) → IfErr r (λ fault. IsNotResourceError fault → (s'.table ≡ s.table) × (s'.file.header ≡ s.file.header))
     stays (Ok done) is = tt
-    stays (Err fault) is = λ mild. let both = is mild in (both.0, both.1 ∙ first.header)
+    stays (Err fault) is = λ not_resource_error. let both = is not_resource_error in (both.0, both.1 ∙ first.header)
 
     pub announced-grows : GrowsReftable state at s result s'
     announced-grows = record {
       leaked = grows.leaked;
-      leaks = record { none = grows.leaks.none; pinned = λ holds loose. let still = sound-behind state s.image mid between first holds.0 holds.1 in grows.leaks.pinned (still.0, first.order, still.1) (first.loose true loose) };
+      leaks = record { none = grows.leaks.none; pinned = λ holds loose. let has_no_dirty_data = sound-behind state s.image mid between first holds.0 holds.1 in grows.leaks.pinned (has_no_dirty_data.0, first.order, has_no_dirty_data.1) (first.loose true loose) };
       faults = λ whole. faultless-then (first.faults tt) (grows.step.faults whole);
-      quiet = quiet-behind state s.image mid between first (WasNotCutOff result) grows.leaked (state s'.file.image) End grows.step.quiet;
-      raised = λ keeps sound whole. let still = sound-behind state s.image mid between first keeps sound in
-          raised-behind state s.image mid between first End keeps sound (grows.step.raised first.order still.0 still.1 whole);
-      grown = λ keeps sound. let still = sound-behind state s.image mid between first keeps sound in grown result keeps sound (grows.grown first.order still.0 still.1);
+      guest_unchanged = quiet-behind state s.image mid between first (HadNoResourceError result) grows.leaked (state s'.file.image) End grows.step.guest_unchanged;
+      raised = λ keeps sound whole. let has_no_dirty_data = sound-behind state s.image mid between first keeps sound in
+          raised-behind state s.image mid between first End keeps sound (grows.step.raised first.order has_no_dirty_data.0 has_no_dirty_data.1 whole);
+      grown = λ keeps sound. let has_no_dirty_data = sound-behind state s.image mid between first keeps sound in grown result keeps sound (grows.grown first.order has_no_dirty_data.0 has_no_dirty_data.1);
       enough = enough result grows.enough;
       order = ordered result;
       mark = grows.mark;
-      shape = shape-behind (Ok tt) s'.image first grows.step.moved grows.step.loose grows.step.room;
+      shape = shape-behind (Ok tt) s'.image first grows.step.moved grows.step.keeps_unpinned_room grows.step.room;
       waits = waits result grows.waits;
-      kept = grows.kept;
+      unchanged_on_error = grows.unchanged_on_error;
       stays = stays result grows.stays;
-      cause = fails-weaker _ _ (allocates-behind state s.image mid between first (λ number full keeps sound. let still = sound-behind state s.image mid between first keeps sound in no-place-as Start Mid first.header refl (first.counts keeps sound tt) s.mark at number (full first.order still.0 still.1)))
+      cause = fails-weaker _ _ (allocates-behind state s.image mid between first (λ number full keeps sound. let has_no_dirty_data = sound-behind state s.image mid between first keeps sound in no-place-as Start Mid first.header refl (first.counts keeps sound tt) s.mark at number (full first.order has_no_dirty_data.0 has_no_dirty_data.1)))
           (λ same. same ∙ first.cause) result grows.cause;
     }

@@ -7,7 +7,7 @@ use Rattle.std.proofs.lemmas.List.{get_or_past}
 use Rattle.std.proofs.lemmas.Nat.{pow_pos}
 use Rattle.qcow2_types.specs.Bytes.{Bytes, sum_below}
 use Rattle.qcow2_types.specs.Words.{block_offset}
-use Rattle.qcow2_types.specs.Header.{Fields, cluster_size, words_of_cluster, refcount_table_entries}
+use Rattle.qcow2_types.specs.Header.{Fields, cluster_size, entries_of_cluster, refcount_table_entries}
 use Rattle.qcow2_types.specs.Counts.{block_at, count, counter, counters_of_block}
 use Rattle.qcow2_types.specs.References.{of_cluster, meets}
 use Rattle.qcow2_types.specs.Switched.{with_reftable}
@@ -15,9 +15,9 @@ use Rattle.qcow2_types.proofs.Changes.BlockSteps.{count-there}
 use Rattle.qcow2_metadata.specs.Tables.{TableValue}
 use Rattle.qcow2_alloc.specs.FreeList.{covers}
 use Rattle.qcow2_alloc.specs.MakingRoom.{newly, newly_counted, run_of, rank, IsReadyTable, IsGrownTable}
-use Rattle.qcow2_alloc.specs.Quiet.{Metadata, counted, one_at, IsSound}
+use Rattle.qcow2_alloc.specs.GuestView.{Metadata, counted, one_at, IsSound}
 use Rattle.qcow2_alloc.proofs.Freeing.ClusterOccurrences.{covers-meets, covers-none}
-use Rattle.qcow2_alloc.proofs.Quiet.QuietEntries.{covers-more}
+use Rattle.qcow2_alloc.proofs.GuestView.QuietEntries.{covers-more}
 use Rattle.qcow2_alloc.proofs.Blocks.BlockNames.{count-none, meets-one}
 use Rattle.qcow2_alloc.proofs.Memory.Patches.{all-weaker, place-there, places-differ}
 use Rattle.qcow2_alloc.proofs.Growth.TableSwitches.{words-at, there-weighs}
@@ -76,23 +76,23 @@ module _ (m : Metadata) (table : TableValue) (s n : ℕ) (new : ℕ → Bool) (s
 
   -- how many new blocks there are
   abbrev blocks : ℕ
-  blocks = rank new (length table.words)
+  blocks = rank new (length table.raw_entries)
 
   abbrev o : ℕ
-  o = (s + rank new (length table.words)) * cluster_size m.header.fields
+  o = (s + rank new (length table.raw_entries)) * cluster_size m.header.fields
 
   abbrev h' : Fields
-  h' = with_reftable m.header.fields ((s + rank new (length table.words)) * cluster_size m.header.fields) n
+  h' = with_reftable m.header.fields ((s + rank new (length table.raw_entries)) * cluster_size m.header.fields) n
 
-  new-at : (i : ℕ) → block_at f h' i ≡ block_offset (slice_index table.words i)
-  new-at = words-at f h table.words o n grown.long grown.written
+  new-at : (i : ℕ) → block_at f h' i ≡ block_offset (slice_index table.raw_entries i)
+  new-at = words-at f h table.raw_entries o n grown.long grown.written
 
-  old-at : (i : ℕ) → block_at f h i ≡ block_offset (slice_index m.table.words i)
+  old-at : (i : ℕ) → block_at f h i ≡ block_offset (slice_index m.table.raw_entries i)
   old-at i = elim (cases_lt i (refcount_table_entries h)) [
     | inl lt ↦ sym (sound.table.names i lt)
     | inr le ↦
         let past : nat_lt i (refcount_table_entries h) ≡ false = le-ltb _ _ le in
-        rw past (sym (ap block_offset (get_or_past m.table.words i 0 (omega (arith, le, sound.table.long)))))
+        rw past (sym (ap block_offset (get_or_past m.table.raw_entries i 0 (omega (arith, le, sound.table.long)))))
   ]
 
   new-block : (i : ℕ) → new i ≡ true → (block_at f h i ≡ 0) × (block_at f h' i ≡ (s + rank new i) * cluster_size h)
@@ -102,15 +102,15 @@ module _ (m : Metadata) (table : TableValue) (s n : ℕ) (new : ℕ → Bool) (s
   old-block i isold = new-at i ∙ grown.olds i isold ∙ sym (old-at i)
 
   there : (j : ℕ) → (s + j) * cluster_size h ≢ 0
-  there j = place-there (cluster_size h) (s + j) (pow_pos h.cluster_bits) (λ none. grown.some (omega (arith, none)))
+  there j = place-there (cluster_size h) (s + j) (pow_pos h.cluster_bits) (λ none. grown.cluster_nonzero (omega (arith, none)))
 
   -- What is newly named is the run.
   pub newly-run : (c : ℕ) → newly m (s + blocks) n c ≡ covers c (run_of s (blocks + n))
   newly-run c =
       let table_there = covers-meets h c (run_of (s + blocks) n) in
-      let sum = sum-run (n * words_of_cluster h) s c new (λ i. if block_at f h i == 0 then of_cluster h (meets h c) (block_at f h' i) else 0) (λ i lt. term i) in
-      let all : rank new (n * words_of_cluster h) ≡ blocks = ap (rank new) (sym grown.long) in
-      let run : covers c (run_of s (rank new (n * words_of_cluster h))) ≡ covers c (run_of s blocks) = ap (λ k. covers c (run_of s k)) all in
+      let sum = sum-run (n * entries_of_cluster h) s c new (λ i. if block_at f h i == 0 then of_cluster h (meets h c) (block_at f h' i) else 0) (λ i lt. term i) in
+      let all : rank new (n * entries_of_cluster h) ≡ blocks = ap (rank new) (sym grown.long) in
+      let run : covers c (run_of s (rank new (n * entries_of_cluster h))) ≡ covers c (run_of s blocks) = ap (λ k. covers c (run_of s k)) all in
       let both = covers-two c s blocks n in
       omega (arith, table_there, sum, run, both)
     where

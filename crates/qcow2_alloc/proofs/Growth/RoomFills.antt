@@ -3,13 +3,13 @@ use Rattle.std.proofs.Common.{◌≡◌, ◌≢◌, ℕ, ◌+◌, ◌*◌, ◌/�
 use Rattle.std.specs.Prelude.{Some, ⊤, ◌⊎◌, ◌==◌, if◌then◌else◌, IsTrue, OnOk, OnErr, slice_index}
 use Rattle.std.proofs.lemmas.Bool.{cases_eq, cases_lt, ne_eqb}
 use Rattle.imago_storage.specs.State.{StorageState}
-use Rattle.imago_storage.specs.Calls.{Cause, Later}
-use Rattle.imago_storage.specs.Through.{Put, PutAtOnce}
+use Rattle.imago_storage.specs.Calls.{Cause, CountsNotFallen}
+use Rattle.imago_storage.specs.Through.{WriteOutcome, AtomicWriteOutcome}
 use Rattle.imago_storage.specs.declared.fault.Fault.{Fault}
 use Rattle.imago_storage.proofs.Composing.{keeps_on, later_both}
 use Rattle.qcow2_types.specs.Bytes.{bytes_of}
 use Rattle.qcow2_types.specs.Counts.{block_at, counters_of_block}
-use Rattle.qcow2_types.specs.Header.{Fields, Header, first_fault, rules_of_size, cluster_size, words_of_cluster}
+use Rattle.qcow2_types.specs.Header.{Fields, Header, first_fault, rules_of_size, cluster_size, entries_of_cluster}
 use Rattle.qcow2_types.specs.HeaderBytes.{first_bytes}
 use Rattle.qcow2_types.specs.HeaderSwitch.{FirstFieldsFit}
 use Rattle.qcow2_types.specs.Pending.{FreeEntry}
@@ -17,37 +17,37 @@ use Rattle.qcow2_types.specs.References.{meets}
 use Rattle.qcow2_types.specs.Switched.{with_refcount_table}
 use Rattle.qcow2_types.specs.TableBytes.{table_bytes}
 use Rattle.qcow2_types.specs.Words.{Layout, block_offset}
-use Rattle.qcow2_metadata.specs.Tables.{TableValue, table_place}
+use Rattle.qcow2_metadata.specs.Tables.{TableValue, table_start}
 use Rattle.qcow2_alloc.specs.declared.allocation.searching.Run.{Run}
 use Rattle.qcow2_alloc.specs.declared.cache.CacheDependency.TheVariants.{L2DependsOnRb}
 use Rattle.qcow2_alloc.specs.declared.cache.MetadataCaches.{MetadataCaches}
 use Rattle.qcow2_alloc.specs.declared.file.ImageFile.{ImageFile}
-use Rattle.qcow2_alloc.specs.Allocating.{CountsNamed, MovedTable, named_part}
-use Rattle.qcow2_alloc.specs.Allocators.{metadata_of, named_block}
+use Rattle.qcow2_alloc.specs.Allocating.{CountsReferenced, MovedTable, named_part}
+use Rattle.qcow2_alloc.specs.Allocators.{metadata_of, referenced_block}
 use Rattle.qcow2_alloc.specs.Caches.{cached_in, order_of}
-use Rattle.qcow2_alloc.specs.Freeing.{IsLoose}
+use Rattle.qcow2_alloc.specs.Freeing.{HasUnpinnedRoom}
 use Rattle.qcow2_alloc.specs.FreeList.{covers}
-use Rattle.qcow2_alloc.specs.Going.{IsMild, WasNotCutOff}
+use Rattle.qcow2_alloc.specs.Going.{IsNotResourceError, HadNoResourceError}
 use Rattle.qcow2_alloc.specs.Growing.{lacks}
 use Rattle.qcow2_alloc.specs.GrowingTables.{table_run}
 use Rattle.qcow2_alloc.specs.MakingRoom.{run_of, rank, formerly, newly_counted, with_table}
-use Rattle.qcow2_alloc.specs.MovingTables.{waiting_then, clusters_of, naming_table, MovesTable, IsPlan, IsTaken, IsUncounted, TakesRoom, FillsRoom}
-use Rattle.qcow2_alloc.specs.Quiet.{Metadata, in_memory, counted, waiting, IsUsed, IsSound, Quietly}
-use Rattle.qcow2_alloc.specs.State.{ImageState, lent, metadata}
+use Rattle.qcow2_alloc.specs.MovingTables.{waiting_then, clusters_of, naming_table, MovesTable, IsPlan, IsTaken, IsUncounted, TakesFreeArea, FillsFreeArea}
+use Rattle.qcow2_alloc.specs.GuestView.{Metadata, in_memory, counted, waiting, IsUsed, IsSound, PreservesGuest}
+use Rattle.qcow2_alloc.specs.State.{ImageState, image_state, metadata}
 use Rattle.qcow2_alloc.proofs.Causes.{storage-cause}
 use Rattle.qcow2_alloc.proofs.Blocks.ClusterCounts.{succeeded}
 use Rattle.qcow2_alloc.proofs.Blocks.RunCounts.{covers-behind}
 use Rattle.qcow2_alloc.proofs.Searching.FreeClusters.{uncounted-free}
 use Rattle.qcow2_alloc.proofs.Freeing.EntryFrees.{failed}
 use Rattle.qcow2_alloc.proofs.Growth.LongerReftables.{covers-inside, covers-before}
-use Rattle.qcow2_alloc.proofs.Quiet.QuietPremises.{quietly-given}
-use Rattle.qcow2_alloc.proofs.Quiet.QuietSequences.{quietly-then, quietly-otherwise}
+use Rattle.qcow2_alloc.proofs.GuestView.QuietPremises.{quietly-given}
+use Rattle.qcow2_alloc.proofs.GuestView.QuietSequences.{quietly-then, quietly-otherwise}
 use Rattle.qcow2_alloc.proofs.Flushing.FaultlessCalls.{never-mild, faultless-then, put-faultless}
 use Rattle.qcow2_alloc.proofs.Blocks.BlockCreationCalls.{first-counted}
 use Rattle.qcow2_alloc.proofs.Caching.UnpinnedCaches.{loose-named, name-kept}
 use Rattle.qcow2_alloc.proofs.Memory.MemoryWords.{places-in-memory}
 use Rattle.qcow2_alloc.proofs.Blocks.BlockNames.{count-none}
-use Rattle.qcow2_alloc.proofs.Quiet.QuietFlushes.{quietly-weaker}
+use Rattle.qcow2_alloc.proofs.GuestView.QuietFlushes.{quietly-weaker}
 use Rattle.qcow2_alloc.proofs.Growth.RoomSwitches.{part_named, old_run, old-run-is, old-run-unused, part-is, header-is, pointer-quietly, waits-quietly, counts-filled}
 use Rattle.qcow2_types.proofs.Counting.Parts.{block-inside}
 use Rattle.qcow2_alloc.proofs.Memory.Patches.{shaped-in}
@@ -59,14 +59,14 @@ use Rattle.qcow2_alloc.proofs.Growth.CopyWrites.{table-written}
 pub some-clusters : (m : Metadata) → IsSound m → m.header.fields.refcount_table_clusters ≢ 0
 some-clusters m sound none =
     let some = first-counted m sound in
-    let places = places-in-memory m.file m.header sound.safe.consistent m.cached sound.safe.tables sound.safe.blocks in
+    let places = places-in-memory m.file m.header sound.well_formed.consistent m.cached sound.well_formed.tables sound.well_formed.blocks in
     elim (cases_eq (block_at m.file m.header.fields (0 / counters_of_block m.header.fields)) 0) [
       | inl empty ↦
           let zero = count-none (in_memory m) m.header.fields 0 (places.blocks (0 / counters_of_block m.header.fields) ∙ empty) in
           omega (arith, some, zero)
       | inr there ↦
           let inside = block-inside m.file m.header.fields (0 / counters_of_block m.header.fields) there in
-          let zero : m.header.fields.refcount_table_clusters * words_of_cluster m.header.fields ≡ 0 * words_of_cluster m.header.fields = ap (λ c. c * words_of_cluster m.header.fields) none in
+          let zero : m.header.fields.refcount_table_clusters * entries_of_cluster m.header.fields ≡ 0 * entries_of_cluster m.header.fields = ap (λ c. c * entries_of_cluster m.header.fields) none in
           omega (arith, inside, zero)
     ]
 
@@ -75,10 +75,10 @@ table-run-is h h' same some = ap (λ (x : Fields). table_run x) (sym same) ∙ r
 
 module _ {S : Type 0} (state : S → StorageState) (image : ImageState S) (run : Run) (copy : TableValue)
     (known : Type 0) (free : known → (order_of image.caches ≡ L2DependsOnRb) × IsUncounted (metadata state image) run)
-    (C : MetadataCaches S) (fC : ImageFile S) (takes : TakesRoom state run image succeeded (lent image.table C fC image.pending)) (plan : IsPlan fC.header.fields image.table run copy)
-    (mid : S) (put : Put {T = Unit {0}} (state fC.image) (state mid) (table_place copy) (table_bytes copy.words) (Ok tt))
+    (C : MetadataCaches S) (fC : ImageFile S) (takes : TakesFreeArea state run image succeeded (image_state image.table C fC image.pending)) (plan : IsPlan fC.header.fields image.table run copy)
+    (mid : S) (put : WriteOutcome {T = Unit {0}} (state fC.image) (state mid) (table_start copy) (table_bytes copy.raw_entries) (Ok tt))
     (fit : FirstFieldsFit (naming_table fC.header copy).fields) (sizes : first_fault (rules_of_size fC.header.fields) ≡ None → first_fault (rules_of_size (naming_table fC.header copy).fields) ≡ None)
-    (after : ImageFile S) (result : Result Unit Fault) (pointed : PutAtOnce (state mid) (state after.image) 0 (first_bytes (naming_table fC.header copy).fields) result) where
+    (after : ImageFile S) (result : Result Unit Fault) (pointed : AtomicWriteOutcome (state mid) (state after.image) 0 (first_bytes (naming_table fC.header copy).fields) result) where
   abbrev between : ImageFile S
   between = record { image = mid; header = fC.header }
 
@@ -104,9 +104,9 @@ module _ {S : Type 0} (state : S → StorageState) (image : ImageState S) (run :
   copied = record copy { modified = false }
 
   abbrev place : ℕ
-  place = run.first + rank (lacks image.table (counters_of_block fC.header.fields) run.first run.len) (length copy.words)
+  place = run.first + rank (lacks image.table (counters_of_block fC.header.fields) run.first run.len) (length copy.raw_entries)
 
-  abbrev at5 : CountsNamed state run.first run.len image succeeded (lent image.table C between image.pending)
+  abbrev at5 : CountsReferenced state run.first run.len image succeeded (image_state image.table C between image.pending)
   at5 = table-written state image run copy C fC takes plan mid succeeded put
 
   abbrev handed : ℕ → ℕ
@@ -122,7 +122,7 @@ module _ {S : Type 0} (state : S → StorageState) (image : ImageState S) (run :
   keeps4 given = keeps_on (state image.file.image) (state fC.image) takes.counts.shape given.0
 
   low4 : Known → 9 ≤ fC.header.fields.cluster_bits
-  low4 given = (shaped-in m4.file m4.header (sound4 given).safe.consistent).low
+  low4 given = (shaped-in m4.file m4.header (sound4 given).well_formed.consistent).low
 
   used4 : (c : ℕ) → run.first ≤ c → c < run.first + run.len → 0 < mine c
   used4 c from to = let one = covers-inside c run.first run.len from to in omega (arith, one)
@@ -139,52 +139,52 @@ module _ {S : Type 0} (state : S → StorageState) (image : ImageState S) (run :
   counts4 : Known → (c : ℕ) → counted m4 c ≡ counted m0 c + part_named image.table (counters_of_block fC.header.fields) run c
   counts4 given c = takes.counts.raised given.1 given.0 given.2 given.3 tt c ∙ ap (λ p. counted m0 c + p) (part-whole takes.counts.part takes.counts.whole c)
 
-  pointer : (given : Known) → Quietly (result ≡ Ok tt) (formerly m5) (newly_counted m5 place n) (state mid) m5 (state after.image) (with_table m5 copied place n (bytes_of (state after.image).bytes))
+  pointer : (given : Known) → PreservesGuest (result ≡ Ok tt) (formerly m5) (newly_counted m5 place n) (state mid) m5 (state after.image) (with_table m5 copied place n (bytes_of (state after.image).bytes))
   pointer given =
       pointer-quietly m4 run n copy (sound4 given) (low4 given) plan.grown plan.room (taken4 given) (state fC.image) (state mid) refl (keeps4 given) put mine used4 (unlisted4 given) (counted m0) (counts4 given) given.3
       fit refl sizes (state after.image) result pointed
 
   -- The copy names the blocks that the table does.
-  names-kept : (i key : ℕ) → named_block image.table i ≡ Some key → named_block copied i ≡ Some key
-  names-kept i key = name-kept image.table copied i key (ap (λ (l : Layout). l.cluster_bits) plan.grown.layout ∙ sym plan.bits) (λ some. plan.grown.olds i (rw (ne_eqb (block_offset (slice_index image.table.words i)) 0 some) refl))
+  names-kept : (i key : ℕ) → referenced_block image.table i ≡ Some key → referenced_block copied i ≡ Some key
+  names-kept i key = name-kept image.table copied i key (ap (λ (l : Layout). l.cluster_bits) plan.grown.layout ∙ sym plan.bits) (λ some. plan.grown.olds i (rw (ne_eqb (block_offset (slice_index image.table.raw_entries i)) 0 some) refl))
 
   shape5 : (state after.image).shape ≡ (state image.file.image).shape
   shape5 = pointed.put.shape ∙ at5.shape
 
-  later5 : Later (state image.file.image) (state after.image)
-  later5 = later_both _ _ _ at5.later pointed.put.later
+  later5 : CountsNotFallen (state image.file.image) (state after.image)
+  later5 = later_both _ _ _ at5.counts_not_fallen pointed.put.counts_not_fallen
 
   faults5 : (state mid).faults ≡ (state image.file.image).faults
   faults5 = at5.cause
 
   -- The pointer wasn't written: the call was cut off.
-  pub not-pointed : (fault : Fault) → result ≡ Err fault → (table' : TableValue) → table' ≡ image.table → MovedTable fC.header after.header → FillsRoom state known run copy image (failed fault) (lent table' C after image.pending)
+  pub not-pointed : (fault : Fault) → result ≡ Err fault → (table' : TableValue) → table' ≡ image.table → MovedTable fC.header after.header → FillsFreeArea state known run copy image (failed fault) (image_state table' C after image.pending)
   not-pointed fault is table' same moved =
       let cause : Cause (state mid).faults (state after.image).faults fault = put-refused (state mid) (state after.image) 0 (first_bytes (naming_table fC.header copy).fields) result pointed.put fault is in
       record {
         leaked = λ _. 0;
         leaks = record { none = λ not c. refl; pinned = λ sound loose c. refl };
         shape = shape5;
-        later = later5;
-        faults = λ mild. absurd (never-mild _ _ fault cause mild);
-        quiet = λ e. quietly-given (IsMild fault) (λ _. 0) (λ _. 0) (state image.file.image) m0 (state after.image) (metadata_of state after C table' image.pending) shape5 later5 (λ keeps sound.
+        counts_not_fallen = later5;
+        faults = λ not_resource_error. absurd (never-mild _ _ fault cause not_resource_error);
+        guest_unchanged = λ e. quietly-given (IsNotResourceError fault) (λ _. 0) (λ _. 0) (state image.file.image) m0 (state after.image) (metadata_of state after C table' image.pending) shape5 later5 (λ keeps sound.
             let given : Known = (keeps, (free e).0, sound, (free e).1) in
             let q = quietly-then ⊤ (result ≡ Ok tt) handed (λ _. 0) (formerly m5) (newly_counted m5 place n) (state image.file.image) m0 (state mid) m5 (state after.image) (with_table m5 copied place n (bytes_of (state after.image).bytes)) tt
-            (λ s c some. refl) (at5.quiet (free e).0 (λ s. (free e).1)) (pointer given) in
-            record { shape = shape5; later = later5; passes = q.passes; holds = λ k s mild. absurd (never-mild _ _ fault cause mild) });
-        raised = λ e keeps sound mild. absurd (never-mild _ _ fault cause mild);
+            (λ s c some. refl) (at5.guest_unchanged (free e).0 (λ s. (free e).1)) (pointer given) in
+            record { shape = shape5; counts_not_fallen = later5; passes = q.passes; holds = λ k s not_resource_error. absurd (never-mild _ _ fault cause not_resource_error) });
+        raised = λ e keeps sound not_resource_error. absurd (never-mild _ _ fault cause not_resource_error);
         order = takes.counts.order;
         moved = subst (λ (h : Header). MovedTable h after.header) takes.counts.header moved;
-        longer = subst (λ (t : TableValue). length image.table.words ≤ length t.words) (sym same) (omega arith);
-        loose = λ any loose. subst (λ (t : TableValue). IsLoose t C any) (sym same) (takes.counts.loose any loose);
+        longer = subst (λ (t : TableValue). length image.table.raw_entries ≤ length t.raw_entries) (sym same) (omega arith);
+        keeps_unpinned_room = λ any loose. subst (λ (t : TableValue). HasUnpinnedRoom t C any) (sym same) (takes.counts.keeps_unpinned_room any loose);
         room = takes.counts.room;
         counts = λ e keeps sound. tt;
         table_is = tt;
-        stays = λ mild. absurd (never-mild _ _ fault cause mild);
+        stays = λ not_resource_error. absurd (never-mild _ _ fault cause not_resource_error);
         cause = storage-cause _ _ _ (omega (arith, faults5)) (omega arith) fault cause;
       }
     where
-      put-refused : (a b : StorageState) (at : ℕ) (bytes : List ℕ) (r : Result Unit Fault) → Put a b at bytes r → (fault : Fault) → r ≡ Err fault → Cause a.faults b.faults fault
+      put-refused : (a b : StorageState) (at : ℕ) (bytes : List ℕ) (r : Result Unit Fault) → WriteOutcome a b at bytes r → (fault : Fault) → r ≡ Err fault → Cause a.faults b.faults fault
       put-refused a b at bytes (Ok v) put fault is = absurd (cc is)
       put-refused a b at bytes (Err other) put fault is = subst (λ (f : Fault). Cause a.faults b.faults f) (let e = is in cc) put.answer.cause
 
@@ -236,7 +236,7 @@ module _ {S : Type 0} (state : S → StorageState) (image : ImageState S) (run :
     unused : (given : Known) → (c : ℕ) → IsUsed m0 c → (newly_counted m5 place n c ≡ 0) × (covers c (old_run m4) ≡ 0)
     unused given c used = (
       (let is = handed-is given c in let whole = part-whole at5.part at5.whole c in let mine_none = ours-unused state image run given.3 c used in
-          let few = part-few (block_offset (slice_index image.table.words (c / counters_of_block fC.header.fields))) (covers c (run_of run.first run.len)) in omega (arith, is, whole, mine_none, few)),
+          let few = part-few (block_offset (slice_index image.table.raw_entries (c / counters_of_block fC.header.fields))) (covers c (run_of run.first run.len)) in omega (arith, is, whole, mine_none, few)),
       (let off = old-run-unused m0 c used in
           let there : formerly m5 c ≡ formerly m0 c = ap (λ (h : Header). meets h.fields c h.fields.refcount_table_offset (h.fields.refcount_table_clusters * cluster_size h.fields)) takes.counts.header in
           let is = formerly-is given c in omega (arith, off, there, is)),
@@ -248,34 +248,34 @@ module _ {S : Type 0} (state : S → StorageState) (image : ImageState S) (run :
           | inr some ↦ rw (ne_eqb w 0 some) (omega arith)
         ]
 
-    quiet-all : known → Quietly ⊤ (λ _. 0) (λ _. 0) (state image.file.image) m0 (state after.image) M
+    quiet-all : known → PreservesGuest ⊤ (λ _. 0) (λ _. 0) (state image.file.image) m0 (state after.image) M
     quiet-all e =
         quietly-given ⊤ (λ _. 0) (λ _. 0) (state image.file.image) m0 (state after.image) M shape5 later5 (λ keeps sound.
         let given : Known = (keeps, (free e).0, sound, (free e).1) in
         let last = waits-quietly m4 run n copy (sound4 given) (low4 given) plan.grown plan.room (taken4 given) (state fC.image) (state mid) refl (keeps4 given) put mine used4 (unlisted4 given) (counted m0) (counts4 given) given.3
         fit refl sizes (state after.image) result pointed in
-        let so : Quietly ⊤ (formerly m5) (λ c. newly_counted m5 place n c + covers c (old_run m4)) (state mid) m5 (state after.image) m7 = quietly-weaker (result ≡ Ok tt) ⊤ _ _ _ _ _ _ (λ s v. done) last in
-        to-after given (λ m. Quietly ⊤ (λ _. 0) (λ _. 0) (state image.file.image) m0 (state after.image) m)
+        let so : PreservesGuest ⊤ (formerly m5) (λ c. newly_counted m5 place n c + covers c (old_run m4)) (state mid) m5 (state after.image) m7 = quietly-weaker (result ≡ Ok tt) ⊤ _ _ _ _ _ _ (λ s v. done) last in
+        to-after given (λ m. PreservesGuest ⊤ (λ _. 0) (λ _. 0) (state image.file.image) m0 (state after.image) m)
         (quietly-otherwise ⊤ (λ c. handed c + formerly m5 c) (λ c. 0 + (newly_counted m5 place n c + covers c (old_run m4))) (λ _. 0) (λ _. 0) (state image.file.image) m0 (state after.image) m7
         (λ s c. let is = handed-is given c in let was = formerly-is given c in omega (arith, is, was))
         (λ s c used none. let off = unused given c used in omega (arith, off.0, off.1))
-        (quietly-then ⊤ ⊤ handed (λ _. 0) (formerly m5) (λ c. newly_counted m5 place n c + covers c (old_run m4)) (state image.file.image) m0 (state mid) m5 (state after.image) m7 tt (λ s c some. refl) (at5.quiet (free e).0 (λ s. (free e).1)) so)))
+        (quietly-then ⊤ ⊤ handed (λ _. 0) (formerly m5) (λ c. newly_counted m5 place n c + covers c (old_run m4)) (state image.file.image) m0 (state mid) m5 (state after.image) m7 tt (λ s c some. refl) (at5.guest_unchanged (free e).0 (λ s. (free e).1)) so)))
 
-    pub filled : FillsRoom state known run copy image succeeded (lent table' C after then_waits)
+    pub filled : FillsFreeArea state known run copy image succeeded (image_state table' C after then_waits)
     filled = record {
       leaked = λ _. 0;
       leaks = record { none = λ not c. refl; pinned = λ sound loose c. refl };
       shape = shape5;
-      later = later5;
-      faults = λ whole. faultless-then (at5.faults tt) (put-faultless (state mid) (state after.image) _ _ result pointed.put (subst (λ (r : Result Unit Fault). WasNotCutOff r) (sym done) tt));
-      quiet = quiet-all;
+      counts_not_fallen = later5;
+      faults = λ whole. faultless-then (at5.faults tt) (put-faultless (state mid) (state after.image) _ _ result pointed.put (subst (λ (r : Result Unit Fault). HadNoResourceError r) (sym done) tt));
+      guest_unchanged = quiet-all;
       raised = λ e keeps sound whole c.
           let given : Known = (keeps, (free e).0, sound, (free e).1) in
           run-raised (counted m0 c) (counted M c) run.first run.len c (λ from to. given.3 c from to) (counts-all given c);
       order = takes.counts.order;
-      moved = subst (λ (h : Header). MovedTable h after.header) takes.counts.header (table_place copy, n, header);
-      longer = subst (λ (t : TableValue). length image.table.words ≤ length t.words) (sym same) plan.grown.longer;
-      loose = λ any loose. subst (λ (t : TableValue). IsLoose t C any) (sym same) (loose-named image.table copied C names-kept any (takes.counts.loose any loose));
+      moved = subst (λ (h : Header). MovedTable h after.header) takes.counts.header (table_start copy, n, header);
+      longer = subst (λ (t : TableValue). length image.table.raw_entries ≤ length t.raw_entries) (sym same) plan.grown.longer;
+      keeps_unpinned_room = λ any loose. subst (λ (t : TableValue). HasUnpinnedRoom t C any) (sym same) (loose-named image.table copied C names-kept any (takes.counts.keeps_unpinned_room any loose));
       room = takes.counts.room;
       counts = λ e keeps sound. counts-all (keeps, (free e).0, sound, (free e).1);
       table_is = same;
@@ -283,7 +283,7 @@ module _ {S : Type 0} (state : S → StorageState) (image : ImageState S) (run :
       cause = faults-on (state mid) (state after.image) result pointed.put done ∙ faults5;
     }
       where
-        faults-on : (a b : StorageState) (r : Result Unit Fault) {at : ℕ} {bytes : List ℕ} → Put a b at bytes r → r ≡ Ok tt → b.faults ≡ a.faults
+        faults-on : (a b : StorageState) (r : Result Unit Fault) {at : ℕ} {bytes : List ℕ} → WriteOutcome a b at bytes r → r ≡ Ok tt → b.faults ≡ a.faults
         faults-on a b (Ok v) put is = put.answer.faults
         faults-on a b (Err fault) put is = absurd (cc is)
 
@@ -299,29 +299,29 @@ module _ {S : Type 0} (state : S → StorageState) (image : ImageState S) (run :
 -- In all: the room was taken, and then the table moved.
 pub room-filled : {S : Type 0} (state : S → StorageState) (s : ImageState S) (run : Run) (copy : TableValue)
     (known : Type 0) (free : known → (order_of s.caches ≡ L2DependsOnRb) × IsUncounted (metadata state s) run)
-    (C : MetadataCaches S) (fC : ImageFile S) (takes : TakesRoom state run s succeeded (lent s.table C fC s.pending)) (plan : IsPlan fC.header.fields s.table run copy)
-    (result : Result Unit Fault) (table' : TableValue) (after : ImageFile S) → MovesTable state copy s.table fC result table' after → FillsRoom state known run copy s result (lent table' C after (waiting_then result s.file.header.fields s.pending))
+    (C : MetadataCaches S) (fC : ImageFile S) (takes : TakesFreeArea state run s succeeded (image_state s.table C fC s.pending)) (plan : IsPlan fC.header.fields s.table run copy)
+    (result : Result Unit Fault) (table' : TableValue) (after : ImageFile S) → MovesTable state copy s.table fC result table' after → FillsFreeArea state known run copy s result (image_state table' C after (waiting_then result s.file.header.fields s.pending))
 room-filled {S} state s run copy known free C fC takes plan result table' after moves = by-done moves.done refl
   where
-    put-as : (d : Result Unit Fault) → moves.done ≡ d → Put (state fC.image) (state moves.mid) (table_place copy) (table_bytes copy.words) d
-    put-as d is = subst (λ (r : Result Unit Fault). Put (state fC.image) (state moves.mid) (table_place copy) (table_bytes copy.words) r) is moves.put
+    put-as : (d : Result Unit Fault) → moves.done ≡ d → WriteOutcome (state fC.image) (state moves.mid) (table_start copy) (table_bytes copy.raw_entries) d
+    put-as d is = subst (λ (r : Result Unit Fault). WriteOutcome (state fC.image) (state moves.mid) (table_start copy) (table_bytes copy.raw_entries) r) is moves.put
 
-    by-result : (r : Result Unit Fault) → result ≡ r → moves.done ≡ Ok tt → FillsRoom state known run copy s result (lent table' C after (waiting_then result s.file.header.fields s.pending))
+    by-result : (r : Result Unit Fault) → result ≡ r → moves.done ≡ Ok tt → FillsFreeArea state known run copy s result (image_state table' C after (waiting_then result s.file.header.fields s.pending))
     by-result (Ok v) is done =
         let both = subst (λ (r : Result Unit Fault). OnOk r ((table' ≡ record copy { modified = false }) × (after.header ≡ naming_table fC.header copy))) is moves.ok in
-        subst (λ (r : Result Unit Fault). FillsRoom state known run copy s r (lent table' C after (waiting_then r s.file.header.fields s.pending))) (sym is)
+        subst (λ (r : Result Unit Fault). FillsFreeArea state known run copy s r (image_state table' C after (waiting_then r s.file.header.fields s.pending))) (sym is)
         (filled state s run copy known free C fC takes plan moves.mid (put-as (Ok tt) done) (moves.fit done) (moves.sizes done) after result (moves.pointed done) is table' both.0 both.1)
     by-result (Err fault) is done =
         let both = subst (λ (r : Result Unit Fault). OnErr r ((table' ≡ s.table) × MovedTable fC.header after.header)) is moves.err in
-        subst (λ (r : Result Unit Fault). FillsRoom state known run copy s r (lent table' C after (waiting_then r s.file.header.fields s.pending))) (sym is)
+        subst (λ (r : Result Unit Fault). FillsFreeArea state known run copy s r (image_state table' C after (waiting_then r s.file.header.fields s.pending))) (sym is)
         (not-pointed state s run copy known free C fC takes plan moves.mid (put-as (Ok tt) done) (moves.fit done) (moves.sizes done) after result (moves.pointed done) fault is table' both.0 both.1)
 
-    by-done : (d : Result Unit Fault) → moves.done ≡ d → FillsRoom state known run copy s result (lent table' C after (waiting_then result s.file.header.fields s.pending))
+    by-done : (d : Result Unit Fault) → moves.done ≡ d → FillsFreeArea state known run copy s result (image_state table' C after (waiting_then result s.file.header.fields s.pending))
     by-done (Ok v) is = by-result result refl is
     by-done (Err fault) is =
         let stop = moves.stopped fault is in
         let both = subst (λ (r : Result Unit Fault). OnErr r ((table' ≡ s.table) × MovedTable fC.header after.header)) stop.0 moves.err in
-        subst (λ (r : Result Unit Fault). FillsRoom state known run copy s r (lent table' C after (waiting_then r s.file.header.fields s.pending))) (sym stop.0)
-        (subst (λ (t : TableValue). FillsRoom state known run copy s (failed fault) (lent t C after s.pending)) (sym both.0)
-        (subst (λ (f : ImageFile S). FillsRoom state known run copy s (failed fault) (lent s.table C f s.pending)) (sym stop.1)
+        subst (λ (r : Result Unit Fault). FillsFreeArea state known run copy s r (image_state table' C after (waiting_then r s.file.header.fields s.pending))) (sym stop.0)
+        (subst (λ (t : TableValue). FillsFreeArea state known run copy s (failed fault) (image_state t C after s.pending)) (sym both.0)
+        (subst (λ (f : ImageFile S). FillsFreeArea state known run copy s (failed fault) (image_state s.table C f s.pending)) (sym stop.1)
         (not-filled state s run copy known free fault C (record { image = moves.mid; header = fC.header }) (table-written state s run copy C fC takes plan moves.mid (failed fault) (put-as (failed fault) is)))))

@@ -6,7 +6,7 @@ use Rattle.std.proofs.lemmas.Bool.Decides.{nat_tests}
 use Rattle.std.proofs.lemmas.Nat.{le-div}
 use Rattle.std.proofs.Math.Nat.{div-mul-le_self}
 use Rattle.imago_storage.specs.State.{StorageState}
-use Rattle.imago_storage.specs.Through.{Put, PutAtOnce}
+use Rattle.imago_storage.specs.Through.{WriteOutcome, AtomicWriteOutcome}
 use Rattle.imago_storage.specs.declared.fault.Fault.{Fault}
 use Rattle.qcow2_types.specs.Bytes.{bytes_of, splice}
 use Rattle.qcow2_types.specs.Counts.{block_at, counters_of_block}
@@ -24,13 +24,13 @@ use Rattle.qcow2_types.proofs.Changes.Frames.{refcount_table-part}
 use Rattle.qcow2_types.proofs.Fields.HeaderLimits.{header-limited}
 use Rattle.qcow2_types.proofs.Switching.HeaderSwitch.{switch-header, name-behind}
 use Rattle.qcow2_types.proofs.Changes.WriteBack.{place-whole}
-use Rattle.qcow2_metadata.specs.Tables.{TableValue, table_place}
+use Rattle.qcow2_metadata.specs.Tables.{TableValue, table_start}
 use Rattle.qcow2_alloc.specs.declared.allocation.searching.Run.{Run}
 use Rattle.qcow2_alloc.specs.FreeList.{covers}
 use Rattle.qcow2_alloc.specs.Growing.{lacks}
 use Rattle.qcow2_alloc.specs.MakingRoom.{run_of, rank, newly, formerly, newly_counted, IsReadyTable, IsGrownTable, TableSwitched, with_table}
-use Rattle.qcow2_alloc.specs.MovingTables.{IsGrownCopy, HasRoomFor, IsTaken, naming_table}
-use Rattle.qcow2_alloc.specs.Quiet.{Metadata, in_memory, counted, referenced, waiting, IsUsed, IsSound, IsIn, Quietly}
+use Rattle.qcow2_alloc.specs.MovingTables.{IsGrownCopy, HasFreeAreaFor, IsTaken, naming_table}
+use Rattle.qcow2_alloc.specs.GuestView.{Metadata, in_memory, counted, referenced, waiting, IsUsed, IsSound, IsIn, PreservesGuest}
 use Rattle.qcow2_alloc.proofs.Blocks.RunCounts.{covers-behind}
 use Rattle.qcow2_alloc.proofs.Searching.FreeClusters.{old-table-waits}
 use Rattle.qcow2_alloc.proofs.Growth.LongerReftables.{covers-inside, covers-before, newly-run, old-counts, new-counts}
@@ -39,13 +39,13 @@ use Rattle.qcow2_alloc.proofs.Memory.MemoryWords.{places-in-memory}
 use Rattle.qcow2_alloc.proofs.Growth.TableMoves.{place-there, all-are, table-grown, table-ready}
 use Rattle.qcow2_alloc.proofs.Blocks.NewBlockNames.{lack-here}
 use Rattle.qcow2_alloc.proofs.Memory.Patches.{shaped-in}
-use Rattle.qcow2_alloc.proofs.Quiet.QuietNames.{table-names}
-use Rattle.qcow2_alloc.proofs.Quiet.QuietSequences.{quiet-then, quiet-otherwise}
+use Rattle.qcow2_alloc.proofs.GuestView.QuietNames.{table-names}
+use Rattle.qcow2_alloc.proofs.GuestView.QuietSequences.{quiet-then, quiet-otherwise}
 use Rattle.qcow2_alloc.proofs.Growth.TableSwitches.{switch-quietly, switch-names, sound-sizes}
 
 -- 1 where a cluster of a run has a block that counts it, else 0
 abbrev pub part_named : TableValue → ℕ → Run → ℕ → ℕ
-part_named table k run c = if block_offset (slice_index table.words (c / k)) == 0 then 0 else covers c (run_of run.first run.len)
+part_named table k run c = if block_offset (slice_index table.raw_entries (c / k)) == 0 then 0 else covers c (run_of run.first run.len)
 
 empty-part : (w x : ℕ) → w ≡ 0 → (if w == 0 then 0 else x) ≡ 0
 empty-part w x none = rw none refl
@@ -62,7 +62,7 @@ old_run m = run_of (m.header.fields.refcount_table_offset / cluster_size m.heade
 
 pub old-run-is : (m : Metadata) → IsSound m → (c : ℕ) → covers c (old_run m) ≡ formerly m c
 old-run-is m sound c =
-    let limited = header-limited true m.file m.header sound.safe.consistent.readable.loads in
+    let limited = header-limited true m.file m.header sound.well_formed.consistent.readable.loads in
     covers-meets m.header.fields c (old_run m)
     ∙ ap (λ p. meets m.header.fields c p (m.header.fields.refcount_table_clusters * cluster_size m.header.fields)) (place-whole m.header.fields.cluster_bits m.header.fields.refcount_table_offset limited.refcount_place)
 
@@ -71,8 +71,8 @@ pub old-run-unused : (m : Metadata) (c : ℕ) → IsUsed m c → formerly m c �
 old-run-unused m c used = let part = refcount_table-part m.file m.header.fields (meets m.header.fields c) in let none = used.apart in omega (arith, part, none)
 
 -- An image m has a taken run, to which a grown table was written, by a storage that keeps it: so it became m'.
-module _ (m : Metadata) (run : Run) (n : ℕ) (copy : TableValue) (sound : IsSound m) (low : 9 ≤ m.header.fields.cluster_bits) (grown : IsGrownCopy m.header.fields m.table run n copy) (room : HasRoomFor m.header.fields m.table run n) (taken : IsTaken m run)
-    (old new : StorageState) (is_in : IsIn old m) (keeps : IsTrue old.shape.keeps) (put : Put {T = Unit {0}} old new (table_place copy) (table_bytes copy.words) (Ok tt)) (mine : ℕ → ℕ) (used : (c : ℕ) → run.first ≤ c → c < run.first + run.len → 0 < mine c)
+module _ (m : Metadata) (run : Run) (n : ℕ) (copy : TableValue) (sound : IsSound m) (low : 9 ≤ m.header.fields.cluster_bits) (grown : IsGrownCopy m.header.fields m.table run n copy) (room : HasFreeAreaFor m.header.fields m.table run n) (taken : IsTaken m run)
+    (old new : StorageState) (is_in : IsIn old m) (keeps : IsTrue old.shape.keeps) (put : WriteOutcome {T = Unit {0}} old new (table_start copy) (table_bytes copy.raw_entries) (Ok tt)) (mine : ℕ → ℕ) (used : (c : ℕ) → run.first ≤ c → c < run.first + run.len → 0 < mine c)
     (unlisted : (c : ℕ) → run.first ≤ c → c < run.first + run.len → waiting m c ≡ 0) (was : ℕ → ℕ) (counts : (c : ℕ) → counted m c ≡ was c + part_named m.table (counters_of_block m.header.fields) run c) (zero : (c : ℕ) → run.first ≤ c → c < run.first + run.len → was c ≡ 0) where
   abbrev h : Fields
   h = m.header.fields
@@ -88,16 +88,16 @@ module _ (m : Metadata) (run : Run) (n : ℕ) (copy : TableValue) (sound : IsSou
 
   -- where it stands
   abbrev place : ℕ
-  place = run.first + rank (lacks m.table (counters_of_block m.header.fields) run.first run.len) (length copy.words)
+  place = run.first + rank (lacks m.table (counters_of_block m.header.fields) run.first run.len) (length copy.raw_entries)
 
   abbrev m5 : Metadata
   m5 = record m { file = bytes_of new.bytes }
 
   some-k : 0 < k
-  some-k = some-counters m.header.fields (shaped-in m.file m.header sound.safe.consistent)
+  some-k = some-counters m.header.fields (shaped-in m.file m.header sound.well_formed.consistent)
 
   -- What the run has that isn't lacking has a block.
-  block-there : (c : ℕ) → run.first ≤ c → c < run.first + run.len → lack (c / k) ≡ false → block_offset (slice_index m.table.words (c / k)) ≢ 0
+  block-there : (c : ℕ) → run.first ≤ c → c < run.first + run.len → lack (c / k) ≡ false → block_offset (slice_index m.table.raw_entries (c / k)) ≢ 0
   block-there c from to off none =
       let whole : c / k * k ≤ c = div-mul-le_self c k in
       let low_part : run.first / k * k ≤ run.first = div-mul-le_self run.first k in
@@ -107,7 +107,7 @@ module _ (m : Metadata) (run : Run) (n : ℕ) (copy : TableValue) (sound : IsSou
   enough : (c : ℕ) → run.first ≤ c → c < run.first + run.len → lack (c / k) ≡ false → 1 ≤ counted m c
   enough c from to off =
       let is = counts c in
-      let part = there-part (block_offset (slice_index m.table.words (c / k))) (covers c (run_of run.first run.len)) (block-there c from to off) in
+      let part = there-part (block_offset (slice_index m.table.raw_entries (c / k))) (covers c (run_of run.first run.len)) (block-there c from to off) in
       let one = covers-inside c run.first run.len from to in
       omega (arith, is, part, one)
 
@@ -117,16 +117,16 @@ module _ (m : Metadata) (run : Run) (n : ℕ) (copy : TableValue) (sound : IsSou
   ready : IsSound m5 → IsReadyTable m5 copied place n
   ready sound' = table-ready m run n copy sound low grown room taken old new is_in keeps (Ok tt) put mine used refl sound' unlisted enough
 
-  place-is : table_place copy ≡ place * cluster_size h
+  place-is : table_start copy ≡ place * cluster_size h
   place-is = place-there m run n copy sound low grown room taken
 
-  run-is : rank lack (length copy.words) + n ≡ run.len
+  run-is : rank lack (length copy.raw_entries) + n ≡ run.len
   run-is = all-are m run n copy sound low grown room taken
 
-  covers-run : (c : ℕ) → covers c (run_of run.first (rank lack (length copy.words) + n)) ≡ covers c (run_of run.first run.len)
+  covers-run : (c : ℕ) → covers c (run_of run.first (rank lack (length copy.raw_entries) + n)) ≡ covers c (run_of run.first run.len)
   covers-run c = ap (λ l. covers c (run_of run.first l)) run-is
 
-  not-in-run : (c : ℕ) → lack (c / k) ≡ false → block_offset (slice_index m.table.words (c / k)) ≡ 0 → covers c (run_of run.first run.len) ≡ 0
+  not-in-run : (c : ℕ) → lack (c / k) ≡ false → block_offset (slice_index m.table.raw_entries (c / k)) ≡ 0 → covers c (run_of run.first run.len) ≡ 0
   not-in-run c off none = elim (cases_lt c run.first) [
     | inl lt ↦ covers-before c run.first run.len lt
     | inr from ↦ elim (cases_lt c (run.first + run.len)) [
@@ -140,32 +140,32 @@ module _ (m : Metadata) (run : Run) (n : ℕ) (copy : TableValue) (sound : IsSou
   part-is sound' c = elim (cases_Bool (lack (c / k))) [
     | inl is ↦
         new-counts m5 copied run.first n lack sound' grown-there c is
-        ∙ sym (empty-part (block_offset (slice_index m.table.words (c / k))) (covers c (run_of run.first run.len)) (first-empty (block_offset (slice_index m.table.words (c / k))) _ is))
+        ∙ sym (empty-part (block_offset (slice_index m.table.raw_entries (c / k))) (covers c (run_of run.first run.len)) (first-empty (block_offset (slice_index m.table.raw_entries (c / k))) _ is))
     | inr off ↦
-        old-counts m5 copied run.first n lack sound' grown-there c off ∙ covers-run c ∙ sym (elim (cases_eq (block_offset (slice_index m.table.words (c / k))) 0) [
-          | inl none ↦ empty-part (block_offset (slice_index m.table.words (c / k))) (covers c (run_of run.first run.len)) none ∙ sym (not-in-run c off none)
-          | inr some ↦ there-part (block_offset (slice_index m.table.words (c / k))) (covers c (run_of run.first run.len)) some
+        old-counts m5 copied run.first n lack sound' grown-there c off ∙ covers-run c ∙ sym (elim (cases_eq (block_offset (slice_index m.table.raw_entries (c / k))) 0) [
+          | inl none ↦ empty-part (block_offset (slice_index m.table.raw_entries (c / k))) (covers c (run_of run.first run.len)) none ∙ sym (not-in-run c off none)
+          | inr some ↦ there-part (block_offset (slice_index m.table.raw_entries (c / k))) (covers c (run_of run.first run.len)) some
         ])
   ]
 
   -- The header's pointer is written.
   module _ (fit : FirstFieldsFit (naming_table m.header copy).fields) (clusters : (naming_table m.header copy).fields.refcount_table_clusters ≡ n) (sizes : first_fault (rules_of_size h) ≡ None → first_fault (rules_of_size (naming_table m.header copy).fields) ≡ None)
-      (last : StorageState) (result : Result Unit Fault) (pointed : PutAtOnce new last 0 (first_bytes (naming_table m.header copy).fields) result) where
+      (last : StorageState) (result : Result Unit Fault) (pointed : AtomicWriteOutcome new last 0 (first_bytes (naming_table m.header copy).fields) result) where
     abbrev H' : Header
     H' = with_refcount_table m.header (place * cluster_size m.header.fields) n
 
     pub header-is : naming_table m.header copy ≡ H'
-    header-is = ap (λ (c : ℕ). with_refcount_table m.header (table_place copy) c) clusters ∙ ap (λ (p : ℕ). with_refcount_table m.header p n) place-is
+    header-is = ap (λ (c : ℕ). with_refcount_table m.header (table_start copy) c) clusters ∙ ap (λ (p : ℕ). with_refcount_table m.header p n) place-is
 
     loads : IsSound m5 → header_of true (splice m5.file 0 (first_bytes H'.fields)) ≡ Ok H'
     loads sound' =
-        let loaded = sound'.safe.consistent.readable.loads in
+        let loaded = sound'.well_formed.consistent.readable.loads in
         let only : OnlyPlaces m.header H' = record { same = refl } in
         switch-header true m5.file m.header H' loaded only (subst (λ (H : Header). FirstFieldsFit H.fields) header-is fit)
         (subst (λ (H : Header). first_fault (rules_of_size H.fields) ≡ None) header-is (sizes (sound-sizes m sound))) (name-behind m5.file m.header loaded)
 
-    at-once : PutAtOnce new last 0 (first_bytes H'.fields) result
-    at-once = subst (λ (H : Header). PutAtOnce new last 0 (first_bytes H.fields) result) header-is pointed
+    at-once : AtomicWriteOutcome new last 0 (first_bytes H'.fields) result
+    at-once = subst (λ (H : Header). AtomicWriteOutcome new last 0 (first_bytes H.fields) result) header-is pointed
 
     abbrev m6 : Metadata
     m6 = with_table m5 copied place n (bytes_of last.bytes)
@@ -173,7 +173,7 @@ module _ (m : Metadata) (run : Run) (n : ℕ) (copy : TableValue) (sound : IsSou
     abbrev pub m7 : Metadata
     m7 = record m6 { pending = m.pending ++ old_run m ∷ [] }
 
-    pub pointer-quietly : Quietly (result ≡ Ok tt) (formerly m5) (newly_counted m5 place n) new m5 last m6
+    pub pointer-quietly : PreservesGuest (result ≡ Ok tt) (formerly m5) (newly_counted m5 place n) new m5 last m6
     pointer-quietly = switch-quietly m5 copied place n new last refl ready loads result at-once
 
     switched : IsTrue new.shape.keeps → IsSound m5 → result ≡ Ok tt → TableSwitched m5 m6 place n
@@ -184,7 +184,7 @@ module _ (m : Metadata) (run : Run) (n : ℕ) (copy : TableValue) (sound : IsSou
     taken-unnamed sound' c some = elim (cases_lt 0 (newly_counted m5 place n c)) [
       | inr least ↦ omega (arith, least)
       | inl new_there ↦
-          let places = places-in-memory m5.file m5.header sound'.safe.consistent m5.cached sound'.safe.tables sound'.safe.blocks in
+          let places = places-in-memory m5.file m5.header sound'.well_formed.consistent m5.cached sound'.well_formed.tables sound'.well_formed.blocks in
           let le = refs-cached m5.file (in_memory m5) m5.header.fields c places in
           let none = ((ready sound').free c (weighs (block_at m5.file h (c / k)) (newly m5 place n c) new_there)).0 in
           absurd (omega (arith, some, le, none))
@@ -197,12 +197,12 @@ module _ (m : Metadata) (run : Run) (n : ℕ) (copy : TableValue) (sound : IsSou
         ]
 
     -- Then the clusters of the old table wait.
-    pub waits-quietly : Quietly (result ≡ Ok tt) (formerly m5) (λ c. newly_counted m5 place n c + covers c (old_run m)) new m5 last m7
+    pub waits-quietly : PreservesGuest (result ≡ Ok tt) (formerly m5) (λ c. newly_counted m5 place n c + covers c (old_run m)) new m5 last m7
     waits-quietly =
         let q = pointer-quietly in
         record {
           shape = q.shape;
-          later = q.later;
+          counts_not_fallen = q.counts_not_fallen;
           passes = q.passes;
           holds = λ keeps' sound' done.
               let six = q.holds keeps' sound' done in
@@ -226,6 +226,6 @@ module _ (m : Metadata) (run : Run) (n : ℕ) (copy : TableValue) (sound : IsSou
               omega (arith, own.0, own.1, five, four, all)
           | inr there ↦
               let stays = (s.others c there).0 in
-              let part = there-part (block_offset (slice_index m.table.words (c / k))) (covers c (run_of run.first run.len)) (λ none. there (table-names m5 sound' (c / k) ∙ none)) in
+              let part = there-part (block_offset (slice_index m.table.raw_entries (c / k))) (covers c (run_of run.first run.len)) (λ none. there (table-names m5 sound' (c / k) ∙ none)) in
               omega (arith, stays, five, four, part)
         ]

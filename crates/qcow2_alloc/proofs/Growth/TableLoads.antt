@@ -5,15 +5,15 @@ use Rattle.std.proofs.lemmas.Bool.{cases_eq, ne_eqb, lt-ltb}
 use Rattle.std.proofs.lemmas.List.FromFn.{length-map-range_with_len, get_or-map-range_with_len}
 use Rattle.std.proofs.Math.Nat.{div-add-mod}
 use Rattle.imago_storage.specs.State.{StorageState}
-use Rattle.imago_storage.specs.Calls.{Kept, Cause}
+use Rattle.imago_storage.specs.Calls.{UnchangedButFaults, Cause}
 use Rattle.imago_storage.specs.declared.fault.Fault.{Fault}
 use Rattle.imago_storage.specs.declared.fault.Fault.TheVariants.{DamagedTable, Limit}
-use Rattle.qcow2_types.specs.Bytes.{Bytes, bytes_of, word}
-use Rattle.qcow2_types.specs.Words.{block_offset, l1_word_sound, max_offset}
+use Rattle.qcow2_types.specs.Bytes.{Bytes, bytes_of, raw_entry}
+use Rattle.qcow2_types.specs.Words.{block_offset, l1_entry_valid, max_offset}
 use Rattle.qcow2_types.specs.Header.{Fields, Header, Limited, header_of, cluster_size, refcount_table_entries, layout_of}
 use Rattle.qcow2_types.specs.Entries.{l1_table_sound}
 use Rattle.qcow2_types.specs.References.{meets}
-use Rattle.qcow2_types.specs.Slots.{SoundWords}
+use Rattle.qcow2_types.specs.Slots.{ValidEntries}
 use Rattle.qcow2_types.specs.Consistency.{IsConsistent, IsVerdict}
 use Rattle.qcow2_types.proofs.Counting.Consistent.{header-reading, meets-own, named-counted}
 use Rattle.qcow2_types.proofs.Counting.Counters.{some-counters}
@@ -23,23 +23,23 @@ use Rattle.qcow2_types.proofs.Counting.Leaks.{count-beyond}
 use Rattle.qcow2_types.proofs.Counting.Named.{structure-le-refs}
 use Rattle.qcow2_types.proofs.Counting.Sound.{all-below-holds, sound-words}
 use Rattle.qcow2_types.proofs.Changes.WriteBack.{place-near, place-whole}
-use Rattle.qcow2_metadata.specs.Places.{IsInReach}
-use Rattle.qcow2_metadata.specs.Tables.{TableValue, AreSound, Kind, table_in, words_in, max_entries, word_sound, WhyNotLoaded, block_words, l1_words}
+use Rattle.qcow2_metadata.specs.Places.{IsAddressable}
+use Rattle.qcow2_metadata.specs.Tables.{TableValue, AreSound, Kind, table_in, raw_entries_in, max_entries, raw_entry_valid, WhyNotLoaded, refcount_table_kind, l1_table_kind}
 use Rattle.qcow2_alloc.specs.declared.allocation.Allocator.{Allocator}
 use Rattle.qcow2_alloc.specs.declared.cache.CacheDependency.TheVariants.{Unset}
-use Rattle.qcow2_alloc.specs.Allocators.{IsTablePlaced, LoadsAllocator, table_of, mark_of}
+use Rattle.qcow2_alloc.specs.Allocators.{IsTablePlaced, LoadsAllocator, table_of, first_free_of}
 use Rattle.qcow2_alloc.specs.Opening.{IsL1Of, opened}
-use Rattle.qcow2_alloc.specs.Quiet.{IsSound, IsTableOf}
+use Rattle.qcow2_alloc.specs.GuestView.{IsSound, IsTableOf}
 use Rattle.qcow2_alloc.proofs.Caching.EmptyCaches.{empty-safe}
 use Rattle.qcow2_alloc.proofs.Caching.TableSide.{load-counted}
 use Rattle.qcow2_alloc.proofs.Memory.Patches.{shaped-in}
-use Rattle.qcow2_alloc.proofs.Quiet.QuietEntries.{safe-sound}
+use Rattle.qcow2_alloc.proofs.GuestView.QuietEntries.{safe-sound}
 
 -- the place of a table that begins with a cluster
 pub placed-whole : (h : Fields) → h.refcount_table_offset % cluster_size h ≡ 0 → h.refcount_table_offset / cluster_size h * cluster_size h ≡ h.refcount_table_offset
 placed-whole h aligned = omega (arith, div-add-mod h.refcount_table_offset (cluster_size h), aligned)
 
-pub placed-here : (h : Fields) → h.refcount_table_offset % cluster_size h ≡ 0 → IsInReach h.cluster_bits (h.refcount_table_offset / cluster_size h) → IsTablePlaced h
+pub placed-here : (h : Fields) → h.refcount_table_offset % cluster_size h ≡ 0 → IsAddressable h.cluster_bits (h.refcount_table_offset / cluster_size h) → IsTablePlaced h
 placed-here h aligned reach = record { aligned = aligned; reach = subst (λ n. n ≤ max_offset) (placed-whole h aligned) reach }
 
 pub table-of-file : (f : Bytes) (h : Fields) → IsTablePlaced h → 0 < refcount_table_entries h → IsTableOf f h (table_in f h (h.refcount_table_offset / cluster_size h) (refcount_table_entries h))
@@ -48,17 +48,17 @@ table-of-file f h placed some = record {
   long = length-map-range_with_len _ 0 (refcount_table_entries h);
   placed = by-entries (refcount_table_entries h) some;
   names = λ i lt.
-      let read : slice_index (words_in f (h.refcount_table_offset / cluster_size h * cluster_size h) (refcount_table_entries h)) i ≡ word f (h.refcount_table_offset / cluster_size h * cluster_size h) i = get_or-map-range_with_len (word f (h.refcount_table_offset / cluster_size h * cluster_size h)) 0 (refcount_table_entries h) i i 0 lt (omega arith) in
+      let read : slice_index (raw_entries_in f (h.refcount_table_offset / cluster_size h * cluster_size h) (refcount_table_entries h)) i ≡ raw_entry f (h.refcount_table_offset / cluster_size h * cluster_size h) i = get_or-map-range_with_len (raw_entry f (h.refcount_table_offset / cluster_size h * cluster_size h)) 0 (refcount_table_entries h) i i 0 lt (omega arith) in
       let inside : nat_lt i (refcount_table_entries h) ≡ true = lt-ltb i (refcount_table_entries h) lt in
-      ap block_offset (read ∙ ap (λ p. word f p i) (placed-whole h placed.aligned)) ∙ rw inside refl;
+      ap block_offset (read ∙ ap (λ p. raw_entry f p i) (placed-whole h placed.aligned)) ∙ rw inside refl;
 }
   where
     by-entries : (n : ℕ) → 0 < n → (table_in f h (h.refcount_table_offset / cluster_size h) n).cluster ≡ Some (h.refcount_table_offset / cluster_size h)
     by-entries n some = rw (ne_eqb n 0 (λ none. omega (arith, none, some))) refl
 
-pub why-placed : (f : Bytes) (h : Fields) (before after : ℕ) (fault : Fault) → h.refcount_table_offset % cluster_size h ≡ 0 → WhyNotLoaded block_words (layout_of h) (words_in f (h.refcount_table_offset / cluster_size h * cluster_size h) (refcount_table_entries h)) before after fault
-    → WhyNotLoaded block_words (layout_of h) (words_in f h.refcount_table_offset (refcount_table_entries h)) before after fault
-why-placed f h before after fault aligned why = subst (λ n. WhyNotLoaded block_words (layout_of h) (words_in f n (refcount_table_entries h)) before after fault) (placed-whole h aligned) why
+pub why-placed : (f : Bytes) (h : Fields) (before after : ℕ) (fault : Fault) → h.refcount_table_offset % cluster_size h ≡ 0 → WhyNotLoaded refcount_table_kind (layout_of h) (raw_entries_in f (h.refcount_table_offset / cluster_size h * cluster_size h) (refcount_table_entries h)) before after fault
+    → WhyNotLoaded refcount_table_kind (layout_of h) (raw_entries_in f h.refcount_table_offset (refcount_table_entries h)) before after fault
+why-placed f h before after fault aligned why = subst (λ n. WhyNotLoaded refcount_table_kind (layout_of h) (raw_entries_in f n (refcount_table_entries h)) before after fault) (placed-whole h aligned) why
 
 -- where it is loaded from
 pub record IsLoadedFrom (h : Fields) (cluster entries : ℕ) : Type 0 where
@@ -66,36 +66,36 @@ pub record IsLoadedFrom (h : Fields) (cluster entries : ℕ) : Type 0 where
   pub cluster_is : cluster ≡ h.refcount_table_offset / cluster_size h
   pub entries_are : entries ≡ refcount_table_entries h
 
-pub loaded-from : (h : Fields) (offset bits cluster entries : ℕ) → offset ≡ h.refcount_table_offset → bits ≡ h.cluster_bits → entries ≡ refcount_table_entries h → offset % 2 ^ bits ≡ 0 → cluster ≡ offset / 2 ^ bits → IsInReach bits cluster → IsLoadedFrom h cluster entries
+pub loaded-from : (h : Fields) (offset bits cluster entries : ℕ) → offset ≡ h.refcount_table_offset → bits ≡ h.cluster_bits → entries ≡ refcount_table_entries h → offset % 2 ^ bits ≡ 0 → cluster ≡ offset / 2 ^ bits → IsAddressable bits cluster → IsLoadedFrom h cluster entries
 loaded-from h offset bits cluster entries at same many aligned place reach =
     let here : cluster ≡ h.refcount_table_offset / cluster_size h = place ∙ ap (λ n. n / 2 ^ bits) at ∙ ap (λ b. h.refcount_table_offset / 2 ^ b) same in
     let aligned' : h.refcount_table_offset % cluster_size h ≡ 0 = subst (λ b. h.refcount_table_offset % 2 ^ b ≡ 0) same (subst (λ n. n % 2 ^ bits ≡ 0) at aligned) in
-    record { placed = placed-here h aligned' (subst (λ b. IsInReach b (h.refcount_table_offset / cluster_size h)) same (subst (λ n. IsInReach bits n) here reach)); cluster_is = here; entries_are = many }
+    record { placed = placed-here h aligned' (subst (λ b. IsAddressable b (h.refcount_table_offset / cluster_size h)) same (subst (λ n. IsAddressable bits n) here reach)); cluster_is = here; entries_are = many }
 
 -- the words that are loaded
 from-words : (f : Bytes) (h : Fields) (cluster entries : ℕ) → IsLoadedFrom h cluster entries
-    → words_in f (cluster * cluster_size h) entries ≡ words_in f h.refcount_table_offset (refcount_table_entries h)
+    → raw_entries_in f (cluster * cluster_size h) entries ≡ raw_entries_in f h.refcount_table_offset (refcount_table_entries h)
 from-words f h cluster entries from =
-    ap (λ n. words_in f (n * cluster_size h) entries) from.cluster_is ∙ ap (λ p. words_in f p entries) (placed-whole h from.placed.aligned)
-    ∙ ap (λ n. words_in f h.refcount_table_offset n) from.entries_are
+    ap (λ n. raw_entries_in f (n * cluster_size h) entries) from.cluster_is ∙ ap (λ p. raw_entries_in f p entries) (placed-whole h from.placed.aligned)
+    ∙ ap (λ n. raw_entries_in f h.refcount_table_offset n) from.entries_are
 
 pub table-loaded : (old : StorageState) (h : Fields) (cluster entries : ℕ) (a : Allocator) (table : TableValue) (new : StorageState)
     → IsLoadedFrom h cluster entries → table ≡ table_in (bytes_of old.bytes) h cluster entries
-    → AreSound block_words (layout_of h) (words_in (bytes_of old.bytes) (cluster * cluster_size h) entries)
-    → table_of a ≡ table → mark_of a ≡ 0 → Kept old new → new.faults ≡ old.faults → LoadsAllocator old h (Ok a) new
+    → AreSound refcount_table_kind (layout_of h) (raw_entries_in (bytes_of old.bytes) (cluster * cluster_size h) entries)
+    → table_of a ≡ table → first_free_of a ≡ 0 → UnchangedButFaults old new → new.faults ≡ old.faults → LoadsAllocator old h (Ok a) new
 table-loaded old h cluster entries a table new from is sound same mark kept faults =
     let whole : table_of a ≡ table_in (bytes_of old.bytes) h (h.refcount_table_offset / cluster_size h) (refcount_table_entries h) = same ∙ is ∙ ap (λ n. table_in (bytes_of old.bytes) h n entries) from.cluster_is ∙ ap (λ n. table_in (bytes_of old.bytes) h (h.refcount_table_offset / cluster_size h) n) from.entries_are in
     record {
       ok = (from.placed, whole, mark);
-      sound = subst (AreSound block_words (layout_of h)) (from-words (bytes_of old.bytes) h cluster entries from) sound;
+      sound = subst (AreSound refcount_table_kind (layout_of h)) (from-words (bytes_of old.bytes) h cluster entries from) sound;
       table = λ some. subst (λ (t : TableValue). IsTableOf (bytes_of old.bytes) h t) (sym whole) (table-of-file (bytes_of old.bytes) h from.placed some);
       out = λ no. absurd (no from.placed);
       err = λ placed. tt;
-      kept = kept;
+      unchanged_but_faults = kept;
       faults = λ whole. (faults, kept.refusals);
     }
 
-pub table-not-loaded : (old : StorageState) (h : Fields) (cluster entries : ℕ) (fault : Fault) (new : StorageState) → IsLoadedFrom h cluster entries → WhyNotLoaded block_words (layout_of h) (words_in (bytes_of old.bytes) (cluster * cluster_size h) entries) old.faults new.faults fault → Kept old new
+pub table-not-loaded : (old : StorageState) (h : Fields) (cluster entries : ℕ) (fault : Fault) (new : StorageState) → IsLoadedFrom h cluster entries → WhyNotLoaded refcount_table_kind (layout_of h) (raw_entries_in (bytes_of old.bytes) (cluster * cluster_size h) entries) old.faults new.faults fault → UnchangedButFaults old new
     → LoadsAllocator old h (Err fault) new
 table-not-loaded old h cluster entries fault new from why kept = record {
   ok = tt;
@@ -103,10 +103,10 @@ table-not-loaded old h cluster entries fault new from why kept = record {
   table = tt;
   out = λ no. absurd (no from.placed);
   err = λ placed. why-placed (bytes_of old.bytes) h old.faults new.faults fault from.placed.aligned
-      (subst (λ n. WhyNotLoaded block_words (layout_of h) (words_in (bytes_of old.bytes) (h.refcount_table_offset / cluster_size h * cluster_size h) n) old.faults new.faults fault) from.entries_are
-      (subst (λ n. WhyNotLoaded block_words (layout_of h) (words_in (bytes_of old.bytes) (n * cluster_size h) entries) old.faults new.faults fault) from.cluster_is why));
-  kept = kept;
-  faults = λ mild. (load-counted block_words (layout_of h) (words_in (bytes_of old.bytes) (cluster * cluster_size h) entries) old.faults new.faults fault why mild, kept.refusals);
+      (subst (λ n. WhyNotLoaded refcount_table_kind (layout_of h) (raw_entries_in (bytes_of old.bytes) (h.refcount_table_offset / cluster_size h * cluster_size h) n) old.faults new.faults fault) from.entries_are
+      (subst (λ n. WhyNotLoaded refcount_table_kind (layout_of h) (raw_entries_in (bytes_of old.bytes) (n * cluster_size h) entries) old.faults new.faults fault) from.cluster_is why));
+  unchanged_but_faults = kept;
+  faults = λ not_resource_error. (load-counted refcount_table_kind (layout_of h) (raw_entries_in (bytes_of old.bytes) (cluster * cluster_size h) entries) old.faults new.faults fault why not_resource_error, kept.refusals);
 }
 
 -- What a checker accepts is consistent by whatever header loads from it.
@@ -124,7 +124,7 @@ module _ (f : Bytes) (H : Header) (consistent : IsConsistent f H) where
   limited : Limited H.fields
   limited = header-limited true f H consistent.readable.loads
 
-  meanings : SoundWords f H.fields
+  meanings : ValidEntries f H.fields
   meanings = sound-words f H.fields consistent.readable.tables
 
   -- Its header is counted, so its refcount table has words.
@@ -152,44 +152,44 @@ module _ (f : Bytes) (H : Header) (consistent : IsConsistent f H) where
   l1-whole = place-whole H.fields.cluster_bits H.fields.l1_offset limited.l1_place
 
   -- Nothing but memory or the storage keeps a table from being loaded of which each word has a meaning.
-  loads-but : (kind : Kind) (place n : ℕ) → ((i : ℕ) → i < n → IsTrue (word_sound kind (layout_of H.fields) (word f place i))) → n ≤ max_entries kind
-      → (before after : ℕ) (fault : Fault) → WhyNotLoaded kind (layout_of H.fields) (words_in f place n) before after fault → Cause before after fault
+  loads-but : (kind : Kind) (place n : ℕ) → ((i : ℕ) → i < n → IsTrue (raw_entry_valid kind (layout_of H.fields) (raw_entry f place i))) → n ≤ max_entries kind
+      → (before after : ℕ) (fault : Fault) → WhyNotLoaded kind (layout_of H.fields) (raw_entries_in f place n) before after fault → Cause before after fault
   loads-but kind place n sound few before after (Limit number) why =
       let same = why.0 in
       let more = why.1 in
-      let long = length-map-range_with_len (word f place) 0 n in
+      let long = length-map-range_with_len (raw_entry f place) 0 n in
       absurd (omega (arith, few, same, more, long))
   loads-but kind place n sound few before after DamagedTable why =
       let bad = why.0 in
-      let inside : bad.0 < n = let lt = bad.1 in let long = length-map-range_with_len (word f place) 0 n in omega (arith, lt, long) in
-      let read : slice_index (words_in f place n) bad.0 ≡ word f place bad.0 = get_or-map-range_with_len (word f place) 0 n bad.0 bad.0 0 inside (omega arith) in
+      let inside : bad.0 < n = let lt = bad.1 in let long = length-map-range_with_len (raw_entry f place) 0 n in omega (arith, lt, long) in
+      let read : slice_index (raw_entries_in f place n) bad.0 ≡ raw_entry f place bad.0 = get_or-map-range_with_len (raw_entry f place) 0 n bad.0 bad.0 0 inside (omega arith) in
       let good = sound bad.0 inside in
-      let no : word_sound kind (layout_of H.fields) (word f place bad.0) ≡ false = subst (λ w. word_sound kind (layout_of H.fields) w ≡ false) read bad.2 in
+      let no : raw_entry_valid kind (layout_of H.fields) (raw_entry f place bad.0) ≡ false = subst (λ w. raw_entry_valid kind (layout_of H.fields) w ≡ false) read bad.2 in
       absurd (let e = sym good ∙ no in cc)
   loads-but kind place n sound few before after fault why = why
 
   pub allocator-refused : (s s' : StorageState) (fault : Fault) → bytes_of s.bytes ≡ f → LoadsAllocator s H.fields (Err fault) s' → Cause s.faults s'.faults fault
   allocator-refused s s' fault is loads =
-      loads-but block_words H.fields.refcount_table_offset (refcount_table_entries H.fields) meanings.blocks limited.refcount_entries s.faults s'.faults fault
-      (subst (λ (g : Bytes). WhyNotLoaded block_words (layout_of H.fields) (words_in g H.fields.refcount_table_offset (refcount_table_entries H.fields)) s.faults s'.faults fault) is (loads.err reftable-placed))
+      loads-but refcount_table_kind H.fields.refcount_table_offset (refcount_table_entries H.fields) meanings.blocks limited.refcount_entries s.faults s'.faults fault
+      (subst (λ (g : Bytes). WhyNotLoaded refcount_table_kind (layout_of H.fields) (raw_entries_in g H.fields.refcount_table_offset (refcount_table_entries H.fields)) s.faults s'.faults fault) is (loads.err reftable-placed))
 
-  pub l1-refused : (before after : ℕ) (fault : Fault) → WhyNotLoaded l1_words (layout_of H.fields) (words_in f (H.fields.l1_offset / cluster_size H.fields * cluster_size H.fields) H.fields.l1_entries) before after fault → Cause before after fault
+  pub l1-refused : (before after : ℕ) (fault : Fault) → WhyNotLoaded l1_table_kind (layout_of H.fields) (raw_entries_in f (H.fields.l1_offset / cluster_size H.fields * cluster_size H.fields) H.fields.l1_entries) before after fault → Cause before after fault
   l1-refused before after fault why =
-      loads-but l1_words H.fields.l1_offset H.fields.l1_entries meanings.l1 limited.l1_entries before after fault
-      (subst (λ p. WhyNotLoaded l1_words (layout_of H.fields) (words_in f p H.fields.l1_entries) before after fault) l1-whole why)
+      loads-but l1_table_kind H.fields.l1_offset H.fields.l1_entries meanings.l1 limited.l1_entries before after fault
+      (subst (λ p. WhyNotLoaded l1_table_kind (layout_of H.fields) (raw_entries_in f p H.fields.l1_entries) before after fault) l1-whole why)
 
   -- The L1 table that is loaded is the file's,
   pub l1-loaded : IsL1Of f H.fields (table_in f H.fields (H.fields.l1_offset / cluster_size H.fields) H.fields.l1_entries)
   unfolding l1_table_sound
   l1-loaded = record {
     layout = refl;
-    words = ap (λ p. words_in f p H.fields.l1_entries) l1-whole;
-    sound = all-below-holds H.fields.l1_entries (λ i. l1_word_sound H.fields.cluster_bits (word f H.fields.l1_offset i)) meanings.l1;
+    raw_entries = ap (λ p. raw_entries_in f p H.fields.l1_entries) l1-whole;
+    sound = all-below-holds H.fields.l1_entries (λ i. l1_entry_valid H.fields.cluster_bits (raw_entry f H.fields.l1_offset i)) meanings.l1;
   }
 
   -- and with the refcount table that is, the image is sound.
   pub opened-sound : (s s' : StorageState) (allocator : Allocator) → bytes_of s.bytes ≡ f → LoadsAllocator s H.fields (Ok allocator) s' → IsSound (opened (bytes_of s'.bytes) H (table_of allocator))
   opened-sound s s' allocator is loads =
-      subst (λ (g : Bytes). IsSound (opened g H (table_of allocator))) (sym (ap bytes_of loads.kept.bytes ∙ is))
+      subst (λ (g : Bytes). IsSound (opened g H (table_of allocator))) (sym (ap bytes_of loads.unchanged_but_faults.bytes ∙ is))
       (safe-sound f H (record { tables = []; blocks = [] }) Unset (table_of allocator) (empty-safe f H consistent)
       (subst (λ (g : Bytes). IsTableOf g H.fields (table_of allocator)) is (loads.table some-words)))

@@ -7,18 +7,18 @@ use Rattle.std.proofs.lemmas.Nat.{pow_pos}
 use Rattle.std.proofs.Math.Nat.{div-mul-le_self, lt-div-mul-add, mul-div_left, pow-le-pow_right}
 use Rattle.std.proofs.lemmas.List.{get_or_past}
 use Rattle.imago_storage.specs.State.{StorageState}
-use Rattle.imago_storage.specs.Through.{PutAtOnce}
+use Rattle.imago_storage.specs.Through.{AtomicWriteOutcome}
 use Rattle.imago_storage.specs.declared.fault.Fault.{Fault}
-use Rattle.qcow2_types.specs.Bytes.{Bytes, bytes_of, splice, word}
-use Rattle.qcow2_types.specs.Words.{Mapping, block_offset, block_word_sound, bits_at, is_place}
-use Rattle.qcow2_types.specs.Header.{Fields, Header, Shaped, first_fault, rules_of_size, header_of, cluster_size, words_of_cluster}
+use Rattle.qcow2_types.specs.Bytes.{Bytes, bytes_of, splice, raw_entry}
+use Rattle.qcow2_types.specs.Words.{Mapping, block_offset, reftable_entry_valid, bits_at, is_cluster_offset}
+use Rattle.qcow2_types.specs.Header.{Fields, Header, Shaped, first_fault, rules_of_size, header_of, cluster_size, entries_of_cluster}
 use Rattle.qcow2_types.specs.HeaderBytes.{first_bytes}
 use Rattle.qcow2_types.specs.Entries.{l2_table}
 use Rattle.qcow2_types.specs.Counts.{block_at, count, counter, counter_of, counter_bits, counters_of_block}
 use Rattle.qcow2_types.specs.Frames.{Same, Outside}
 use Rattle.qcow2_types.specs.References.{Weight, of_cluster, structure, of_mapping, meets}
 use Rattle.qcow2_types.specs.Slots.{slot, Live}
-use Rattle.qcow2_types.specs.Switched.{with_reftable, with_refcount_table, newly_named, RefcountTableSwitched}
+use Rattle.qcow2_types.specs.Switched.{with_reftable, with_refcount_table, newly_referenced, RefcountTableSwitched}
 use Rattle.qcow2_types.specs.Versions.{copied, SamePlaces}
 use Rattle.qcow2_types.proofs.Counting.Consistent.{named-counted, meets-own, header-kept}
 use Rattle.qcow2_types.proofs.Counting.Counters.{count-same}
@@ -33,16 +33,16 @@ use Rattle.qcow2_types.proofs.Numbers.Sums.{sum-same, term-le-sum}
 use Rattle.qcow2_types.proofs.Changes.WriteBack.{place-whole}
 use Rattle.qcow2_metadata.specs.Tables.{TableValue}
 use Rattle.qcow2_metadata.specs.Blocks.{Block, counters_in}
-use Rattle.qcow2_alloc.specs.Safety.{Safe, IsCachedBlock}
+use Rattle.qcow2_alloc.specs.WellFormedness.{WellFormed, IsCachedBlock}
 use Rattle.qcow2_alloc.specs.MakingRoom.{newly, formerly, newly_counted, IsReadyTable, TableSwitched, with_table}
-use Rattle.qcow2_alloc.specs.Quiet.{IsTableOf, Metadata, in_memory, counted, referenced, named_at_all, waiting, IsSound, IsQuiet, ShowsEither, IsIn, Quietly}
-use Rattle.qcow2_alloc.proofs.Quiet.SingleRequests.{at-once-quietly, at-once-file}
+use Rattle.qcow2_alloc.specs.GuestView.{IsTableOf, Metadata, in_memory, counted, referenced, referenced_at_all, waiting, IsSound, GuestUnchanged, ShowsEither, IsIn, PreservesGuest}
+use Rattle.qcow2_alloc.proofs.GuestView.SingleRequests.{at-once-quietly, at-once-file}
 use Rattle.qcow2_alloc.proofs.Memory.MemoryImage.{safe-memory}
 use Rattle.qcow2_alloc.proofs.Memory.MemoryWords.{places-in-memory}
 use Rattle.qcow2_alloc.proofs.Blocks.BlockNames.{count-none}
 use Rattle.qcow2_alloc.proofs.Memory.Patches.{all-weaker, all-both, place-there, shaped-in}
-use Rattle.qcow2_alloc.proofs.Quiet.QuietEntries.{metadata-among}
-use Rattle.qcow2_alloc.proofs.Quiet.ShownDisks.{mapping-meets, in-cluster, memory-same}
+use Rattle.qcow2_alloc.proofs.GuestView.QuietEntries.{metadata-among}
+use Rattle.qcow2_alloc.proofs.GuestView.ShownDisks.{mapping-meets, in-cluster, memory-same}
 use Rattle.qcow2_alloc.proofs.Memory.StructureWrites.{splice-agrees, memory-start, memory-beside, unmet-stays}
 use Rattle.qcow2_alloc.proofs.Memory.FittingWords.{table-fits, counters-same}
 use Rattle.qcow2_alloc.proofs.Memory.KeptWords.{word-contents, structure-named, named-more, copied-stays, ordered-still, block-fits}
@@ -57,12 +57,12 @@ second true b both = both
 second false b both = absurd (cc both)
 
 -- A table that stands in a file names the blocks that its words do.
-pub words-at : (f : Bytes) (h : Fields) (words : List ℕ) (o n : ℕ) → length words ≡ n * words_of_cluster h → ((i : ℕ) → i < length words → word f o i ≡ slice_index words i) → (i : ℕ) → block_at f (with_reftable h o n) i ≡ block_offset (slice_index words i)
-words-at f h words o n long written i = elim (cases_lt i (n * words_of_cluster h)) [
-  | inl lt ↦ let within : nat_lt i (n * words_of_cluster h) ≡ true = lt-ltb _ _ lt in rw within (ap block_offset (written i (omega (arith, lt, long))))
+pub words-at : (f : Bytes) (h : Fields) (raw_entries : List ℕ) (o n : ℕ) → length raw_entries ≡ n * entries_of_cluster h → ((i : ℕ) → i < length raw_entries → raw_entry f o i ≡ slice_index raw_entries i) → (i : ℕ) → block_at f (with_reftable h o n) i ≡ block_offset (slice_index raw_entries i)
+words-at f h raw_entries o n long written i = elim (cases_lt i (n * entries_of_cluster h)) [
+  | inl lt ↦ let within : nat_lt i (n * entries_of_cluster h) ≡ true = lt-ltb _ _ lt in rw within (ap block_offset (written i (omega (arith, lt, long))))
   | inr le ↦
-      let past : nat_lt i (n * words_of_cluster h) ≡ false = le-ltb _ _ le in
-      rw past (sym (ap block_offset (get_or_past words i 0 (omega (arith, le, long)))))
+      let past : nat_lt i (n * entries_of_cluster h) ≡ false = le-ltb _ _ le in
+      rw past (sym (ap block_offset (get_or_past raw_entries i 0 (omega (arith, le, long)))))
 ]
 
 -- What is summed of a place that there is.
@@ -96,10 +96,10 @@ module _ (m : Metadata) (table : TableValue) (t n : ℕ) (sound : IsSound m) (re
   m' = with_table m table t n (splice m.file 0 bytes)
 
   places : SamePlaces f g h
-  places = places-in-memory m.file m.header sound.safe.consistent m.cached sound.safe.tables sound.safe.blocks
+  places = places-in-memory m.file m.header sound.well_formed.consistent m.cached sound.well_formed.tables sound.well_formed.blocks
 
   shaped : Shaped h
-  shaped = shaped-in m.file m.header sound.safe.consistent
+  shaped = shaped-in m.file m.header sound.well_formed.consistent
 
   shaped' : Shaped h'
   shaped' = let s = shaped in record { order = s.order; low = s.low; high = s.high }
@@ -110,8 +110,8 @@ module _ (m : Metadata) (table : TableValue) (t n : ℕ) (sound : IsSound m) (re
   out : Outside f x 0 64
   out = subst (λ k. Outside f x 0 k) long (splice-is-outside f 0 bytes)
 
-  new-at : (i : ℕ) → block_at f h' i ≡ block_offset (slice_index table.words i)
-  new-at = words-at f h table.words o n ready.long ready.written
+  new-at : (i : ℕ) → block_at f h' i ≡ block_offset (slice_index table.raw_entries i)
+  new-at = words-at f h table.raw_entries o n ready.long ready.written
 
   old-blocks : (i : ℕ) → block_at f h i ≢ 0 → block_at f h' i ≡ block_at f h i
   old-blocks i there =
@@ -119,8 +119,8 @@ module _ (m : Metadata) (table : TableValue) (t n : ℕ) (sound : IsSound m) (re
       let named_there = sound.table.names i inside in
       new-at i ∙ (ready.olds i (omega (arith, inside, sound.table.long)) (λ none. there (sym named_there ∙ none))).1 ∙ named_there
 
-  new-sound : (i : ℕ) → i < n * words_of_cluster h → IsTrue (block_word_sound h.cluster_bits (word f o i))
-  new-sound i lt = let inside : i < length table.words = omega (arith, lt, ready.long) in ap (block_word_sound h.cluster_bits) (ready.written i inside) ∙ ready.sane i inside
+  new-sound : (i : ℕ) → i < n * entries_of_cluster h → IsTrue (reftable_entry_valid h.cluster_bits (raw_entry f o i))
+  new-sound i lt = let inside : i < length table.raw_entries = omega (arith, lt, ready.long) in ap (reftable_entry_valid h.cluster_bits) (ready.written i inside) ∙ ready.sane i inside
 
   count-at : (c : ℕ) → 0 < newly m t n c → 1 ≤ count f h' c
   count-at c some = elim (cases_eq (block_at f h (c / counters_of_block h)) 0) [
@@ -129,7 +129,7 @@ module _ (m : Metadata) (table : TableValue) (t n : ℕ) (sound : IsSound m) (re
   ]
 
   in-file : RefcountTableSwitched f x m.header o n
-  in-file = refcount-table-switched f x m.header sound.safe.consistent o n loads out new-sound old-blocks ready.once
+  in-file = refcount-table-switched f x m.header sound.well_formed.consistent o n loads out new-sound old-blocks ready.once
       (λ c some. ((let none = (ready.free c some).0 in let le = refs-file f g h c in omega (arith, none, le)), count-at c some))
 
   -- What becomes the table or a block is in memory what it is in the file:
@@ -137,7 +137,7 @@ module _ (m : Metadata) (table : TableValue) (t n : ℕ) (sound : IsSound m) (re
   unstructured c some = let none = (ready.free c some).0 in let le = structure-named f g h c in omega (arith, none, le)
 
   same-there : (c : ℕ) → 0 < newly m t n c → Same f g (c * cluster_size h) (cluster_size h)
-  same-there c some = memory-same m.file m.header c (unstructured c some) sound.safe.consistent m.cached m.order sound.safe
+  same-there c some = memory-same m.file m.header c (unstructured c some) sound.well_formed.consistent m.cached m.order sound.well_formed
 
   -- the table,
   same-table : Same f g o (n * cluster_size h)
@@ -157,18 +157,18 @@ module _ (m : Metadata) (table : TableValue) (t n : ℕ) (sound : IsSound m) (re
   -- and the new blocks.
   newly-block : (b : ℕ) → block_at f h b ≡ 0 → block_at f h' b ≢ 0 → (c : ℕ) → block_at f h' b ≡ c * cluster_size h → 0 < newly m t n c
   newly-block b none there c place =
-      let inside : b < n * words_of_cluster h = block-inside f h' b there in
+      let inside : b < n * entries_of_cluster h = block-inside f h' b there in
       let one : of_cluster h (meets h c) (block_at f h' b) ≡ 1 = there-weighs (block_at f h' b) there (meets h c (block_at f h' b) (cluster_size h)) ∙ ap (λ p. meets h c p (cluster_size h)) place ∙ meets-own h c in
       let term : (if block_at f h b == 0 then of_cluster h (meets h c) (block_at f h' b) else 0) ≡ 1 = rw none one in
-      let all = term-le-sum (n * words_of_cluster h) b (λ i. if block_at f h i == 0 then of_cluster h (meets h c) (block_at f h' i) else 0) inside in
+      let all = term-le-sum (n * entries_of_cluster h) b (λ i. if block_at f h i == 0 then of_cluster h (meets h c) (block_at f h' i) else 0) inside in
       omega (arith, term, all)
 
   block-begins : (b : ℕ) → block_at f h' b ≢ 0 → block_at f h' b / cluster_size h * cluster_size h ≡ block_at f h' b
   block-begins b there =
-      let inside : b < n * words_of_cluster h = block-inside f h' b there in
+      let inside : b < n * entries_of_cluster h = block-inside f h' b there in
       let sane = ready.sane b (omega (arith, inside, ready.long)) in
-      let place : is_place h.cluster_bits (block_offset (slice_index table.words b)) ≡ true = second (bits_at (slice_index table.words b) 0 9 == 0) (is_place h.cluster_bits (block_offset (slice_index table.words b))) sane in
-      subst (λ p. p / cluster_size h * cluster_size h ≡ p) (sym (new-at b)) (place-whole h.cluster_bits (block_offset (slice_index table.words b)) place)
+      let place : is_cluster_offset h.cluster_bits (block_offset (slice_index table.raw_entries b)) ≡ true = second (bits_at (slice_index table.raw_entries b) 0 9 == 0) (is_cluster_offset h.cluster_bits (block_offset (slice_index table.raw_entries b))) sane in
+      subst (λ p. p / cluster_size h * cluster_size h ≡ p) (sym (new-at b)) (place-whole h.cluster_bits (block_offset (slice_index table.raw_entries b)) place)
 
   block-same : (b : ℕ) → block_at f h b ≡ 0 → block_at f h' b ≢ 0 → Same f g (block_at f h' b) (cluster_size h)
   block-same b none there =
@@ -181,8 +181,8 @@ module _ (m : Metadata) (table : TableValue) (t n : ℕ) (sound : IsSound m) (re
   old-there : (i : ℕ) → block_at g h i ≢ 0 → block_at g h' i ≡ block_at g h i
   old-there i there = blocks-same i ∙ old-blocks i (λ none. there (places.blocks i ∙ none)) ∙ sym (places.blocks i)
 
-  newly-same : (w : Weight) → newly_named g h o n w ≡ newly_named f h o n w
-  newly-same w = ap (λ s. w o (n * cluster_size h) + s) (sum-same (n * words_of_cluster h) _ _ (λ i lt.
+  newly-same : (w : Weight) → newly_referenced g h o n w ≡ newly_referenced f h o n w
+  newly-same w = ap (λ s. w o (n * cluster_size h) + s) (sum-same (n * entries_of_cluster h) _ _ (λ i lt.
       ap (λ p. if p == 0 then of_cluster h w (block_at g h' i) else 0) (places.blocks i) ∙ ap (λ q. if block_at f h i == 0 then of_cluster h w q else 0) (blocks-same i)))
 
   count-there : (c : ℕ) → 0 < newly m t n c → 1 ≤ count g h' c
@@ -195,18 +195,18 @@ module _ (m : Metadata) (table : TableValue) (t n : ℕ) (sound : IsSound m) (re
   ]
 
   memory-is : in_memory m' ≡ splice g 0 bytes
-  memory-is = memory-beside m.file m.header sound.safe.consistent m.cached sound.safe.tables sound.safe.blocks header tt refl 0 (cluster_size h) (λ v. refl) 0 bytes (omega (arith, long)) (omega arith) (omega (arith, long, size))
+  memory-is = memory-beside m.file m.header sound.well_formed.consistent m.cached sound.well_formed.tables sound.well_formed.blocks header tt refl 0 (cluster_size h) (λ v. refl) 0 bytes (omega (arith, long)) (omega arith) (omega (arith, long, size))
 
   start-same : Same f g 0 (cluster_size h)
-  start-same = memory-start m.file m.header sound.safe.consistent m.cached sound.safe.tables sound.safe.blocks
+  start-same = memory-start m.file m.header sound.well_formed.consistent m.cached sound.well_formed.tables sound.well_formed.blocks
 
   loads-there : header_of true (splice g 0 bytes) ≡ Ok H'
   loads-there = header-kept true x (splice g 0 bytes) H' loads (λ k lt. splice-agrees g f 0 bytes (0 + k) (start-same k lt))
 
   over-there : RefcountTableSwitched g (in_memory m') m.header o n
   over-there = subst (λ (y : Bytes). RefcountTableSwitched g y m.header o n) (sym memory-is)
-      (refcount-table-switched g (splice g 0 bytes) m.header (safe-memory m.file m.header m.cached m.order sound.safe) o n loads-there (subst (λ k. Outside g (splice g 0 bytes) 0 k) long (splice-is-outside g 0 bytes))
-      (λ i lt. ap (block_word_sound h.cluster_bits) (word-same f g o (n * cluster_size h) i same-table (entries-fit h' i lt)) ∙ new-sound i lt)
+      (refcount-table-switched g (splice g 0 bytes) m.header (safe-memory m.file m.header m.cached m.order sound.well_formed) o n loads-there (subst (λ k. Outside g (splice g 0 bytes) 0 k) long (splice-is-outside g 0 bytes))
+      (λ i lt. ap (reftable_entry_valid h.cluster_bits) (word-same f g o (n * cluster_size h) i same-table (entries-fit h' i lt)) ∙ new-sound i lt)
       old-there (λ c. subst (λ k. k ≤ 1) (sym (newly-same (meets h c))) (ready.once c))
       (λ c some.
       let some' : 0 < newly m t n c = subst (λ k. 0 < k) (newly-same (meets h c)) some in
@@ -215,7 +215,7 @@ module _ (m : Metadata) (table : TableValue) (t n : ℕ) (sound : IsSound m) (re
   words-there : (k j : ℕ) → Live (l2_table f h) h k j → slot (in_memory m') h' k j ≡ slot g h k j
   words-there k j live = over-there.slots k j (record { in_l1 = live.in_l1; is_there = (λ none. live.is_there (sym (places.l1 k) ∙ none)); in_table = live.in_table })
 
-  names-moved : (c : ℕ) → named_at_all m' c + formerly m c ≡ named_at_all m c + newly m t n c
+  names-moved : (c : ℕ) → referenced_at_all m' c + formerly m c ≡ referenced_at_all m c + newly m t n c
   names-moved c = named-more f g x (in_memory m') h o n in-file.tables in-file.slots words-there c (formerly m c) (newly m t n c) (in-file.structure (meets h c))
 
   copied-same : (c : ℕ) → copied x (in_memory m') h' c ≡ copied f g h c
@@ -236,13 +236,13 @@ module _ (m : Metadata) (table : TableValue) (t n : ℕ) (sound : IsSound m) (re
   other-counts c there = (in-file.old_counts c there, over-there.old_counts c (λ none. there (sym (places.blocks (c / counters_of_block h)) ∙ none)))
 
   -- Either a cluster is another, or it is one of the new.
-  which : (c : ℕ) → (newly m t n c ≡ 0) ⊎ ((newly m t n c ≡ 1) × (named_at_all m c ≡ 0) × (waiting m c ≡ 0))
+  which : (c : ℕ) → (newly m t n c ≡ 0) ⊎ ((newly m t n c ≡ 1) × (referenced_at_all m c ≡ 0) × (waiting m c ≡ 0))
   which c = elim (cases_lt 0 (newly m t n c)) [
     | inl some ↦ let most = ready.once c in let free = ready.free c some in inr (omega (arith, some, most), free.0, free.1)
     | inr none ↦ inl (omega (arith, none))
   ]
 
-  names-counted : (c : ℕ) → named_at_all m c ≤ counted m c → named_at_all m' c ≤ counted m' c
+  names-counted : (c : ℕ) → referenced_at_all m c ≤ counted m c → referenced_at_all m' c ≤ counted m' c
   names-counted c le =
       let moved = names-moved c in
       elim (cases_eq (block_at f h (c / counters_of_block h)) 0) [
@@ -253,7 +253,7 @@ module _ (m : Metadata) (table : TableValue) (t n : ℕ) (sound : IsSound m) (re
         ]
       ]
 
-  names-counted-there : (c : ℕ) → named_at_all m c ≤ count f h c → named_at_all m' c ≤ count x h' c
+  names-counted-there : (c : ℕ) → referenced_at_all m c ≤ count f h c → referenced_at_all m' c ≤ count x h' c
   names-counted-there c le =
       let moved = names-moved c in
       elim (cases_eq (block_at f h (c / counters_of_block h)) 0) [
@@ -286,32 +286,32 @@ module _ (m : Metadata) (table : TableValue) (t n : ℕ) (sound : IsSound m) (re
             fresh live.0 none at live.3
             ∙ sym (counters-same f x h (cluster * cluster_size h) (in-file.free cluster (
             let new = newly-block live.0 none (λ z. some (sym at ∙ z)) cluster at in
-            let unnamed = (ready.free cluster new).0 in
+            let not_referenced = (ready.free cluster new).0 in
             let le = refs-file f g h cluster in
-            omega (arith, unnamed, le))))
+            omega (arith, not_referenced, le))))
         | inr there ↦
             let place : block_at f h live.0 ≡ cluster * cluster_size h = sym (old-blocks live.0 there) ∙ at in
             is.clean clean (live.0, block-inside f h live.0 there, place, live.3)
-            ∙ sym (counters-same f x h (cluster * cluster_size h) (subst (λ p. Same f x p (cluster_size h)) place (in-file.kept.counters live.0 (block-inside f h live.0 there) there (λ e. cc))))
+            ∙ sym (counters-same f x h (cluster * cluster_size h) (subst (λ p. Same f x p (cluster_size h)) place (in-file.same_structure_outside.counters live.0 (block-inside f h live.0 there) there (λ e. cc))))
       ])
       is
 
-  safe-still : Safe x H' m.cached m.order
+  safe-still : WellFormed x H' m.cached m.order
   safe-still = record {
     consistent = in-file.consistent;
-    tables_apart = sound.safe.tables_apart;
-    blocks_apart = sound.safe.blocks_apart;
-    tables = all-weaker _ _ (λ e is. table-fits f x h o n in-file.tables e.0 (λ k j at live. in-file.kept.words k j live (λ e. cc)) e.1.value is) m.cached.tables sound.safe.tables;
-    blocks = all-weaker _ _ (λ e both. block-still e.0 e.1.value both.1 both.0) m.cached.blocks (all-both _ _ m.cached.blocks sound.safe.blocks ready.cached);
+    tables_apart = sound.well_formed.tables_apart;
+    blocks_apart = sound.well_formed.blocks_apart;
+    tables = all-weaker _ _ (λ e is. table-fits f x h o n in-file.tables e.0 (λ k j at live. in-file.same_structure_outside.raw_entries k j live (λ e. cc)) e.1.value is) m.cached.tables sound.well_formed.tables;
+    blocks = all-weaker _ _ (λ e both. block-still e.0 e.1.value both.1 both.0) m.cached.blocks (all-both _ _ m.cached.blocks sound.well_formed.blocks ready.cached);
     apart = λ c some.
         let base = in-file.structure (meets h c) in
         let marks = copied-same c in
         let names = names-moved c in
         elim (which c) [
-          | inl none ↦ let one = sound.safe.apart c (omega (arith, base, marks, some, none)) in omega (arith, names, one, none)
+          | inl none ↦ let one = sound.well_formed.apart c (omega (arith, base, marks, some, none)) in omega (arith, names, one, none)
           | inr one ↦ omega (arith, names, one.0, one.1)
         ];
-    ordered = ordered-still f g x (in_memory m') h h' names-counted names-counted-there (λ c. named-counted x H' in-file.consistent c) lowered-still m.order sound.safe.ordered;
+    ordered = ordered-still f g x (in_memory m') h h' names-counted names-counted-there (λ c. named-counted x H' in-file.consistent c) lowered-still m.order sound.well_formed.ordered;
     covered = λ c. named-counted (in_memory m') H' over-there.consistent c;
   }
 
@@ -337,11 +337,11 @@ module _ (m : Metadata) (table : TableValue) (t n : ℕ) (sound : IsSound m) (re
 
   pub table-sound : IsSound m'
   table-sound = record {
-    safe = safe-still;
+    well_formed = safe-still;
     table = table-still;
     covered = covered-still;
-    unnamed = λ c some.
-        let none = sound.unnamed c some in
+    not_referenced = λ c some.
+        let none = sound.not_referenced c some in
         let moved = names-moved c in
         elim (which c) [
           | inl off ↦ omega (arith, none, moved, off)
@@ -356,10 +356,10 @@ module _ (m : Metadata) (table : TableValue) (t n : ℕ) (sound : IsSound m) (re
   table-shows = record {
     consistent = in-file.consistent;
     moved = (o, n, refl);
-    behind = λ p from lt. out p (inr from);
-    l1 = λ k lt. in-file.kept.l1 k lt (λ e. cc);
+    header_tail_unchanged = λ p from lt. out p (inr from);
+    l1 = λ k lt. in-file.same_structure_outside.l1 k lt (λ e. cc);
     tables = in-file.tables;
-    words = λ k j live. inl (in-file.slots k j live);
+    raw_entries = λ k j live. inl (in-file.slots k j live);
     contents = λ k j live p some.
         let le = mapping-meets h p (slot x h' k j) in
         let one : 0 < of_mapping h (meets h (p / cluster_size h)) (slot f h k j) = subst (λ (v : Mapping). 0 < of_mapping h (meets h (p / cluster_size h)) v) (in-file.slots k j live) (omega (arith, le, some)) in
@@ -373,11 +373,11 @@ module _ (m : Metadata) (table : TableValue) (t n : ℕ) (sound : IsSound m) (re
   taken-there : (c : ℕ) → block_at f h (c / counters_of_block h) ≢ 0 → newly_counted m t n c ≡ newly m t n c
   taken-there c there = there-weighs (block_at f h (c / counters_of_block h)) there (newly m t n c)
 
-  pub table-quiet : IsQuiet (formerly m) (newly_counted m t n) m m'
+  pub table-quiet : GuestUnchanged (formerly m) (newly_counted m t n) m m'
   table-quiet = record {
     shows = table-shows;
-    words = words-there;
-    kept = λ c used none. kept-there c used.apart;
+    raw_entries = words-there;
+    used_bytes_unchanged = λ c used none. kept-there c used.apart;
     apart = λ c used none.
         let base = in-file.structure (meets h c) in
         let was = used.apart in
@@ -411,25 +411,25 @@ module _ (m : Metadata) (table : TableValue) (t n : ℕ) (old new : StorageState
   long : length pointer ≡ 64
   long = length-first_bytes (with_reftable m.header.fields (t * cluster_size m.header.fields) n)
 
-  pub switch-quietly : (result : Result Unit Fault) → PutAtOnce old new 0 pointer result → Quietly (result ≡ Ok tt) (formerly m) (newly_counted m t n) old m new (with_table m table t n (bytes_of new.bytes))
+  pub switch-quietly : (result : Result Unit Fault) → AtomicWriteOutcome old new 0 pointer result → PreservesGuest (result ≡ Ok tt) (formerly m) (newly_counted m t n) old m new (with_table m table t n (bytes_of new.bytes))
   switch-quietly = at-once-quietly m (with_table m table t n) (λ x. refl) (formerly m) (newly_counted m t n) 0 pointer (omega (arith, long)) old new is_in
       (λ sound. (table-sound m table t n sound (ready sound) pointer long (loads sound), table-quiet m table t n sound (ready sound) pointer long (loads sound)))
 
-  pub switch-names : IsTrue old.shape.keeps → IsSound m → (result : Result Unit Fault) → PutAtOnce old new 0 pointer result → result ≡ Ok tt → TableSwitched m (with_table m table t n (bytes_of new.bytes)) t n
+  pub switch-names : IsTrue old.shape.keeps → IsSound m → (result : Result Unit Fault) → AtomicWriteOutcome old new 0 pointer result → result ≡ Ok tt → TableSwitched m (with_table m table t n (bytes_of new.bytes)) t n
   switch-names keeps sound result put done =
       subst (λ (x : Bytes). TableSwitched m (with_table m table t n x) t n) (sym (at-once-file m 0 pointer old new is_in result put keeps done)) (table-names m table t n sound (ready sound) pointer long (loads sound))
 
 -- The header of a sound image keeps the limits.
 pub sound-sizes : (m : Metadata) → IsSound m → first_fault (rules_of_size m.header.fields) ≡ None
 sound-sizes m sound =
-    let was = sound.safe.consistent.readable.loads in
+    let was = sound.well_formed.consistent.readable.loads in
     subst (λ (h : Fields). first_fault (rules_of_size h) ≡ None) (sym (header-fields true m.file m.header was)) (loaded-parts true m.file m.header was).sizes
 
 -- The header's first bytes make a header that loads, where the new table keeps the limits.
 pub pointer-loads : (m : Metadata) (t n : ℕ) → IsSound m → ((p : ℕ) → m.file p < 256) → first_fault (rules_of_size (with_reftable m.header.fields (t * cluster_size m.header.fields) n)) ≡ None
     → header_of true (splice m.file 0 (first_bytes (with_reftable m.header.fields (t * cluster_size m.header.fields) n))) ≡ Ok (with_refcount_table m.header (t * cluster_size m.header.fields) n)
 pointer-loads m t n sound bytes sizes =
-    let was = sound.safe.consistent.readable.loads in
+    let was = sound.well_formed.consistent.readable.loads in
     let only : OnlyPlaces m.header (with_refcount_table m.header (t * cluster_size m.header.fields) n) = record { same = refl } in
     switch-header true m.file m.header (with_refcount_table m.header (t * cluster_size m.header.fields) n) was only
     (first-fields-fit true m.file m.header (with_refcount_table m.header (t * cluster_size m.header.fields) n) bytes was only sizes) sizes (name-behind m.file m.header was)

@@ -9,7 +9,7 @@ use Rattle.imago_storage.proofs.Composing.{keeps_on}
 use Rattle.qcow2_types.specs.Counts.{counters_of_block}
 use Rattle.qcow2_types.specs.Header.{Header}
 use Rattle.qcow2_types.specs.Pending.{FreeEntry}
-use Rattle.qcow2_metadata.specs.Places.{IsInReach}
+use Rattle.qcow2_metadata.specs.Places.{IsAddressable}
 use Rattle.qcow2_alloc.specs.declared.cache.CacheDependency.TheVariants.{L2DependsOnRb}
 use Rattle.qcow2_alloc.specs.declared.cache.MetadataCaches.{MetadataCaches}
 use Rattle.qcow2_alloc.specs.declared.file.ImageFile.{ImageFile}
@@ -18,15 +18,15 @@ use Rattle.qcow2_alloc.specs.Allocators.{metadata_of}
 use Rattle.qcow2_alloc.specs.Caches.{order_of}
 use Rattle.qcow2_alloc.specs.Causes.{HasCause}
 use Rattle.qcow2_alloc.specs.Crowding.{IsCrowded}
-use Rattle.qcow2_alloc.specs.Freeing.{Frees, HasSpareRoom, IsLoose, IsMarked, IsRestInTurn, freeing_causes}
+use Rattle.qcow2_alloc.specs.Freeing.{Frees, HasUnpinnedSlot, HasUnpinnedRoom, NoneFreeBefore, IsRestInTurn, freeing_causes}
 use Rattle.qcow2_alloc.specs.FreeList.{covers}
-use Rattle.qcow2_alloc.specs.Going.{WasNotCutOff}
-use Rattle.qcow2_alloc.specs.GrowingTables.{IsInRoomToGrow, IsLengthenedByTable, IsRoomToGrow, IsTakenFor, NoPlaceToGrow}
-use Rattle.qcow2_alloc.specs.HandingOut.{AllocatesClusterAt, AllocatesClusters, AreUnnamed, IsBarred, IsFreed, IsHandedAt, IsOneAt, IsSearched, StaysInShape, handed_at}
+use Rattle.qcow2_alloc.specs.Going.{HadNoResourceError}
+use Rattle.qcow2_alloc.specs.GrowingTables.{IsInFreeAreaToGrow, IsLengthenedByTable, IsFreeAreaToGrow, IsTakenFor, NoPlaceToGrow}
+use Rattle.qcow2_alloc.specs.HandingOut.{AllocatesClusterAt, AllocatesClusters, AreUnreferenced, IsBarred, IsFreed, IsAllocatedAt, IsOneAt, IsSearched, StaysInShape, handed_at}
 use Rattle.qcow2_alloc.specs.HandingOutOne.{AllocatesAt}
-use Rattle.qcow2_alloc.specs.Quiet.{Metadata, IsSound, Quietly, counted}
-use Rattle.qcow2_alloc.specs.ReadyingRuns.{Allocates, IsRunCounted, IsRunTold, handed_by}
-use Rattle.qcow2_alloc.specs.State.{lent, metadata, IsKept, with_mark, AllocatorState, marked_metadata}
+use Rattle.qcow2_alloc.specs.GuestView.{Metadata, IsSound, PreservesGuest, counted}
+use Rattle.qcow2_alloc.specs.ReadyingRuns.{Allocates, IsRunCounted, IsRunTold, allocated_by}
+use Rattle.qcow2_alloc.specs.State.{image_state, metadata, KeepsWritesAndSound, with_first_free, AllocatorState, metadata_with_first_free}
 use Rattle.qcow2_alloc.proofs.Causes.{cause-weaker, fails-weaker}
 use Rattle.qcow2_alloc.proofs.Blocks.BlockCreationCalls.{freeing-allocates, allocating-weaker}
 use Rattle.qcow2_alloc.proofs.Handing.CountSequences.{moved-none}
@@ -38,8 +38,8 @@ use Rattle.qcow2_alloc.proofs.Freeing.ListRemainders.{rest-all, rest-none}
 use Rattle.qcow2_alloc.proofs.Growth.GrowthInOrder.{shape-behind}
 use Rattle.qcow2_alloc.proofs.Handing.ClustersHandedOut.{handed-unnamed}
 use Rattle.qcow2_alloc.proofs.Caching.UnpinnedCaches.{loose-on, loose-all}
-use Rattle.qcow2_alloc.proofs.Quiet.QuietFlushes.{memory-quietly, quiet-none, quietly-weaker}
-use Rattle.qcow2_alloc.proofs.Quiet.QuietSequences.{fewer-counted, quietly-then, quietly-otherwise}
+use Rattle.qcow2_alloc.proofs.GuestView.QuietFlushes.{memory-quietly, quiet-none, quietly-weaker}
+use Rattle.qcow2_alloc.proofs.GuestView.QuietSequences.{fewer-counted, quietly-then, quietly-otherwise}
 use Rattle.qcow2_alloc.proofs.Blocks.RunProvision.{leaks-none}
 
 module _ {S : Type 0} (state : S → StorageState) (cluster : ℕ) (s : AllocatorState S) (mid : MetadataCaches S) (between : ImageFile S) where
@@ -50,50 +50,50 @@ module _ {S : Type 0} (state : S → StorageState) (cluster : ℕ) (s : Allocato
   Mid = metadata_of state between mid s.table s.pending
 
   -- One cluster isn't where that was refused,
-  pub at-not-announced : (fault : Fault) → Announced state s.image (failed fault) (lent s.table mid between s.pending) → AllocatesClusterAt state cluster s (not_handed fault) (with_mark (lent s.table mid between s.pending) s.mark)
+  pub at-not-announced : (fault : Fault) → Announced state s.image (failed fault) (image_state s.table mid between s.pending) → AllocatesClusterAt state cluster s (not_handed fault) (with_first_free (image_state s.table mid between s.pending) s.mark)
   at-not-announced fault first = record {
     leaked = λ _. 0;
     leaks = leaks-none _ _ (not_handed fault);
     faults = first.faults;
-    quiet = first.quiet;
+    guest_unchanged = first.guest_unchanged;
     raised = λ keeps sound whole c. inl (first.counts keeps sound whole c);
     one = tt;
     answer = λ keeps sound. tt;
-    near = λ keeps sound. tt;
+    taken_up_to_cluster = λ keeps sound. tt;
     further = tt;
     stays = refl;
     marked = λ keeps sound whole marked c below. let same = first.counts keeps sound whole c in let was = marked c below in omega (arith, same, was);
     order = tt;
-    shape = shape-behind state cluster s mid between (failed fault) (lent s.table mid between s.pending) first (moved-none between.header between.header refl) (λ any loose. loose) (record { tables = refl; blocks = refl; entries = refl });
+    shape = shape-behind state cluster s mid between (failed fault) (image_state s.table mid between s.pending) first (moved-none between.header between.header refl) (λ any loose. loose) (record { tables = refl; blocks = refl; entries = refl });
     list = inl refl;
     cause = cause-weaker (freeing-allocates (λ holds. holds) (λ u. loose-all s.table s.caches u.0 u.2) refl) fault first.cause;
   }
 
   -- and else as it is under that order.
-  module _ (first : Announced state s.image (Ok tt) (lent s.table mid between s.pending)) (result : Result (Option FreeEntry) Fault) (s' : AllocatorState S)
-      (at : AllocatesAt state (λ m. IsBarred m s.mark cluster) cluster (with_mark (lent s.table mid between s.pending) s.mark) result s') where
+  module _ (first : Announced state s.image (Ok tt) (image_state s.table mid between s.pending)) (result : Result (Option FreeEntry) Fault) (s' : AllocatorState S)
+      (at : AllocatesAt state (λ m. IsBarred m s.mark cluster) cluster (with_first_free (image_state s.table mid between s.pending) s.mark) result s') where
     abbrev End : Metadata
     End = metadata state s'.image
 
-    answered : (r : Result (Option FreeEntry) Fault) → IsTrue (state s.file.image).shape.keeps → IsSound Start → IfOk r (IsHandedAt (IsBarred Mid s.mark cluster) cluster Mid End) → IfOk r (IsHandedAt (IsBarred Start s.mark cluster) cluster Start End)
-    answered (Ok (Some entry)) keeps sound (zero, is, unnamed, free) = (let same = first.counts keeps sound tt cluster in omega (arith, same, zero), is, unnamed, free)
+    answered : (r : Result (Option FreeEntry) Fault) → IsTrue (state s.file.image).shape.keeps → IsSound Start → IfOk r (IsAllocatedAt (IsBarred Mid s.mark cluster) cluster Mid End) → IfOk r (IsAllocatedAt (IsBarred Start s.mark cluster) cluster Start End)
+    answered (Ok (Some entry)) keeps sound (zero, is, not_referenced, free) = (let same = first.counts keeps sound tt cluster in omega (arith, same, zero), is, not_referenced, free)
     answered (Ok None) keeps sound (inl more) = inl (let same = first.counts keeps sound tt cluster in omega (arith, same, more))
     answered (Ok None) keeps sound (inr (inl stands)) = inr (inl stands)
-    answered (Ok None) keeps sound (inr (inr (inl far))) = inr (inr (inl (subst (λ (H : Header). IsInReach H.fields.cluster_bits cluster → ⊥) first.header far)))
+    answered (Ok None) keeps sound (inr (inr (inl far))) = inr (inr (inl (subst (λ (H : Header). IsAddressable H.fields.cluster_bits cluster → ⊥) first.header far)))
     answered (Ok None) keeps sound (inr (inr (inr (past, number, none)))) = inr (inr (inr (
-      subst (λ (H : Header). length s.table.words ≤ cluster / counters_of_block H.fields) first.header past,
+      subst (λ (H : Header). length s.table.raw_entries ≤ cluster / counters_of_block H.fields) first.header past,
       number,
       no-place-as Start Mid first.header refl (first.counts keeps sound tt) s.mark (cluster / counters_of_block s.file.header.fields) number (subst (λ (H : Header). NoPlaceToGrow Mid s.mark (cluster / counters_of_block H.fields) number) first.header none),
     )))
     answered (Err fault) keeps sound said = tt
 
-    room-there : IsTrue (state s.file.image).shape.keeps → IsSound Start → (c : ℕ) → IsInRoomToGrow Mid s.mark (cluster / counters_of_block between.header.fields) c → IsInRoomToGrow Start s.mark (cluster / counters_of_block s.file.header.fields) c
+    room-there : IsTrue (state s.file.image).shape.keeps → IsSound Start → (c : ℕ) → IsInFreeAreaToGrow Mid s.mark (cluster / counters_of_block between.header.fields) c → IsInFreeAreaToGrow Start s.mark (cluster / counters_of_block s.file.header.fields) c
     room-there keeps sound c (past, begin, total, clusters, room, from, to) = (
-      subst (λ (H : Header). length s.table.words ≤ cluster / counters_of_block H.fields) first.header past,
+      subst (λ (H : Header). length s.table.raw_entries ≤ cluster / counters_of_block H.fields) first.header past,
       begin,
       total,
       clusters,
-      room-as Start Mid first.header refl (first.counts keeps sound tt) s.mark (cluster / counters_of_block s.file.header.fields) begin total clusters (subst (λ (H : Header). IsRoomToGrow Mid s.mark (cluster / counters_of_block H.fields) begin total clusters) first.header room),
+      room-as Start Mid first.header refl (first.counts keeps sound tt) s.mark (cluster / counters_of_block s.file.header.fields) begin total clusters (subst (λ (H : Header). IsFreeAreaToGrow Mid s.mark (cluster / counters_of_block H.fields) begin total clusters) first.header room),
       from,
       to,
     )
@@ -109,20 +109,20 @@ module _ {S : Type 0} (state : S → StorageState) (cluster : ℕ) (s : Allocato
     pub at-announced : AllocatesClusterAt state cluster s result s'
     at-announced = record {
       leaked = at.did.leaked;
-      leaks = record { none = at.did.leaks.none; pinned = λ holds loose. let still = sound-behind state s.image mid between first holds.0 holds.1 in at.did.leaks.pinned (still.0, first.order, still.1) (first.loose true loose) };
+      leaks = record { none = at.did.leaks.none; pinned = λ holds loose. let has_no_dirty_data = sound-behind state s.image mid between first holds.0 holds.1 in at.did.leaks.pinned (has_no_dirty_data.0, first.order, has_no_dirty_data.1) (first.loose true loose) };
       faults = λ whole. faultless-then (first.faults tt) (at.did.step.faults whole);
-      quiet = quiet-behind state s.image mid between first (WasNotCutOff result) (handed_at result at.did.leaked) (state s'.file.image) End at.did.step.quiet;
-      raised = λ keeps sound whole. let still = sound-behind state s.image mid between first keeps sound in
-          raised-behind state s.image mid between first End keeps sound (at.did.step.raised first.order still.0 still.1 whole);
+      guest_unchanged = quiet-behind state s.image mid between first (HadNoResourceError result) (handed_at result at.did.leaked) (state s'.file.image) End at.did.step.guest_unchanged;
+      raised = λ keeps sound whole. let has_no_dirty_data = sound-behind state s.image mid between first keeps sound in
+          raised-behind state s.image mid between first End keeps sound (at.did.step.raised first.order has_no_dirty_data.0 has_no_dirty_data.1 whole);
       one = subst (λ (H : Header). IfOk result (IsOneAt cluster H.fields.cluster_bits)) first.header at.one;
-      answer = λ keeps sound. let still = sound-behind state s.image mid between first keeps sound in answered result keeps sound (at.answer first.order still.0 still.1);
-      near = λ keeps sound. let still = sound-behind state s.image mid between first keeps sound in nearby result keeps sound (at.near first.order still.0 still.1);
+      answer = λ keeps sound. let has_no_dirty_data = sound-behind state s.image mid between first keeps sound in answered result keeps sound (at.answer first.order has_no_dirty_data.0 has_no_dirty_data.1);
+      taken_up_to_cluster = λ keeps sound. let has_no_dirty_data = sound-behind state s.image mid between first keeps sound in nearby result keeps sound (at.taken_up_to_cluster first.order has_no_dirty_data.0 has_no_dirty_data.1);
       further = at.further;
       stays = at.stays;
-      marked = λ keeps sound whole marked. let still = sound-behind state s.image mid between first keeps sound in
-          at.marked first.order still.0 still.1 whole (marked-behind state s.image mid between first s.mark keeps sound marked);
+      marked = λ keeps sound whole marked. let has_no_dirty_data = sound-behind state s.image mid between first keeps sound in
+          at.marked first.order has_no_dirty_data.0 has_no_dirty_data.1 whole (marked-behind state s.image mid between first s.mark keeps sound marked);
       order = ordered result;
-      shape = shape-behind state cluster s mid between (Ok tt) s'.image first at.did.step.moved at.did.step.loose at.did.step.room;
+      shape = shape-behind state cluster s mid between (Ok tt) s'.image first at.did.step.moved at.did.step.keeps_unpinned_room at.did.step.room;
       list = subst (λ (H : Header). IsLengthenedByTable H.fields s.table s'.table s.pending s'.pending) first.header at.did.list;
       cause = fails-weaker _ _ (allocates-behind state s.image mid between first (λ n full. full)) (λ same. same ∙ first.cause) result at.did.cause;
     }
@@ -133,7 +133,7 @@ memory-unfreed state s =
     let m = metadata state s.image in
     record {
       faults = λ whole. absurd whole;
-      quiet = memory-quietly _ (λ _. 0) (λ _. 0) (state s.file.image) m m (λ sound whole. (sound, quiet-none m sound));
+      guest_unchanged = memory-quietly _ (λ _. 0) (λ _. 0) (state s.file.image) m m (λ sound whole. (sound, quiet-none m sound));
       marked = λ keeps sound whole marked. marked;
       lower = omega arith;
       fallen = inl refl;
@@ -163,37 +163,37 @@ module _ {S : Type 0} (state : S → StorageState) (n : ℕ) (is_metadata : Bool
   First = metadata state start.image
 
   -- That was refused,
-  module _ (fault : Fault) (mark1 : ℕ) (A : MetadataCaches S) (fA : ImageFile S) (pA : List FreeEntry) (frees : Frees state start (failed fault) (with_mark (lent start.table A fA pA) mark1)) (rest : IsRestInTurn start.pending pA) where
+  module _ (fault : Fault) (mark1 : ℕ) (A : MetadataCaches S) (fA : ImageFile S) (pA : List FreeEntry) (frees : Frees state start (failed fault) (with_first_free (image_state start.table A fA pA) mark1)) (rest : IsRestInTurn start.pending pA) where
     abbrev Rest : Metadata
     Rest = metadata_of state fA A start.table pA
 
-    not-limited : IsSearched (refused_run fault) → HasCause (freeing_causes (IsKept state start.image) (HasSpareRoom start.caches) (state start.file.image).faults (state fA.image).faults) fault → ⊥
+    not-limited : IsSearched (refused_run fault) → HasCause (freeing_causes (KeepsWritesAndSound state start.image) (HasUnpinnedSlot start.caches) (state start.file.image).faults (state fA.image).faults) fault → ⊥
     not-limited searched why = by-fault fault searched why
       where
-        by-fault : (f : Fault) → IsSearched (refused_run f) → HasCause (freeing_causes (IsKept state start.image) (HasSpareRoom start.caches) (state start.file.image).faults (state fA.image).faults) f → ⊥
+        by-fault : (f : Fault) → IsSearched (refused_run f) → HasCause (freeing_causes (KeepsWritesAndSound state start.image) (HasUnpinnedSlot start.caches) (state start.file.image).faults (state fA.image).faults) f → ⊥
         by-fault (Limit number) searched why = why
         by-fault f searched why = searched
 
-    pub run-not-freed : AllocatesClusters state n is_metadata start (refused_run fault) (with_mark (lent start.table A fA pA) mark1)
+    pub run-not-freed : AllocatesClusters state n is_metadata start (refused_run fault) (with_first_free (image_state start.table A fA pA) mark1)
     run-not-freed = record {
       leaked = λ _. 0;
       leaks = leaks-none _ _ (refused_run fault);
       faults = frees.faults;
-      quiet = quietly-weaker _ (WasNotCutOff (refused_run fault)) (λ _. 0) (λ _. 0) (state start.file.image) First (state fA.image) Rest (λ sound whole. inl whole) frees.quiet;
+      guest_unchanged = quietly-weaker _ (HadNoResourceError (refused_run fault)) (λ _. 0) (λ _. 0) (state start.file.image) First (state fA.image) Rest (λ sound whole. inl whole) frees.guest_unchanged;
       run = tt;
-      unnamed = λ keeps sound. tt;
+      not_referenced = λ keeps sound. tt;
       answer = failed fault;
       between = A;
       at = fA;
       left = pA;
       frees = frees;
-      rest = rest;
+      remains_in_turn = rest;
       halted = λ other is. (ap (λ f. refused_run f) (let e = is in let same : fault ≡ other = cc in same), refl, refl, refl, refl);
       mid = record { image = Rest; mark = mark1 };
       mid_left = refl;
-      freed = λ keeps sound whole. let held = frees.quiet.holds keeps sound (inl whole) in record {
+      freed = λ keeps sound whole. let held = frees.guest_unchanged.holds keeps sound (inl whole) in record {
         sound = held.0;
-        quiet = held.1;
+        guest_unchanged = held.1;
         header = frees.header;
         table = refl;
         fewer = fewer-counted First Rest (λ _. 0) (λ _. 0) held.1 sound held.0 frees.header refl (λ c. refl) frees.less;
@@ -210,7 +210,7 @@ module _ {S : Type 0} (state : S → StorageState) (n : ℕ) (is_metadata : Bool
       further = tt;
       stays = refl;
       order = tt;
-      shape = record { moved = moved-none start.file.header fA.header frees.header; loose = loose-on start.table start.caches A frees.pins frees.room.blocks; room = frees.room };
+      shape = record { moved = moved-none start.file.header fA.header frees.header; keeps_unpinned_room = loose-on start.table start.caches A frees.pins frees.room.blocks; room = frees.room };
       list = inl refl;
       cause = cause-weaker (freeing-allocates (λ holds. holds) (λ u. u.2.room) refl) fault frees.cause;
     }
@@ -220,45 +220,45 @@ module _ {S : Type 0} (state : S → StorageState) (n : ℕ) (is_metadata : Bool
   run-not-held = run-not-freed Memory start.mark start.caches start.file start.pending (memory-unfreed state start) (rest-all start.pending)
 
   -- or there was nothing left.
-  module _ (mark1 : ℕ) (A : MetadataCaches S) (fA : ImageFile S) (frees : Frees state start (Ok tt) (with_mark (lent start.table A fA []) mark1)) (B : MetadataCaches S) (fB : ImageFile S) where
+  module _ (mark1 : ℕ) (A : MetadataCaches S) (fA : ImageFile S) (frees : Frees state start (Ok tt) (with_first_free (image_state start.table A fA []) mark1)) (B : MetadataCaches S) (fB : ImageFile S) where
     abbrev Freed : Metadata
     Freed = metadata_of state fA A start.table []
 
     abbrev Ready : Metadata
     Ready = metadata_of state fB B start.table []
 
-    freed-loose : (any : Bool) → IsLoose start.table start.caches any → IsLoose start.table A any
+    freed-loose : (any : Bool) → HasUnpinnedRoom start.table start.caches any → HasUnpinnedRoom start.table A any
     freed-loose = loose-on start.table start.caches A frees.pins frees.room.blocks
 
     still-sound : IsTrue (state start.file.image).shape.keeps → IsSound First → IsTrue (state fA.image).shape.keeps × IsSound Freed
-    still-sound keeps sound = (keeps_on (state start.file.image) (state fA.image) frees.quiet.shape keeps, (frees.quiet.holds keeps sound (inl tt)).0)
+    still-sound keeps sound = (keeps_on (state start.file.image) (state fA.image) frees.guest_unchanged.shape keeps, (frees.guest_unchanged.holds keeps sound (inl tt)).0)
 
-    quiet-on : (ok : Type 0) (handed : ℕ → ℕ) (s : StorageState) (m : Metadata) → Quietly ok handed (λ _. 0) (state fA.image) Freed s m → Quietly ok handed (λ _. 0) (state start.file.image) First s m
+    quiet-on : (ok : Type 0) (handed : ℕ → ℕ) (s : StorageState) (m : Metadata) → PreservesGuest ok handed (λ _. 0) (state fA.image) Freed s m → PreservesGuest ok handed (λ _. 0) (state start.file.image) First s m
     quiet-on ok handed s m second =
         quietly-otherwise ok (λ c. 0 + handed c) (λ c. 0 + 0) handed (λ _. 0) (state start.file.image) First s m (λ sound c. omega arith) (λ sound c used none. omega arith)
-        (quietly-then _ ok (λ _. 0) (λ _. 0) handed (λ _. 0) (state start.file.image) First (state fA.image) Freed s m (inl tt) (λ sound c some. refl) frees.quiet second)
+        (quietly-then _ ok (λ _. 0) (λ _. 0) handed (λ _. 0) (state start.file.image) First (state fA.image) Freed s m (inl tt) (λ sound c some. refl) frees.guest_unchanged second)
 
     -- The announcement was refused,
-    pub run-not-announced : (fault : Fault) → Announced state (lent start.table A fA []) (failed fault) (lent start.table B fB []) → AllocatesClusters state n is_metadata start (refused_run fault) (with_mark (lent start.table B fB []) mark1)
+    pub run-not-announced : (fault : Fault) → Announced state (image_state start.table A fA []) (failed fault) (image_state start.table B fB []) → AllocatesClusters state n is_metadata start (refused_run fault) (with_first_free (image_state start.table B fB []) mark1)
     run-not-announced fault second = record {
       leaked = λ _. 0;
       leaks = leaks-none _ _ (refused_run fault);
-      faults = λ mild. faultless-then (frees.faults tt) (second.faults mild);
-      quiet = quiet;
+      faults = λ not_resource_error. faultless-then (frees.faults tt) (second.faults not_resource_error);
+      guest_unchanged = guest_unchanged;
       run = tt;
-      unnamed = λ keeps sound. tt;
+      not_referenced = λ keeps sound. tt;
       answer = Ok tt;
       between = A;
       at = fA;
       left = [];
       frees = frees;
-      rest = rest-none start.pending;
+      remains_in_turn = rest-none start.pending;
       halted = λ other is. let e = is in absurd (cc e);
       mid = record { image = Ready; mark = mark1 };
       mid_left = refl;
-      freed = λ keeps sound whole. let held = quiet.holds keeps sound whole in record {
+      freed = λ keeps sound whole. let held = guest_unchanged.holds keeps sound whole in record {
         sound = held.0;
-        quiet = held.1;
+        guest_unchanged = held.1;
         header = second.header ∙ frees.header;
         table = refl;
         fewer = fewer-counted First Ready (λ _. 0) (λ _. 0) held.1 sound held.0 (second.header ∙ frees.header) refl (λ c. refl) frees.less;
@@ -277,46 +277,46 @@ module _ {S : Type 0} (state : S → StorageState) (n : ℕ) (is_metadata : Bool
       order = tt;
       shape = record {
         moved = moved-none start.file.header fB.header (second.header ∙ frees.header);
-        loose = λ any loose. second.loose any (freed-loose any loose);
+        keeps_unpinned_room = λ any loose. second.loose any (freed-loose any loose);
         room = record { tables = second.room.tables ∙ frees.room.tables; blocks = second.room.blocks ∙ frees.room.blocks; entries = second.room.entries ∙ frees.room.entries };
       };
       list = inl refl;
       cause = cause-weaker (freeing-allocates (λ holds. still-sound holds.0 holds.1) (λ u. loose-all start.table A u.0 (freed-loose u.0 u.2)) frees.cause) fault second.cause;
     }
       where
-        quiet : Quietly (WasNotCutOff (refused_run fault)) (λ _. 0) (λ _. 0) (state start.file.image) First (state fB.image) Ready
-        quiet = quiet-on (WasNotCutOff (refused_run fault)) (λ _. 0) (state fB.image) Ready second.quiet
+        guest_unchanged : PreservesGuest (HadNoResourceError (refused_run fault)) (λ _. 0) (λ _. 0) (state start.file.image) First (state fB.image) Ready
+        guest_unchanged = quiet-on (HadNoResourceError (refused_run fault)) (λ _. 0) (state fB.image) Ready second.guest_unchanged
 
-        marked : IsTrue (state start.file.image).shape.keeps → IsSound First → WasNotCutOff (refused_run fault) → IsMarked First start.mark → IsMarked Ready mark1
+        marked : IsTrue (state start.file.image).shape.keeps → IsSound First → HadNoResourceError (refused_run fault) → NoneFreeBefore First start.mark → NoneFreeBefore Ready mark1
         marked keeps sound whole was c below =
-            let still = still-sound keeps sound in
-            let same = second.counts still.0 still.1 whole c in
+            let has_no_dirty_data = still-sound keeps sound in
+            let same = second.counts has_no_dirty_data.0 has_no_dirty_data.1 whole c in
             let more = frees.marked keeps sound (inl tt) was c below in
             omega (arith, same, more)
 
-        never : (f : Fault) → IsSearched (refused_run f) → HasCause (freeing_causes (IsTrue (state fA.image).shape.keeps × IsSound Freed) (IsLoose start.table A true) (state fA.image).faults (state fB.image).faults) f → ⊥
+        never : (f : Fault) → IsSearched (refused_run f) → HasCause (freeing_causes (IsTrue (state fA.image).shape.keeps × IsSound Freed) (HasUnpinnedRoom start.table A true) (state fA.image).faults (state fB.image).faults) f → ⊥
         never (Limit number) searched why = why
         never f searched why = searched
 
     -- or a run was searched for.
-    module _ (second : Announced state (lent start.table A fA []) (Ok tt) (lent start.table B fB [])) (result : Result FreeEntry Fault) (s' : AllocatorState S)
-        (third : Allocates state n is_metadata (with_mark (lent start.table B fB []) mark1) result s') where
+    module _ (second : Announced state (image_state start.table A fA []) (Ok tt) (image_state start.table B fB [])) (result : Result FreeEntry Fault) (s' : AllocatorState S)
+        (third : Allocates state n is_metadata (with_first_free (image_state start.table B fB []) mark1) result s') where
       abbrev Last : Metadata
       Last = metadata state s'.image
 
       ready-sound : IsTrue (state start.file.image).shape.keeps → IsSound First → IsTrue (state fB.image).shape.keeps × IsSound Ready
-      ready-sound keeps sound = let still = still-sound keeps sound in sound-behind state (lent start.table A fA []) B fB second still.0 still.1
+      ready-sound keeps sound = let has_no_dirty_data = still-sound keeps sound in sound-behind state (image_state start.table A fA []) B fB second has_no_dirty_data.0 has_no_dirty_data.1
 
-      ready-marked : IsTrue (state start.file.image).shape.keeps → IsSound First → IsMarked First start.mark → IsMarked Ready mark1
-      ready-marked keeps sound marked = let still = still-sound keeps sound in marked-behind state (lent start.table A fA []) B fB second mark1 still.0 still.1 (frees.marked keeps sound (inl tt) marked)
+      ready-marked : IsTrue (state start.file.image).shape.keeps → IsSound First → NoneFreeBefore First start.mark → NoneFreeBefore Ready mark1
+      ready-marked keeps sound marked = let has_no_dirty_data = still-sound keeps sound in marked-behind state (image_state start.table A fA []) B fB second mark1 has_no_dirty_data.0 has_no_dirty_data.1 (frees.marked keeps sound (inl tt) marked)
 
-      is-freed : IsTrue (state start.file.image).shape.keeps → IsSound First → IsFreed (marked_metadata state start) (record { image = Ready; mark = mark1 })
-      is-freed keeps sound = let quiet = ((quiet-on ⊤ (λ _. 0) (state fB.image) Ready second.quiet).holds keeps sound tt).1 in record {
+      is-freed : IsTrue (state start.file.image).shape.keeps → IsSound First → IsFreed (metadata_with_first_free state start) (record { image = Ready; mark = mark1 })
+      is-freed keeps sound = let guest_unchanged = ((quiet-on ⊤ (λ _. 0) (state fB.image) Ready second.guest_unchanged).holds keeps sound tt).1 in record {
         sound = (ready-sound keeps sound).1;
-        quiet = quiet;
+        guest_unchanged = guest_unchanged;
         header = second.header ∙ frees.header;
         table = refl;
-        fewer = fewer-counted First Ready (λ _. 0) (λ _. 0) quiet sound (ready-sound keeps sound).1 (second.header ∙ frees.header) refl (λ c. refl) frees.less;
+        fewer = fewer-counted First Ready (λ _. 0) (λ _. 0) guest_unchanged sound (ready-sound keeps sound).1 (second.header ∙ frees.header) refl (λ c. refl) frees.less;
         lower = frees.lower;
         marked = ready-marked keeps sound;
       }
@@ -324,27 +324,27 @@ module _ {S : Type 0} (state : S → StorageState) (n : ℕ) (is_metadata : Bool
       same-shape : StaysInShape start.image s'.image
       same-shape = record {
         moved = subst (λ (H : Header). MovedTable H s'.file.header) (second.header ∙ frees.header) third.step.moved;
-        loose = λ any loose. third.step.loose any (second.loose any (freed-loose any loose));
+        keeps_unpinned_room = λ any loose. third.step.keeps_unpinned_room any (second.loose any (freed-loose any loose));
         room = record { tables = third.step.room.tables ∙ second.room.tables ∙ frees.room.tables; blocks = third.step.room.blocks ∙ second.room.blocks ∙ frees.room.blocks; entries = third.step.room.entries ∙ second.room.entries ∙ frees.room.entries };
       }
 
       abbrev RunIs : ℕ → FreeEntry → Type 0
-      RunIs bits entry = (entry.count ≡ n) × (entry.metadata ≡ is_metadata) × (0 < n → (entry.first ≢ 0) × IsInReach bits (entry.first + (n - 1)))
+      RunIs bits entry = (entry.count ≡ n) × (entry.metadata ≡ is_metadata) × (0 < n → (entry.first ≢ 0) × IsAddressable bits (entry.first + (n - 1)))
 
       runs : IfOk result (RunIs start.file.header.fields.cluster_bits)
       runs = subst (λ (H : Header). IfOk result (RunIs H.fields.cluster_bits)) (second.header ∙ frees.header) third.run
 
       unnamed-run : IsTrue (state start.file.image).shape.keeps → IsSound First → (r : Result FreeEntry Fault) → result ≡ r → IfOk r (RunIs start.file.header.fields.cluster_bits) → IfOk r (IsRunCounted mark1 n Last)
-          → IfOk r (λ entry. (c : ℕ) → entry.first ≤ c → c < entry.first + n → counted Ready c ≡ 0) → IfOk r (AreUnnamed Last)
+          → IfOk r (λ entry. (c : ℕ) → entry.first ≤ c → c < entry.first + n → counted Ready c ≡ 0) → IfOk r (AreUnreferenced Last)
       unnamed-run keeps sound (Err fault) is run taken fresh = tt
       unnamed-run keeps sound (Ok entry) is run taken fresh = λ c above below.
-          let still = ready-sound keeps sound in
-          let quiet : Quietly (WasNotCutOff (run_so entry)) (handed_by (run_so entry) third.leaked) (λ _. 0) (state fB.image) Ready (state s'.file.image) Last =
-          subst (λ (r : Result FreeEntry Fault). Quietly (WasNotCutOff r) (handed_by r third.leaked) (λ _. 0) (state fB.image) Ready (state s'.file.image) Last) is (third.step.quiet second.order) in
-          let held = quiet.holds still.0 still.1 tt in
+          let has_no_dirty_data = ready-sound keeps sound in
+          let guest_unchanged : PreservesGuest (HadNoResourceError (run_so entry)) (allocated_by (run_so entry) third.leaked) (λ _. 0) (state fB.image) Ready (state s'.file.image) Last =
+          subst (λ (r : Result FreeEntry Fault). PreservesGuest (HadNoResourceError r) (allocated_by r third.leaked) (λ _. 0) (state fB.image) Ready (state s'.file.image) Last) is (third.step.guest_unchanged second.order) in
+          let held = guest_unchanged.holds has_no_dirty_data.0 has_no_dirty_data.1 tt in
           let length-is = run.0 in
           let inside : c < entry.first + n = omega (arith, below, length-is) in
-          handed-unnamed Ready Last (λ d. covers d entry) c still.1 held.0 second.order held.1 (fresh c above inside) (taken.once c above inside) (covers-inside c entry above below)
+          handed-unnamed Ready Last (λ d. covers d entry) c has_no_dirty_data.1 held.0 second.order held.1 (fresh c above inside) (taken.once c above inside) (covers-inside c entry above below)
 
       run-ordered : (r : Result FreeEntry Fault) → OnOk r (order_of s'.caches ≡ L2DependsOnRb)
       run-ordered (Ok entry) = third.step.order ∙ second.order
@@ -353,35 +353,35 @@ module _ {S : Type 0} (state : S → StorageState) (n : ℕ) (is_metadata : Bool
       pub run-announced : AllocatesClusters state n is_metadata start result s'
       run-announced = record {
         leaked = third.leaked;
-        leaks = record { none = third.leaks.none; pinned = λ holds loose. let still = ready-sound holds.0 holds.1 in third.leaks.pinned (still.0, second.order, still.1) (second.loose true (freed-loose true loose)) };
+        leaks = record { none = third.leaks.none; pinned = λ holds loose. let has_no_dirty_data = ready-sound holds.0 holds.1 in third.leaks.pinned (has_no_dirty_data.0, second.order, has_no_dirty_data.1) (second.loose true (freed-loose true loose)) };
         faults = λ whole. faultless-then (frees.faults tt) (faultless-then (second.faults tt) (third.step.faults whole));
-        quiet = quiet-on (WasNotCutOff result) (handed_by result third.leaked) (state s'.file.image) Last
-            (quiet-behind state (lent start.table A fA []) B fB second (WasNotCutOff result) (handed_by result third.leaked) (state s'.file.image) Last third.step.quiet);
+        guest_unchanged = quiet-on (HadNoResourceError result) (allocated_by result third.leaked) (state s'.file.image) Last
+            (quiet-behind state (image_state start.table A fA []) B fB second (HadNoResourceError result) (allocated_by result third.leaked) (state s'.file.image) Last third.step.guest_unchanged);
         run = runs;
-        unnamed = λ keeps sound. let still = ready-sound keeps sound in unnamed-run keeps sound result refl runs (third.taken second.order still.0 still.1) (third.fresh second.order still.0 still.1);
+        not_referenced = λ keeps sound. let has_no_dirty_data = ready-sound keeps sound in unnamed-run keeps sound result refl runs (third.taken second.order has_no_dirty_data.0 has_no_dirty_data.1) (third.fresh second.order has_no_dirty_data.0 has_no_dirty_data.1);
         answer = Ok tt;
         between = A;
         at = fA;
         left = [];
         frees = frees;
-        rest = rest-none start.pending;
+        remains_in_turn = rest-none start.pending;
         halted = λ other is. let e = is in absurd (cc e);
         mid = record { image = Ready; mark = mark1 };
         mid_left = refl;
         freed = λ keeps sound whole. is-freed keeps sound;
         emptied = refl;
         searched = λ searched. (refl, second.order);
-        fresh = λ keeps sound. let still = ready-sound keeps sound in third.fresh second.order still.0 still.1;
-        taken = λ keeps sound. let still = ready-sound keeps sound in third.taken second.order still.0 still.1;
-        little = λ keeps sound. let still = ready-sound keeps sound in third.little second.order still.0 still.1;
-        raised = λ keeps sound whole. let still = ready-sound keeps sound in third.step.raised second.order still.0 still.1 whole;
-        marked = λ keeps sound whole marked. let still = ready-sound keeps sound in third.marked second.order still.0 still.1 whole (ready-marked keeps sound marked);
+        fresh = λ keeps sound. let has_no_dirty_data = ready-sound keeps sound in third.fresh second.order has_no_dirty_data.0 has_no_dirty_data.1;
+        taken = λ keeps sound. let has_no_dirty_data = ready-sound keeps sound in third.taken second.order has_no_dirty_data.0 has_no_dirty_data.1;
+        little = λ keeps sound. let has_no_dirty_data = ready-sound keeps sound in third.little second.order has_no_dirty_data.0 has_no_dirty_data.1;
+        raised = λ keeps sound whole. let has_no_dirty_data = ready-sound keeps sound in third.step.raised second.order has_no_dirty_data.0 has_no_dirty_data.1 whole;
+        marked = λ keeps sound whole marked. let has_no_dirty_data = ready-sound keeps sound in third.marked second.order has_no_dirty_data.0 has_no_dirty_data.1 whole (ready-marked keeps sound marked);
         further = third.moved;
         stays = third.stays;
         order = run-ordered result;
         shape = same-shape;
         list = subst (λ (H : Header). IsLengthenedByTable H.fields start.table s'.table [] s'.pending) (second.header ∙ frees.header) third.list;
-        cause = fails-weaker _ _ (allocating-weaker (λ holds. still-sound holds.0 holds.1) freed-loose (λ n full keeps sound. let still = still-sound keeps sound in full still.0 still.1) frees.cause) (λ same. same ∙ frees.cause) result
-            (fails-weaker _ (allocating_causes (IsKept state (lent start.table A fA [])) (IsLoose start.table A) (λ number. IsTrue (state fA.image).shape.keeps → IsSound Freed → IsCrowded Ready mark1 n × IsRunTold Last mark1 n number) (state fA.image).faults (state s'.file.image).faults)
-            (allocates-behind state (lent start.table A fA []) B fB second (λ n full keeps sound. let still = sound-behind state (lent start.table A fA []) B fB second keeps sound in full second.order still.0 still.1)) (λ same. same ∙ second.cause) result third.cause);
+        cause = fails-weaker _ _ (allocating-weaker (λ holds. still-sound holds.0 holds.1) freed-loose (λ n full keeps sound. let has_no_dirty_data = still-sound keeps sound in full has_no_dirty_data.0 has_no_dirty_data.1) frees.cause) (λ same. same ∙ frees.cause) result
+            (fails-weaker _ (allocating_causes (KeepsWritesAndSound state (image_state start.table A fA [])) (HasUnpinnedRoom start.table A) (λ number. IsTrue (state fA.image).shape.keeps → IsSound Freed → IsCrowded Ready mark1 n × IsRunTold Last mark1 n number) (state fA.image).faults (state s'.file.image).faults)
+            (allocates-behind state (image_state start.table A fA []) B fB second (λ n full keeps sound. let has_no_dirty_data = sound-behind state (image_state start.table A fA []) B fB second keeps sound in full second.order has_no_dirty_data.0 has_no_dirty_data.1)) (λ same. same ∙ second.cause) result third.cause);
       }

@@ -11,21 +11,21 @@ use Rattle.qcow2_types.specs.Header.{Header}
 use Rattle.qcow2_types.specs.Words.{block_offset}
 use Rattle.qcow2_types.specs.Pending.{FreeEntry}
 use Rattle.qcow2_types.specs.References.{structure, meets}
-use Rattle.qcow2_metadata.specs.Places.{IsInReach}
+use Rattle.qcow2_metadata.specs.Places.{IsAddressable}
 use Rattle.qcow2_alloc.specs.declared.allocation.handing_out.Readiness.TheVariants.{Ready, NoPlace}
 use Rattle.qcow2_alloc.specs.declared.cache.CacheDependency.TheVariants.{L2DependsOnRb}
 use Rattle.qcow2_alloc.specs.declared.cache.MetadataCaches.{MetadataCaches}
 use Rattle.qcow2_alloc.specs.declared.file.ImageFile.{ImageFile}
-use Rattle.qcow2_alloc.specs.Allocating.{Allocating, OnlyRaised}
+use Rattle.qcow2_alloc.specs.Allocating.{Allocating, OnlyIncremented}
 use Rattle.qcow2_alloc.specs.Allocators.{metadata_of}
 use Rattle.qcow2_alloc.specs.Caches.{order_of}
-use Rattle.qcow2_alloc.specs.Freeing.{IsMarked}
-use Rattle.qcow2_alloc.specs.Going.{WasNotCutOff}
+use Rattle.qcow2_alloc.specs.Freeing.{NoneFreeBefore}
+use Rattle.qcow2_alloc.specs.Going.{HadNoResourceError}
 use Rattle.qcow2_alloc.specs.GrowingTables.{IsTakenFor}
-use Rattle.qcow2_alloc.specs.HandingOut.{handed_at, IsBarred, IsHandedAt, IsOneAt}
+use Rattle.qcow2_alloc.specs.HandingOut.{handed_at, IsBarred, IsAllocatedAt, IsOneAt}
 use Rattle.qcow2_alloc.specs.HandingOutOne.{AllocatesAt, ReadiesCounter, leaked_by}
-use Rattle.qcow2_alloc.specs.Quiet.{Metadata, IsSound, counted}
-use Rattle.qcow2_alloc.specs.State.{lent, metadata, IsGuarded, with_mark, AllocatorState}
+use Rattle.qcow2_alloc.specs.GuestView.{Metadata, IsSound, counted}
+use Rattle.qcow2_alloc.specs.State.{image_state, metadata, IsGuarded, with_first_free, AllocatorState}
 use Rattle.qcow2_alloc.proofs.Causes.{fails-weaker}
 use Rattle.qcow2_alloc.proofs.Blocks.BlockCreationCalls.{allocating-weaker}
 use Rattle.qcow2_alloc.proofs.Handing.CountSequences.{counted-still, allocating-none, allocating-as, allocating-then}
@@ -35,11 +35,11 @@ use Rattle.qcow2_alloc.proofs.Handing.SingleCounts.{handed_so, not_handed}
 use Rattle.qcow2_alloc.proofs.Blocks.CounterProvision.{ready_so, not_ready}
 
 -- What is before the mark stays counted where counts are raised alone,
-pub marked-raised : (m m' : Metadata) (mark : ℕ) → OnlyRaised m m' → IsMarked m mark → IsMarked m' mark
+pub marked-raised : (m m' : Metadata) (mark : ℕ) → OnlyIncremented m m' → NoneFreeBefore m mark → NoneFreeBefore m' mark
 marked-raised m m' mark raised marked c below = counted-still m m' c raised (marked c below)
 
 -- and what isn't counted then wasn't before.
-pub free-raised : (m m' : Metadata) (c : ℕ) → OnlyRaised m m' → counted m' c ≡ 0 → counted m c ≡ 0
+pub free-raised : (m m' : Metadata) (c : ℕ) → OnlyIncremented m m' → counted m' c ≡ 0 → counted m c ≡ 0
 free-raised m m' c raised zero = elim (raised c) [ inl same ↦ omega (arith, same, zero) | inr up ↦ up.0 ]
 
 module _ {S : Type 0} (state : S → StorageState) (cluster : ℕ) (s : AllocatorState S) where
@@ -50,7 +50,7 @@ module _ {S : Type 0} (state : S → StorageState) (cluster : ℕ) (s : Allocato
   Barred m = IsBarred m s.mark cluster
 
   -- A cluster that words can't name isn't handed out,
-  pub out-of-reach : (IsInReach s.file.header.fields.cluster_bits cluster → ⊥) → AllocatesAt state Barred cluster s (handed_so None) s
+  pub out-of-reach : (IsAddressable s.file.header.fields.cluster_bits cluster → ⊥) → AllocatesAt state Barred cluster s (handed_so None) s
   out-of-reach far = record {
     did = record {
       leaked = λ _. 0;
@@ -61,7 +61,7 @@ module _ {S : Type 0} (state : S → StorageState) (cluster : ℕ) (s : Allocato
     };
     one = tt;
     answer = λ order keeps sound. inr (inr (inl far));
-    near = λ order keeps sound c none more. absurd (omega (arith, none, more));
+    taken_up_to_cluster = λ order keeps sound c none more. absurd (omega (arith, none, more));
     further = refl;
     stays = tt;
     marked = λ order keeps sound whole marked. marked;
@@ -77,7 +77,7 @@ module _ {S : Type 0} (state : S → StorageState) (cluster : ℕ) (s : Allocato
       did = record { leaked = λ _. 0; leaks = leaks-none _ _ (handed_so None); step = counter.did.step; list = counter.did.list; cause = counter.did.cause };
       one = tt;
       answer = λ order keeps sound. inr (inr (counter.barred order keeps sound refl));
-      near = counter.near;
+      taken_up_to_cluster = counter.taken_up_to_cluster;
       further = counter.mark;
       stays = tt;
       marked = λ order keeps sound whole marked c below.
@@ -96,7 +96,7 @@ module _ {S : Type 0} (state : S → StorageState) (cluster : ℕ) (s : Allocato
       };
       one = tt;
       answer = λ order keeps sound. tt;
-      near = λ order keeps sound. tt;
+      taken_up_to_cluster = λ order keeps sound. tt;
       further = tt;
       stays = counter.mark;
       marked = λ order keeps sound whole marked c below.
@@ -104,26 +104,26 @@ module _ {S : Type 0} (state : S → StorageState) (cluster : ℕ) (s : Allocato
     }
 
     module _ (counter : ReadiesCounter state cluster s (ready_so Ready) mid) (result : Result (Option FreeEntry) Fault) (new : MetadataCaches S) (after : ImageFile S) (mark' : ℕ)
-        (taken : AllocatesAt state (λ _. ⊥) cluster mid result (with_mark (lent mid.table new after mid.pending) mark')) where
-      one : AllocatesAt state (λ _. ⊥) cluster (with_mark mid.image s.mark) result (with_mark (lent mid.table new after mid.pending) mark')
-      one = subst (λ m. AllocatesAt state (λ _. ⊥) cluster (with_mark mid.image m) result (with_mark (lent mid.table new after mid.pending) mark')) counter.mark taken
+        (taken : AllocatesAt state (λ _. ⊥) cluster mid result (with_first_free (image_state mid.table new after mid.pending) mark')) where
+      one : AllocatesAt state (λ _. ⊥) cluster (with_first_free mid.image s.mark) result (with_first_free (image_state mid.table new after mid.pending) mark')
+      one = subst (λ m. AllocatesAt state (λ _. ⊥) cluster (with_first_free mid.image m) result (with_first_free (image_state mid.table new after mid.pending) mark')) counter.mark taken
 
       abbrev New : Metadata
       New = metadata_of state after new mid.table mid.pending
 
       holds-still : IsGuarded state s.image → IsGuarded state mid.image
-      holds-still holds = let quiet = counter.did.step.quiet holds.1 in (keeps_on (state s.file.image) (state mid.file.image) quiet.shape holds.0, counter.did.step.order ∙ holds.1, (quiet.holds holds.0 holds.2 tt).0)
+      holds-still holds = let guest_unchanged = counter.did.step.guest_unchanged holds.1 in (keeps_on (state s.file.image) (state mid.file.image) guest_unchanged.shape holds.0, counter.did.step.order ∙ holds.1, (guest_unchanged.holds holds.0 holds.2 tt).0)
 
-      both : Allocating state (WasNotCutOff result) (handed_at result one.did.leaked) s.image (lent mid.table new after mid.pending)
-      both = allocating-as state (WasNotCutOff result) (WasNotCutOff result) (λ c. leaked_by (ready_so Ready) counter.did.leaked c + handed_at result one.did.leaked c) (handed_at result one.did.leaked) s.image (lent mid.table new after mid.pending) (λ w. w) (λ c. omega arith)
-          (allocating-then state ⊤ (WasNotCutOff result) (leaked_by (ready_so Ready) counter.did.leaked) (handed_at result one.did.leaked) s.image mid.image (lent mid.table new after mid.pending) tt counter.did.step one.did.step)
+      both : Allocating state (HadNoResourceError result) (handed_at result one.did.leaked) s.image (image_state mid.table new after mid.pending)
+      both = allocating-as state (HadNoResourceError result) (HadNoResourceError result) (λ c. leaked_by (ready_so Ready) counter.did.leaked c + handed_at result one.did.leaked c) (handed_at result one.did.leaked) s.image (image_state mid.table new after mid.pending) (λ w. w) (λ c. omega arith)
+          (allocating-then state ⊤ (HadNoResourceError result) (leaked_by (ready_so Ready) counter.did.leaked) (handed_at result one.did.leaked) s.image mid.image (image_state mid.table new after mid.pending) tt counter.did.step one.did.step)
 
       -- None is answered of a cluster that is counted by now: it was before, or something stands in it.
       taken-by : result ≡ Ok None → order_of s.caches ≡ L2DependsOnRb → IsTrue (state s.file.image).shape.keeps → IsSound Old → 0 < counted Mid cluster → (0 < counted Old cluster) ⊎ (0 < structure New.file New.header.fields (meets New.header.fields cluster))
       taken-by none order keeps sound more =
-          let whole : WasNotCutOff result = subst (λ (r : Result (Option FreeEntry) Fault). WasNotCutOff r) (sym none) tt in
+          let whole : HadNoResourceError result = subst (λ (r : Result (Option FreeEntry) Fault). HadNoResourceError r) (sym none) tt in
           let held = holds-still (keeps, order, sound) in
-          let after-all = (both.quiet order).holds keeps sound whole in
+          let after-all = (both.guest_unchanged order).holds keeps sound whole in
           let kept : handed_at result one.did.leaked cluster ≡ 0 = subst (λ (r : Result (Option FreeEntry) Fault). handed_at r one.did.leaked cluster ≡ 0) (sym none) refl in
           elim (cases_lt 0 (counted Old cluster)) [
             | inl was ↦ inl was
@@ -131,8 +131,8 @@ module _ {S : Type 0} (state : S → StorageState) (cluster : ℕ) (s : Allocato
                 (counted-still Mid New cluster (one.did.step.raised held.1 held.0 held.2 whole) more))
           ]
 
-      answered : (r : Result (Option FreeEntry) Fault) → result ≡ r → order_of s.caches ≡ L2DependsOnRb → IsTrue (state s.file.image).shape.keeps → IsSound Old → IfOk r (IsHandedAt ⊥ cluster Mid New) → IfOk r (IsHandedAt (Barred Old) cluster Old New)
-      answered (Ok (Some entry)) is order keeps sound (zero, once, unnamed, free) = (free-raised Old Mid cluster (counter.did.step.raised order keeps sound tt) zero, once, unnamed, free)
+      answered : (r : Result (Option FreeEntry) Fault) → result ≡ r → order_of s.caches ≡ L2DependsOnRb → IsTrue (state s.file.image).shape.keeps → IsSound Old → IfOk r (IsAllocatedAt ⊥ cluster Mid New) → IfOk r (IsAllocatedAt (Barred Old) cluster Old New)
+      answered (Ok (Some entry)) is order keeps sound (zero, once, not_referenced, free) = (free-raised Old Mid cluster (counter.did.step.raised order keeps sound tt) zero, once, not_referenced, free)
       answered (Ok None) is order keeps sound (inl more) = elim (taken-by is order keeps sound more) [ inl was ↦ inl was | inr stands ↦ inr (inl stands) ]
       answered (Ok None) is order keeps sound (inr (inl stands)) = inr (inl stands)
       answered (Ok None) is order keeps sound (inr (inr never)) = absurd never
@@ -142,31 +142,31 @@ module _ {S : Type 0} (state : S → StorageState) (cluster : ℕ) (s : Allocato
       nearby : (r : Result (Option FreeEntry) Fault) → order_of s.caches ≡ L2DependsOnRb → IsTrue (state s.file.image).shape.keeps → IsSound Old → IfOk r (λ _. IsTakenFor s.mark cluster Mid New) → IfOk r (λ _. IsTakenFor s.mark cluster Old New)
       nearby (Err fault) order keeps sound said = tt
       nearby (Ok found) order keeps sound said = λ c none more. elim (cases_eq (counted Mid c) 0) [
-        | inr made ↦ counter.near order keeps sound c none (omega (arith, made))
-        | inl still ↦ elim (said c still more) [
+        | inr made ↦ counter.taken_up_to_cluster order keeps sound c none (omega (arith, made))
+        | inl has_no_dirty_data ↦ elim (said c has_no_dirty_data more) [
           | inl le ↦ inl le
           | inr room ↦ absurd (never room.0)
         ]
       ]
         where
-          never : length mid.table.words ≤ cluster / counters_of_block mid.file.header.fields → ⊥
+          never : length mid.table.raw_entries ≤ cluster / counters_of_block mid.file.header.fields → ⊥
           never past =
-              let here : length mid.table.words ≤ cluster / counters_of_block s.file.header.fields = subst (λ (H : Header). length mid.table.words ≤ cluster / counters_of_block H.fields) counter.did.step.moved.2 past in
-              counter.there refl (ap block_offset (get_or_past mid.table.words (cluster / counters_of_block s.file.header.fields) 0 here))
+              let here : length mid.table.raw_entries ≤ cluster / counters_of_block s.file.header.fields = subst (λ (H : Header). length mid.table.raw_entries ≤ cluster / counters_of_block H.fields) counter.did.step.moved.2 past in
+              counter.ready_covers_cluster refl (ap block_offset (get_or_past mid.table.raw_entries (cluster / counters_of_block s.file.header.fields) 0 here))
 
       -- Else it is handed out where it is free.
-      pub readied-at : AllocatesAt state Barred cluster s result (with_mark (lent mid.table new after mid.pending) mark')
+      pub readied-at : AllocatesAt state Barred cluster s result (with_first_free (image_state mid.table new after mid.pending) mark')
       readied-at = record {
         did = record {
           leaked = one.did.leaked;
-          leaks = record { none = one.did.leaks.none; pinned = λ holds loose. one.did.leaks.pinned (holds-still holds) (counter.did.step.loose true loose) };
+          leaks = record { none = one.did.leaks.none; pinned = λ holds loose. one.did.leaks.pinned (holds-still holds) (counter.did.step.keeps_unpinned_room true loose) };
           step = both;
           list = counter.did.list;
-          cause = fails-weaker _ _ (allocating-weaker holds-still counter.did.step.loose (λ n full. full) counter.did.cause) (λ same. same ∙ counter.did.cause) result one.did.cause;
+          cause = fails-weaker _ _ (allocating-weaker holds-still counter.did.step.keeps_unpinned_room (λ n full. full) counter.did.cause) (λ same. same ∙ counter.did.cause) result one.did.cause;
         };
         one = subst (λ (H : Header). IfOk result (IsOneAt cluster H.fields.cluster_bits)) counter.did.step.moved.2 one.one;
         answer = λ order keeps sound. let held = holds-still (keeps, order, sound) in answered result refl order keeps sound (one.answer held.1 held.0 held.2);
-        near = λ order keeps sound. let held = holds-still (keeps, order, sound) in nearby result order keeps sound (one.near held.1 held.0 held.2);
+        taken_up_to_cluster = λ order keeps sound. let held = holds-still (keeps, order, sound) in nearby result order keeps sound (one.taken_up_to_cluster held.1 held.0 held.2);
         further = one.further;
         stays = one.stays;
         marked = λ order keeps sound whole marked. let held = holds-still (keeps, order, sound) in one.marked held.1 held.0 held.2 whole (marked-raised Old Mid s.mark (counter.did.step.raised order keeps sound tt) marked);

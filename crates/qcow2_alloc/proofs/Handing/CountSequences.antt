@@ -5,12 +5,12 @@ use Rattle.imago_storage.specs.State.{StorageState}
 use Rattle.imago_storage.proofs.Composing.{keeps_on}
 use Rattle.qcow2_types.specs.Header.{Header}
 use Rattle.qcow2_types.specs.Switched.{with_refcount_table}
-use Rattle.qcow2_alloc.specs.Allocating.{Allocating, MovedTable, OnlyRaised}
-use Rattle.qcow2_alloc.specs.Quiet.{Metadata, counted}
+use Rattle.qcow2_alloc.specs.Allocating.{Allocating, MovedTable, OnlyIncremented}
+use Rattle.qcow2_alloc.specs.GuestView.{Metadata, counted}
 use Rattle.qcow2_alloc.specs.State.{ImageState, metadata}
 use Rattle.qcow2_alloc.proofs.Flushing.FaultlessCalls.{faultless-then}
-use Rattle.qcow2_alloc.proofs.Quiet.QuietFlushes.{memory-quietly, quiet-none, quietly-weaker}
-use Rattle.qcow2_alloc.proofs.Quiet.QuietSequences.{quietly-then, quietly-otherwise}
+use Rattle.qcow2_alloc.proofs.GuestView.QuietFlushes.{memory-quietly, quiet-none, quietly-weaker}
+use Rattle.qcow2_alloc.proofs.GuestView.QuietSequences.{quietly-then, quietly-otherwise}
 
 -- A header whose table stays has moved nowhere, and where it moved twice it has moved once.
 pub moved-none : (H H' : Header) → H' ≡ H → MovedTable H H'
@@ -19,14 +19,14 @@ moved-none H H' same = (H.fields.refcount_table_offset, H.fields.refcount_table_
 pub moved-then : (H H' H'' : Header) → MovedTable H H' → MovedTable H' H'' → MovedTable H H''
 moved-then H H' H'' (offset, clusters, is) (offset', clusters', is') = (offset', clusters', is' ∙ ap (λ (x : Header). with_refcount_table x offset' clusters') is)
 
-pub raised-then : (m m' m'' : Metadata) → OnlyRaised m m' → OnlyRaised m' m'' → OnlyRaised m m''
+pub raised-then : (m m' m'' : Metadata) → OnlyIncremented m m' → OnlyIncremented m' m'' → OnlyIncremented m m''
 raised-then m m' m'' one two c = elim (one c) [
   | inl same ↦ elim (two c) [ inl same' ↦ inl (same' ∙ same) | inr up ↦ inr (sym same ∙ up.0, up.1) ]
   | inr up ↦ elim (two c) [ inl same' ↦ inr (up.0, same' ∙ up.1) | inr up' ↦ let a = up.1 in let b = up'.0 in absurd (omega (arith, a, b)) ]
 ]
 
 -- What is counted stays so where counts are raised alone.
-pub counted-still : (m m' : Metadata) (c : ℕ) → OnlyRaised m m' → 0 < counted m c → 0 < counted m' c
+pub counted-still : (m m' : Metadata) (c : ℕ) → OnlyIncremented m m' → 0 < counted m c → 0 < counted m' c
 counted-still m m' c raised was = elim (raised c) [ inl same ↦ omega (arith, same, was) | inr up ↦ let one = up.1 in omega (arith, one) ]
 
 module _ {S : Type 0} (state : S → StorageState) where
@@ -36,12 +36,12 @@ module _ {S : Type 0} (state : S → StorageState) where
       let m = metadata state s in
       record {
         faults = λ done. (refl, refl);
-        quiet = λ order. memory-quietly ⊤ (λ _. 0) (λ _. 0) (state s.file.image) m m (λ sound done. (sound, quiet-none m sound));
+        guest_unchanged = λ order. memory-quietly ⊤ (λ _. 0) (λ _. 0) (state s.file.image) m m (λ sound done. (sound, quiet-none m sound));
         raised = λ order keeps sound done c. inl refl;
         order = refl;
         moved = moved-none s.file.header s.file.header refl;
         longer = omega arith;
-        loose = λ any loose. loose;
+        keeps_unpinned_room = λ any loose. loose;
         room = record { tables = refl; blocks = refl; entries = refl };
       }
 
@@ -53,16 +53,16 @@ module _ {S : Type 0} (state : S → StorageState) where
       let le' = two.longer in
       record {
         faults = λ whole. faultless-then (one.faults done) (two.faults whole);
-        quiet = λ order. quietly-otherwise ok' (λ c. h c + h' c) (λ c. 0 + 0) (λ c. h c + h' c) (λ _. 0) (state sA.file.image) (metadata state sA) (state sC.file.image) (metadata state sC) (λ sound c. omega arith) (λ sound c used none. omega arith)
-            (quietly-then ok ok' h (λ _. 0) h' (λ _. 0) (state sA.file.image) (metadata state sA) (state sB.file.image) (metadata state sB) (state sC.file.image) (metadata state sC) done (λ sound c some. refl) (one.quiet order) (two.quiet (one.order ∙ order)));
+        guest_unchanged = λ order. quietly-otherwise ok' (λ c. h c + h' c) (λ c. 0 + 0) (λ c. h c + h' c) (λ _. 0) (state sA.file.image) (metadata state sA) (state sC.file.image) (metadata state sC) (λ sound c. omega arith) (λ sound c used none. omega arith)
+            (quietly-then ok ok' h (λ _. 0) h' (λ _. 0) (state sA.file.image) (metadata state sA) (state sB.file.image) (metadata state sB) (state sC.file.image) (metadata state sC) done (λ sound c some. refl) (one.guest_unchanged order) (two.guest_unchanged (one.order ∙ order)));
         raised = λ order keeps sound whole.
-            let first = one.quiet order in
+            let first = one.guest_unchanged order in
             raised-then (metadata state sA) (metadata state sB) (metadata state sC) (one.raised order keeps sound done)
             (two.raised (one.order ∙ order) (keeps_on (state sA.file.image) (state sB.file.image) first.shape keeps) (first.holds keeps sound done).0 whole);
         order = two.order ∙ one.order;
         moved = moved-then sA.file.header sB.file.header sC.file.header one.moved two.moved;
         longer = omega (arith, le, le');
-        loose = λ any loose. two.loose any (one.loose any loose);
+        keeps_unpinned_room = λ any loose. two.keeps_unpinned_room any (one.keeps_unpinned_room any loose);
         room = record { tables = two.room.tables ∙ one.room.tables; blocks = two.room.blocks ∙ one.room.blocks; entries = two.room.entries ∙ one.room.entries };
       }
 
@@ -71,12 +71,12 @@ module _ {S : Type 0} (state : S → StorageState) where
       → (ok' → ok) → ((c : ℕ) → h c ≡ h' c) → Allocating state ok h sA sB → Allocating state ok' h' sA sB
   allocating-as ok ok' h h' sA sB from same one = record {
     faults = λ whole. one.faults (from whole);
-    quiet = λ order. quietly-weaker ok ok' h' (λ _. 0) (state sA.file.image) (metadata state sA) (state sB.file.image) (metadata state sB) (λ sound. from)
-        (quietly-otherwise ok h (λ _. 0) h' (λ _. 0) (state sA.file.image) (metadata state sA) (state sB.file.image) (metadata state sB) (λ sound c. let is = same c in omega (arith, is)) (λ sound c used none. none) (one.quiet order));
+    guest_unchanged = λ order. quietly-weaker ok ok' h' (λ _. 0) (state sA.file.image) (metadata state sA) (state sB.file.image) (metadata state sB) (λ sound. from)
+        (quietly-otherwise ok h (λ _. 0) h' (λ _. 0) (state sA.file.image) (metadata state sA) (state sB.file.image) (metadata state sB) (λ sound c. let is = same c in omega (arith, is)) (λ sound c used none. none) (one.guest_unchanged order));
     raised = λ order keeps sound whole. one.raised order keeps sound (from whole);
     order = one.order;
     moved = one.moved;
     longer = one.longer;
-    loose = one.loose;
+    keeps_unpinned_room = one.keeps_unpinned_room;
     room = one.room;
   }

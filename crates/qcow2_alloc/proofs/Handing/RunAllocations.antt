@@ -15,18 +15,18 @@ use Rattle.qcow2_metadata.specs.Tables.{TableValue}
 use Rattle.qcow2_alloc.specs.declared.cache.CacheDependency.TheVariants.{L2DependsOnRb}
 use Rattle.qcow2_alloc.specs.declared.cache.MetadataCaches.{MetadataCaches}
 use Rattle.qcow2_alloc.specs.declared.file.ImageFile.{ImageFile}
-use Rattle.qcow2_alloc.specs.Allocating.{Allocating, CountsRun, MovedTable, OnlyRaised}
+use Rattle.qcow2_alloc.specs.Allocating.{Allocating, CountsRun, MovedTable, OnlyIncremented}
 use Rattle.qcow2_alloc.specs.Allocators.{metadata_of}
 use Rattle.qcow2_alloc.specs.Caches.{order_of}
 use Rattle.qcow2_alloc.specs.Causes.{HasCause}
 use Rattle.qcow2_alloc.specs.Crowding.{IsGapless, IsRoomy, room_for}
 use Rattle.qcow2_alloc.specs.FreeList.{covers}
-use Rattle.qcow2_alloc.specs.Freeing.{IsLoose, IsMarked, counting_causes}
-use Rattle.qcow2_alloc.specs.Going.{WasNotCutOff}
+use Rattle.qcow2_alloc.specs.Freeing.{HasUnpinnedRoom, NoneFreeBefore, counting_causes}
+use Rattle.qcow2_alloc.specs.Going.{HadNoResourceError}
 use Rattle.qcow2_alloc.specs.MakingRoom.{run_of}
-use Rattle.qcow2_alloc.specs.Quiet.{Metadata, IsSound, counted}
-use Rattle.qcow2_alloc.specs.ReadyingRuns.{Allocates, IsRunCounted, ReadiesRun, handed_by, mark_behind}
-use Rattle.qcow2_alloc.specs.State.{ImageState, lent, metadata, with_mark, AllocatorState}
+use Rattle.qcow2_alloc.specs.GuestView.{Metadata, IsSound, counted}
+use Rattle.qcow2_alloc.specs.ReadyingRuns.{Allocates, IsRunCounted, ReadiesRun, allocated_by, first_free_after}
+use Rattle.qcow2_alloc.specs.State.{ImageState, image_state, metadata, with_first_free, AllocatorState}
 use Rattle.qcow2_alloc.proofs.Causes.{cause-weaker}
 use Rattle.qcow2_alloc.proofs.Blocks.BlockCreationCalls.{counting-allocates}
 use Rattle.qcow2_alloc.proofs.Handing.CountSequences.{allocating-none, allocating-as, raised-then}
@@ -34,8 +34,8 @@ use Rattle.qcow2_alloc.proofs.Flushing.FaultlessCalls.{faultless-then}
 use Rattle.qcow2_alloc.proofs.Space.GaplessRuns.{gapless-same}
 use Rattle.qcow2_alloc.proofs.Growth.LongerReftables.{covers-inside}
 use Rattle.qcow2_alloc.proofs.Space.RoomConsumption.{covered-inside}
-use Rattle.qcow2_alloc.proofs.Quiet.QuietPremises.{quietly-then-given}
-use Rattle.qcow2_alloc.proofs.Quiet.QuietSequences.{quietly-otherwise}
+use Rattle.qcow2_alloc.proofs.GuestView.QuietPremises.{quietly-then-given}
+use Rattle.qcow2_alloc.proofs.GuestView.QuietSequences.{quietly-otherwise}
 use Rattle.qcow2_alloc.proofs.Blocks.RunProvision.{leaks-on, leaks-ok}
 
 -- No cluster is covered by a run that is no part of it.
@@ -46,24 +46,24 @@ covers-outside c first n away = elim (cases_lt c first) [
 ]
 
 -- The mark stands behind a run that it stood before, or a lone cluster that was the first one, and else where it did.
-behind-here : (mark n first : ℕ) → first ≡ mark → mark_behind mark n first ≡ first + n
+behind-here : (mark n first : ℕ) → first ≡ mark → first_free_after mark n first ≡ first + n
 behind-here mark n first same = grind (arith, nat_tests)
 
-behind-one : (mark n first : ℕ) → first ≢ mark → n ≡ 1 → mark_behind mark n first ≡ first + 1
+behind-one : (mark n first : ℕ) → first ≢ mark → n ≡ 1 → first_free_after mark n first ≡ first + 1
 behind-one mark n first apart one = grind (arith, nat_tests)
 
-behind-not : (mark n first : ℕ) → first ≢ mark → n ≢ 1 → mark_behind mark n first ≡ mark
+behind-not : (mark n first : ℕ) → first ≢ mark → n ≢ 1 → first_free_after mark n first ≡ mark
 behind-not mark n first apart more = grind (arith, nat_tests)
 
 -- Counts that are raised alone keep what is before the mark counted,
-marked-on : (m m' : Metadata) (mark : ℕ) → OnlyRaised m m' → IsMarked m mark → IsMarked m' mark
+marked-on : (m m' : Metadata) (mark : ℕ) → OnlyIncremented m m' → NoneFreeBefore m mark → NoneFreeBefore m' mark
 marked-on m m' mark raised marked c below = elim (raised c) [
   | inl same ↦ let some = marked c below in omega (arith, same, some)
   | inr up ↦ let one = up.1 in omega (arith, one)
 ]
 
 -- and so does a run that is counted, which was the first one from the mark on.
-marked-behind : (m m' : Metadata) (mark n : ℕ) (entry : FreeEntry) → OnlyRaised m m' → IsRunCounted mark n m' entry → IsMarked m mark → IsMarked m' (mark_behind mark n entry.first)
+marked-behind : (m m' : Metadata) (mark n : ℕ) (entry : FreeEntry) → OnlyIncremented m m' → IsRunCounted mark n m' entry → NoneFreeBefore m mark → NoneFreeBefore m' (first_free_after mark n entry.first)
 marked-behind m m' mark n entry raised taken marked c below =
     let first = entry.first in
     let old : c < mark → 0 < counted m' c = marked-on m m' mark raised marked c in
@@ -114,19 +114,19 @@ module _ {S : Type 0} (state : S → StorageState) (n : ℕ) (is_metadata : Bool
   Keeps = IsTrue (state s.file.image).shape.keeps
 
   abbrev Handing : Result FreeEntry Fault → TableValue → MetadataCaches S → ImageFile S → List FreeEntry → ℕ → Type 0
-  Handing result table' new after pending' mark' = Allocates state n is_metadata s result (with_mark (lent table' new after pending') mark')
+  Handing result table' new after pending' mark' = Allocates state n is_metadata s result (with_first_free (image_state table' new after pending') mark')
 
   -- What can't come about hands out what you like.
   allocating-never : (ok : Type 0) (h h' : ℕ → ℕ) (s' : ImageState S) → (order_of s.caches ≡ L2DependsOnRb → Keeps → IsSound mA → ok → ⊥)
       → Allocating state ok h s.image s' → Allocating state ok h' s.image s'
   allocating-never ok h h' s' never step = record {
     faults = step.faults;
-    quiet = λ order. let quiet = step.quiet order in record { shape = quiet.shape; later = quiet.later; passes = quiet.passes; holds = λ keeps sound done. absurd (never order keeps sound done) };
+    guest_unchanged = λ order. let guest_unchanged = step.guest_unchanged order in record { shape = guest_unchanged.shape; counts_not_fallen = guest_unchanged.counts_not_fallen; passes = guest_unchanged.passes; holds = λ keeps sound done. absurd (never order keeps sound done) };
     raised = step.raised;
     order = step.order;
     moved = step.moved;
     longer = step.longer;
-    loose = step.loose;
+    keeps_unpinned_room = step.keeps_unpinned_room;
     room = step.room;
   }
 
@@ -139,7 +139,7 @@ module _ {S : Type 0} (state : S → StorageState) (n : ℕ) (is_metadata : Bool
         (allocating-none state s.image);
     run = (refl, refl, λ some. absurd (omega (arith, some, zero)));
     taken = λ order keeps sound. record {
-      behind = omega arith;
+      not_before_start = omega arith;
       once = λ c above below. absurd (omega (arith, above, below, zero));
       least = λ z above below. absurd (omega (arith, above, below));
     };
@@ -161,7 +161,7 @@ module _ {S : Type 0} (state : S → StorageState) (n : ℕ) (is_metadata : Bool
     run-refused fault ready = record {
       leaked = ready.leaked;
       leaks = leaks-on _ _ _ _ fault ready.leaked (λ holds. holds) (λ any loose. loose) ready.leaks;
-      step = allocating-as state (WasNotCutOff {T = ℕ} (Err fault)) (WasNotCutOff {T = FreeEntry} (Err fault)) ready.leaked (handed_by (Err fault) ready.leaked) s.image sB.image (λ whole. whole) (λ c. refl) ready.step;
+      step = allocating-as state (HadNoResourceError {T = ℕ} (Err fault)) (HadNoResourceError {T = FreeEntry} (Err fault)) ready.leaked (allocated_by (Err fault) ready.leaked) s.image sB.image (λ whole. whole) (λ c. refl) ready.step;
       run = tt;
       taken = λ order keeps sound. tt;
       fresh = λ order keeps sound. tt;
@@ -184,17 +184,17 @@ module _ {S : Type 0} (state : S → StorageState) (n : ℕ) (is_metadata : Bool
       -- Each can be counted.
       abbrev CanCount : Type 0
       CanCount = IsTrue (state sB.file.image).shape.keeps × (order_of sB.caches ≡ L2DependsOnRb) × IsSound mB
-          × ((c : ℕ) → first ≤ c → c < first + n → (counted mB c ≡ 0) × (block_offset (slice_index sB.table.words (c / counters_of_block sB.file.header.fields)) ≢ 0))
+          × ((c : ℕ) → first ≤ c → c < first + n → (counted mB c ≡ 0) × (block_offset (slice_index sB.table.raw_entries (c / counters_of_block sB.file.header.fields)) ≢ 0))
 
       holds-on : Keeps × (order_of s.caches ≡ L2DependsOnRb) × IsSound mA → CanCount
       holds-on holds =
-          let quiet = begun.quiet holds.1 in (
-            keeps_on (state s.file.image) (state sB.file.image) quiet.shape holds.0,
+          let guest_unchanged = begun.guest_unchanged holds.1 in (
+            keeps_on (state s.file.image) (state sB.file.image) guest_unchanged.shape holds.0,
             begun.order ∙ holds.1,
-            (quiet.holds holds.0 holds.2 tt).0,
+            (guest_unchanged.holds holds.0 holds.2 tt).0,
             λ c above below. (
               free holds.1 holds.0 holds.2 c above below,
-              subst (λ k. block_offset (slice_index sB.table.words (c / k)) ≢ 0) (sym (ap (λ (H : Header). counters_of_block H.fields) moved.2)) (ready.ready c above below),
+              subst (λ k. block_offset (slice_index sB.table.raw_entries (c / k)) ≢ 0) (sym (ap (λ (H : Header). counters_of_block H.fields) moved.2)) (ready.ready c above below),
             ),
           )
         where
@@ -206,12 +206,12 @@ module _ {S : Type 0} (state : S → StorageState) (n : ℕ) (is_metadata : Bool
         mC = metadata_of state fC C sB.table sB.pending
 
         -- A part of the run is counted, each cluster of it once.
-        counted-more : (result : Result Unit Fault) (counts : CountsRun state first n sB.image result (lent sB.table C fC sB.pending)) → order_of s.caches ≡ L2DependsOnRb → Keeps → IsSound mA → WasNotCutOff result → (c : ℕ) → counted mC c ≡ counted mB c + covers c (run_of first counts.part)
+        counted-more : (result : Result Unit Fault) (counts : CountsRun state first n sB.image result (image_state sB.table C fC sB.pending)) → order_of s.caches ≡ L2DependsOnRb → Keeps → IsSound mA → HadNoResourceError result → (c : ℕ) → counted mC c ≡ counted mB c + covers c (run_of first counts.part)
         counted-more result counts order keeps sound whole =
             let there = holds-on (keeps, order, sound) in
             counts.raised there.1 there.0 there.2 (free order keeps sound) whole
 
-        part-raised : (result : Result Unit Fault) → CountsRun state first n sB.image result (lent sB.table C fC sB.pending) → order_of s.caches ≡ L2DependsOnRb → Keeps → IsSound mA → WasNotCutOff result → OnlyRaised mB mC
+        part-raised : (result : Result Unit Fault) → CountsRun state first n sB.image result (image_state sB.table C fC sB.pending) → order_of s.caches ≡ L2DependsOnRb → Keeps → IsSound mA → HadNoResourceError result → OnlyIncremented mB mC
         part-raised result counts order keeps sound whole c =
             let more = counted-more result counts order keeps sound whole c in
             let le = counts.inside in
@@ -223,29 +223,29 @@ module _ {S : Type 0} (state : S → StorageState) (n : ℕ) (is_metadata : Bool
               ]
             ]
 
-        part-allocates : (result : Result Unit Fault) (counts : CountsRun state first n sB.image result (lent sB.table C fC sB.pending)) → Allocating state (WasNotCutOff result) (λ c. covers c (run_of first counts.part)) s.image (lent sB.table C fC sB.pending)
+        part-allocates : (result : Result Unit Fault) (counts : CountsRun state first n sB.image result (image_state sB.table C fC sB.pending)) → Allocating state (HadNoResourceError result) (λ c. covers c (run_of first counts.part)) s.image (image_state sB.table C fC sB.pending)
         part-allocates result counts =
             let part : ℕ → ℕ = λ c. covers c (run_of first counts.part) in record {
               faults = λ whole. faultless-then (begun.faults tt) (counts.faults whole);
-              quiet = λ order. quietly-otherwise (WasNotCutOff result) (λ c. 0 + part c) (λ c. 0 + 0) part (λ _. 0) (state s.file.image) mA (state fC.image) mC (λ sound c. omega arith) (λ sound c used none. omega arith)
-                  (quietly-then-given ⊤ (WasNotCutOff result) (λ _. 0) (λ _. 0) part (λ _. 0) (state s.file.image) mA (state sB.file.image) mB (state fC.image) mC tt (λ sound c some. refl) (begun.quiet order) counts.shape counts.later
-                  (λ keeps sound there quiet. counts.quiet (begun.order ∙ order) (λ again. free order keeps sound)));
+              guest_unchanged = λ order. quietly-otherwise (HadNoResourceError result) (λ c. 0 + part c) (λ c. 0 + 0) part (λ _. 0) (state s.file.image) mA (state fC.image) mC (λ sound c. omega arith) (λ sound c used none. omega arith)
+                  (quietly-then-given ⊤ (HadNoResourceError result) (λ _. 0) (λ _. 0) part (λ _. 0) (state s.file.image) mA (state sB.file.image) mB (state fC.image) mC tt (λ sound c some. refl) (begun.guest_unchanged order) counts.shape counts.counts_not_fallen
+                  (λ keeps sound there guest_unchanged. counts.guest_unchanged (begun.order ∙ order) (λ again. free order keeps sound)));
               raised = λ order keeps sound whole. raised-then mA mB mC (begun.raised order keeps sound tt) (part-raised result counts order keeps sound whole);
               order = counts.order ∙ begun.order;
               moved = subst (λ (H : Header). MovedTable s.file.header H) (sym counts.header) begun.moved;
               longer = begun.longer;
-              loose = λ any loose. counts.loose any (begun.loose any loose);
+              keeps_unpinned_room = λ any loose. counts.keeps_unpinned_room any (begun.keeps_unpinned_room any loose);
               room = record { tables = counts.room.tables ∙ begun.room.tables; blocks = counts.room.blocks ∙ begun.room.blocks; entries = counts.room.entries ∙ begun.room.entries };
             }
 
         abbrev Stopped : Fault → (ℕ → ℕ) → Type 0
-        Stopped f h = Allocating state (WasNotCutOff {T = FreeEntry} (Err f)) h s.image (lent sB.table C fC sB.pending)
+        Stopped f h = Allocating state (HadNoResourceError {T = FreeEntry} (Err f)) h s.image (image_state sB.table C fC sB.pending)
 
         -- Counting is refused.
-        pub count-refused : (fault : Fault) → CountsRun state first n sB.image (Err fault) (lent sB.table C fC sB.pending) → Handing (Err fault) sB.table C fC sB.pending sB.mark
+        pub count-refused : (fault : Fault) → CountsRun state first n sB.image (Err fault) (image_state sB.table C fC sB.pending) → Handing (Err fault) sB.table C fC sB.pending sB.mark
         count-refused fault counts = record {
           leaked = lost fault first counts.part;
-          leaks = record { none = lost-none fault first counts.part; pinned = λ holds all. lost-pinned CanCount (IsLoose sB.table sB.caches) _ _ fault first counts.part counts.cause (holds-on holds) (begun.loose true all) };
+          leaks = record { none = lost-none fault first counts.part; pinned = λ holds all. lost-pinned CanCount (HasUnpinnedRoom sB.table sB.caches) _ _ fault first counts.part counts.cause (holds-on holds) (begun.keeps_unpinned_room true all) };
           step = stopped fault counts.cause (part-allocates (Err fault) counts);
           run = tt;
           taken = λ order keeps sound. tt;
@@ -256,19 +256,19 @@ module _ {S : Type 0} (state : S → StorageState) (n : ℕ) (is_metadata : Bool
           marked = λ order keeps sound whole marked c below.
               marked-on mA mC s.mark ((part-allocates (Err fault) counts).raised order keeps sound whole) marked c (let same = ready.mark in omega (arith, same, below));
           list = ready.list;
-          cause = cause-weaker (counting-allocates holds-on begun.loose ready.cause) fault counts.cause;
+          cause = cause-weaker (counting-allocates holds-on begun.keeps_unpinned_room ready.cause) fault counts.cause;
         }
           where
-            stopped : (f : Fault) → HasCause (counting_causes CanCount (IsLoose sB.table sB.caches) (state sB.file.image).faults (state fC.image).faults) f → Stopped f (λ c. covers c (run_of first counts.part)) → Stopped f (handed_by (Err f) (lost f first counts.part))
-            stopped CacheFull why step = allocating-as state (WasNotCutOff {T = FreeEntry} (Err CacheFull)) (WasNotCutOff {T = FreeEntry} (Err CacheFull)) _ _ s.image (lent sB.table C fC sB.pending) (λ whole. whole) (λ c. refl) step
-            stopped Memory why step = allocating-never _ _ _ (lent sB.table C fC sB.pending) (λ order keeps sound whole. whole) step
-            stopped Storage why step = allocating-never _ _ _ (lent sB.table C fC sB.pending) (λ order keeps sound whole. whole) step
-            stopped DamagedTable why step = allocating-never _ _ _ (lent sB.table C fC sB.pending) (λ order keeps sound whole. why (holds-on (keeps, order, sound))) step
-            stopped Counter why step = allocating-never _ _ _ (lent sB.table C fC sB.pending) (λ order keeps sound whole. why (holds-on (keeps, order, sound))) step
+            stopped : (f : Fault) → HasCause (counting_causes CanCount (HasUnpinnedRoom sB.table sB.caches) (state sB.file.image).faults (state fC.image).faults) f → Stopped f (λ c. covers c (run_of first counts.part)) → Stopped f (allocated_by (Err f) (lost f first counts.part))
+            stopped CacheFull why step = allocating-as state (HadNoResourceError {T = FreeEntry} (Err CacheFull)) (HadNoResourceError {T = FreeEntry} (Err CacheFull)) _ _ s.image (image_state sB.table C fC sB.pending) (λ whole. whole) (λ c. refl) step
+            stopped Memory why step = allocating-never _ _ _ (image_state sB.table C fC sB.pending) (λ order keeps sound whole. whole) step
+            stopped Storage why step = allocating-never _ _ _ (image_state sB.table C fC sB.pending) (λ order keeps sound whole. whole) step
+            stopped DamagedTable why step = allocating-never _ _ _ (image_state sB.table C fC sB.pending) (λ order keeps sound whole. why (holds-on (keeps, order, sound))) step
+            stopped Counter why step = allocating-never _ _ _ (image_state sB.table C fC sB.pending) (λ order keeps sound whole. why (holds-on (keeps, order, sound))) step
             stopped other why step = absurd why
 
         -- All are counted.
-        module _ (counts : CountsRun state first n sB.image (Ok tt) (lent sB.table C fC sB.pending)) where
+        module _ (counts : CountsRun state first n sB.image (Ok tt) (image_state sB.table C fC sB.pending)) where
           abbrev entry : FreeEntry
           entry = record { first = first; count = n; metadata = is_metadata }
 
@@ -278,7 +278,7 @@ module _ {S : Type 0} (state : S → StorageState) (n : ℕ) (is_metadata : Bool
           run-counted : order_of s.caches ≡ L2DependsOnRb → Keeps → IsSound mA → IsRunCounted s.mark n mC entry
           run-counted order keeps sound =
               let found = ready.found order keeps sound in record {
-                behind = found.behind;
+                not_before_start = found.not_before_start;
                 once = λ c above below. let none = found.free c above below in let one = covers-inside c first n above below in let more = once order keeps sound c in omega (arith, none, one, more);
                 least = λ z above below.
                     let met = found.least z above below in
@@ -306,9 +306,9 @@ module _ {S : Type 0} (state : S → StorageState) (n : ℕ) (is_metadata : Bool
           run-gapless : order_of s.caches ≡ L2DependsOnRb → Keeps → IsSound mA → n ≤ 1 → IsGapless s.mark mA mC
           run-gapless order keeps sound one c none some d from to =
               let more = once order keeps sound c in
-              let still : 0 < counted mB d → 0 < counted mC d = (λ was. let more' = once order keeps sound d in omega (arith, was, more')) in
+              let has_no_dirty_data : 0 < counted mB d → 0 < counted mC d = (λ was. let more' = once order keeps sound d in omega (arith, was, more')) in
               elim (cases_eq (counted mB c) 0) [
-                | inr made ↦ still ((ready.little order keeps sound).0.gapless one c none (omega (arith, made)) d from to)
+                | inr made ↦ has_no_dirty_data ((ready.little order keeps sound).0.gapless one c none (omega (arith, made)) d from to)
                 | inl free' ↦
                     let inside = covered-inside c first n (omega (arith, more, free', some)) in
                     let ends = inside.1 in
@@ -316,16 +316,16 @@ module _ {S : Type 0} (state : S → StorageState) (n : ℕ) (is_metadata : Bool
                     let above = met.1 in
                     let below = met.2 in
                     let here : met.0 ≡ d = omega (arith, above, below, one) in
-                    still (subst (λ x. 0 < counted mB x) here met.3)
+                    has_no_dirty_data (subst (λ x. 0 < counted mB x) here met.3)
               ]
 
-          pub run-allocated : Handing (Ok entry) sB.table C fC sB.pending (mark_behind s.mark n first)
+          pub run-allocated : Handing (Ok entry) sB.table C fC sB.pending (first_free_after s.mark n first)
           run-allocated = record {
             leaked = λ _. 0;
             leaks = record { none = λ other c. refl; pinned = λ holds all c. refl };
-            step = allocating-as state ⊤ ⊤ (λ c. covers c (run_of first counts.part)) (handed_by (Ok entry) (λ _. 0)) s.image (lent sB.table C fC sB.pending) (λ whole. whole)
+            step = allocating-as state ⊤ ⊤ (λ c. covers c (run_of first counts.part)) (allocated_by (Ok entry) (λ _. 0)) s.image (image_state sB.table C fC sB.pending) (λ whole. whole)
                 (λ c. ap (λ k. covers c (run_of first k)) counts.whole) (part-allocates (Ok tt) counts);
-            run = (refl, refl, λ some. (ready.some, ready.reach));
+            run = (refl, refl, λ some. (ready.start_nonzero, ready.reach));
             taken = run-counted;
             fresh = λ order keeps sound c above below. elim (begun.raised order keeps sound tt c) [
               | inl same ↦ let none = free order keeps sound c above below in omega (arith, same, none)

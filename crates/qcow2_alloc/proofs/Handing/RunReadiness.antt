@@ -14,7 +14,7 @@ use Rattle.qcow2_types.specs.Header.{Header, cluster_size}
 use Rattle.qcow2_types.specs.Pending.{FreeEntry}
 use Rattle.qcow2_types.specs.Words.{block_offset}
 use Rattle.qcow2_types.proofs.Fields.HeaderLimits.{header-limited}
-use Rattle.qcow2_metadata.specs.Places.{IsInReach}
+use Rattle.qcow2_metadata.specs.Places.{IsAddressable}
 use Rattle.qcow2_metadata.specs.Tables.{TableValue}
 use Rattle.qcow2_alloc.specs.declared.allocation.readying_runs.Provision.{Provision}
 use Rattle.qcow2_alloc.specs.declared.allocation.readying_runs.Provision.TheVariants.{Complete, Extended}
@@ -26,8 +26,8 @@ use Rattle.qcow2_alloc.specs.Allocators.{metadata_of}
 use Rattle.qcow2_alloc.specs.Caches.{order_of, cached_file}
 use Rattle.qcow2_alloc.specs.Causes.{HasCause}
 use Rattle.qcow2_alloc.specs.GrowingTables.{IsLengthenedByTable, NoPlaceToGrow, table_run}
-use Rattle.qcow2_alloc.specs.Going.{WasNotCutOff}
-use Rattle.qcow2_alloc.specs.Quiet.{Metadata, IsSound, counted}
+use Rattle.qcow2_alloc.specs.Going.{HadNoResourceError}
+use Rattle.qcow2_alloc.specs.GuestView.{Metadata, IsSound, counted}
 use Rattle.qcow2_alloc.specs.ReadyingBlocks.{CountsAsBefore, HasMore, NoneCanBeMade, ReadiesBlocks, fitting_causes, last_number}
 use Rattle.qcow2_alloc.specs.ReadyingRuns.{IsRunTold, ReadiesRun}
 use Rattle.qcow2_alloc.specs.SearchingClusters.{IsFirstRun, IsSafeWith, LooksForRun, counts_in}
@@ -39,7 +39,7 @@ use Rattle.qcow2_alloc.proofs.Growth.RoomSearches.{first-run-same}
 use Rattle.qcow2_alloc.proofs.Searching.SearchSequences.{counts-still}
 use Rattle.qcow2_alloc.proofs.Searching.SearchesBeforeCounts.{looked-allocates, counts-looked}
 use Rattle.qcow2_alloc.specs.Crowding.{IsCrowded, IsGapless, IsRoomy, TakesLittle, room_for}
-use Rattle.qcow2_alloc.specs.State.{ImageState, lent, metadata, IsGuarded, with_mark, AllocatorState}
+use Rattle.qcow2_alloc.specs.State.{ImageState, image_state, metadata, IsGuarded, with_first_free, AllocatorState}
 use Rattle.qcow2_alloc.proofs.Space.GaplessRuns.{gapless-same, gapless-then, made-gapless}
 use Rattle.qcow2_alloc.proofs.Caching.UnpinnedCaches.{loose-all}
 use Rattle.qcow2_alloc.proofs.Space.RoomyRuns.{RoomStays, stays-start, stays-searched, room-left, run-counted, run-early, run-fits, can-make, stays-made}
@@ -48,7 +48,7 @@ use Rattle.qcow2_alloc.proofs.Blocks.RunProvision.{leaks-none, leaks-on, leaks-o
 
 -- The list, the header and the length of the table are what they were; or the table became longer, and its old clusters are behind.
 abbrev pub IsLengthenedOnce : Header → Header → TableValue → TableValue → List FreeEntry → List FreeEntry → Type 0
-IsLengthenedOnce H H' table table' old new = ((new ≡ old) × (H' ≡ H) × (length table'.words ≡ length table.words)) ⊎ ((length table.words < length table'.words) × (new ≡ old ++ table_run H.fields))
+IsLengthenedOnce H H' table table' old new = ((new ≡ old) × (H' ≡ H) × (length table'.raw_entries ≡ length table.raw_entries)) ⊎ ((length table.raw_entries < length table'.raw_entries) × (new ≡ old ++ table_run H.fields))
 
 by-table : (H H' : Header) (table table' : TableValue) (old new : List FreeEntry) → IsLengthenedOnce H H' table table' old new → IsLengthenedByTable H.fields table table' old new
 by-table H H' table table' old new (inl same) = inl same.0
@@ -70,7 +70,7 @@ between-blocks k first n c some above below =
     )
 
 -- Words can name the first cluster that a block counts, where they can name one that it counts, or one behind.
-block-near : (H : Header) (z n i : ℕ) → i ≤ (z + (n - 1)) / counters_of_block H.fields → IsInReach H.fields.cluster_bits (z + (n - 1)) → IsInReach H.fields.cluster_bits (i * counters_of_block H.fields)
+block-near : (H : Header) (z n i : ℕ) → i ≤ (z + (n - 1)) / counters_of_block H.fields → IsAddressable H.fields.cluster_bits (z + (n - 1)) → IsAddressable H.fields.cluster_bits (i * counters_of_block H.fields)
 block-near H z n i below near =
     let le = mul-le-mul_right (counters_of_block H.fields) below in
     let under = div-mul-le_self (z + (n - 1)) (counters_of_block H.fields) in
@@ -110,33 +110,33 @@ module _ {S : Type 0} (state : S → StorageState) (s : ImageState S) where
 
   module _ (sA : ImageState S) (so_far : Readying state s sA) where
     holds-on : IsGuarded state s → IsGuarded state sA
-    holds-on holds = let quiet = so_far.step.quiet holds.1 in (keeps_on (state s.file.image) (state sA.file.image) quiet.shape holds.0, so_far.step.order ∙ holds.1, (quiet.holds holds.0 holds.2 tt).0)
+    holds-on holds = let guest_unchanged = so_far.step.guest_unchanged holds.1 in (keeps_on (state s.file.image) (state sA.file.image) guest_unchanged.shape holds.0, so_far.step.order ∙ holds.1, (guest_unchanged.holds holds.0 holds.2 tt).0)
 
     safe-with : IsGuarded state s → IsSafeWith state sA.table sA.caches sA.file
-    safe-with holds = let there = holds-on holds in record { keeps = there.0; safe = there.2.safe; table_of_file = there.2.table }
+    safe-with holds = let there = holds-on holds in record { keeps = there.0; well_formed = there.2.well_formed; table_of_file = there.2.table }
 
-    step-on : {T : Type 0} (result : Result T Fault) (leaked : ℕ → ℕ) (sB : ImageState S) → Allocating state (WasNotCutOff result) leaked sA sB → Allocating state (WasNotCutOff result) leaked s sB
+    step-on : {T : Type 0} (result : Result T Fault) (leaked : ℕ → ℕ) (sB : ImageState S) → Allocating state (HadNoResourceError result) leaked sA sB → Allocating state (HadNoResourceError result) leaked s sB
     step-on result leaked sB step =
-        allocating-as state (WasNotCutOff result) (WasNotCutOff result) (λ c. 0 + leaked c) leaked s sB (λ whole. whole) (λ c. omega arith)
-        (allocating-then state ⊤ (WasNotCutOff result) (λ _. 0) leaked s sA sB tt so_far.step step)
+        allocating-as state (HadNoResourceError result) (HadNoResourceError result) (λ c. 0 + leaked c) leaked s sB (λ whole. whole) (λ c. omega arith)
+        (allocating-then state ⊤ (HadNoResourceError result) (λ _. 0) leaked s sA sB tt so_far.step step)
 
     -- It goes on with a search,
-    pub readying-searched : (mark n z : ℕ) (B : MetadataCaches S) (fB : ImageFile S) → LooksForRun state sA.table mark n (cached_file sA.caches sA.file) (Ok z) (cached_file B fB) → Readying state s (lent sA.table B fB sA.pending)
+    pub readying-searched : (mark n z : ℕ) (B : MetadataCaches S) (fB : ImageFile S) → LooksForRun state sA.table mark n (cached_file sA.caches sA.file) (Ok z) (cached_file B fB) → Readying state s (image_state sA.table B fB sA.pending)
     readying-searched mark n z B fB looks = record {
-      step = step-on {T = ℕ} (Ok z) (λ _. 0) (lent sA.table B fB sA.pending) (looked-allocates state sA ℕ (Ok z) B fB looks.looked);
+      step = step-on {T = ℕ} (Ok z) (λ _. 0) (image_state sA.table B fB sA.pending) (looked-allocates state sA ℕ (Ok z) B fB looks.looked);
       list = elim so_far.list [ inl same ↦ inl (same.0, looks.looked.header ∙ same.1, same.2) | inr longer ↦ inr longer ];
       faults = looks.looked.cause ∙ so_far.faults;
     }
 
     -- or with what is made,
-    pub readying-made : (mark at first last : ℕ) (made : Provision) (sB : AllocatorState S) → ReadiesBlocks state at first last (with_mark sA mark) (Ok made) sB → (length s.table.words < length sA.table.words → last < length sA.table.words) → Readying state s sB.image
+    pub readying-made : (mark at first last : ℕ) (made : Provision) (sB : AllocatorState S) → ReadiesBlocks state at first last (with_first_free sA mark) (Ok made) sB → (length s.table.raw_entries < length sA.table.raw_entries → last < length sA.table.raw_entries) → Readying state s sB.image
     readying-made mark at first last made sB makes covers = record {
       step = step-on {T = Provision} (Ok made) (λ _. 0) sB.image
           (allocating-as state ⊤ ⊤ makes.leaked (λ _. 0) sA sB.image (λ whole. whole) (leaks-ok _ _ made makes.leaked makes.leaks) makes.step);
-      list = elim (cases_lt last (length sA.table.words)) [
-        | inl inside ↦ let still = makes.once inside in elim so_far.list [
-          | inl same ↦ inl (still.0 ∙ same.0, still.1 ∙ same.1, still.2 ∙ same.2)
-          | inr longer ↦ inr (let more = longer.0 in let long = still.2 in omega (arith, more, long), still.0 ∙ longer.1)
+      list = elim (cases_lt last (length sA.table.raw_entries)) [
+        | inl inside ↦ let has_no_dirty_data = makes.once inside in elim so_far.list [
+          | inl same ↦ inl (has_no_dirty_data.0 ∙ same.0, has_no_dirty_data.1 ∙ same.1, has_no_dirty_data.2 ∙ same.2)
+          | inr longer ↦ inr (let more = longer.0 in let long = has_no_dirty_data.2 in omega (arith, more, long), has_no_dirty_data.0 ∙ longer.1)
         ]
         | inr past ↦ let grew = makes.grew past in elim so_far.list [
           | inl same ↦ inr (let more = grew.0 in let long = same.2 in omega (arith, more, long), grew.1 ∙ ap (λ es. es ++ table_run sA.file.header.fields) same.0 ∙ ap (λ (H : Header). s.pending ++ table_run H.fields) same.1)
@@ -147,7 +147,7 @@ module _ {S : Type 0} (state : S → StorageState) (s : ImageState S) where
     }
 
     -- and where there was room for it there is still.
-    pub stays-found : (mark n z : ℕ) → 1 ≤ n → (B : MetadataCaches S) (fB : ImageFile S) → LooksForRun state sA.table mark n (cached_file sA.caches sA.file) (Ok z) (cached_file B fB) → Stays mark n sA → Stays mark n (lent sA.table B fB sA.pending)
+    pub stays-found : (mark n z : ℕ) → 1 ≤ n → (B : MetadataCaches S) (fB : ImageFile S) → LooksForRun state sA.table mark n (cached_file sA.caches sA.file) (Ok z) (cached_file B fB) → Stays mark n sA → Stays mark n (image_state sA.table B fB sA.pending)
     stays-found mark n z some B fB looks stays holds =
         let there = holds-on holds in
         let m = metadata state s in
@@ -158,7 +158,7 @@ module _ {S : Type 0} (state : S → StorageState) (s : ImageState S) where
         }
 
     pub stays-on : (mark n z first last : ℕ) → 1 ≤ n → (IsGuarded state s → IsFirstRun (counted (metadata state sA)) mark n z) → first ≡ z / counters_of_block sA.file.header.fields → last ≡ (z + (n - 1)) / counters_of_block sA.file.header.fields
-        → Stays mark n sA → (sB : AllocatorState S) → ReadiesBlocks state (last + (n / counters_of_block sA.file.header.fields + 2)) first last (with_mark sA mark) (Ok Extended) sB → Stays mark n sB.image
+        → Stays mark n sA → (sB : AllocatorState S) → ReadiesBlocks state (last + (n / counters_of_block sA.file.header.fields + 2)) first last (with_first_free sA mark) (Ok Extended) sB → Stays mark n sB.image
     stays-on mark n z first last some run first-is last-is stays sB makes holds =
         let there = holds-on holds in
         let m0 = metadata state s in
@@ -174,41 +174,41 @@ module _ {S : Type 0} (state : S → StorageState) (s : ImageState S) where
         }
 
     -- or is refused as it searches,
-    pub search-refused : (mark n : ℕ) (fault : Fault) (B : MetadataCaches S) (fB : ImageFile S) → LooksForRun state sA.table mark n (cached_file sA.caches sA.file) (Err fault) (cached_file B fB) → ReadiesRun state n (with_mark s mark) (Err fault) (with_mark (lent sA.table B fB sA.pending) mark)
+    pub search-refused : (mark n : ℕ) (fault : Fault) (B : MetadataCaches S) (fB : ImageFile S) → LooksForRun state sA.table mark n (cached_file sA.caches sA.file) (Err fault) (cached_file B fB) → ReadiesRun state n (with_first_free s mark) (Err fault) (with_first_free (image_state sA.table B fB sA.pending) mark)
     search-refused mark n fault B fB looks = record {
       leaked = λ _. 0;
       leaks = leaks-none _ _ (Err fault);
-      step = step-on {T = ℕ} (Err fault) (λ _. 0) (lent sA.table B fB sA.pending) (looked-allocates state sA ℕ (Err fault) B fB looks.looked);
+      step = step-on {T = ℕ} (Err fault) (λ _. 0) (image_state sA.table B fB sA.pending) (looked-allocates state sA ℕ (Err fault) B fB looks.looked);
       found = λ order keeps sound. tt;
       little = λ order keeps sound. tt;
       ready = tt;
       reach = tt;
-      some = tt;
+      start_nonzero = tt;
       mark = refl;
       list = by-table s.file.header sA.file.header s.table sA.table s.pending sA.pending so_far.list;
-      cause = cause-weaker (freeing-allocates safe-with (λ u. loose-all sA.table sA.caches u.0 (so_far.step.loose u.0 u.2)) so_far.faults) fault looks.looked.cause;
+      cause = cause-weaker (freeing-allocates safe-with (λ u. loose-all sA.table sA.caches u.0 (so_far.step.keeps_unpinned_room u.0 u.2)) so_far.faults) fault looks.looked.cause;
     }
 
     -- or as it makes something,
     pub making-refused : (mark n z first last : ℕ) → 1 ≤ n → (IsGuarded state s → IsFirstRun (counted (metadata state sA)) mark n z) → first ≡ z / counters_of_block sA.file.header.fields → last ≡ (z + (n - 1)) / counters_of_block sA.file.header.fields
-        → IsInReach sA.file.header.fields.cluster_bits (z + (n - 1)) → Stays mark n sA → (fault : Fault) (sB : AllocatorState S) → ReadiesBlocks state (last + (n / counters_of_block sA.file.header.fields + 2)) first last (with_mark sA mark) (Err fault) sB → (length s.table.words < length sA.table.words → last < length sA.table.words) → ReadiesRun state n (with_mark s mark) (Err fault) sB
+        → IsAddressable sA.file.header.fields.cluster_bits (z + (n - 1)) → Stays mark n sA → (fault : Fault) (sB : AllocatorState S) → ReadiesBlocks state (last + (n / counters_of_block sA.file.header.fields + 2)) first last (with_first_free sA mark) (Err fault) sB → (length s.table.raw_entries < length sA.table.raw_entries → last < length sA.table.raw_entries) → ReadiesRun state n (with_first_free s mark) (Err fault) sB
     making-refused mark n z first last positive run first-is last-is near stays fault sB makes covers = record {
       leaked = makes.leaked;
-      leaks = leaks-on _ _ _ _ fault makes.leaked holds-on so_far.step.loose makes.leaks;
+      leaks = leaks-on _ _ _ _ fault makes.leaked holds-on so_far.step.keeps_unpinned_room makes.leaks;
       step = step-on {T = ℕ} (Err fault) makes.leaked sB.image makes.step;
       found = λ order keeps sound. tt;
       little = λ order keeps sound. tt;
       ready = tt;
       reach = tt;
-      some = tt;
+      start_nonzero = tt;
       mark = makes.mark;
-      list = elim (cases_lt last (length sA.table.words)) [
-        | inl inside ↦ let still = makes.once inside in elim so_far.list [
-          | inl same ↦ inl (still.0 ∙ same.0)
-          | inr longer ↦ inr (let more = longer.0 in let long = still.2 in omega (arith, more, long), still.0 ∙ longer.1)
+      list = elim (cases_lt last (length sA.table.raw_entries)) [
+        | inl inside ↦ let has_no_dirty_data = makes.once inside in elim so_far.list [
+          | inl same ↦ inl (has_no_dirty_data.0 ∙ same.0)
+          | inr longer ↦ inr (let more = longer.0 in let long = has_no_dirty_data.2 in omega (arith, more, long), has_no_dirty_data.0 ∙ longer.1)
         ]
         | inr past ↦ elim so_far.list [
-          | inl same ↦ inl (makes.kept past ∙ same.0)
+          | inl same ↦ inl (makes.unchanged_on_error past ∙ same.0)
           | inr longer ↦ absurd (let inside = covers longer.0 in omega (arith, inside, past))
         ]
       ];
@@ -217,7 +217,7 @@ module _ {S : Type 0} (state : S → StorageState) (s : ImageState S) where
         after = omega arith;
         damaged = λ wrong holds. wrong (holds-on holds);
         counter = λ wrong holds. wrong (holds-on holds);
-        full = λ none u. none (unbarred-still holds-on so_far.step.loose u);
+        full = λ none u. none (unbarred-still holds-on so_far.step.keeps_unpinned_room u);
         limit = λ number at. (
           λ order keeps sound.
               let holds : IsGuarded state s = (keeps, order, sound) in
@@ -251,21 +251,21 @@ module _ {S : Type 0} (state : S → StorageState) (s : ImageState S) where
       -- What it found isn't counted.
       pub found-run : IsGuarded state s → IsFirstRun (counts_in state B fB) mark n z
       found-run holds =
-          let safe = safe-with holds in
-          first-run-same (counts_in state sA.caches sA.file) (counts_in state B fB) mark n z (counts-still state sA.table sA.caches sA.file z B fB looks.looked safe) (looks.found safe)
+          let well_formed = safe-with holds in
+          first-run-same (counts_in state sA.caches sA.file) (counts_in state B fB) mark n z (counts-still state sA.table sA.caches sA.file z B fB looks.looked well_formed) (looks.found well_formed)
 
       -- It is refused as no run begins there that can be counted,
-      pub unfit-refused : (fault : Fault) → HasCause (fitting_causes fB.header.fields n z) fault → Stays mark n sA → ReadiesRun state n (with_mark s mark) (Err fault) (with_mark (lent sA.table B fB sA.pending) mark)
+      pub unfit-refused : (fault : Fault) → HasCause (fitting_causes fB.header.fields n z) fault → Stays mark n sA → ReadiesRun state n (with_first_free s mark) (Err fault) (with_first_free (image_state sA.table B fB sA.pending) mark)
       unfit-refused fault why stays =
           let searched = readying-searched mark n z B fB looks in record {
             leaked = λ _. 0;
             leaks = leaks-none _ _ (Err fault);
-            step = allocating-as state ⊤ (WasNotCutOff {T = ℕ} (Err fault)) (λ _. 0) (λ _. 0) s (lent sA.table B fB sA.pending) (λ whole. tt) (λ c. refl) searched.step;
+            step = allocating-as state ⊤ (HadNoResourceError {T = ℕ} (Err fault)) (λ _. 0) (λ _. 0) s (image_state sA.table B fB sA.pending) (λ whole. tt) (λ c. refl) searched.step;
             found = λ order keeps sound. tt;
             little = λ order keeps sound. tt;
             ready = tt;
             reach = tt;
-            some = tt;
+            start_nonzero = tt;
             mark = refl;
             list = by-table s.file.header sA.file.header s.table sA.table s.pending sA.pending so_far.list;
             cause = bare-weaker _ never (λ number far. ((λ order keeps sound. (crowded far.1 order keeps sound, told number far (keeps, order, sound))), looks.looked.cause ∙ so_far.faults)) fault why;
@@ -283,15 +283,15 @@ module _ {S : Type 0} (state : S → StorageState) (s : ImageState S) where
           told number why holds =
               let there = holds-on holds in
               let long = there.2.table.long in
-              let few = (header-limited true _ sA.file.header there.2.safe.consistent.readable.loads).refcount_entries in
+              let few = (header-limited true _ sA.file.header there.2.well_formed.consistent.readable.loads).refcount_entries in
               record { first = z; run = found-run holds; told = inl (why.0, λ near. let far = why.1 near in omega (arith, long, few, far)) }
 
-          crowded : (IsInReach fB.header.fields.cluster_bits (z + (n - 1)) → 2 ^ 20 ≤ (z + (n - 1)) / counters_of_block fB.header.fields) → order_of s.caches ≡ L2DependsOnRb → IsTrue (state s.file.image).shape.keeps → IsSound (metadata state s) → IsCrowded (metadata state s) mark n
+          crowded : (IsAddressable fB.header.fields.cluster_bits (z + (n - 1)) → 2 ^ 20 ≤ (z + (n - 1)) / counters_of_block fB.header.fields) → order_of s.caches ≡ L2DependsOnRb → IsTrue (state s.file.image).shape.keeps → IsSound (metadata state s) → IsCrowded (metadata state s) mark n
           crowded far order keeps sound roomy =
               let holds : IsGuarded state s = (keeps, order, sound) in
               let there = holds-on holds in
               run-fits mark n some (metadata state s) sound roomy (metadata state sA) ((stays holds).room roomy) so_far.step.moved (so_far.step.raised order keeps sound tt) there.2 z (looks.found (safe-with holds))
-              (subst (λ (H : Header). IsInReach H.fields.cluster_bits (z + (n - 1)) → 2 ^ 20 ≤ (z + (n - 1)) / counters_of_block H.fields) looks.looked.header far)
+              (subst (λ (H : Header). IsAddressable H.fields.cluster_bits (z + (n - 1)) → 2 ^ 20 ≤ (z + (n - 1)) / counters_of_block H.fields) looks.looked.header far)
 
       -- What it has taken is little.
       little-found : Stays mark n sA → order_of s.caches ≡ L2DependsOnRb → IsTrue (state s.file.image).shape.keeps → IsSound Start → TakesLittle mark n Start (metadata_of state fB B sA.table sA.pending) × ((roomy : IsRoomy Start mark n) → z + n ≤ roomy.first + room_for s.file.header.fields n)
@@ -304,17 +304,17 @@ module _ {S : Type 0} (state : S → StorageState) (s : ImageState S) where
           )
 
       -- It is refused as the table has grown and doesn't count the run,
-      pub grown-refused : (number : ℕ) → number ≡ last_number z n → length s.table.words < length sA.table.words → length sA.table.words ≤ (z + (n - 1)) / counters_of_block fB.header.fields → Stays mark n sA → ReadiesRun state n (with_mark s mark) (Err (Limit number)) (with_mark (lent sA.table B fB sA.pending) mark)
+      pub grown-refused : (number : ℕ) → number ≡ last_number z n → length s.table.raw_entries < length sA.table.raw_entries → length sA.table.raw_entries ≤ (z + (n - 1)) / counters_of_block fB.header.fields → Stays mark n sA → ReadiesRun state n (with_first_free s mark) (Err (Limit number)) (with_first_free (image_state sA.table B fB sA.pending) mark)
       grown-refused number is longer past stays =
           let searched = readying-searched mark n z B fB looks in record {
             leaked = λ _. 0;
             leaks = leaks-none _ _ (Err (Limit number));
-            step = allocating-as state ⊤ (WasNotCutOff {T = ℕ} (Err (Limit number))) (λ _. 0) (λ _. 0) s (lent sA.table B fB sA.pending) (λ whole. tt) (λ c. refl) searched.step;
+            step = allocating-as state ⊤ (HadNoResourceError {T = ℕ} (Err (Limit number))) (λ _. 0) (λ _. 0) s (image_state sA.table B fB sA.pending) (λ whole. tt) (λ c. refl) searched.step;
             found = λ order keeps sound. tt;
             little = λ order keeps sound. tt;
             ready = tt;
             reach = tt;
-            some = tt;
+            start_nonzero = tt;
             mark = refl;
             list = by-table s.file.header sA.file.header s.table sA.table s.pending sA.pending so_far.list;
             cause = ((λ order keeps sound. (crowded order keeps sound, record { first = z; run = found-run (keeps, order, sound); told = inl (is, λ near. past) })), looks.looked.cause ∙ so_far.faults);
@@ -325,13 +325,13 @@ module _ {S : Type 0} (state : S → StorageState) (s : ImageState S) where
               let holds : IsGuarded state s = (keeps, order, sound) in
               let there = holds-on holds in
               let inside = run-counted mark n some (metadata state s) sound roomy (metadata state sA) ((stays holds).room roomy) so_far.step.moved (so_far.step.raised order keeps sound tt) there.2 z (looks.found (safe-with holds)) longer in
-              let past' : length sA.table.words ≤ (z + (n - 1)) / counters_of_block sA.file.header.fields = subst (λ (H : Header). length sA.table.words ≤ (z + (n - 1)) / counters_of_block H.fields) looks.looked.header past in
+              let past' : length sA.table.raw_entries ≤ (z + (n - 1)) / counters_of_block sA.file.header.fields = subst (λ (H : Header). length sA.table.raw_entries ≤ (z + (n - 1)) / counters_of_block H.fields) looks.looked.header past in
               omega (arith, inside, past')
 
       -- and ends where each cluster of the run has a block.
-      module _ (sC : AllocatorState S) (k last : ℕ) (size : counters_of_block fB.header.fields ≡ k) (at : ℕ) (made : ReadiesBlocks state at (z / k) last (with_mark (lent sA.table B fB sA.pending) mark) (Ok Complete) sC)
+      module _ (sC : AllocatorState S) (k last : ℕ) (size : counters_of_block fB.header.fields ≡ k) (at : ℕ) (made : ReadiesBlocks state at (z / k) last (with_first_free (image_state sA.table B fB sA.pending) mark) (Ok Complete) sC)
           (done : Readying state s sC.image) where
-        pub run-ready : Stays mark n sA → 0 < k → z ≢ 0 → IsInReach fB.header.fields.cluster_bits (z + (n - 1)) → last ≡ (z + (n - 1)) / k → ReadiesRun state n (with_mark s mark) (Ok z) sC
+        pub run-ready : Stays mark n sA → 0 < k → z ≢ 0 → IsAddressable fB.header.fields.cluster_bits (z + (n - 1)) → last ≡ (z + (n - 1)) / k → ReadiesRun state n (with_first_free s mark) (Ok z) sC
         run-ready stays wide apart reach at = record {
           leaked = λ _. 0;
           leaks = leaks-none _ _ (Ok z);
@@ -345,9 +345,9 @@ module _ {S : Type 0} (state : S → StorageState) (s : ImageState S) where
           ready = λ c above below.
               let both = between-blocks k z n c wide above below in
               let le = both.1 in
-              subst (λ b. block_offset (slice_index sC.table.words (c / b)) ≢ 0) (sym size ∙ ap (λ (H : Header). counters_of_block H.fields) moved.2) (made.ready refl (c / k) both.0 (omega (arith, le, at)));
-          reach = subst (λ (H : Header). IsInReach H.fields.cluster_bits (z + (n - 1))) moved.2 reach;
-          some = apart;
+              subst (λ b. block_offset (slice_index sC.table.raw_entries (c / b)) ≢ 0) (sym size ∙ ap (λ (H : Header). counters_of_block H.fields) moved.2) (made.ready refl (c / k) both.0 (omega (arith, le, at)));
+          reach = subst (λ (H : Header). IsAddressable H.fields.cluster_bits (z + (n - 1))) moved.2 reach;
+          start_nonzero = apart;
           mark = made.mark;
           list = by-table s.file.header sC.file.header s.table sC.table s.pending sC.pending done.list;
           cause = done.faults;
@@ -364,16 +364,16 @@ module _ {S : Type 0} (state : S → StorageState) (s : ImageState S) where
 
 -- How far the turns are from their end: with each the refcount table becomes longer, or as long names more blocks.
 abbrev pub turns_left : TableValue → ℕ
-turns_left table = (2 ^ 20 + 1 - length table.words) * (2 ^ 20 + 1) + min (2 ^ 20) (missing table)
+turns_left table = (2 ^ 20 + 1 - length table.raw_entries) * (2 ^ 20 + 1) + min (2 ^ 20) (missing table)
 
-pub turns-fewer : (table table' : TableValue) → length table.words ≤ 2 ^ 20 → HasMore table table' → turns_left table' < turns_left table
+pub turns-fewer : (table table' : TableValue) → length table.raw_entries ≤ 2 ^ 20 → HasMore table table' → turns_left table' < turns_left table
 turns-fewer table table' short more = elim more [
   | inl longer ↦
-      let step : (2 ^ 20 + 1 - length table'.words + 1) * (2 ^ 20 + 1) ≤ (2 ^ 20 + 1 - length table.words) * (2 ^ 20 + 1) = mul-le-mul (omega (arith, short, longer)) (omega arith) in
+      let step : (2 ^ 20 + 1 - length table'.raw_entries + 1) * (2 ^ 20 + 1) ≤ (2 ^ 20 + 1 - length table.raw_entries) * (2 ^ 20 + 1) = mul-le-mul (omega (arith, short, longer)) (omega arith) in
       omega (arith, step)
   | inr both ↦
       let same = both.0 in
       let fewer = both.1 in
-      let few : missing table ≤ length table.words = count_by-le-length (λ w. block_offset w == 0) table.words in
+      let few : missing table ≤ length table.raw_entries = count_by-le-length (λ w. block_offset w == 0) table.raw_entries in
       omega (arith, same, fewer, few, short)
 ]

@@ -10,23 +10,23 @@ use Rattle.qcow2_types.specs.Counts.{counters_of_block}
 use Rattle.qcow2_types.specs.Header.{Header}
 use Rattle.qcow2_types.specs.Pending.{FreeEntry}
 use Rattle.qcow2_types.specs.Words.{block_offset}
-use Rattle.qcow2_metadata.specs.Places.{IsInReach}
+use Rattle.qcow2_metadata.specs.Places.{IsAddressable}
 use Rattle.qcow2_alloc.specs.declared.cache.CacheDependency.TheVariants.{L2DependsOnRb}
 use Rattle.qcow2_alloc.specs.declared.cache.MetadataCaches.{MetadataCaches}
 use Rattle.qcow2_alloc.specs.declared.file.ImageFile.{ImageFile}
-use Rattle.qcow2_alloc.specs.Allocating.{Allocating, OnlyRaised}
+use Rattle.qcow2_alloc.specs.Allocating.{Allocating, OnlyIncremented}
 use Rattle.qcow2_alloc.specs.Allocators.{metadata_of}
 use Rattle.qcow2_alloc.specs.Caches.{order_of, cached_file}
 use Rattle.qcow2_alloc.specs.Causes.{FailsFor}
-use Rattle.qcow2_alloc.specs.Freeing.{IsLoose, IsMarked, counting_causes}
+use Rattle.qcow2_alloc.specs.Freeing.{HasUnpinnedRoom, NoneFreeBefore, counting_causes}
 use Rattle.qcow2_alloc.specs.FreeList.{covers}
-use Rattle.qcow2_alloc.specs.Going.{WasNotCutOff}
-use Rattle.qcow2_alloc.specs.HandingOut.{mark_past}
+use Rattle.qcow2_alloc.specs.Going.{HadNoResourceError}
+use Rattle.qcow2_alloc.specs.HandingOut.{first_free_past}
 use Rattle.qcow2_alloc.specs.HandingOutOne.{AllocatesAt, CountsOne, counting_of}
 use Rattle.qcow2_alloc.specs.MakingRoom.{run_of}
-use Rattle.qcow2_alloc.specs.Quiet.{Metadata, IsSound, Quietly, counted, one_at}
+use Rattle.qcow2_alloc.specs.GuestView.{Metadata, IsSound, PreservesGuest, counted, one_at}
 use Rattle.qcow2_alloc.specs.SearchingClusters.{LooksForFree}
-use Rattle.qcow2_alloc.specs.State.{lent, metadata, IsGuarded, with_mark, AllocatorState}
+use Rattle.qcow2_alloc.specs.State.{image_state, metadata, IsGuarded, with_first_free, AllocatorState}
 use Rattle.qcow2_alloc.proofs.Causes.{cause-weaker}
 use Rattle.qcow2_alloc.proofs.Blocks.BlockCreationCalls.{counting-allocates, freeing-allocates}
 use Rattle.qcow2_alloc.proofs.Flushing.FaultlessCalls.{faultless-then}
@@ -38,10 +38,10 @@ use Rattle.qcow2_alloc.proofs.Handing.ClustersHandedOut.{handed-unnamed}
 use Rattle.qcow2_alloc.proofs.Freeing.ClusterOccurrences.{covers-none}
 use Rattle.qcow2_alloc.proofs.Searching.SearchesBeforeCounts.{sound-safe, counts-looked, looked-allocates, counted-found, free-found}
 use Rattle.qcow2_alloc.proofs.Caching.UnpinnedCaches.{loose-all}
-use Rattle.qcow2_alloc.proofs.Quiet.QuietCounters.{here-one, away-none}
-use Rattle.qcow2_alloc.proofs.Quiet.QuietFlushes.{quietly-weaker}
-use Rattle.qcow2_alloc.proofs.Quiet.QuietPremises.{quietly-then-given}
-use Rattle.qcow2_alloc.proofs.Quiet.QuietSequences.{quietly-otherwise}
+use Rattle.qcow2_alloc.proofs.GuestView.QuietCounters.{here-one, away-none}
+use Rattle.qcow2_alloc.proofs.GuestView.QuietFlushes.{quietly-weaker}
+use Rattle.qcow2_alloc.proofs.GuestView.QuietPremises.{quietly-then-given}
+use Rattle.qcow2_alloc.proofs.GuestView.QuietSequences.{quietly-otherwise}
 use Rattle.qcow2_alloc.proofs.Blocks.RunProvision.{leaks-none}
 
 -- The place that was found is the one, or isn't.
@@ -67,7 +67,7 @@ module _ {S : Type 0} (state : S → StorageState) (cluster : ℕ) (s : Allocato
   Looks result mid between = LooksForFree state s.table cluster ((cluster / k + 1) * k) (cached_file s.caches s.file) result (cached_file mid between)
 
   -- The search was refused,
-  pub search-refused : (fault : Fault) (mid : MetadataCaches S) (between : ImageFile S) → Looks (Err fault) mid between → AllocatesAt state (λ _. ⊥) cluster s (not_handed fault) (with_mark (lent s.table mid between s.pending) s.mark)
+  pub search-refused : (fault : Fault) (mid : MetadataCaches S) (between : ImageFile S) → Looks (Err fault) mid between → AllocatesAt state (λ _. ⊥) cluster s (not_handed fault) (with_first_free (image_state s.table mid between s.pending) s.mark)
   search-refused fault mid between looks = record {
     did = record {
       leaked = λ _. 0;
@@ -78,7 +78,7 @@ module _ {S : Type 0} (state : S → StorageState) (cluster : ℕ) (s : Allocato
     };
     one = tt;
     answer = λ order keeps sound. tt;
-    near = λ order keeps sound. tt;
+    taken_up_to_cluster = λ order keeps sound. tt;
     further = tt;
     stays = refl;
     marked = λ order keeps sound whole marked c below.
@@ -87,7 +87,7 @@ module _ {S : Type 0} (state : S → StorageState) (cluster : ℕ) (s : Allocato
         omega (arith, same, was);
   }
 
-  module _ (some : block_offset (slice_index s.table.words (cluster / k)) ≢ 0) (found : Option ℕ) (mid : MetadataCaches S) (between : ImageFile S) (looks : Looks (Ok found) mid between) where
+  module _ (some : block_offset (slice_index s.table.raw_entries (cluster / k)) ≢ 0) (found : Option ℕ) (mid : MetadataCaches S) (between : ImageFile S) (looks : Looks (Ok found) mid between) where
     abbrev Mid : Metadata
     Mid = metadata_of state between mid s.table s.pending
 
@@ -95,7 +95,7 @@ module _ {S : Type 0} (state : S → StorageState) (cluster : ℕ) (s : Allocato
     counts-same keeps sound c = counts-looked state s.image (Option ℕ) (Ok found) mid between looks.looked keeps sound tt c
 
     -- or has found that the cluster is counted,
-    pub counted-already : found ≢ Some cluster → AllocatesAt state (λ _. ⊥) cluster s (handed_so None) (with_mark (lent s.table mid between s.pending) s.mark)
+    pub counted-already : found ≢ Some cluster → AllocatesAt state (λ _. ⊥) cluster s (handed_so None) (with_first_free (image_state s.table mid between s.pending) s.mark)
     counted-already other = record {
       did = record {
         leaked = λ _. 0;
@@ -109,14 +109,14 @@ module _ {S : Type 0} (state : S → StorageState) (cluster : ℕ) (s : Allocato
           let same = counts-same keeps sound cluster in
           let more = counted-found state s.image cluster some found mid between looks keeps sound other in
           inl (omega (arith, same, more));
-      near = λ order keeps sound c none some'. absurd (let same = counts-same keeps sound c in omega (arith, same, none, some'));
+      taken_up_to_cluster = λ order keeps sound c none some'. absurd (let same = counts-same keeps sound c in omega (arith, same, none, some'));
       further = refl;
       stays = tt;
       marked = λ order keeps sound whole marked c below. let same = counts-same keeps sound c in let was = marked c below in omega (arith, same, was);
     }
 
-    module _ (is : found ≡ Some cluster) (reach : IsInReach s.file.header.fields.cluster_bits cluster) (result : Result (Option FreeEntry) Fault) (new : MetadataCaches S) (after : ImageFile S) (mark' : ℕ) (counted_one : CountsOne state cluster (lent s.table mid between s.pending) result (lent s.table new after s.pending))
-        (further : IfOk result (λ o. mark' ≡ mark_past s.mark cluster o)) (stays : OnErr result (mark' ≡ s.mark)) where
+    module _ (is : found ≡ Some cluster) (reach : IsAddressable s.file.header.fields.cluster_bits cluster) (result : Result (Option FreeEntry) Fault) (new : MetadataCaches S) (after : ImageFile S) (mark' : ℕ) (counted_one : CountsOne state cluster (image_state s.table mid between s.pending) result (image_state s.table new after s.pending))
+        (further : IfOk result (λ o. mark' ≡ first_free_past s.mark cluster o)) (stays : OnErr result (mark' ≡ s.mark)) where
       abbrev New : Metadata
       New = metadata_of state after new s.table s.pending
 
@@ -126,33 +126,33 @@ module _ {S : Type 0} (state : S → StorageState) (cluster : ℕ) (s : Allocato
       was-free : IsTrue (state s.file.image).shape.keeps → IsSound Old → counted Old cluster ≡ 0
       was-free keeps sound = let same = counts-same keeps sound cluster in let zero = free keeps sound in omega (arith, same, zero)
 
-      looked-step : Allocating state ⊤ (λ _. 0) s.image (lent s.table mid between s.pending)
+      looked-step : Allocating state ⊤ (λ _. 0) s.image (image_state s.table mid between s.pending)
       looked-step = looked-allocates state s.image (Option ℕ) (Ok found) mid between looks.looked
 
       abbrev given : ℕ → ℕ
       given d = covers d (run_of cluster counted_one.counts.part)
 
-      whole-as : (r : Result (Option FreeEntry) Fault) → WasNotCutOff r → WasNotCutOff (counting_of r)
+      whole-as : (r : Result (Option FreeEntry) Fault) → HadNoResourceError r → HadNoResourceError (counting_of r)
       whole-as (Ok o) whole = tt
       whole-as (Err fault) whole = whole
 
       only-here : IsTrue (state s.file.image).shape.keeps → IsSound Old → (c : ℕ) → cluster ≤ c → c < cluster + 1 → counted Mid c ≡ 0
       only-here keeps sound c le lt = let here : c ≡ cluster = omega (arith, le, lt) in subst (λ d. counted Mid d ≡ 0) (sym here) (free keeps sound)
 
-      counts-more : order_of s.caches ≡ L2DependsOnRb → IsTrue (state s.file.image).shape.keeps → IsSound Old → WasNotCutOff result → (c : ℕ) → counted New c ≡ counted Old c + given c
+      counts-more : order_of s.caches ≡ L2DependsOnRb → IsTrue (state s.file.image).shape.keeps → IsSound Old → HadNoResourceError result → (c : ℕ) → counted New c ≡ counted Old c + given c
       counts-more order keeps sound whole c =
-          let first = looked-step.quiet order in
+          let first = looked-step.guest_unchanged order in
           let up = counted_one.counts.raised (looked-step.order ∙ order) (keeps_on (state s.file.image) (state between.image) first.shape keeps) (first.holds keeps sound tt).0 (only-here keeps sound) (whole-as result whole) c in
           let same = counts-same keeps sound c in
           omega (arith, up, same)
 
-      quietly : order_of s.caches ≡ L2DependsOnRb → Quietly (WasNotCutOff result) given (λ _. 0) (state s.file.image) Old (state after.image) New
+      quietly : order_of s.caches ≡ L2DependsOnRb → PreservesGuest (HadNoResourceError result) given (λ _. 0) (state s.file.image) Old (state after.image) New
       quietly order =
-          let first = looked-step.quiet order in
-          quietly-otherwise (WasNotCutOff result) (λ c. 0 + given c) (λ c. 0 + 0) given (λ _. 0) (state s.file.image) Old (state after.image) New (λ sound c. omega arith) (λ sound c used none. omega arith)
-          (quietly-then-given ⊤ (WasNotCutOff result) (λ _. 0) (λ _. 0) given (λ _. 0) (state s.file.image) Old (state between.image) Mid (state after.image) New tt (λ sound c more. refl) first counted_one.counts.shape counted_one.counts.later
-          (λ keeps sound sound' quiet. quietly-weaker (WasNotCutOff (counting_of result)) (WasNotCutOff result) given (λ _. 0) (state between.image) Mid (state after.image) New (λ s. whole-as result)
-          (counted_one.counts.quiet (looked-step.order ∙ order) (λ s. only-here keeps sound))))
+          let first = looked-step.guest_unchanged order in
+          quietly-otherwise (HadNoResourceError result) (λ c. 0 + given c) (λ c. 0 + 0) given (λ _. 0) (state s.file.image) Old (state after.image) New (λ sound c. omega arith) (λ sound c used none. omega arith)
+          (quietly-then-given ⊤ (HadNoResourceError result) (λ _. 0) (λ _. 0) given (λ _. 0) (state s.file.image) Old (state between.image) Mid (state after.image) New tt (λ sound c more. refl) first counted_one.counts.shape counted_one.counts.counts_not_fallen
+          (λ keeps sound sound' guest_unchanged. quietly-weaker (HadNoResourceError (counting_of result)) (HadNoResourceError result) given (λ _. 0) (state between.image) Mid (state after.image) New (λ s. whole-as result)
+          (counted_one.counts.guest_unchanged (looked-step.order ∙ order) (λ s. only-here keeps sound))))
 
       given-none : counted_one.counts.part ≡ 0 → (c : ℕ) → given c ≡ 0
       given-none none c = covers-none c (run_of cluster counted_one.counts.part) none
@@ -160,7 +160,7 @@ module _ {S : Type 0} (state : S → StorageState) (cluster : ℕ) (s : Allocato
       given-one : counted_one.counts.part ≡ 1 → (c : ℕ) → given c ≡ one_at cluster c
       given-one one c = ap (λ n. covers c (run_of cluster n)) one ∙ one-run cluster c
 
-      raised : order_of s.caches ≡ L2DependsOnRb → IsTrue (state s.file.image).shape.keeps → IsSound Old → WasNotCutOff result → OnlyRaised Old New
+      raised : order_of s.caches ≡ L2DependsOnRb → IsTrue (state s.file.image).shape.keeps → IsSound Old → HadNoResourceError result → OnlyIncremented Old New
       raised order keeps sound whole c =
           let up = counts-more order keeps sound whole c in
           let le = counted_one.counts.inside in
@@ -177,38 +177,38 @@ module _ {S : Type 0} (state : S → StorageState) (cluster : ℕ) (s : Allocato
                 ]
           ]
 
-      step : (handed : ℕ → ℕ) → ((c : ℕ) → given c ≡ handed c) → Allocating state (WasNotCutOff result) handed s.image (lent s.table new after s.pending)
+      step : (handed : ℕ → ℕ) → ((c : ℕ) → given c ≡ handed c) → Allocating state (HadNoResourceError result) handed s.image (image_state s.table new after s.pending)
       step handed same = record {
         faults = λ whole. faultless-then (looked-step.faults tt) (counted_one.counts.faults (whole-as result whole));
-        quiet = λ order. quietly-otherwise (WasNotCutOff result) given (λ _. 0) handed (λ _. 0) (state s.file.image) Old (state after.image) New (λ sound c. let is' = same c in omega (arith, is')) (λ sound c used none. none) (quietly order);
+        guest_unchanged = λ order. quietly-otherwise (HadNoResourceError result) given (λ _. 0) handed (λ _. 0) (state s.file.image) Old (state after.image) New (λ sound c. let is' = same c in omega (arith, is')) (λ sound c used none. none) (quietly order);
         raised = raised;
         order = counted_one.counts.order ∙ looked-step.order;
         moved = moved-none s.file.header after.header (counted_one.counts.header ∙ looks.looked.header);
         longer = omega arith;
-        loose = λ any loose. counted_one.counts.loose any (looked-step.loose any loose);
+        keeps_unpinned_room = λ any loose. counted_one.counts.keeps_unpinned_room any (looked-step.keeps_unpinned_room any loose);
         room = record { tables = counted_one.counts.room.tables ∙ looked-step.room.tables; blocks = counted_one.counts.room.blocks ∙ looked-step.room.blocks; entries = counted_one.counts.room.entries ∙ looked-step.room.entries };
       }
 
-      caused : FailsFor (counting_causes (IsTrue (state between.image).shape.keeps × (order_of mid ≡ L2DependsOnRb) × IsSound Mid × ((c : ℕ) → cluster ≤ c → c < cluster + 1 → (counted Mid c ≡ 0) × (block_offset (slice_index s.table.words (c / counters_of_block between.header.fields)) ≢ 0)))
-          (IsLoose s.table mid) (state between.image).faults (state after.image).faults) (counting_of result)
+      caused : FailsFor (counting_causes (IsTrue (state between.image).shape.keeps × (order_of mid ≡ L2DependsOnRb) × IsSound Mid × ((c : ℕ) → cluster ≤ c → c < cluster + 1 → (counted Mid c ≡ 0) × (block_offset (slice_index s.table.raw_entries (c / counters_of_block between.header.fields)) ≢ 0)))
+          (HasUnpinnedRoom s.table mid) (state between.image).faults (state after.image).faults) (counting_of result)
       caused = counted_one.counts.cause
 
       knows : IsGuarded state s.image → IsTrue (state between.image).shape.keeps × (order_of mid ≡ L2DependsOnRb) × IsSound Mid
-          × ((c : ℕ) → cluster ≤ c → c < cluster + 1 → (counted Mid c ≡ 0) × (block_offset (slice_index s.table.words (c / counters_of_block between.header.fields)) ≢ 0))
+          × ((c : ℕ) → cluster ≤ c → c < cluster + 1 → (counted Mid c ≡ 0) × (block_offset (slice_index s.table.raw_entries (c / counters_of_block between.header.fields)) ≢ 0))
       knows holds =
-          let first = looked-step.quiet holds.1 in (
+          let first = looked-step.guest_unchanged holds.1 in (
             keeps_on (state s.file.image) (state between.image) first.shape holds.0,
             looked-step.order ∙ holds.1,
             (first.holds holds.0 holds.2 tt).0,
             λ c le lt. (
               only-here holds.0 holds.2 c le lt,
               let here : c ≡ cluster = omega (arith, le, lt) in
-                  subst (λ d. block_offset (slice_index s.table.words (d / counters_of_block between.header.fields)) ≢ 0) (sym here)
-                  (subst (λ (h : Header). block_offset (slice_index s.table.words (cluster / counters_of_block h.fields)) ≢ 0) (sym looks.looked.header) some),
+                  subst (λ d. block_offset (slice_index s.table.raw_entries (d / counters_of_block between.header.fields)) ≢ 0) (sym here)
+                  (subst (λ (h : Header). block_offset (slice_index s.table.raw_entries (cluster / counters_of_block h.fields)) ≢ 0) (sym looks.looked.header) some),
             ),
           )
 
-      further-marked : (mark'' : ℕ) → (mark'' ≤ s.mark) ⊎ ((mark'' ≡ cluster + 1) × (s.mark ≡ cluster) × (counted_one.counts.part ≡ 1)) → order_of s.caches ≡ L2DependsOnRb → IsTrue (state s.file.image).shape.keeps → IsSound Old → WasNotCutOff result → IsMarked Old s.mark → IsMarked New mark''
+      further-marked : (mark'' : ℕ) → (mark'' ≤ s.mark) ⊎ ((mark'' ≡ cluster + 1) × (s.mark ≡ cluster) × (counted_one.counts.part ≡ 1)) → order_of s.caches ≡ L2DependsOnRb → IsTrue (state s.file.image).shape.keeps → IsSound Old → HadNoResourceError result → NoneFreeBefore Old s.mark → NoneFreeBefore New mark''
       further-marked mark'' near order keeps sound whole marked c below =
           let up = counts-more order keeps sound whole c in
           elim (cases_lt c s.mark) [
@@ -224,24 +224,24 @@ module _ {S : Type 0} (state : S → StorageState) (cluster : ℕ) (s : Allocato
           ]
 
       -- or counted none,
-      pub refused-one : (fault : Fault) → result ≡ Err fault → AllocatesAt state (λ _. ⊥) cluster s result (with_mark (lent s.table new after s.pending) mark')
-      refused-one fault refused = subst (λ (r : Result (Option FreeEntry) Fault). AllocatesAt state (λ _. ⊥) cluster s r (with_mark (lent s.table new after s.pending) mark')) (sym refused) record {
+      pub refused-one : (fault : Fault) → result ≡ Err fault → AllocatesAt state (λ _. ⊥) cluster s result (with_first_free (image_state s.table new after s.pending) mark')
+      refused-one fault refused = subst (λ (r : Result (Option FreeEntry) Fault). AllocatesAt state (λ _. ⊥) cluster s r (with_first_free (image_state s.table new after s.pending) mark')) (sym refused) record {
         did = record {
           leaked = λ _. 0;
           leaks = leaks-none _ _ (not_handed fault);
-          step = subst (λ (r : Result (Option FreeEntry) Fault). Allocating state (WasNotCutOff r) (λ _. 0) s.image (lent s.table new after s.pending)) refused (step (λ _. 0) (given-none none));
+          step = subst (λ (r : Result (Option FreeEntry) Fault). Allocating state (HadNoResourceError r) (λ _. 0) s.image (image_state s.table new after s.pending)) refused (step (λ _. 0) (given-none none));
           list = inl refl;
-          cause = cause-weaker (counting-allocates knows looked-step.loose looks.looked.cause) fault
-              (subst (λ (r : Result (Option FreeEntry) Fault). FailsFor (counting_causes (IsTrue (state between.image).shape.keeps × (order_of mid ≡ L2DependsOnRb) × IsSound Mid × ((c : ℕ) → cluster ≤ c → c < cluster + 1 → (counted Mid c ≡ 0) × (block_offset (slice_index s.table.words (c / counters_of_block between.header.fields)) ≢ 0)))
-              (IsLoose s.table mid) (state between.image).faults (state after.image).faults) (counting_of r)) refused caused);
+          cause = cause-weaker (counting-allocates knows looked-step.keeps_unpinned_room looks.looked.cause) fault
+              (subst (λ (r : Result (Option FreeEntry) Fault). FailsFor (counting_causes (IsTrue (state between.image).shape.keeps × (order_of mid ≡ L2DependsOnRb) × IsSound Mid × ((c : ℕ) → cluster ≤ c → c < cluster + 1 → (counted Mid c ≡ 0) × (block_offset (slice_index s.table.raw_entries (c / counters_of_block between.header.fields)) ≢ 0)))
+              (HasUnpinnedRoom s.table mid) (state between.image).faults (state after.image).faults) (counting_of r)) refused caused);
         };
         one = tt;
         answer = λ order keeps sound. tt;
-        near = λ order keeps sound. tt;
+        taken_up_to_cluster = λ order keeps sound. tt;
         further = tt;
         stays = mark-is;
         marked = λ order keeps sound whole.
-            let whole' : WasNotCutOff result = subst (λ (r : Result (Option FreeEntry) Fault). WasNotCutOff r) (sym refused) whole in
+            let whole' : HadNoResourceError result = subst (λ (r : Result (Option FreeEntry) Fault). HadNoResourceError r) (sym refused) whole in
             further-marked mark' (inl (let is' = mark-is in omega (arith, is'))) order keeps sound whole';
       }
         where
@@ -255,29 +255,29 @@ module _ {S : Type 0} (state : S → StorageState) (cluster : ℕ) (s : Allocato
       itself = record { first = cluster; count = 1; metadata = false }
 
       -- or counted it, and hands it out.
-      pub handed-one : (entry : Option FreeEntry) → result ≡ Ok entry → AllocatesAt state (λ _. ⊥) cluster s result (with_mark (lent s.table new after s.pending) mark')
-      handed-one entry ok = subst (λ (r : Result (Option FreeEntry) Fault). AllocatesAt state (λ _. ⊥) cluster s r (with_mark (lent s.table new after s.pending) mark')) (sym (ok ∙ ap (λ (o : Option FreeEntry). Ok o) entry-is)) record {
+      pub handed-one : (entry : Option FreeEntry) → result ≡ Ok entry → AllocatesAt state (λ _. ⊥) cluster s result (with_first_free (image_state s.table new after s.pending) mark')
+      handed-one entry ok = subst (λ (r : Result (Option FreeEntry) Fault). AllocatesAt state (λ _. ⊥) cluster s r (with_first_free (image_state s.table new after s.pending) mark')) (sym (ok ∙ ap (λ (o : Option FreeEntry). Ok o) entry-is)) record {
         did = record {
           leaked = λ _. 0;
           leaks = leaks-none _ _ (handed_so (Some itself));
-          step = subst (λ (r : Result (Option FreeEntry) Fault). Allocating state (WasNotCutOff r) (one_at cluster) s.image (lent s.table new after s.pending)) ok (step (one_at cluster) (given-one one));
+          step = subst (λ (r : Result (Option FreeEntry) Fault). Allocating state (HadNoResourceError r) (one_at cluster) s.image (image_state s.table new after s.pending)) ok (step (one_at cluster) (given-one one));
           list = inl refl;
           cause = faults ∙ looks.looked.cause;
         };
         one = (refl, some-place, reach);
         answer = λ order keeps sound.
-            let whole : WasNotCutOff result = subst (λ (r : Result (Option FreeEntry) Fault). WasNotCutOff r) (sym ok) tt in
+            let whole : HadNoResourceError result = subst (λ (r : Result (Option FreeEntry) Fault). HadNoResourceError r) (sym ok) tt in
             let zero = was-free keeps sound in
             let up = counts-more order keeps sound whole cluster in
             let yes = given-one one cluster in
             let own = here-one cluster in
             let is' : counted New cluster ≡ 1 = omega (arith, up, zero, yes, own) in
-            let all = (step (one_at cluster) (given-one one)).quiet order in
+            let all = (step (one_at cluster) (given-one one)).guest_unchanged order in
             let held = all.holds keeps sound whole in
-            let unnamed = handed-unnamed Old New (one_at cluster) cluster sound held.0 order held.1 zero is' own in
-            (zero, is', unnamed.0, unnamed.1);
-        near = λ order keeps sound c none more.
-            let whole : WasNotCutOff result = subst (λ (r : Result (Option FreeEntry) Fault). WasNotCutOff r) (sym ok) tt in
+            let not_referenced = handed-unnamed Old New (one_at cluster) cluster sound held.0 order held.1 zero is' own in
+            (zero, is', not_referenced.0, not_referenced.1);
+        taken_up_to_cluster = λ order keeps sound c none more.
+            let whole : HadNoResourceError result = subst (λ (r : Result (Option FreeEntry) Fault). HadNoResourceError r) (sym ok) tt in
             let up = counts-more order keeps sound whole c in
             let inside = covered-inside c cluster counted_one.counts.part (omega (arith, up, none, more)) in
             let ends = inside.1 in
@@ -286,7 +286,7 @@ module _ {S : Type 0} (state : S → StorageState) (cluster : ℕ) (s : Allocato
         further = mark-is;
         stays = tt;
         marked = λ order keeps sound whole.
-            let whole' : WasNotCutOff result = subst (λ (r : Result (Option FreeEntry) Fault). WasNotCutOff r) (sym ok) tt in
+            let whole' : HadNoResourceError result = subst (λ (r : Result (Option FreeEntry) Fault). HadNoResourceError r) (sym ok) tt in
             further-marked mark' near order keeps sound whole';
       }
         where
@@ -294,17 +294,17 @@ module _ {S : Type 0} (state : S → StorageState) (cluster : ℕ) (s : Allocato
           entry-is = subst (λ (r : Result (Option FreeEntry) Fault). IfOk r (λ o. o ≡ Some itself)) ok counted_one.entry
 
           some-place : cluster ≢ 0
-          some-place = subst (λ (r : Result (Option FreeEntry) Fault). OnOk r (cluster ≢ 0)) ok counted_one.some
+          some-place = subst (λ (r : Result (Option FreeEntry) Fault). OnOk r (cluster ≢ 0)) ok counted_one.cluster_nonzero
 
           one : counted_one.counts.part ≡ 1
           one = subst (λ (r : Result (Option FreeEntry) Fault). OnOk (counting_of r) (counted_one.counts.part ≡ 1)) ok counted_one.counts.whole
 
           faults : (state after.image).faults ≡ (state between.image).faults
-          faults = subst (λ (r : Result (Option FreeEntry) Fault). FailsFor (counting_causes (IsTrue (state between.image).shape.keeps × (order_of mid ≡ L2DependsOnRb) × IsSound Mid × ((c : ℕ) → cluster ≤ c → c < cluster + 1 → (counted Mid c ≡ 0) × (block_offset (slice_index s.table.words (c / counters_of_block between.header.fields)) ≢ 0)))
-              (IsLoose s.table mid) (state between.image).faults (state after.image).faults) (counting_of r)) ok caused
+          faults = subst (λ (r : Result (Option FreeEntry) Fault). FailsFor (counting_causes (IsTrue (state between.image).shape.keeps × (order_of mid ≡ L2DependsOnRb) × IsSound Mid × ((c : ℕ) → cluster ≤ c → c < cluster + 1 → (counted Mid c ≡ 0) × (block_offset (slice_index s.table.raw_entries (c / counters_of_block between.header.fields)) ≢ 0)))
+              (HasUnpinnedRoom s.table mid) (state between.image).faults (state after.image).faults) (counting_of r)) ok caused
 
           mark-is : mark' ≡ (if cluster == s.mark then cluster + 1 else s.mark)
-          mark-is = subst (λ (o : Option FreeEntry). mark' ≡ mark_past s.mark cluster o) entry-is (subst (λ (r : Result (Option FreeEntry) Fault). IfOk r (λ o. mark' ≡ mark_past s.mark cluster o)) ok further)
+          mark-is = subst (λ (o : Option FreeEntry). mark' ≡ first_free_past s.mark cluster o) entry-is (subst (λ (r : Result (Option FreeEntry) Fault). IfOk r (λ o. mark' ≡ first_free_past s.mark cluster o)) ok further)
 
           near : (mark' ≤ s.mark) ⊎ ((mark' ≡ cluster + 1) × (s.mark ≡ cluster) × (counted_one.counts.part ≡ 1))
           near = elim (cases_eq cluster s.mark) [
@@ -312,9 +312,9 @@ module _ {S : Type 0} (state : S → StorageState) (cluster : ℕ) (s : Allocato
             | inr apart ↦ inl (let is' : mark' ≡ s.mark = mark-is ∙ rw (ne_eqb cluster s.mark apart) refl in omega (arith, is'))
           ]
 
-      pub counted-or-not : AllocatesAt state (λ _. ⊥) cluster s result (with_mark (lent s.table new after s.pending) mark')
+      pub counted-or-not : AllocatesAt state (λ _. ⊥) cluster s result (with_first_free (image_state s.table new after s.pending) mark')
       counted-or-not = by-result result refl
         where
-          by-result : (r : Result (Option FreeEntry) Fault) → result ≡ r → AllocatesAt state (λ _. ⊥) cluster s result (with_mark (lent s.table new after s.pending) mark')
+          by-result : (r : Result (Option FreeEntry) Fault) → result ≡ r → AllocatesAt state (λ _. ⊥) cluster s result (with_first_free (image_state s.table new after s.pending) mark')
           by-result (Ok entry) ok = handed-one entry ok
           by-result (Err fault) refused = refused-one fault refused

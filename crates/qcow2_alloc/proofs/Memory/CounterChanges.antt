@@ -15,9 +15,9 @@ use Rattle.qcow2_types.specs.References.{structure, of_copied, meets, refs}
 use Rattle.qcow2_types.specs.Slots.{slot as slot_in}
 use Rattle.qcow2_types.specs.TableBytes.{block_bytes, Packs}
 use Rattle.qcow2_types.specs.Consistency.{IsConsistent}
-use Rattle.qcow2_types.specs.Frames.{Same, Outside, Kept, block}
+use Rattle.qcow2_types.specs.Frames.{Same, Outside, SameStructureOutside, block}
 use Rattle.qcow2_types.specs.Steps.{BlockWritten, CounterWritten}
-use Rattle.qcow2_types.specs.Versions.{SamePlaces, KeepsSlots, of_either, named, copied, NamedApart, BlocksFirst, TablesFirst}
+use Rattle.qcow2_types.specs.Versions.{SamePlaces, KeepsSlots, of_either, references_in_either, copied, ReferencedOnce, BlocksFirst, TablesFirst}
 use Rattle.qcow2_types.proofs.Numbers.BlockBytes.{bytes-pack}
 use Rattle.qcow2_types.proofs.Changes.BlockSteps.{block-kept, block-written, count-there, counters-written}
 use Rattle.qcow2_types.proofs.Counting.Counters.{some-counters, count-same}
@@ -34,7 +34,7 @@ use Rattle.qcow2_alloc.specs.declared.cache.CacheDependency.TheVariants.{Unset, 
 use Rattle.qcow2_alloc.specs.Cache.{hit}
 use Rattle.qcow2_alloc.specs.Changes.{CachesBlock, SetsCounter, CounterChanged, IsStillCovered}
 use Rattle.qcow2_alloc.specs.Memory.{Cached, memory}
-use Rattle.qcow2_alloc.specs.Safety.{IsCachedBlock, IsOrdered, Safe}
+use Rattle.qcow2_alloc.specs.WellFormedness.{IsCachedBlock, IsOrdered, WellFormed}
 use Rattle.qcow2_alloc.proofs.Caching.SingleEntries.{block-kind-laws, entry-fits, over-rest}
 use Rattle.qcow2_alloc.proofs.Memory.EntryChanges.{entry-put, none-there, put-safe}
 use Rattle.qcow2_alloc.proofs.Memory.EntryKinds.{block_kind, blocks_with}
@@ -45,8 +45,8 @@ use Rattle.qcow2_alloc.proofs.Caching.Places.{Place, place-of-key, place-hit, sl
 
 -- Where g' has the words of g, what is named by f or by what is over it is the same.
 module _ (f g g' : Bytes) (h : Fields) (places : SamePlaces f g h) (keeps : KeepsSlots g g' h) where
-  pub named-kept : (c : ℕ) → named f g' h c ≡ named f g h c
-  unfolding named
+  pub named-kept : (c : ℕ) → references_in_either f g' h c ≡ references_in_either f g h c
+  unfolding references_in_either
   named-kept c = ap (λ n. structure f h (meets h c) + n)
       (slots-same (l2_table f h) h _ _ (λ i j live. ap (of_either h (meets h c) (slot_in f h i j))
       (keeps.slots i j (record { in_l1 = live.in_l1; is_there = (λ z. live.is_there (sym (places.l1 i) ∙ z)); in_table = live.in_table }))))
@@ -56,17 +56,17 @@ module _ (f g g' : Bytes) (h : Fields) (places : SamePlaces f g h) (keeps : Keep
   copied-kept c = slots-same (l2_table f h) h _ _ (λ i j live. ap (λ m. max (of_copied h (meets h c) (slot_in f h i j)) (of_copied h (meets h c) m))
       (keeps.slots i j (record { in_l1 = live.in_l1; is_there = (λ z. live.is_there (sym (places.l1 i) ∙ z)); in_table = live.in_table })))
 
-  pub apart-kept : NamedApart f g h → NamedApart f g' h
+  pub apart-kept : ReferencedOnce f g h → ReferencedOnce f g' h
   apart-kept apart c some =
       let same : copied f g' h c ≡ copied f g h c = copied-kept c in
-      let once : named f g h c ≤ 1 = apart c (omega (arith, same, some)) in
+      let once : references_in_either f g h c ≤ 1 = apart c (omega (arith, same, some)) in
       omega (arith, once, named-kept c)
 
 -- The announced order allows cluster c this count in memory, where f is the file, and g what is in memory over it: it covers what is to
 -- be covered by what is written first, and nothing is raised while the tables are.
 abbrev pub AllowsCount : CacheDependency → Bytes → Bytes → Fields → ℕ → ℕ → Type 0
-AllowsCount Unset f g h c n = (named f g h c ≤ n) × (n ≤ count f h c)
-AllowsCount L2DependsOnRb f g h c n = named f g h c ≤ n
+AllowsCount Unset f g h c n = (references_in_either f g h c ≤ n) × (n ≤ count f h c)
+AllowsCount L2DependsOnRb f g h c n = references_in_either f g h c ≤ n
 AllowsCount RbDependsOnL2 f g h c n = (refs g h c ≤ n) × (n ≤ count f h c)
 
 -- what a cached block is with one counter set
@@ -74,7 +74,7 @@ abbrev counter_set : Slot Block → ℕ → ℕ → Slot Block
 counter_set slot i n = record slot { value = with_counter slot.value i n }
 
 module _ (f : Bytes) (H : Header) (order : CacheDependency) (tables : List (ℕ × Slot TableValue)) (front : List (ℕ × Slot Block)) (key : ℕ) (slot : Slot Block) (back : List (ℕ × Slot Block))
-    (safe : Safe f H (blocks_with tables front key slot back) order) (c : ℕ) (counts_it : block_at f H.fields (c / counters_of_block H.fields) ≡ key * cluster_size H.fields) (some : key ≢ 0) where
+    (well_formed : WellFormed f H (blocks_with tables front key slot back) order) (c : ℕ) (counts_it : block_at f H.fields (c / counters_of_block H.fields) ≡ key * cluster_size H.fields) (some : key ≢ 0) where
   abbrev old : Cached
   old = blocks_with tables front key slot back
 
@@ -88,10 +88,10 @@ module _ (f : Bytes) (H : Header) (order : CacheDependency) (tables : List (ℕ 
   i = c % counters_of_block H.fields
 
   shaped : Shaped H.fields
-  shaped = shaped-in f H safe.consistent
+  shaped = shaped-in f H well_formed.consistent
 
   this : IsCachedBlock f H.fields key slot.value
-  this = entry-fits block_kind block-kind-laws f H tables front key slot back order safe
+  this = entry-fits block_kind block-kind-laws f H tables front key slot back order well_formed
 
   there : block_at f H.fields r ≢ 0
   there none = place-there (cluster_size H.fields) key (pow_pos H.fields.cluster_bits) some (sym counts_it ∙ none)
@@ -100,7 +100,7 @@ module _ (f : Bytes) (H : Header) (order : CacheDependency) (tables : List (ℕ 
   lt = block-inside f H.fields r there
 
   places : SamePlaces f g H.fields
-  places = places-in-memory f H safe.consistent (blocks_with tables front key slot back) safe.tables safe.blocks
+  places = places-in-memory f H well_formed.consistent (blocks_with tables front key slot back) well_formed.tables well_formed.blocks
 
   at_key : block_at g H.fields r ≡ key * cluster_size H.fields
   at_key = places.blocks r ∙ counts_it
@@ -144,12 +144,12 @@ module _ (f : Bytes) (H : Header) (order : CacheDependency) (tables : List (ℕ 
 
   -- Where it is modified, its bytes are over that;
   modified-memory : slot.value.modified ≡ true → g ≡ splice base (key * cluster_size H.fields) bytes
-  modified-memory = over-rest block_kind block-kind-laws f H tables front key slot back order safe
+  modified-memory = over-rest block_kind block-kind-laws f H tables front key slot back order well_formed
 
   -- and where it isn't, its cluster is the file's.
   clean-memory : slot.value.modified ≡ false → Same f g (block_at f H.fields r) (cluster_size H.fields)
-  clean-memory clean = block-same f H safe.consistent old safe.tables safe.blocks r lt there
-      (none-there block_kind block-kind-laws f H order tables front key slot back safe clean (block_at f H.fields r) counts_it)
+  clean-memory clean = block-same f H well_formed.consistent old well_formed.tables well_formed.blocks r lt there
+      (none-there block_kind block-kind-laws f H order tables front key slot back well_formed clean (block_at f H.fields r) counts_it)
 
   -- In memory each of its clusters is counted as its counters say.
   pub counted-in-memory : (d : ℕ) → d / counters_of_block H.fields ≡ r → count g H.fields d ≡ slice_index slot.value.counters (d % counters_of_block H.fields)
@@ -168,7 +168,7 @@ module _ (f : Bytes) (H : Header) (order : CacheDependency) (tables : List (ℕ 
   ]
 
   was : IsConsistent g H
-  was = safe-memory f H old order safe
+  was = safe-memory f H old order well_formed
 
   there_in_memory : block_at g H.fields r ≢ 0
   there_in_memory none = there (sym (places.blocks r) ∙ none)
@@ -210,7 +210,7 @@ module _ (f : Bytes) (H : Header) (order : CacheDependency) (tables : List (ℕ 
 
     -- Memory has its cluster's bytes replaced, and nothing else.
     pub counter-put : memory f H.fields cached' ≡ x
-    counter-put = entry-put block_kind block-kind-laws f H order tables front key slot back safe new new-is refl
+    counter-put = entry-put block_kind block-kind-laws f H order tables front key slot back well_formed new new-is refl
 
     outside : Outside g x (key * cluster_size H.fields) (length new_bytes)
     outside = splice-is-outside g (key * cluster_size H.fields) new_bytes
@@ -221,7 +221,7 @@ module _ (f : Bytes) (H : Header) (order : CacheDependency) (tables : List (ℕ 
     high : key * cluster_size H.fields + length new_bytes ≤ block_at g H.fields r + cluster_size H.fields
     high = omega (arith, at_key, full new new-is)
 
-    keeps-block : Kept g x H.fields (block r)
+    keeps-block : SameStructureOutside g x H.fields (block r)
     keeps-block =
         let size : 0 < cluster_size H.fields = pow_pos H.fields.cluster_bits in
         block-kept g H was r there_in_memory x (key * cluster_size H.fields) (length new_bytes) (omega (arith, size, full new new-is)) outside low high
@@ -241,7 +241,7 @@ module _ (f : Bytes) (H : Header) (order : CacheDependency) (tables : List (ℕ 
       covered-there : (d : ℕ) → d / counters_of_block H.fields ≡ r → refs g H.fields d ≤ count x H.fields d
       covered-there d own = elim (cases_eq d c) [
         | inl e ↦ subst (λ k. refs g H.fields k ≤ count x H.fields k) (sym e) (omega (arith, here, covers))
-        | inr apart ↦ let le = safe.covered d in omega (arith, le, beside d apart own)
+        | inr apart ↦ let le = well_formed.covered d in omega (arith, le, beside d apart own)
       ]
 
       block-changed : BlockWritten g x H r
@@ -259,16 +259,16 @@ module _ (f : Bytes) (H : Header) (order : CacheDependency) (tables : List (ℕ 
       covered : (d : ℕ) → refs x H.fields d ≤ count x H.fields d
       covered d = let same = block-changed.references d in elim (cases_eq d c) [
         | inl e ↦ subst (λ k. refs x H.fields k ≤ count x H.fields k) (sym e) (let same' = block-changed.references c in omega (arith, here, covers, same'))
-        | inr apart ↦ let le = safe.covered d in omega (arith, le, same, others d apart)
+        | inr apart ↦ let le = well_formed.covered d in omega (arith, le, same, others d apart)
       ]
 
-      names : (d : ℕ) → named f x H.fields d ≡ named f g H.fields d
+      names : (d : ℕ) → references_in_either f x H.fields d ≡ references_in_either f g H.fields d
       names = named-kept f g x H.fields places block-changed.keeps
 
-      blocks-first : named f g H.fields c ≤ n → BlocksFirst f g H.fields → BlocksFirst f x H.fields
+      blocks-first : references_in_either f g H.fields c ≤ n → BlocksFirst f g H.fields → BlocksFirst f x H.fields
       blocks-first enough was' = record {
         cached = λ d. elim (cases_eq d c) [
-          | inl e ↦ subst (λ k. named f x H.fields k ≤ count x H.fields k) (sym e) (omega (arith, enough, here, names c))
+          | inl e ↦ subst (λ k. references_in_either f x H.fields k ≤ count x H.fields k) (sym e) (omega (arith, enough, here, names c))
           | inr apart ↦ let le = was'.cached d in omega (arith, le, names d, others d apart)
         ];
         file = was'.file;
@@ -291,19 +291,19 @@ module _ (f : Bytes) (H : Header) (order : CacheDependency) (tables : List (ℕ 
       -- What is cached stays safe.
       pub counter-changed : AllowsCount order f g H.fields c n → CounterChanged f H order old c n cached'
       counter-changed allows = record {
-        safe = put-safe block_kind block-kind-laws f H order tables front key slot back safe new new-is refl (record {
-          apart = apart-kept f g x H.fields places block-changed.keeps safe.apart;
-          ordered = ordered order allows safe.ordered;
+        well_formed = put-safe block_kind block-kind-laws f H order tables front key slot back well_formed new new-is refl (record {
+          apart = apart-kept f g x H.fields places block-changed.keeps well_formed.apart;
+          ordered = ordered order allows well_formed.ordered;
           covered = covered;
         });
         written = subst (λ (m : Bytes). CounterWritten g m H c n) (sym counter-put) written;
-        names = subst (λ (m : Bytes). (d : ℕ) → named f m H.fields d ≡ named f g H.fields d) (sym counter-put) names;
+        names = subst (λ (m : Bytes). (d : ℕ) → references_in_either f m H.fields d ≡ references_in_either f g H.fields d) (sym counter-put) names;
       }
 
 -- In memory a cluster is counted as the counter says of the block that is cached,
-module _ (f : Bytes) (H : Header) (cached : Cached) (order : CacheDependency) (key c : ℕ) (value : Block) (safe : Safe f H cached order) (caches : CachesBlock f H.fields cached key c value) where
+module _ (f : Bytes) (H : Header) (cached : Cached) (order : CacheDependency) (key c : ℕ) (value : Block) (well_formed : WellFormed f H cached order) (caches : CachesBlock f H.fields cached key c value) where
   found : (s : Slot Block) × (lookup (nat_eq key) cached.blocks ≡ Some s) × (s.value ≡ value)
-  found = slot-of (lookup (nat_eq key) cached.blocks) value caches.there
+  found = slot-of (lookup (nat_eq key) cached.blocks) value caches.block_cached
 
   p : Place key cached.blocks found.0
   p = place-of-key key cached.blocks found.0 found.1
@@ -311,35 +311,35 @@ module _ (f : Bytes) (H : Header) (cached : Cached) (order : CacheDependency) (k
   as-was : cached ≡ blocks_with cached.tables p.front key found.0 p.back
   as-was = ap (λ (bs : List (ℕ × Slot Block)). record { tables = cached.tables; blocks = bs }) p.is
 
-  safe' : Safe f H (blocks_with cached.tables p.front key found.0 p.back) order
-  safe' = subst (λ (o : Cached). Safe f H o order) as-was safe
+  safe' : WellFormed f H (blocks_with cached.tables p.front key found.0 p.back) order
+  safe' = subst (λ (o : Cached). WellFormed f H o order) as-was well_formed
 
   pub cached-count : count (memory f H.fields cached) H.fields c ≡ slice_index value.counters (c % counters_of_block H.fields)
   cached-count =
       subst (λ (o : Cached). count (memory f H.fields o) H.fields c ≡ slice_index found.0.value.counters (c % counters_of_block H.fields)) (sym as-was)
-      (counted-in-memory f H order cached.tables p.front key found.0 p.back safe' c caches.counts caches.some c refl)
+      (counted-in-memory f H order cached.tables p.front key found.0 p.back safe' c caches.counts caches.cluster_nonzero c refl)
       ∙ ap (λ (b : Block). slice_index b.counters (c % counters_of_block H.fields)) found.2
 
   -- and fits its width.
   pub count-fits : count (memory f H.fields cached) H.fields c < 2 ^ counter_bits H.fields
   count-fits =
-      let is = this f H order cached.tables p.front key found.0 p.back safe' c caches.counts caches.some in
+      let is = this f H order cached.tables p.front key found.0 p.back safe' c caches.counts caches.cluster_nonzero in
       rw (cached-count, sym (ap (λ (b : Block). slice_index b.counters (c % counters_of_block H.fields)) found.2))
       (subst (λ o. slice_index found.0.value.counters (c % counters_of_block H.fields) < 2 ^ 2 ^ o) is.order (is.fit (c % counters_of_block H.fields)))
 
 -- The counter is set there.
-module _ (f : Bytes) (H : Header) (cached cached' : Cached) (order : CacheDependency) (key c n : ℕ) (safe : Safe f H cached order) (sets : SetsCounter f H.fields cached key c n cached') where
+module _ (f : Bytes) (H : Header) (cached cached' : Cached) (order : CacheDependency) (key c n : ℕ) (well_formed : WellFormed f H cached order) (sets : SetsCounter f H.fields cached key c n cached') where
   abbrev s : Slot Block
-  s = (found f H cached order key c sets.block safe sets.caches).0
+  s = (found f H cached order key c sets.block well_formed sets.caches).0
 
   abbrev q : Place key cached.blocks s
-  q = p f H cached order key c sets.block safe sets.caches
+  q = p f H cached order key c sets.block well_formed sets.caches
 
   as-is : cached' ≡ record { tables = cached.tables; blocks = (key, counter_set s (c % counters_of_block H.fields) n) ∷ q.front ++ q.back }
   as-is =
       ap (λ (ts : List (ℕ × Slot TableValue)). record { tables = ts; blocks = cached'.blocks }) sets.tables
       ∙ ap (λ (bs : List (ℕ × Slot Block)). record { tables = cached.tables; blocks = bs })
-      (sets.blocks ∙ ap (λ (b : Block). hit (nat_eq key) cached.blocks (with_counter b (c % counters_of_block H.fields) n)) (sym (found f H cached order key c sets.block safe sets.caches).2)
+      (sets.blocks ∙ ap (λ (b : Block). hit (nat_eq key) cached.blocks (with_counter b (c % counters_of_block H.fields) n)) (sym (found f H cached order key c sets.block well_formed sets.caches).2)
       ∙ place-hit key cached.blocks s q (with_counter s.value (c % counters_of_block H.fields) n))
 
   covers-by : (o : CacheDependency) → SamePlaces f (memory f H.fields cached) H.fields → AllowsCount o f (memory f H.fields cached) H.fields c n → refs (memory f H.fields cached) H.fields c ≤ n
@@ -349,29 +349,29 @@ module _ (f : Bytes) (H : Header) (cached cached' : Cached) (order : CacheDepend
 
   pub counter-sets : n < 2 ^ counter_bits H.fields → AllowsCount order f (memory f H.fields cached) H.fields c n → CounterChanged f H order cached c n cached'
   counter-sets fits allows =
-      let was = as-was f H cached order key c sets.block safe sets.caches in
-      let covers = covers-by order (places-in-memory f H safe.consistent cached safe.tables safe.blocks) allows in
+      let was = as-was f H cached order key c sets.block well_formed sets.caches in
+      let covers = covers-by order (places-in-memory f H well_formed.consistent cached well_formed.tables well_formed.blocks) allows in
       subst (λ (k : Cached). CounterChanged f H order cached c n k) (sym as-is)
       (subst (λ (o : Cached). CounterChanged f H order o c n (record { tables = cached.tables; blocks = (key, counter_set s (c % counters_of_block H.fields) n) ∷ q.front ++ q.back })) (sym was)
-      (counter-changed f H order cached.tables q.front key s q.back (safe' f H cached order key c sets.block safe sets.caches) c sets.caches.counts sets.caches.some n fits
+      (counter-changed f H order cached.tables q.front key s q.back (safe' f H cached order key c sets.block well_formed sets.caches) c sets.caches.counts sets.caches.cluster_nonzero n fits
       (subst (λ (o : Cached). refs (memory f H.fields o) H.fields c ≤ n) was covers) (subst (λ (o : Cached). AllowsCount order f (memory f H.fields o) H.fields c n) was allows)))
 
 -- A counter that is 0 is raised while the blocks are to be written first: nothing names the cluster, in the file or in memory.
-pub counter-raised : (f : Bytes) (H : Header) (cached cached' : Cached) (key c : ℕ) → Safe f H cached L2DependsOnRb → SetsCounter f H.fields cached key c 1 cached' → count (memory f H.fields cached) H.fields c ≡ 0
-    → CounterChanged f H L2DependsOnRb cached c 1 cached' × (named f (memory f H.fields cached) H.fields c ≡ 0)
-counter-raised f H cached cached' key c safe sets none =
-    let le = safe.ordered.cached c in
-    let unnamed : named f (memory f H.fields cached) H.fields c ≡ 0 = omega (arith, le, none) in
+pub counter-raised : (f : Bytes) (H : Header) (cached cached' : Cached) (key c : ℕ) → WellFormed f H cached L2DependsOnRb → SetsCounter f H.fields cached key c 1 cached' → count (memory f H.fields cached) H.fields c ≡ 0
+    → CounterChanged f H L2DependsOnRb cached c 1 cached' × (references_in_either f (memory f H.fields cached) H.fields c ≡ 0)
+counter-raised f H cached cached' key c well_formed sets none =
+    let le = well_formed.ordered.cached c in
+    let not_referenced : references_in_either f (memory f H.fields cached) H.fields c ≡ 0 = omega (arith, le, none) in
     let bits : 0 < counter_bits H.fields = pow_pos H.fields.refcount_order in
     let room : 2 ^ 1 ≤ 2 ^ counter_bits H.fields = pow-le-pow_right (omega arith) bits in
-    (counter-sets f H cached cached' L2DependsOnRb key c 1 safe sets (omega (arith, room)) (omega (arith, unnamed)), unnamed)
+    (counter-sets f H cached cached' L2DependsOnRb key c 1 well_formed sets (omega (arith, room)) (omega (arith, not_referenced)), not_referenced)
 
 -- A counter is lowered where what still names the cluster is covered.
-pub counter-lowered : (f : Bytes) (H : Header) (cached cached' : Cached) (order : CacheDependency) (key c n : ℕ) → Safe f H cached order → SetsCounter f H.fields cached key c n cached' → count (memory f H.fields cached) H.fields c ≡ n + 1
+pub counter-lowered : (f : Bytes) (H : Header) (cached cached' : Cached) (order : CacheDependency) (key c n : ℕ) → WellFormed f H cached order → SetsCounter f H.fields cached key c n cached' → count (memory f H.fields cached) H.fields c ≡ n + 1
     → IsStillCovered order f (memory f H.fields cached) H.fields c n → CounterChanged f H order cached c n cached'
-counter-lowered f H cached cached' order key c n safe sets more covers =
-    let fits = count-fits f H cached order key c sets.block safe sets.caches in
-    counter-sets f H cached cached' order key c n safe sets (omega (arith, fits, more)) (allows order covers safe.ordered)
+counter-lowered f H cached cached' order key c n well_formed sets more covers =
+    let fits = count-fits f H cached order key c sets.block well_formed sets.caches in
+    counter-sets f H cached cached' order key c n well_formed sets (omega (arith, fits, more)) (allows order covers well_formed.ordered)
   where
     allows : (o : CacheDependency) → IsStillCovered o f (memory f H.fields cached) H.fields c n → IsOrdered o f (memory f H.fields cached) H.fields → AllowsCount o f (memory f H.fields cached) H.fields c n
     allows Unset enough both = (enough, let le = both.1.lowered c in omega (arith, le, more))
@@ -379,11 +379,11 @@ counter-lowered f H cached cached' order key c n safe sets more covers =
     allows RbDependsOnL2 enough first = (enough, let le = first.lowered c in omega (arith, le, more))
 
 -- The same to any number that isn't above.
-pub counter-lowered-to : (f : Bytes) (H : Header) (cached cached' : Cached) (order : CacheDependency) (key c n : ℕ) → Safe f H cached order → SetsCounter f H.fields cached key c n cached' → n ≤ count (memory f H.fields cached) H.fields c
+pub counter-lowered-to : (f : Bytes) (H : Header) (cached cached' : Cached) (order : CacheDependency) (key c n : ℕ) → WellFormed f H cached order → SetsCounter f H.fields cached key c n cached' → n ≤ count (memory f H.fields cached) H.fields c
     → IsStillCovered order f (memory f H.fields cached) H.fields c n → CounterChanged f H order cached c n cached'
-counter-lowered-to f H cached cached' order key c n safe sets less covers =
-    let fits = count-fits f H cached order key c sets.block safe sets.caches in
-    counter-sets f H cached cached' order key c n safe sets (omega (arith, fits, less)) (allows order covers safe.ordered)
+counter-lowered-to f H cached cached' order key c n well_formed sets less covers =
+    let fits = count-fits f H cached order key c sets.block well_formed sets.caches in
+    counter-sets f H cached cached' order key c n well_formed sets (omega (arith, fits, less)) (allows order covers well_formed.ordered)
   where
     allows : (o : CacheDependency) → IsStillCovered o f (memory f H.fields cached) H.fields c n → IsOrdered o f (memory f H.fields cached) H.fields → AllowsCount o f (memory f H.fields cached) H.fields c n
     allows Unset enough both = (enough, let le = both.1.lowered c in omega (arith, le, less))

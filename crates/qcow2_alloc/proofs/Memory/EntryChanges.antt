@@ -10,7 +10,7 @@ use Rattle.qcow2_types.proofs.Numbers.Splices.{splice-inside, splice-outside}
 use Rattle.qcow2_alloc.specs.declared.async_lru_cache.Slot.{Slot}
 use Rattle.qcow2_alloc.specs.declared.cache.CacheDependency.{CacheDependency}
 use Rattle.qcow2_alloc.specs.Memory.{memory}
-use Rattle.qcow2_alloc.specs.Safety.{Safe}
+use Rattle.qcow2_alloc.specs.WellFormedness.{WellFormed}
 use Rattle.qcow2_alloc.proofs.Caching.SingleEntries.{EntryLaws, are-safe, entry-fits, entry-leaves, entry-over, others-safe, over-rest}
 use Rattle.qcow2_alloc.proofs.Caching.EntryTraffic.{entries-first}
 use Rattle.qcow2_alloc.proofs.Memory.EntryKinds.{EntryKind, IsSafeMemory}
@@ -30,12 +30,12 @@ splice-again f at a b same = fun_ext (λ p. elim (cases_lt p at) [
 
 module _ {V W : Type 0} (kind : EntryKind V W) (laws : EntryLaws kind) (f : Bytes) (H : Header) (order : CacheDependency)
     (rest : List (ℕ × Slot W)) (front : List (ℕ × Slot V)) (key : ℕ) (slot : Slot V) (back : List (ℕ × Slot V))
-    (safe : Safe f H (kind.put rest (front ++ (key, slot) ∷ back)) order) where
+    (well_formed : WellFormed f H (kind.put rest (front ++ (key, slot) ∷ back)) order) where
   -- Where it isn't modified, nothing is to be written to its cluster.
   pub none-there : kind.writes.modified slot.value ≡ false → (place : ℕ) → place ≡ key * cluster_size H.fields
       → AllByRecursion (λ e. kind.writes.modified e.1.value ≡ true → e.0 * cluster_size H.fields ≢ place) (front ++ (key, slot) ∷ back)
   none-there clean place at =
-      let are = are-safe kind laws f H rest front key slot back order safe in
+      let are = are-safe kind laws f H rest front key slot back order well_formed in
       all-append _ front ((key, slot) ∷ back) (elsewhere front (others-before key slot front back are.apart))
       ((λ m. absurd (let both = sym clean ∙ m in cc)), elsewhere back (others-behind key slot front back are.apart))
     where
@@ -48,18 +48,18 @@ module _ {V W : Type 0} (kind : EntryKind V W) (laws : EntryLaws kind) (f : Byte
 
     pub entry-put : memory f H.fields (kind.put rest ((key, new) ∷ front ++ back)) ≡ x
     entry-put =
-        let was = entry-fits kind laws f H rest front key slot back order safe in
-        entry-over kind laws f H rest [] key new (front ++ back) safe.consistent fits modified (others-safe kind laws f H rest front key slot back order safe).fit tt tt
+        let was = entry-fits kind laws f H rest front key slot back order well_formed in
+        entry-over kind laws f H rest [] key new (front ++ back) well_formed.consistent fits modified (others-safe kind laws f H rest front key slot back order well_formed).fit tt tt
         ∙ (elim (cases_Bool (kind.writes.modified slot.value)) [
           | inl on ↦
               sym (splice-again (memory f H.fields (kind.put rest (front ++ back))) (key * cluster_size H.fields) (kind.bytes slot.value) (kind.bytes new.value)
-              ((laws.is_patch f H safe.consistent key slot.value was on).long ∙ sym (laws.is_patch f H safe.consistent key new.value fits modified).long))
-              ∙ ap (λ (b : Bytes). splice b (key * cluster_size H.fields) (kind.bytes new.value)) (sym (over-rest kind laws f H rest front key slot back order safe on))
+              ((laws.is_patch f H well_formed.consistent key slot.value was on).long ∙ sym (laws.is_patch f H well_formed.consistent key new.value fits modified).long))
+              ∙ ap (λ (b : Bytes). splice b (key * cluster_size H.fields) (kind.bytes new.value)) (sym (over-rest kind laws f H rest front key slot back order well_formed on))
           | inr clean ↦ ap (λ (b : Bytes). splice b (key * cluster_size H.fields) (kind.bytes new.value)) (entry-leaves kind laws f H rest front key slot back clean)
         ])
 
-    pub put-safe : IsSafeMemory f x H order → Safe f H (kind.put rest ((key, new) ∷ front ++ back)) order
+    pub put-safe : IsSafeMemory f x H order → WellFormed f H (kind.put rest ((key, new) ∷ front ++ back)) order
     put-safe m =
-        laws.safe f H order rest ((key, new) ∷ front ++ back) safe.consistent
-        (entries-first (kind.Fits f H.fields) front key slot back (are-safe kind laws f H rest front key slot back order safe) new fits)
-        (others-safe kind laws f H rest front key slot back order safe) (subst (λ (b : Bytes). IsSafeMemory f b H order) (sym entry-put) m)
+        laws.well_formed f H order rest ((key, new) ∷ front ++ back) well_formed.consistent
+        (entries-first (kind.Fits f H.fields) front key slot back (are-safe kind laws f H rest front key slot back order well_formed) new fits)
+        (others-safe kind laws f H rest front key slot back order well_formed) (subst (λ (b : Bytes). IsSafeMemory f b H order) (sym entry-put) m)

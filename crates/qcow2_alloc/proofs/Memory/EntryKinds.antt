@@ -10,14 +10,14 @@ use Rattle.qcow2_types.specs.Consistency.{IsConsistent}
 use Rattle.qcow2_types.specs.Counts.{count}
 use Rattle.qcow2_types.specs.Header.{Fields, Header}
 use Rattle.qcow2_types.specs.References.{refs}
-use Rattle.qcow2_types.specs.Versions.{NamedApart}
+use Rattle.qcow2_types.specs.Versions.{ReferencedOnce}
 use Rattle.qcow2_metadata.specs.Blocks.{Block}
 use Rattle.qcow2_metadata.specs.Tables.{TableValue}
 use Rattle.qcow2_alloc.specs.declared.async_lru_cache.Slot.{Slot}
 use Rattle.qcow2_alloc.specs.declared.cache.CacheDependency.{CacheDependency}
 use Rattle.qcow2_alloc.specs.Backends.{WrittenKind, written_tables, written_blocks}
 use Rattle.qcow2_alloc.specs.Memory.{Cached, table_patch, block_patch, memory}
-use Rattle.qcow2_alloc.specs.Safety.{IsCachedTable, IsCachedBlock, IsOrdered, Safe}
+use Rattle.qcow2_alloc.specs.WellFormedness.{IsCachedTable, IsCachedBlock, IsOrdered, WellFormed}
 
 -- What is written of an entry, which fit the file, and where they stand beside those of the other kind: what is to be written of these goes
 -- ahead, or behind.
@@ -34,7 +34,7 @@ pub record EntryKind (V W : Type 0) : Type 1 where
 abbrev pub table_kind : EntryKind TableValue Block
 table_kind = record {
   writes = written_tables;
-  bytes = λ t. table_bytes t.words;
+  bytes = λ t. table_bytes t.raw_entries;
   Fits = IsCachedTable;
   OtherFits = IsCachedBlock;
   put = λ blocks es. record { tables = es; blocks = blocks };
@@ -69,16 +69,16 @@ pub record AreEntries {V : Type 0} (Fits : ℕ → V → Type 0) (es : List (ℕ
 
 -- What is safe of memory g over a file.
 pub record IsSafeMemory (f g : Bytes) (H : Header) (order : CacheDependency) : Type 0 where
-  pub apart : NamedApart f g H.fields
+  pub apart : ReferencedOnce f g H.fields
   pub ordered : IsOrdered order f g H.fields
   pub covered : (c : ℕ) → refs g H.fields c ≤ count g H.fields c
 
-pub safe-in-memory : (f : Bytes) (H : Header) (cached : Cached) (order : CacheDependency) → Safe f H cached order
+pub safe-in-memory : (f : Bytes) (H : Header) (cached : Cached) (order : CacheDependency) → WellFormed f H cached order
     → IsSafeMemory f (memory f H.fields cached) H order
-safe-in-memory f H cached order safe = record { apart = safe.apart; ordered = safe.ordered; covered = safe.covered }
+safe-in-memory f H cached order well_formed = record { apart = well_formed.apart; ordered = well_formed.ordered; covered = well_formed.covered }
 
 pub safe-of : (f : Bytes) (H : Header) (order : CacheDependency) (cached : Cached) → IsConsistent f H → AreEntries (IsCachedTable f H.fields) cached.tables
-    → AreEntries (IsCachedBlock f H.fields) cached.blocks → IsSafeMemory f (memory f H.fields cached) H order → Safe f H cached order
+    → AreEntries (IsCachedBlock f H.fields) cached.blocks → IsSafeMemory f (memory f H.fields cached) H order → WellFormed f H cached order
 safe-of f H order cached was tables blocks m = record {
   consistent = was;
   tables_apart = tables.apart;

@@ -3,8 +3,8 @@ use Rattle.std.proofs.Common.{◌≡◌, ◌≢◌, ℕ, ◌+◌, ◌-◌, ◌*�
 use Rattle.std.specs.Prelude.{◌⊎◌, slice_index}
 use Rattle.std.proofs.lemmas.Bool.{cases_lt}
 use Rattle.std.proofs.lemmas.Nat.{pow_pos}
-use Rattle.qcow2_types.specs.Bytes.{Bytes, splice, word}
-use Rattle.qcow2_types.specs.Header.{Fields, cluster_size, words_of_cluster, refcount_table_entries}
+use Rattle.qcow2_types.specs.Bytes.{Bytes, splice, raw_entry}
+use Rattle.qcow2_types.specs.Header.{Fields, cluster_size, entries_of_cluster, refcount_table_entries}
 use Rattle.qcow2_types.specs.Entries.{l2_table}
 use Rattle.qcow2_types.specs.Counts.{block_at, counter, counters_of_block}
 use Rattle.qcow2_types.specs.Frames.{Same}
@@ -13,9 +13,9 @@ use Rattle.qcow2_types.specs.Switched.{with_reftable}
 use Rattle.qcow2_types.specs.Versions.{SamePlaces}
 use Rattle.qcow2_types.proofs.Counting.Counters.{counter-same}
 use Rattle.qcow2_types.proofs.Numbers.Splices.{splice-inside, splice-outside}
-use Rattle.qcow2_metadata.specs.Tables.{TableValue, words_in}
+use Rattle.qcow2_metadata.specs.Tables.{TableValue, raw_entries_in}
 use Rattle.qcow2_metadata.specs.Blocks.{Block, counters_in}
-use Rattle.qcow2_alloc.specs.Safety.{IsCachedTable, IsCachedBlock}
+use Rattle.qcow2_alloc.specs.WellFormedness.{IsCachedTable, IsCachedBlock}
 use Rattle.qcow2_alloc.proofs.Freeing.Lists.{map-same}
 use Rattle.qcow2_alloc.proofs.Memory.Patches.{place-there}
 
@@ -33,9 +33,9 @@ written-either f g at bytes shown p = elim (cases_lt p at) [
 
 -- A cached table fits the file as before where its words are the same, also with another refcount table.
 pub table-fits : (f x : Bytes) (h : Fields) (offset clusters : ℕ) → ((i : ℕ) → l2_table x (with_reftable h offset clusters) i ≡ l2_table f h i) → (cluster : ℕ)
-    → ((i j : ℕ) → l2_table f h i ≡ cluster * cluster_size h → Live (l2_table f h) h i j → word x (l2_table f h i) j ≡ word f (l2_table f h i) j)
+    → ((i j : ℕ) → l2_table f h i ≡ cluster * cluster_size h → Live (l2_table f h) h i j → raw_entry x (l2_table f h i) j ≡ raw_entry f (l2_table f h i) j)
     → (t : TableValue) → IsCachedTable f h cluster t → IsCachedTable x (with_reftable h offset clusters) cluster t
-table-fits f x h offset clusters tables cluster words t is = record {
+table-fits f x h offset clusters tables cluster raw_entries t is = record {
   fits = is.fits;
   placed = is.placed;
   layout = is.layout;
@@ -44,9 +44,9 @@ table-fits f x h offset clusters tables cluster words t is = record {
       let at : l2_table f h live.0 ≡ cluster * cluster_size h = sym (tables live.0) ∙ live.2 in
       let there : l2_table f h live.0 ≢ 0 = λ none. place-there (cluster_size h) cluster (pow_pos h.cluster_bits) live.3 (sym at ∙ none) in
       is.clean m (live.0, live.1, at, live.3)
-      ∙ subst (λ p. words_in f p (words_of_cluster h) ≡ words_in x p (words_of_cluster h)) at
-      (map-same (word f (l2_table f h live.0)) (word x (l2_table f h live.0)) (words_of_cluster h)
-      (λ j less. sym (words live.0 j at (record { in_l1 = live.1; is_there = there; in_table = less }))));
+      ∙ subst (λ p. raw_entries_in f p (entries_of_cluster h) ≡ raw_entries_in x p (entries_of_cluster h)) at
+      (map-same (raw_entry f (l2_table f h live.0)) (raw_entry x (l2_table f h live.0)) (entries_of_cluster h)
+      (λ j less. sym (raw_entries live.0 j at (record { in_l1 = live.1; is_there = there; in_table = less }))));
 }
 
 -- Counters are the same where their bytes are.
@@ -56,7 +56,7 @@ counters-same f x h place same = map-same (counter x h place) (counter f h place
 -- Where tables and blocks stand as they did,
 module _ (f x : Bytes) (h : Fields) (places : SamePlaces f x h) (cluster : ℕ) where
   -- so does a table,
-  pub table-still : ((i j : ℕ) → l2_table f h i ≡ cluster * cluster_size h → Live (l2_table f h) h i j → word x (l2_table f h i) j ≡ word f (l2_table f h i) j)
+  pub table-still : ((i j : ℕ) → l2_table f h i ≡ cluster * cluster_size h → Live (l2_table f h) h i j → raw_entry x (l2_table f h i) j ≡ raw_entry f (l2_table f h i) j)
       → (t : TableValue) → IsCachedTable f h cluster t → IsCachedTable x h cluster t
   table-still = table-fits f x h h.refcount_table_offset h.refcount_table_clusters places.l1 cluster
 

@@ -7,8 +7,8 @@ use Rattle.std.proofs.lemmas.List.FromFn.{length-map-range_with_len, get_or-map-
 use Rattle.std.proofs.lemmas.Nat.{pow_pos}
 use Rattle.std.proofs.Math.Nat.{mul-le-mul_right, div-mul-le_self}
 use Rattle.imago_storage.specs.State.{StorageState}
-use Rattle.imago_storage.specs.Calls.{Mixed, Spliced}
-use Rattle.imago_storage.specs.Through.{Put, Stops}
+use Rattle.imago_storage.specs.Calls.{OldOrNewBytes, Spliced}
+use Rattle.imago_storage.specs.Through.{WriteOutcome, EachCrashImage}
 use Rattle.imago_storage.specs.declared.fault.Fault.{Fault}
 use Rattle.imago_storage.proofs.Composing.{stops_weaker}
 use Rattle.qcow2_types.specs.Bytes.{Bytes, bytes_of, splice, Patch, over}
@@ -28,16 +28,16 @@ use Rattle.qcow2_types.proofs.Counting.Either.{structure-same, refs-file, refs-c
 use Rattle.qcow2_metadata.specs.Blocks.{Block, BlockPut, counters_in}
 use Rattle.qcow2_types.proofs.Numbers.BlockBytes.{bytes-only}
 use Rattle.qcow2_types.proofs.Changes.BlockSteps.{counters-written}
-use Rattle.qcow2_alloc.proofs.Quiet.SingleRequests.{at-once-file}
+use Rattle.qcow2_alloc.proofs.GuestView.SingleRequests.{at-once-file}
 use Rattle.qcow2_alloc.specs.Memory.{patches}
-use Rattle.qcow2_alloc.specs.Safety.{Safe, IsCachedBlock}
+use Rattle.qcow2_alloc.specs.WellFormedness.{WellFormed, IsCachedBlock}
 use Rattle.qcow2_alloc.specs.MakingRoom.{CountsTheSame}
-use Rattle.qcow2_alloc.specs.Quiet.{Metadata, in_memory, named_at_all, IsUsed, IsSound, IsQuiet, ShowsEither, IsIn, Quietly}
+use Rattle.qcow2_alloc.specs.GuestView.{Metadata, in_memory, referenced_at_all, IsUsed, IsSound, GuestUnchanged, ShowsEither, IsIn, PreservesGuest}
 use Rattle.qcow2_alloc.proofs.Memory.MemoryImage.{safe-memory}
 use Rattle.qcow2_alloc.proofs.Memory.MemoryWords.{places-in-memory}
 use Rattle.qcow2_alloc.proofs.Memory.Patches.{all-weaker, block-length, place-there, shaped-in}
-use Rattle.qcow2_alloc.proofs.Quiet.QuietFlushes.{still-table}
-use Rattle.qcow2_alloc.proofs.Quiet.ShownDisks.{from-start, mapping-meets, in-cluster}
+use Rattle.qcow2_alloc.proofs.GuestView.QuietFlushes.{still-table}
+use Rattle.qcow2_alloc.proofs.GuestView.ShownDisks.{from-start, mapping-meets, in-cluster}
 use Rattle.qcow2_alloc.proofs.Memory.FittingWords.{table-fits, counters-same}
 use Rattle.qcow2_alloc.proofs.Memory.KeptWords.{word-named, named-more, copied-stays, ordered-still, block-fits}
 
@@ -47,27 +47,27 @@ unfolding over splice
 over-agrees f g [] p same = same
 over-agrees f g (e ∷ es) p same = ap (cond (nat_le e.0 p && nat_lt p (e.0 + length e.1)) (slice_index e.1 (p - e.0))) (over-agrees f g es p same)
 
-module _ (m : Metadata) (sound : IsSound m) (c k : ℕ) (unnamed : (d : ℕ) → c ≤ d → d ≤ c + k → named_at_all m d ≡ 0) (x : Bytes) (at n : ℕ) (out : Outside m.file x at n)
+module _ (m : Metadata) (sound : IsSound m) (c k : ℕ) (not_referenced : (d : ℕ) → c ≤ d → d ≤ c + k → referenced_at_all m d ≡ 0) (x : Bytes) (at n : ℕ) (out : Outside m.file x at n)
     (low : c * cluster_size m.header.fields ≤ at) (high : at + n ≤ (c + k + 1) * cluster_size m.header.fields) where
   abbrev m' : Metadata
   m' = record m { file = x }
 
   places : SamePlaces m.file (in_memory m) m.header.fields
-  places = places-in-memory m.file m.header sound.safe.consistent m.cached sound.safe.tables sound.safe.blocks
+  places = places-in-memory m.file m.header sound.well_formed.consistent m.cached sound.well_formed.tables sound.well_formed.blocks
 
   -- No more is named in the file alone, or in memory alone.
   in-file : FreeWritten m.file x m.header
-  in-file = free-run-written m.file m.header sound.safe.consistent c k (λ d from upto. let none = unnamed d from upto in let le = refs-file m.file (in_memory m) m.header.fields d in omega (arith, none, le)) x at n out low high
+  in-file = free-run-written m.file m.header sound.well_formed.consistent c k (λ d from upto. let none = not_referenced d from upto in let le = refs-file m.file (in_memory m) m.header.fields d in omega (arith, none, le)) x at n out low high
 
   over-there : FreeWritten (in_memory m) (in_memory m') m.header
-  over-there = free-run-written (in_memory m) m.header (safe-memory m.file m.header m.cached m.order sound.safe) c k
-      (λ d from upto. let none = unnamed d from upto in let le = refs-cached m.file (in_memory m) m.header.fields d places in omega (arith, none, le))
+  over-there = free-run-written (in_memory m) m.header (safe-memory m.file m.header m.cached m.order sound.well_formed) c k
+      (λ d from upto. let none = not_referenced d from upto in let le = refs-cached m.file (in_memory m) m.header.fields d places in omega (arith, none, le))
       (in_memory m') at n (λ p off. over-agrees x m.file (patches m.header.fields m.cached) p (out p off)) low high
 
   words-there : (i j : ℕ) → Live (l2_table m.file m.header.fields) m.header.fields i j → slot (in_memory m') m.header.fields i j ≡ slot (in_memory m) m.header.fields i j
   words-there i j live = over-there.keeps.slots i j (record { in_l1 = live.in_l1; is_there = (λ none. live.is_there (sym (places.l1 i) ∙ none)); in_table = live.in_table })
 
-  named-same : (d : ℕ) → named_at_all m' d ≡ named_at_all m d
+  named-same : (d : ℕ) → referenced_at_all m' d ≡ referenced_at_all m d
   named-same d =
       let same = structure-same m.file x m.header.fields in-file.keeps.places (meets m.header.fields d) in
       let more = named-more m.file (in_memory m) x (in_memory m') m.header.fields m.header.fields.refcount_table_offset m.header.fields.refcount_table_clusters in-file.keeps.places.l1 in-file.keeps.slots words-there d 0 0 (omega (arith, same)) in
@@ -84,37 +84,37 @@ module _ (m : Metadata) (sound : IsSound m) (c k : ℕ) (unnamed : (d : ℕ) →
       let there : block_at m.file m.header.fields live.0 ≢ 0 = λ none. place-there (cluster_size m.header.fields) cluster (pow_pos m.header.fields.cluster_bits) live.3 (sym place ∙ none) in
       is.clean clean (live.0, live.1, place, live.3)
       ∙ sym (counters-same m.file x m.header.fields (cluster * cluster_size m.header.fields)
-      (subst (λ p. Same m.file x p (cluster_size m.header.fields)) place (in-file.kept.counters live.0 live.1 there (λ e. cc)))))
+      (subst (λ p. Same m.file x p (cluster_size m.header.fields)) place (in-file.same_structure_outside.counters live.0 live.1 there (λ e. cc)))))
       is
 
-  safe-still : Safe x m.header m.cached m.order
+  safe-still : WellFormed x m.header m.cached m.order
   safe-still = record {
     consistent = in-file.consistent;
-    tables_apart = sound.safe.tables_apart;
-    blocks_apart = sound.safe.blocks_apart;
-    tables = all-weaker _ _ (λ e is. table-fits m.file x m.header.fields m.header.fields.refcount_table_offset m.header.fields.refcount_table_clusters in-file.keeps.places.l1 e.0 (λ i j at live. in-file.kept.words i j live (λ e. cc)) e.1.value is) m.cached.tables sound.safe.tables;
-    blocks = all-weaker _ _ (λ e is. block-still e.0 e.1.value is) m.cached.blocks sound.safe.blocks;
+    tables_apart = sound.well_formed.tables_apart;
+    blocks_apart = sound.well_formed.blocks_apart;
+    tables = all-weaker _ _ (λ e is. table-fits m.file x m.header.fields m.header.fields.refcount_table_offset m.header.fields.refcount_table_clusters in-file.keeps.places.l1 e.0 (λ i j at live. in-file.same_structure_outside.raw_entries i j live (λ e. cc)) e.1.value is) m.cached.tables sound.well_formed.tables;
+    blocks = all-weaker _ _ (λ e is. block-still e.0 e.1.value is) m.cached.blocks sound.well_formed.blocks;
     apart = λ d some.
         let base = structure-same m.file x m.header.fields in-file.keeps.places (meets m.header.fields d) in
         let marks = copied-same d in
         let names = named-same d in
-        let one = sound.safe.apart d (omega (arith, base, marks, some)) in
+        let one = sound.well_formed.apart d (omega (arith, base, marks, some)) in
         omega (arith, names, one);
     ordered = ordered-still m.file (in_memory m) x (in_memory m') m.header.fields m.header.fields
         (λ d le. let names = named-same d in let counts = over-there.counts d in omega (arith, names, counts, le))
         (λ d le. let names = named-same d in let counts = in-file.counts d in omega (arith, names, counts, le))
         (λ d. named-counted x m.header in-file.consistent d)
         (λ d le. let file = in-file.counts d in let cached = over-there.counts d in omega (arith, file, cached, le))
-        m.order sound.safe.ordered;
+        m.order sound.well_formed.ordered;
     covered = λ d. named-counted (in_memory m') m.header over-there.consistent d;
   }
 
   pub free-sound : IsSound m'
   free-sound = record {
-    safe = safe-still;
+    well_formed = safe-still;
     table = still-table m.file x m.header.fields m.table in-file.keeps.places.blocks sound.table;
     covered = λ d. let was = sound.covered d in let references = over-there.references d in let counts = over-there.counts d in omega (arith, was, references, counts);
-    unnamed = λ d some. named-same d ∙ sound.unnamed d some;
+    not_referenced = λ d some. named-same d ∙ sound.not_referenced d some;
   }
 
   -- A cluster out of the run keeps its bytes,
@@ -139,27 +139,27 @@ module _ (m : Metadata) (sound : IsSound m) (c k : ℕ) (unnamed : (d : ℕ) →
       let le = mapping-meets m.header.fields p (slot x m.header.fields i j) in
       let there : 0 < of_mapping m.header.fields (meets m.header.fields (p / cluster_size m.header.fields)) (slot m.file m.header.fields i j) =
       subst (λ (w : Mapping). 0 < of_mapping m.header.fields (meets m.header.fields (p / cluster_size m.header.fields)) w) (in-file.keeps.slots i j live) (omega (arith, le, some)) in
-      in-cluster m.header.fields m.file x p (away (p / cluster_size m.header.fields) (λ from upto. named-not i j live (p / cluster_size m.header.fields) there (unnamed (p / cluster_size m.header.fields) from upto)))
+      in-cluster m.header.fields m.file x p (away (p / cluster_size m.header.fields) (λ from upto. named-not i j live (p / cluster_size m.header.fields) there (not_referenced (p / cluster_size m.header.fields) from upto)))
     where
-      named-not : (i j : ℕ) → Live (l2_table m.file m.header.fields) m.header.fields i j → (d : ℕ) → 0 < of_mapping m.header.fields (meets m.header.fields d) (slot m.file m.header.fields i j) → named_at_all m d ≡ 0 → ⊥
+      named-not : (i j : ℕ) → Live (l2_table m.file m.header.fields) m.header.fields i j → (d : ℕ) → 0 < of_mapping m.header.fields (meets m.header.fields d) (slot m.file m.header.fields i j) → referenced_at_all m d ≡ 0 → ⊥
       named-not i j live d some none = let le = word-named m.file (in_memory m) m.header.fields d i j live in absurd (omega (arith, le, some, none))
 
   pub free-shows : ShowsEither m x m.header
   free-shows = record {
     consistent = in-file.consistent;
     moved = (m.header.fields.refcount_table_offset, m.header.fields.refcount_table_clusters, refl);
-    behind = λ p from lt. from-start m.file x (cluster_size m.header.fields) p (in-file.kept.start (λ e. cc)) lt;
-    l1 = λ i lt. in-file.kept.l1 i lt (λ e. cc);
+    header_tail_unchanged = λ p from lt. from-start m.file x (cluster_size m.header.fields) p (in-file.same_structure_outside.start (λ e. cc)) lt;
+    l1 = λ i lt. in-file.same_structure_outside.l1 i lt (λ e. cc);
     tables = in-file.keeps.places.l1;
-    words = λ i j live. inl (in-file.keeps.slots i j live);
+    raw_entries = λ i j live. inl (in-file.keeps.slots i j live);
     contents = bytes-named;
   }
 
-  pub free-quiet : (taken : ℕ → ℕ) → ((d : ℕ) → c ≤ d → d ≤ c + k → IsUsed m d → 0 < taken d) → IsQuiet taken taken m m'
+  pub free-quiet : (taken : ℕ → ℕ) → ((d : ℕ) → c ≤ d → d ≤ c + k → IsUsed m d → 0 < taken d) → GuestUnchanged taken taken m m'
   free-quiet taken given = record {
     shows = free-shows;
-    words = words-there;
-    kept = λ d used none. away d (λ from upto. let some = given d from upto used in absurd (omega (arith, some, none)));
+    raw_entries = words-there;
+    used_bytes_unchanged = λ d used none. away d (λ from upto. let some = given d from upto used in absurd (omega (arith, some, none)));
     apart = λ d used none. structure-same m.file x m.header.fields in-file.keeps.places (meets m.header.fields d) ∙ used.apart;
     waits = λ d used none. omega arith;
     law = λ d. let references = over-there.references d in let counts = over-there.counts d in omega (arith, references, counts);
@@ -169,7 +169,7 @@ module _ (m : Metadata) (sound : IsSound m) (c k : ℕ) (unnamed : (d : ℕ) →
   free-counts = record { file = in-file.counts; memory = over-there.counts; references = over-there.references; names = named-same }
 
 -- Each file that a stop leaves in a write differs from the old in the written range alone.
-mixed-outside : (old : List ℕ) (at : ℕ) (bytes new : List ℕ) → Mixed old at bytes new → Outside (bytes_of old) (bytes_of new) at (length bytes)
+mixed-outside : (old : List ℕ) (at : ℕ) (bytes new : List ℕ) → OldOrNewBytes old at bytes new → Outside (bytes_of old) (bytes_of new) at (length bytes)
 mixed-outside old at bytes new mixed p (inl before) = mixed.before p before
 mixed-outside old at bytes new mixed p (inr after) = mixed.after p after
 
@@ -178,44 +178,44 @@ spliced-outside old at bytes new spliced p (inl before) = spliced.before p befor
 spliced-outside old at bytes new spliced p (inr after) = spliced.after p after
 
 -- Where a write succeeded the rest of the file stays.
-pub put-outside : (old new : StorageState) (at : ℕ) (bytes : List ℕ) (result : Result Unit Fault) → Put old new at bytes result → IsTrue old.shape.keeps → result ≡ Ok tt → Outside (bytes_of old.bytes) (bytes_of new.bytes) at (length bytes)
+pub put-outside : (old new : StorageState) (at : ℕ) (bytes : List ℕ) (result : Result Unit Fault) → WriteOutcome old new at bytes result → IsTrue old.shape.keeps → result ≡ Ok tt → Outside (bytes_of old.bytes) (bytes_of new.bytes) at (length bytes)
 put-outside old new at bytes (Ok done) put keeps is = spliced-outside old.bytes at bytes new.bytes (put.answer.content keeps)
 put-outside old new at bytes (Err fault) put keeps is = absurd (cc is)
 
 -- The run is written, by any number of requests.
 module _ (m : Metadata) (c k at : ℕ) (bytes : List ℕ) (taken : ℕ → ℕ) (old new : StorageState) (is_in : IsIn old m) (low : c * cluster_size m.header.fields ≤ at) (high : at + length bytes ≤ (c + k + 1) * cluster_size m.header.fields)
-    (free : IsSound m → (d : ℕ) → c ≤ d → d ≤ c + k → (named_at_all m d ≡ 0) × (IsUsed m d → 0 < taken d)) where
+    (free : IsSound m → (d : ℕ) → c ≤ d → d ≤ c + k → (referenced_at_all m d ≡ 0) × (IsUsed m d → 0 < taken d)) where
   outside-there : (x : Bytes) → Outside (bytes_of old.bytes) x at (length bytes) → Outside m.file x at (length bytes)
   outside-there x out = subst (λ (f : Bytes). Outside f x at (length bytes)) (sym is_in) out
 
-  run-holds : (x : List ℕ) → Spliced old.bytes at bytes x → (sound : IsSound m) → IsSound (record m { file = bytes_of x }) × IsQuiet taken taken m (record m { file = bytes_of x }) × CountsTheSame m (record m { file = bytes_of x })
+  run-holds : (x : List ℕ) → Spliced old.bytes at bytes x → (sound : IsSound m) → IsSound (record m { file = bytes_of x }) × GuestUnchanged taken taken m (record m { file = bytes_of x }) × CountsTheSame m (record m { file = bytes_of x })
   run-holds x spliced sound =
       let out = outside-there (bytes_of x) (spliced-outside old.bytes at bytes x spliced) in
-      let unnamed : (d : ℕ) → c ≤ d → d ≤ c + k → named_at_all m d ≡ 0 = λ d from upto. (free sound d from upto).0 in (
-        free-sound m sound c k unnamed (bytes_of x) at (length bytes) out low high,
-        free-quiet m sound c k unnamed (bytes_of x) at (length bytes) out low high taken (λ d from upto used. (free sound d from upto).1 used),
-        free-counts m sound c k unnamed (bytes_of x) at (length bytes) out low high,
+      let not_referenced : (d : ℕ) → c ≤ d → d ≤ c + k → referenced_at_all m d ≡ 0 = λ d from upto. (free sound d from upto).0 in (
+        free-sound m sound c k not_referenced (bytes_of x) at (length bytes) out low high,
+        free-quiet m sound c k not_referenced (bytes_of x) at (length bytes) out low high taken (λ d from upto used. (free sound d from upto).1 used),
+        free-counts m sound c k not_referenced (bytes_of x) at (length bytes) out low high,
       )
 
-  run-passes : {T : Type 0} (result : Result T Fault) → Put old new at bytes result → IsSound m → Stops (λ x. (H : Header) × ShowsEither m (bytes_of x) H) old new
-  run-passes result put sound = stops_weaker (Mixed old.bytes at bytes) (λ x. (H : Header) × ShowsEither m (bytes_of x) H) old new
-      (λ _ x mixed. (m.header, free-shows m sound c k (λ d from upto. (free sound d from upto).0) (bytes_of x) at (length bytes) (outside-there (bytes_of x) (mixed-outside old.bytes at bytes x mixed)) low high)) put.stops
+  run-passes : {T : Type 0} (result : Result T Fault) → WriteOutcome old new at bytes result → IsSound m → EachCrashImage (λ x. (H : Header) × ShowsEither m (bytes_of x) H) old new
+  run-passes result put sound = stops_weaker (OldOrNewBytes old.bytes at bytes) (λ x. (H : Header) × ShowsEither m (bytes_of x) H) old new
+      (λ _ x mixed. (m.header, free-shows m sound c k (λ d from upto. (free sound d from upto).0) (bytes_of x) at (length bytes) (outside-there (bytes_of x) (mixed-outside old.bytes at bytes x mixed)) low high)) put.crash_images
 
-  pub run-quietly : (result : Result Unit Fault) → Put old new at bytes result → Quietly (result ≡ Ok tt) taken taken old m new (record m { file = bytes_of new.bytes })
+  pub run-quietly : (result : Result Unit Fault) → WriteOutcome old new at bytes result → PreservesGuest (result ≡ Ok tt) taken taken old m new (record m { file = bytes_of new.bytes })
   run-quietly (Ok done) put = record {
     shape = put.shape;
-    later = put.later;
-    passes = λ keeps sound calm. (put.answer.in_step, run-passes (Ok done) put sound);
+    counts_not_fallen = put.counts_not_fallen;
+    passes = λ keeps sound no_change_refused. (put.answer.crash_image_is_bytes, run-passes (Ok done) put sound);
     holds = λ keeps sound done. let all = run-holds new.bytes (put.answer.content keeps) sound in (all.0, all.1);
   }
   run-quietly (Err fault) put = record {
     shape = put.shape;
-    later = put.later;
-    passes = λ keeps sound calm. (elim put.answer.in_step [ inl rose ↦ absurd (calm rose) | inr stays ↦ stays ], run-passes (Err fault) put sound);
+    counts_not_fallen = put.counts_not_fallen;
+    passes = λ keeps sound no_change_refused. (elim put.answer.crash_image_is_bytes [ inl rose ↦ absurd (no_change_refused rose) | inr stays ↦ stays ], run-passes (Err fault) put sound);
     holds = λ keeps sound done. absurd (cc done);
   }
 
-  pub run-counts : (result : Result Unit Fault) → Put old new at bytes result → IsTrue old.shape.keeps → IsSound m → result ≡ Ok tt → CountsTheSame m (record m { file = bytes_of new.bytes })
+  pub run-counts : (result : Result Unit Fault) → WriteOutcome old new at bytes result → IsTrue old.shape.keeps → IsSound m → result ≡ Ok tt → CountsTheSame m (record m { file = bytes_of new.bytes })
   run-counts (Ok done) put keeps sound is = (run-holds new.bytes (put.answer.content keeps) sound).2
   run-counts (Err fault) put keeps sound is = absurd (cc is)
 
@@ -250,16 +250,16 @@ module _ (m : Metadata) (d : ℕ) (block : Block) (old new : StorageState) (is_i
       let next : (d + 0 + 1) * cluster_size m.header.fields ≡ d * cluster_size m.header.fields + cluster_size m.header.fields = omega arith in
       omega (arith, short, next)
 
-  module _ (taken : ℕ → ℕ) (free : IsSound m → (named_at_all m d ≡ 0) × (IsUsed m d → 0 < taken d)) where
-    free-there : IsSound m → (k : ℕ) → d ≤ k → k ≤ d + 0 → (named_at_all m k ≡ 0) × (IsUsed m k → 0 < taken k)
-    free-there sound k from upto = let same : d ≡ k = omega (arith, from, upto) in subst (λ c. (named_at_all m c ≡ 0) × (IsUsed m c → 0 < taken c)) same (free sound)
+  module _ (taken : ℕ → ℕ) (free : IsSound m → (referenced_at_all m d ≡ 0) × (IsUsed m d → 0 < taken d)) where
+    free-there : IsSound m → (k : ℕ) → d ≤ k → k ≤ d + 0 → (referenced_at_all m k ≡ 0) × (IsUsed m k → 0 < taken k)
+    free-there sound k from upto = let same : d ≡ k = omega (arith, from, upto) in subst (λ c. (referenced_at_all m c ≡ 0) × (IsUsed m c → 0 < taken c)) same (free sound)
 
-    pub block-quietly : (result : Result Unit Fault) → BlockPut block (d * cluster_size m.header.fields) old new result → Quietly (result ≡ Ok tt) taken taken old m new (record m { file = bytes_of new.bytes })
+    pub block-quietly : (result : Result Unit Fault) → BlockPut block (d * cluster_size m.header.fields) old new result → PreservesGuest (result ≡ Ok tt) taken taken old m new (record m { file = bytes_of new.bytes })
     block-quietly result put = run-quietly m d 0 (d * cluster_size m.header.fields) put.bytes taken old new is_in (omega arith) (no-longer result put) free-there result put.put.put
 
     pub block-counts : (result : Result Unit Fault) → BlockPut block (d * cluster_size m.header.fields) old new result → IsTrue old.shape.keeps → IsSound m → result ≡ Ok tt
         → CountsTheSame m (record m { file = bytes_of new.bytes }) × (counters_in (bytes_of new.bytes) m.header.fields (d * cluster_size m.header.fields) ≡ block.counters)
     block-counts result put keeps sound done = (
       run-counts m d 0 (d * cluster_size m.header.fields) put.bytes taken old new is_in (omega arith) (no-longer result put) free-there result put.put.put keeps sound done,
-      counters-read (shaped-in m.file m.header sound.safe.consistent) result put (bytes_of new.bytes) (at-once-file m (d * cluster_size m.header.fields) put.bytes old new is_in result put.put keeps done),
+      counters-read (shaped-in m.file m.header sound.well_formed.consistent) result put (bytes_of new.bytes) (at-once-file m (d * cluster_size m.header.fields) put.bytes old new is_in result put.put keeps done),
     )

@@ -9,15 +9,15 @@ use Rattle.qcow2_types.specs.Counts.{count, counter}
 use Rattle.qcow2_types.specs.References.{Weight, structure, contents, of_mapping, of_copied, meets, refs}
 use Rattle.qcow2_types.specs.Slots.{slot, Live, over_slots}
 use Rattle.qcow2_types.specs.Switched.{with_reftable}
-use Rattle.qcow2_types.specs.Versions.{of_either, named, copied}
+use Rattle.qcow2_types.specs.Versions.{of_either, references_in_either, copied}
 use Rattle.qcow2_types.proofs.Counting.Either.{tables-same}
 use Rattle.std.proofs.Math.Nat.{le-max_left}
 use Rattle.qcow2_types.proofs.Counting.Slots.{contents-slots, slots-same, slot-le}
 use Rattle.qcow2_metadata.specs.Blocks.{Block, counters_in}
 use Rattle.qcow2_alloc.specs.declared.cache.CacheDependency.{CacheDependency}
 use Rattle.qcow2_alloc.specs.declared.cache.CacheDependency.TheVariants.{Unset, L2DependsOnRb, RbDependsOnL2}
-use Rattle.qcow2_alloc.specs.Safety.{IsLiveBlock, IsCachedBlock, IsOrdered}
-use Rattle.qcow2_alloc.proofs.Quiet.QuietSequences.{of-moved}
+use Rattle.qcow2_alloc.specs.WellFormedness.{IsLiveBlock, IsCachedBlock, IsOrdered}
+use Rattle.qcow2_alloc.proofs.GuestView.QuietSequences.{of-moved}
 
 -- What a word names as copied doesn't depend on the refcount table.
 copied-moved : (h h' : Fields) → cluster_size h' ≡ cluster_size h → (w : Weight) (m : Mapping) → of_copied h' w m ≡ of_copied h w m
@@ -52,19 +52,19 @@ module _ (f g x y : Bytes) (h : Fields) (offset clusters : ℕ) (tables : (i : �
       ∙ ap (λ n. max (of_copied h (meets h d) (slot f h i j)) n) (copied-moved h h' refl (meets h d) (slot y h' i j) ∙ ap (of_copied h (meets h d)) (cached i j live))
 
   -- A cluster is named by the structure, and by words as it was.
-  pub named-more : (d old new : ℕ) → structure x h' (meets h' d) + old ≡ structure f h (meets h d) + new → named x y h' d + old ≡ named f g h d + new
-  unfolding named
+  pub named-more : (d old new : ℕ) → structure x h' (meets h' d) + old ≡ structure f h (meets h d) + new → references_in_either x y h' d + old ≡ references_in_either f g h d + new
+  unfolding references_in_either
   named-more d old new more =
-      let words = slots-moved (l2_table x h') (λ i j. of_either h' (meets h' d) (slot x h' i j) (slot y h' i j)) ∙ tables-same (l2_table f h) (l2_table x h') h _ tables ∙ slots-same (l2_table f h) h _ _ (weighs-same d) in
-      omega (arith, words, more)
+      let raw_entries = slots-moved (l2_table x h') (λ i j. of_either h' (meets h' d) (slot x h' i j) (slot y h' i j)) ∙ tables-same (l2_table f h) (l2_table x h') h _ tables ∙ slots-same (l2_table f h) h _ _ (weighs-same d) in
+      omega (arith, raw_entries, more)
 
   pub copied-stays : (d : ℕ) → copied x y h' d ≡ copied f g h d
   unfolding copied
   copied-stays d = slots-moved (l2_table x h') (λ i j. max (of_copied h' (meets h' d) (slot x h' i j)) (of_copied h' (meets h' d) (slot y h' i j))) ∙ tables-same (l2_table f h) (l2_table x h') h _ tables ∙ slots-same (l2_table f h) h _ _ (marked-same d)
 
 -- What a word of the file names is among all that is named,
-pub word-named : (f g : Bytes) (h : Fields) (d i j : ℕ) → Live (l2_table f h) h i j → of_mapping h (meets h d) (slot f h i j) ≤ named f g h d
-unfolding named
+pub word-named : (f g : Bytes) (h : Fields) (d i j : ℕ) → Live (l2_table f h) h i j → of_mapping h (meets h d) (slot f h i j) ≤ references_in_either f g h d
+unfolding references_in_either
 word-named f g h d i j live =
     let one : of_mapping h (meets h d) (slot f h i j) ≤ of_either h (meets h d) (slot f h i j) (slot g h i j) = le-max_left (of_mapping h (meets h d) (slot f h i j)) (of_mapping h (meets h d) (slot g h i j)) in
     let all = slot-le (l2_table f h) h (λ k n. of_either h (meets h d) (slot f h k n) (slot g h k n)) i j live in
@@ -78,12 +78,12 @@ word-contents f h d i j live =
     omega (arith, one, all)
 
 -- and so is what the structure does.
-pub structure-named : (f g : Bytes) (h : Fields) (d : ℕ) → structure f h (meets h d) ≤ named f g h d
-unfolding named
+pub structure-named : (f g : Bytes) (h : Fields) (d : ℕ) → structure f h (meets h d) ≤ references_in_either f g h d
+unfolding references_in_either
 structure-named f g h d = omega arith
 
 -- The order is kept where what covers a cluster still does.
-pub ordered-still : (f g x y : Bytes) (h later : Fields) → ((d : ℕ) → named f g h d ≤ count g h d → named x y later d ≤ count y later d) → ((d : ℕ) → named f g h d ≤ count f h d → named x y later d ≤ count x later d)
+pub ordered-still : (f g x y : Bytes) (h later : Fields) → ((d : ℕ) → references_in_either f g h d ≤ count g h d → references_in_either x y later d ≤ count y later d) → ((d : ℕ) → references_in_either f g h d ≤ count f h d → references_in_either x y later d ≤ count x later d)
     → ((d : ℕ) → refs x later d ≤ count x later d) → ((d : ℕ) → count g h d ≤ count f h d → count y later d ≤ count x later d) → (o : CacheDependency) → IsOrdered o f g h → IsOrdered o x y later
 ordered-still f g x y h later cached file covers lowered Unset both = (
   record { cached = λ d. cached d (both.0.cached d); file = covers },

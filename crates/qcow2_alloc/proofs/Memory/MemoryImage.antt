@@ -17,7 +17,7 @@ use Rattle.qcow2_types.proofs.Changes.Patches.{IsPatch, part_place, part-once}
 use Rattle.qcow2_types.proofs.Counting.Sound.{stop-consistent}
 use Rattle.qcow2_alloc.specs.declared.cache.CacheDependency.{CacheDependency}
 use Rattle.qcow2_alloc.specs.Memory.{Cached, patches, memory}
-use Rattle.qcow2_alloc.specs.Safety.{Safe}
+use Rattle.qcow2_alloc.specs.WellFormedness.{WellFormed}
 use Rattle.qcow2_alloc.proofs.Memory.Patches.{patches-are}
 use Rattle.qcow2_alloc.proofs.Memory.MemoryWords.{places-in-memory}
 use Rattle.qcow2_alloc.proofs.Flushing.TableWriteBacks.{memory-sound}
@@ -54,17 +54,17 @@ module _ (f : Bytes) (H : Header) (was : IsConsistent f H) where
     range-stays (e ∷ es) all k lt =
         untouched (over f es) (splice (over f es) e.0 e.1) e.0 (length e.1) at n (splice-is-outside (over f es) e.0 e.1) (untouched-by e all.0) k lt ∙ range-stays es all.1 k lt
 
-pub safe-memory : (f : Bytes) (H : Header) (cached : Cached) (order : CacheDependency) → Safe f H cached order → IsConsistent (memory f H.fields cached) H
-safe-memory f H cached order safe =
-    let are : AllByRecursion (IsPatch f H.fields) (patches H.fields cached) = patches-are f H safe.consistent cached safe.tables safe.blocks in
-    let start : Same f (memory f H.fields cached) 0 (cluster_size H.fields) = range-stays f H safe.consistent header tt refl 0 (cluster_size H.fields) (λ w. refl) (patches H.fields cached) are in
-    let l1 : Same f (memory f H.fields cached) H.fields.l1_offset (H.fields.l1_entries * 8) = range-stays f H safe.consistent l1_table tt refl H.fields.l1_offset (H.fields.l1_entries * 8) (λ w. refl) (patches H.fields cached) are in
+pub safe-memory : (f : Bytes) (H : Header) (cached : Cached) (order : CacheDependency) → WellFormed f H cached order → IsConsistent (memory f H.fields cached) H
+safe-memory f H cached order well_formed =
+    let are : AllByRecursion (IsPatch f H.fields) (patches H.fields cached) = patches-are f H well_formed.consistent cached well_formed.tables well_formed.blocks in
+    let start : Same f (memory f H.fields cached) 0 (cluster_size H.fields) = range-stays f H well_formed.consistent header tt refl 0 (cluster_size H.fields) (λ w. refl) (patches H.fields cached) are in
+    let l1 : Same f (memory f H.fields cached) H.fields.l1_offset (H.fields.l1_entries * 8) = range-stays f H well_formed.consistent l1_table tt refl H.fields.l1_offset (H.fields.l1_entries * 8) (λ w. refl) (patches H.fields cached) are in
     let rt : Same f (memory f H.fields cached) H.fields.refcount_table_offset (H.fields.refcount_table_clusters * cluster_size H.fields) =
-    range-stays f H safe.consistent refcount_table tt refl H.fields.refcount_table_offset (H.fields.refcount_table_clusters * cluster_size H.fields) (λ w. refl) (patches H.fields cached) are in
-    stop-consistent f (memory f H.fields cached) (memory f H.fields cached) H safe.consistent (header-kept true f (memory f H.fields cached) H safe.consistent.readable.loads start)
+    range-stays f H well_formed.consistent refcount_table tt refl H.fields.refcount_table_offset (H.fields.refcount_table_clusters * cluster_size H.fields) (λ w. refl) (patches H.fields cached) are in
+    stop-consistent f (memory f H.fields cached) (memory f H.fields cached) H well_formed.consistent (header-kept true f (memory f H.fields cached) H well_formed.consistent.readable.loads start)
     (record {
       l1 = λ i lt. word-same f (memory f H.fields cached) H.fields.l1_offset (H.fields.l1_entries * 8) i l1 (omega (arith, lt));
       blocks = λ i lt. word-same f (memory f H.fields cached) H.fields.refcount_table_offset (H.fields.refcount_table_clusters * cluster_size H.fields) i rt (entries-fit H.fields i lt);
     })
-    (record { places = places-in-memory f H safe.consistent cached safe.tables safe.blocks; slots = λ i j live. inr refl })
-    (memory-sound f H order cached safe) safe.apart safe.covered
+    (record { places = places-in-memory f H well_formed.consistent cached well_formed.tables well_formed.blocks; slots = λ i j live. inr refl })
+    (memory-sound f H order cached well_formed) well_formed.apart well_formed.covered

@@ -3,7 +3,7 @@ use Rattle.std.proofs.Common.{◌≡◌, ◌≢◌, ℕ, ◌*◌, ◌/◌, ◌<�
 use Rattle.std.specs.Prelude.{◌⊎◌}
 use Rattle.std.specs.List.{AllByRecursion}
 use Rattle.std.proofs.lemmas.Bool.{cases_Bool, cases_eq}
-use Rattle.qcow2_types.specs.Bytes.{Bytes, word}
+use Rattle.qcow2_types.specs.Bytes.{Bytes, raw_entry}
 use Rattle.qcow2_types.specs.Words.{mapping_of}
 use Rattle.qcow2_types.specs.Header.{Header, cluster_size, layout_of, refcount_table_entries}
 use Rattle.qcow2_types.specs.Entries.{l2_table}
@@ -19,7 +19,7 @@ use Rattle.qcow2_types.proofs.Changes.Patches.{part-same, parts-differ, places-o
 use Rattle.qcow2_metadata.specs.Tables.{TableValue}
 use Rattle.qcow2_alloc.specs.declared.async_lru_cache.Slot.{Slot}
 use Rattle.qcow2_alloc.specs.Memory.{Cached, patches, memory}
-use Rattle.qcow2_alloc.specs.Safety.{IsCachedTable, IsCachedBlock}
+use Rattle.qcow2_alloc.specs.WellFormedness.{IsCachedTable, IsCachedBlock}
 use Rattle.qcow2_alloc.proofs.Memory.EntryKinds.{table_kind, block_kind, patches-all}
 use Rattle.qcow2_alloc.proofs.Memory.Patches.{all-append, all-weaker, patches-are, table-no-block, shaped-in}
 
@@ -74,7 +74,7 @@ module _ (f : Bytes) (H : Header) (was : IsConsistent f H) (cached : Cached)
   -- and so do its words.
   pub slot-same : (i j : ℕ) → Live (l2_table f H.fields) H.fields i j → NoneAt (cluster_size H.fields) (l2_table f H.fields i) cached.tables → slot (memory f H.fields cached) H.fields i j ≡ slot f H.fields i j
   slot-same i j live none =
-      ap (λ t. mapping_of (layout_of H.fields) (word (memory f H.fields cached) t j)) (places-in-memory.l1 i)
+      ap (λ t. mapping_of (layout_of H.fields) (raw_entry (memory f H.fields cached) t j)) (places-in-memory.l1 i)
       ∙ ap (mapping_of (layout_of H.fields)) (word-same f (memory f H.fields cached) (l2_table f H.fields i) (cluster_size H.fields) j (table-same i live.in_l1 live.is_there none) (words-fit H.fields j live.in_table))
 
   -- No count changes while no block is modified.

@@ -18,10 +18,10 @@ use Rattle.qcow2_types.specs.Consistency.{IsConsistent}
 use Rattle.qcow2_types.proofs.Changes.Over.{IsClear, words-length}
 use Rattle.qcow2_types.proofs.Counting.Parts.{block_of, table_of}
 use Rattle.qcow2_types.proofs.Changes.Patches.{IsPatch, clear-of-other}
-use Rattle.qcow2_metadata.specs.Tables.{TableValue, IsTable, l2_words}
+use Rattle.qcow2_metadata.specs.Tables.{TableValue, IsTable, l2_table_kind}
 use Rattle.qcow2_metadata.specs.Blocks.{Block}
 use Rattle.qcow2_alloc.specs.Memory.{Cached, patches}
-use Rattle.qcow2_alloc.specs.Safety.{IsCachedTable, IsCachedBlock}
+use Rattle.qcow2_alloc.specs.WellFormedness.{IsCachedTable, IsCachedBlock}
 use Rattle.qcow2_alloc.proofs.Memory.EntryKinds.{table_kind, block_kind, patches-all}
 
 pub all-append : {X : Type 0} (P : X → Type 0) (xs ys : List X) → AllByRecursion P xs → AllByRecursion P ys → AllByRecursion P (xs ++ ys)
@@ -90,15 +90,15 @@ module _ (f : Bytes) (H : Header) (was : IsConsistent f H) where
   pub shaped-in : Shaped H.fields
   shaped-in = subst Shaped (sym (header-fields true f H was.readable.loads)) (header-shaped true f H was.readable.loads)
 
-  pub table-long : (table : TableValue) → IsTable l2_words table → table.layout ≡ layout_of H.fields → length (table_bytes table.words) ≡ cluster_size H.fields
+  pub table-long : (table : TableValue) → IsTable l2_table_kind table → table.layout ≡ layout_of H.fields → length (table_bytes table.raw_entries) ≡ cluster_size H.fields
   table-long table fits same =
-      let bytes : length (table_bytes table.words) ≡ 8 * length table.words = words-length table.words in
-      let whole : length table.words * 8 ≡ 2 ^ table.layout.cluster_bits = fits.long in
+      let bytes : length (table_bytes table.raw_entries) ≡ 8 * length table.raw_entries = words-length table.raw_entries in
+      let whole : length table.raw_entries * 8 ≡ 2 ^ table.layout.cluster_bits = fits.long in
       let bits : 2 ^ table.layout.cluster_bits ≡ cluster_size H.fields = ap (λ (l : Layout). 2 ^ l.cluster_bits) same in
       omega (arith, bytes, whole, bits)
 
   -- A modified table of a safe cache is to be written to a table that there is,
-  pub table-is-patch : (cluster : ℕ) (table : TableValue) → IsCachedTable f H.fields cluster table → table.modified ≡ true → IsPatch f H.fields (cluster * cluster_size H.fields, table_bytes table.words)
+  pub table-is-patch : (cluster : ℕ) (table : TableValue) → IsCachedTable f H.fields cluster table → table.modified ≡ true → IsPatch f H.fields (cluster * cluster_size H.fields, table_bytes table.raw_entries)
   table-is-patch cluster table cached modified =
       let live = cached.modified modified in
       record {
@@ -123,17 +123,17 @@ module _ (f : Bytes) (H : Header) (was : IsConsistent f H) where
 
   -- A table and a block touch no byte of each other.
   pub table-clear-of-block : (cluster : ℕ) (table : TableValue) (is : IsCachedTable f H.fields cluster table) (modified : table.modified ≡ true) (other : ℕ) (block : Block) (is' : IsCachedBlock f H.fields other block) → block.modified ≡ true
-      → IsClear (cluster * cluster_size H.fields) (length (table_bytes table.words)) (other * cluster_size H.fields, block_bytes block.order block.counters)
+      → IsClear (cluster * cluster_size H.fields) (length (table_bytes table.raw_entries)) (other * cluster_size H.fields, block_bytes block.order block.counters)
   unfolding table-is-patch block-is-patch
   table-clear-of-block cluster table is modified other block is' modified' =
-      clear-of-other f H was (cluster * cluster_size H.fields, table_bytes table.words) (other * cluster_size H.fields, block_bytes block.order block.counters)
+      clear-of-other f H was (cluster * cluster_size H.fields, table_bytes table.raw_entries) (other * cluster_size H.fields, block_bytes block.order block.counters)
       (table-is-patch cluster table is modified) (block-is-patch other block is' modified') (λ same. table-no-block (is.modified modified).0 (is'.modified modified').0 same)
 
   pub block-clear-of-table : (cluster : ℕ) (block : Block) (is : IsCachedBlock f H.fields cluster block) (modified : block.modified ≡ true) → (other : ℕ) (table : TableValue) → IsCachedTable f H.fields other table → table.modified ≡ true
-      → IsClear (cluster * cluster_size H.fields) (length (block_bytes block.order block.counters)) (other * cluster_size H.fields, table_bytes table.words)
+      → IsClear (cluster * cluster_size H.fields) (length (block_bytes block.order block.counters)) (other * cluster_size H.fields, table_bytes table.raw_entries)
   unfolding table-is-patch block-is-patch
   block-clear-of-table cluster block is modified other table is' modified' =
-      clear-of-other f H was (cluster * cluster_size H.fields, block_bytes block.order block.counters) (other * cluster_size H.fields, table_bytes table.words)
+      clear-of-other f H was (cluster * cluster_size H.fields, block_bytes block.order block.counters) (other * cluster_size H.fields, table_bytes table.raw_entries)
       (block-is-patch cluster block is modified) (table-is-patch other table is' modified') (λ same. table-no-block (is'.modified modified').0 (is.modified modified).0 (sym same))
 
   pub patches-are : (cached : Cached) → AllByRecursion (λ e. IsCachedTable f H.fields e.0 e.1.value) cached.tables → AllByRecursion (λ e. IsCachedBlock f H.fields e.0 e.1.value) cached.blocks

@@ -15,7 +15,7 @@ use Rattle.qcow2_types.proofs.Changes.Over.{IsClear, over-first}
 use Rattle.qcow2_types.proofs.Counting.Parts.{Part, header, IsPart, part_weight}
 use Rattle.qcow2_types.proofs.Changes.Patches.{IsPatch, part_place}
 use Rattle.qcow2_alloc.specs.Memory.{Cached, patches, memory}
-use Rattle.qcow2_alloc.specs.Safety.{IsCachedTable, IsCachedBlock}
+use Rattle.qcow2_alloc.specs.WellFormedness.{IsCachedTable, IsCachedBlock}
 use Rattle.qcow2_alloc.proofs.Memory.MemoryImage.{untouched-by, range-stays}
 use Rattle.qcow2_alloc.proofs.Memory.Patches.{all-weaker, patches-are}
 

@@ -5,9 +5,9 @@ use Rattle.std.specs.Map.{lookup}
 use Rattle.std.proofs.lemmas.Bool.{cases_Bool, cases_eq, cases_lt, not-true}
 use Rattle.std.proofs.lemmas.List.{get_or-set_same, get_or-set_other}
 use Rattle.std.proofs.lemmas.Nat.{mod_below, pow_pos}
-use Rattle.qcow2_types.specs.Bytes.{Bytes, splice, word}
+use Rattle.qcow2_types.specs.Bytes.{Bytes, splice, raw_entry}
 use Rattle.qcow2_types.specs.Words.{Layout, Mapping, data_at, mapping_of, is_damaged}
-use Rattle.qcow2_types.specs.Header.{Fields, Header, Shaped, cluster_size, words_of_cluster, layout_of}
+use Rattle.qcow2_types.specs.Header.{Fields, Header, Shaped, cluster_size, entries_of_cluster, layout_of}
 use Rattle.qcow2_types.specs.Entries.{l2_table}
 use Rattle.qcow2_types.specs.Counts.{count}
 use Rattle.qcow2_types.specs.References.{structure, contents, of_mapping, of_copied, meets, refs}
@@ -16,7 +16,7 @@ use Rattle.qcow2_types.specs.TableBytes.{table_bytes}
 use Rattle.qcow2_types.specs.Consistency.{IsConsistent}
 use Rattle.qcow2_types.specs.Frames.{Same, Outside}
 use Rattle.qcow2_types.specs.Steps.{SlotWritten, TableWritten, TableRewritten}
-use Rattle.qcow2_types.specs.Versions.{SamePlaces, IsBetween, ChangesSlot, of_either, named, copied, NamedApart, BlocksFirst, TablesFirst}
+use Rattle.qcow2_types.specs.Versions.{SamePlaces, IsBetween, ChangesSlot, of_either, references_in_either, copied, ReferencedOnce, BlocksFirst, TablesFirst}
 use Rattle.qcow2_types.proofs.Counting.Consistent.{meets-own, meets-other, some-words}
 use Rattle.qcow2_types.proofs.Counting.Either.{structure-same, refs-cached, refs-change, named-change}
 use Rattle.qcow2_types.proofs.Changes.Frames.{word-same, splice-is-outside}
@@ -26,8 +26,8 @@ use Rattle.qcow2_types.proofs.Counting.Slots.{slots-change, slot-le}
 use Rattle.qcow2_types.proofs.Numbers.Splices.{be-same}
 use Rattle.qcow2_types.proofs.Changes.Stops.{copied-between}
 use Rattle.qcow2_types.proofs.Changes.TableRewrites.{table-written, table-rewritten}
-use Rattle.qcow2_metadata.specs.Places.{IsInReach}
-use Rattle.qcow2_metadata.specs.Tables.{TableValue, l2_words, word_sound, with_word, mapping_in}
+use Rattle.qcow2_metadata.specs.Places.{IsAddressable}
+use Rattle.qcow2_metadata.specs.Tables.{TableValue, l2_table_kind, raw_entry_valid, with_raw_entry, mapping_in}
 use Rattle.qcow2_metadata.specs.Blocks.{Block}
 use Rattle.qcow2_metadata.proofs.Conservation.{mapped_means}
 use Rattle.qcow2_metadata.proofs.L2Words.{mapped_fits}
@@ -37,9 +37,9 @@ use Rattle.qcow2_alloc.specs.declared.async_lru_cache.Slot.{Slot}
 use Rattle.qcow2_alloc.specs.declared.cache.CacheDependency.{CacheDependency}
 use Rattle.qcow2_alloc.specs.declared.cache.CacheDependency.TheVariants.{Unset, L2DependsOnRb, RbDependsOnL2}
 use Rattle.qcow2_alloc.specs.Cache.{hit}
-use Rattle.qcow2_alloc.specs.Changes.{CachesTable, SetsWord, WordChanged, NamesNoMore, NamesDropped, ClusterNamed, file_with}
+use Rattle.qcow2_alloc.specs.Changes.{CachesTable, SetsEntry, EntryChanged, ReferencesNoMore, ReferencesDropped, ClusterLinked, file_with}
 use Rattle.qcow2_alloc.specs.Memory.{Cached, memory}
-use Rattle.qcow2_alloc.specs.Safety.{IsCachedTable, IsOrdered, Safe}
+use Rattle.qcow2_alloc.specs.WellFormedness.{IsCachedTable, IsOrdered, WellFormed}
 use Rattle.qcow2_alloc.proofs.Caching.SingleEntries.{table-kind-laws, entry-fits}
 use Rattle.qcow2_alloc.proofs.Memory.EntryChanges.{entry-put, none-there, put-safe}
 use Rattle.qcow2_alloc.proofs.Memory.EntryKinds.{table_kind, tables_with}
@@ -60,22 +60,22 @@ module _ (f g x : Bytes) (h : Fields) (i j : ℕ) (step : ChangesSlot f g x h i 
   pub copied-stays : (c : ℕ) → of_copied h (meets h c) (slot_in x h i j) ≤ of_copied h (meets h c) (slot_in g h i j) → copied f x h c ≤ copied f g h c
   copied-stays c less = let e = copied-change c in omega (arith, e, less)
 
-  pub names-stay : (c : ℕ) → of_mapping h (meets h c) (slot_in x h i j) ≤ of_mapping h (meets h c) (slot_in g h i j) → named f x h c ≤ named f g h c
+  pub names-stay : (c : ℕ) → of_mapping h (meets h c) (slot_in x h i j) ≤ of_mapping h (meets h c) (slot_in g h i j) → references_in_either f x h c ≤ references_in_either f g h c
   names-stay c less = let e = named-change f g x h i j c step in omega (arith, e, less)
 
   -- what a word names in either version is among what is named
-  word-named : (c : ℕ) → of_either h (meets h c) (slot_in f h i j) (slot_in g h i j) ≤ named f g h c
-  unfolding named
+  word-named : (c : ℕ) → of_either h (meets h c) (slot_in f h i j) (slot_in g h i j) ≤ references_in_either f g h c
+  unfolding references_in_either
   word-named c =
       let le : of_either h (meets h c) (slot_in f h i j) (slot_in g h i j) ≤ over_slots (l2_table f h) h (λ k m. of_either h (meets h c) (slot_in f h k m) (slot_in g h k m)) =
       slot-le (l2_table f h) h (λ k m. of_either h (meets h c) (slot_in f h k m) (slot_in g h k m)) i j step.live in
       omega (arith, le)
 
   -- A cluster that nothing named, and the word does now, is named once.
-  pub named-first : (c : ℕ) → named f g h c ≡ 0 → of_mapping h (meets h c) (slot_in x h i j) ≡ 1 → named f x h c ≡ 1
+  pub named-first : (c : ℕ) → references_in_either f g h c ≡ 0 → of_mapping h (meets h c) (slot_in x h i j) ≡ 1 → references_in_either f x h c ≡ 1
   named-first c none one = let le = word-named c in let e = named-change f g x h i j c step in omega (arith, le, e, none, one)
 
-  pub refs-first : SamePlaces f g h → SamePlaces f x h → (c : ℕ) → named f g h c ≡ 0 → of_mapping h (meets h c) (slot_in x h i j) ≡ 1 → refs x h c ≡ 1
+  pub refs-first : SamePlaces f g h → SamePlaces f x h → (c : ℕ) → references_in_either f g h c ≡ 0 → of_mapping h (meets h c) (slot_in x h i j) ≡ 1 → refs x h c ≡ 1
   refs-first places places' c none one =
       let le = word-named c in
       let few = refs-cached f g h c places in
@@ -85,16 +85,16 @@ module _ (f g x : Bytes) (h : Fields) (i j : ℕ) (step : ChangesSlot f g x h i 
 -- No name of a cluster is new.
 pub record NoMore (f g x : Bytes) (h : Fields) (c : ℕ) : Type 0 where
   pub references : refs x h c ≤ refs g h c
-  pub names : named f x h c ≤ named f g h c
+  pub names : references_in_either f x h c ≤ references_in_either f g h c
   pub copies : copied f x h c ≤ copied f g h c
 
 -- Names are no more than they were, or a cluster that is counted is named once.
 abbrev pub AreFew : Bytes → Bytes → Bytes → Fields → Type 0
-AreFew f g x h = (c : ℕ) → NoMore f g x h c ⊎ ((named f x h c ≤ 1) × (1 ≤ count g h c))
+AreFew f g x h = (c : ℕ) → NoMore f g x h c ⊎ ((references_in_either f x h c ≤ 1) × (1 ≤ count g h c))
 
 -- So all that is safe stays so, where counts and places are the same.
 module _ (f g x : Bytes) (h : Fields) (few : AreFew f g x h) (counts : (c : ℕ) → count x h c ≡ count g h c) (places : SamePlaces f x h) where
-  pub few-apart : NamedApart f g h → NamedApart f x h
+  pub few-apart : ReferencedOnce f g h → ReferencedOnce f x h
   few-apart apart c some = elim (few c) [
     | inr once ↦ once.0
     | inl same ↦ let le = same.copies in let one = apart c (omega (arith, le, some)) in let le' = same.names in omega (arith, one, le')
@@ -130,7 +130,7 @@ module _ (f g x : Bytes) (h : Fields) (few : AreFew f g x h) (counts : (c : ℕ)
   ]
 
   -- nothing of the structure, and nothing that is named as copied, is named twice
-  pub few-alone : NamedApart f g h → (c : ℕ) → 0 < structure f h (meets h c) + contents x h (of_copied h (meets h c)) → refs x h c ≤ 1
+  pub few-alone : ReferencedOnce f g h → (c : ℕ) → 0 < structure f h (meets h c) + contents x h (of_copied h (meets h c)) → refs x h c ≤ 1
   few-alone apart c some =
       let between : IsBetween f x x h = record { places = places; slots = λ i j live. inr refl } in
       let le = copied-between f x x h between c in
@@ -140,10 +140,10 @@ module _ (f g x : Bytes) (h : Fields) (few : AreFew f g x h) (counts : (c : ℕ)
 
 -- what a cached table is with one word set
 abbrev word_set : Slot TableValue → ℕ → ℕ → Slot TableValue
-word_set slot j w = record slot { value = with_word slot.value j w }
+word_set slot j w = record slot { value = with_raw_entry slot.value j w }
 
 module _ (f : Bytes) (H : Header) (order : CacheDependency) (front : List (ℕ × Slot TableValue)) (key : ℕ) (slot : Slot TableValue) (back : List (ℕ × Slot TableValue)) (blocks : List (ℕ × Slot Block))
-    (safe : Safe f H (tables_with front key slot back blocks) order) (i : ℕ) (in_l1 : i < H.fields.l1_entries) (place : l2_table f H.fields i ≡ key * cluster_size H.fields) (some : key ≢ 0) where
+    (well_formed : WellFormed f H (tables_with front key slot back blocks) order) (i : ℕ) (in_l1 : i < H.fields.l1_entries) (place : l2_table f H.fields i ≡ key * cluster_size H.fields) (some : key ≢ 0) where
   abbrev old : Cached
   old = tables_with front key slot back blocks
 
@@ -151,56 +151,56 @@ module _ (f : Bytes) (H : Header) (order : CacheDependency) (front : List (ℕ �
   g = memory f H.fields (tables_with front key slot back blocks)
 
   this : IsCachedTable f H.fields key slot.value
-  this = entry-fits table_kind table-kind-laws f H blocks front key slot back order safe
+  this = entry-fits table_kind table-kind-laws f H blocks front key slot back order well_formed
 
   there : l2_table f H.fields i ≢ 0
   there none = place-there (cluster_size H.fields) key (pow_pos H.fields.cluster_bits) some (sym place ∙ none)
 
   places : SamePlaces f g H.fields
-  places = places-in-memory f H safe.consistent (tables_with front key slot back blocks) safe.tables safe.blocks
+  places = places-in-memory f H well_formed.consistent (tables_with front key slot back blocks) well_formed.tables well_formed.blocks
 
   at_key : l2_table g H.fields i ≡ key * cluster_size H.fields
   at_key = places.l1 i ∙ place
 
   -- a table fills its cluster
-  full : (s : Slot TableValue) → IsCachedTable f H.fields key s.value → length (table_bytes s.value.words) ≡ cluster_size H.fields
-  full s is = table-long f H safe.consistent s.value is.fits is.layout
+  full : (s : Slot TableValue) → IsCachedTable f H.fields key s.value → length (table_bytes s.value.raw_entries) ≡ cluster_size H.fields
+  full s is = table-long f H well_formed.consistent s.value is.fits is.layout
 
-  whole : (s : Slot TableValue) → IsCachedTable f H.fields key s.value → length s.value.words * 8 ≡ cluster_size H.fields
+  whole : (s : Slot TableValue) → IsCachedTable f H.fields key s.value → length s.value.raw_entries * 8 ≡ cluster_size H.fields
   whole s is = is.fits.long ∙ ap (λ (l : Layout). 2 ^ l.cluster_bits) is.layout
 
-  within : (s : Slot TableValue) → IsCachedTable f H.fields key s.value → (m : ℕ) → m < words_of_cluster H.fields → m < length s.value.words
+  within : (s : Slot TableValue) → IsCachedTable f H.fields key s.value → (m : ℕ) → m < entries_of_cluster H.fields → m < length s.value.raw_entries
   within s is m less = let all = whole s is in let fits = words-fit H.fields m less in omega (arith, all, fits)
 
   -- Where it isn't modified, it is the file's.
   clean-memory : slot.value.modified ≡ false → Same f g (key * cluster_size H.fields) (cluster_size H.fields)
   clean-memory clean = subst (λ t. Same f g t (cluster_size H.fields)) place
-      (table-same f H safe.consistent (tables_with front key slot back blocks) safe.tables safe.blocks i in_l1 there
-      (none-there table_kind table-kind-laws f H order blocks front key slot back safe clean (l2_table f H.fields i) place))
+      (table-same f H well_formed.consistent (tables_with front key slot back blocks) well_formed.tables well_formed.blocks i in_l1 there
+      (none-there table_kind table-kind-laws f H order blocks front key slot back well_formed clean (l2_table f H.fields i) place))
 
   -- In memory each of its words is the cached one.
-  pub word-in-memory : (m : ℕ) → m < words_of_cluster H.fields → word g (key * cluster_size H.fields) m ≡ slice_index slot.value.words m
+  pub word-in-memory : (m : ℕ) → m < entries_of_cluster H.fields → raw_entry g (key * cluster_size H.fields) m ≡ slice_index slot.value.raw_entries m
   word-in-memory m less = elim (cases_Bool slot.value.modified) [
-    | inl modified ↦ word-here f H order front key slot back blocks safe modified m less
+    | inl modified ↦ word-here f H order front key slot back blocks well_formed modified m less
     | inr clean ↦
         word-same f g (key * cluster_size H.fields) (cluster_size H.fields) m (clean-memory clean) (words-fit H.fields m less)
-        ∙ sym (words_at f (key * cluster_size H.fields) (words_of_cluster H.fields) m less)
+        ∙ sym (words_at f (key * cluster_size H.fields) (entries_of_cluster H.fields) m less)
         ∙ ap (λ (l : List ℕ). slice_index l m) (sym (this.clean clean (i, in_l1, place, some)))
   ]
 
-  pub slot-in-memory : (m : ℕ) → m < words_of_cluster H.fields → slot_in g H.fields i m ≡ mapping_in slot.value m
+  pub slot-in-memory : (m : ℕ) → m < entries_of_cluster H.fields → slot_in g H.fields i m ≡ mapping_in slot.value m
   slot-in-memory m less =
-      ap (λ t. mapping_of (layout_of H.fields) (word g t m)) at_key ∙ ap (mapping_of (layout_of H.fields)) (word-in-memory m less)
-      ∙ ap (λ (l : Layout). mapping_of l (slice_index slot.value.words m)) (sym this.layout)
+      ap (λ t. mapping_of (layout_of H.fields) (raw_entry g t m)) at_key ∙ ap (mapping_of (layout_of H.fields)) (word-in-memory m less)
+      ∙ ap (λ (l : Layout). mapping_of l (slice_index slot.value.raw_entries m)) (sym this.layout)
 
   was : IsConsistent g H
-  was = safe-memory f H old order safe
+  was = safe-memory f H old order well_formed
 
   there_in_memory : l2_table g H.fields i ≢ 0
   there_in_memory none = there (sym (places.l1 i) ∙ none)
 
   -- Word j is set to w.
-  module _ (j w : ℕ) (in_table : j < words_of_cluster H.fields) (fits : w < 2 ^ 64) (sane : IsFalse (is_damaged (mapping_of (layout_of H.fields) w))) where
+  module _ (j w : ℕ) (in_table : j < entries_of_cluster H.fields) (fits : w < 2 ^ 64) (sane : IsFalse (is_damaged (mapping_of (layout_of H.fields) w))) where
     abbrev new : Slot TableValue
     new = word_set slot j w
 
@@ -209,25 +209,25 @@ module _ (f : Bytes) (H : Header) (order : CacheDependency) (front : List (ℕ �
 
     new-is : IsCachedTable f H.fields key new.value
     new-is = record {
-      fits = entered l2_words slot.value.layout slot.value.words j w slot.value.cluster slot.value.cluster slot.value.modified true this.fits (sound (rw this.layout sane)) fits;
+      fits = entered l2_table_kind slot.value.layout slot.value.raw_entries j w slot.value.cluster slot.value.cluster slot.value.modified true this.fits (sound (rw this.layout sane)) fits;
       placed = this.placed;
       layout = this.layout;
       modified = λ m. (i, in_l1, place, some);
       clean = λ off. absurd (cc);
     }
       where
-        sound : is_damaged (mapping_of slot.value.layout w) ≡ false → IsTrue (word_sound l2_words slot.value.layout w)
+        sound : is_damaged (mapping_of slot.value.layout w) ≡ false → IsTrue (raw_entry_valid l2_table_kind slot.value.layout w)
         sound clear = rw clear refl
 
     abbrev new_bytes : List ℕ
-    new_bytes = table_bytes (slice_set slot.value.words j w)
+    new_bytes = table_bytes (slice_set slot.value.raw_entries j w)
 
     abbrev x : Bytes
     x = splice g (key * cluster_size H.fields) new_bytes
 
     -- Memory has its cluster's bytes replaced, and nothing else.
     pub word-put : memory f H.fields cached' ≡ x
-    word-put = entry-put table_kind table-kind-laws f H order blocks front key slot back safe new new-is refl
+    word-put = entry-put table_kind table-kind-laws f H order blocks front key slot back well_formed new new-is refl
 
     outside : Outside g x (key * cluster_size H.fields) (length new_bytes)
     outside = splice-is-outside g (key * cluster_size H.fields) new_bytes
@@ -244,35 +244,35 @@ module _ (f : Bytes) (H : Header) (order : CacheDependency) (front : List (ℕ �
     places' : SamePlaces f x H.fields
     places' = record { l1 = λ k. table-changed.places.l1 k ∙ places.l1 k; blocks = λ k. table-changed.places.blocks k ∙ places.blocks k }
 
-    new-word : (m : ℕ) → m < words_of_cluster H.fields → word x (key * cluster_size H.fields) m ≡ slice_index (slice_set slot.value.words j w) m
-    new-word m less = table-over g (key * cluster_size H.fields) (slice_set slot.value.words j w) m new-is.fits.fit (within new new-is m less)
+    new-word : (m : ℕ) → m < entries_of_cluster H.fields → raw_entry x (key * cluster_size H.fields) m ≡ slice_index (slice_set slot.value.raw_entries j w) m
+    new-word m less = table-over g (key * cluster_size H.fields) (slice_set slot.value.raw_entries j w) m new-is.fits.fit (within new new-is m less)
 
     here : slot_in x H.fields i j ≡ mapping_of (layout_of H.fields) w
     here =
-        ap (λ t. mapping_of (layout_of H.fields) (word x t j)) (table-changed.places.l1 i ∙ at_key)
-        ∙ ap (mapping_of (layout_of H.fields)) (new-word j in_table ∙ get_or-set_same slot.value.words j w 0 (within slot this j in_table))
+        ap (λ t. mapping_of (layout_of H.fields) (raw_entry x t j)) (table-changed.places.l1 i ∙ at_key)
+        ∙ ap (mapping_of (layout_of H.fields)) (new-word j in_table ∙ get_or-set_same slot.value.raw_entries j w 0 (within slot this j in_table))
 
     -- each other word is what it was, also past the table
-    row : (m : ℕ) → m ≢ j → word x (key * cluster_size H.fields) m ≡ word g (key * cluster_size H.fields) m
-    unfolding word
-    row m apart = elim (cases_lt m (words_of_cluster H.fields)) [
+    row : (m : ℕ) → m ≢ j → raw_entry x (key * cluster_size H.fields) m ≡ raw_entry g (key * cluster_size H.fields) m
+    unfolding raw_entry
+    row m apart = elim (cases_lt m (entries_of_cluster H.fields)) [
       | inl less ↦ in-table less
       | inr past ↦
           let all = whole new new-is in
           be-same x g (key * cluster_size H.fields + 8 * m) (key * cluster_size H.fields + 8 * m) 8 (λ k lt. outside (key * cluster_size H.fields + 8 * m + k) (inr (omega (arith, past, all, full new new-is))))
     ]
       where
-        in-table : m < words_of_cluster H.fields → word x (key * cluster_size H.fields) m ≡ word g (key * cluster_size H.fields) m
-        in-table less = new-word m less ∙ get_or-set_other slot.value.words j m w 0 apart ∙ sym (word-in-memory m less)
+        in-table : m < entries_of_cluster H.fields → raw_entry x (key * cluster_size H.fields) m ≡ raw_entry g (key * cluster_size H.fields) m
+        in-table less = new-word m less ∙ get_or-set_other slot.value.raw_entries j m w 0 apart ∙ sym (word-in-memory m less)
 
     others : (k m : ℕ) → Live (l2_table g H.fields) H.fields k m → (k ≢ i) ⊎ (m ≢ j) → slot_in x H.fields k m ≡ slot_in g H.fields k m
     others k m live (inl apart) = table-changed.others k m live apart
     others k m live (inr apart) = elim (cases_eq k i) [
       | inr other ↦ table-changed.others k m live other
       | inl e ↦ subst (λ q. slot_in x H.fields q m ≡ slot_in g H.fields q m) (sym e)
-          (ap (λ t. mapping_of (layout_of H.fields) (word x t m)) (table-changed.places.l1 i ∙ at_key)
+          (ap (λ t. mapping_of (layout_of H.fields) (raw_entry x t m)) (table-changed.places.l1 i ∙ at_key)
           ∙ ap (mapping_of (layout_of H.fields)) (row m apart)
-          ∙ ap (λ t. mapping_of (layout_of H.fields) (word g t m)) (sym at_key))
+          ∙ ap (λ t. mapping_of (layout_of H.fields) (raw_entry g t m)) (sym at_key))
     ]
 
     pub changes : ChangesSlot f g x H.fields i j
@@ -282,26 +282,26 @@ module _ (f : Bytes) (H : Header) (order : CacheDependency) (front : List (ℕ �
     }
 
     module _ (few : AreFew f g x H.fields) where
-      each-sane : (m : ℕ) → m < words_of_cluster H.fields → IsFalse (is_damaged (mapping_of (layout_of H.fields) (word x (l2_table g H.fields i) m)))
+      each-sane : (m : ℕ) → m < entries_of_cluster H.fields → IsFalse (is_damaged (mapping_of (layout_of H.fields) (raw_entry x (l2_table g H.fields i) m)))
       each-sane m less =
-          ap (λ t. is_damaged (mapping_of (layout_of H.fields) (word x t m))) at_key ∙ ap (λ v. is_damaged (mapping_of (layout_of H.fields) v)) (new-word m less)
-          ∙ subst (λ (l : Layout). is_damaged (mapping_of l (slice_index (slice_set slot.value.words j w) m)) ≡ false) this.layout (not-true _ (new-is.fits.sound m (within new new-is m less)))
+          ap (λ t. is_damaged (mapping_of (layout_of H.fields) (raw_entry x t m))) at_key ∙ ap (λ v. is_damaged (mapping_of (layout_of H.fields) v)) (new-word m less)
+          ∙ subst (λ (l : Layout). is_damaged (mapping_of l (slice_index (slice_set slot.value.raw_entries j w) m)) ≡ false) this.layout (not-true _ (new-is.fits.sound m (within new new-is m less)))
 
       covered : (c : ℕ) → refs x H.fields c ≤ count x H.fields c
-      covered = few-covered f g x H.fields few table-changed.counts places' safe.covered
+      covered = few-covered f g x H.fields few table-changed.counts places' well_formed.covered
 
       rewritten : TableRewritten g x H i
       rewritten = table-rewritten g x H was i there_in_memory (key * cluster_size H.fields) (length new_bytes) outside low high each-sane
           (λ c. let le = covered c in let e = table-changed.counts c in omega (arith, le, e))
-          (λ c more. let e = structure-same f g H.fields places (meets H.fields c) in few-alone f g x H.fields few table-changed.counts places' safe.apart c (omega (arith, e, more)))
+          (λ c more. let e = structure-same f g H.fields places (meets H.fields c) in few-alone f g x H.fields few table-changed.counts places' well_formed.apart c (omega (arith, e, more)))
 
       written : SlotWritten g x H i j (mapping_of (layout_of H.fields) w)
       written = record {
         consistent = rewritten.consistent;
-        kept = table-changed.kept;
+        same_structure_outside = table-changed.same_structure_outside;
         places = table-changed.places;
         here = here;
-        row = λ m apart. subst (λ t. word x t m ≡ word g t m) (sym at_key) (row m apart);
+        row = λ m apart. subst (λ t. raw_entry x t m ≡ raw_entry g t m) (sym at_key) (row m apart);
         others = others;
         counts = table-changed.counts;
         entries = λ guest own column. rewritten.entries guest own ∙ ap (slot_in x H.fields i) column ∙ here;
@@ -310,19 +310,19 @@ module _ (f : Bytes) (H : Header) (order : CacheDependency) (front : List (ℕ �
         mapped = table-changed.mapped;
       }
         where
-          away : (guest : ℕ) → (guest / words_of_cluster H.fields ≢ i) ⊎ (guest % words_of_cluster H.fields ≢ j)
-              → (guest / words_of_cluster H.fields ≢ i) ⊎ (slot_in x H.fields i (guest % words_of_cluster H.fields) ≡ slot_in g H.fields i (guest % words_of_cluster H.fields))
+          away : (guest : ℕ) → (guest / entries_of_cluster H.fields ≢ i) ⊎ (guest % entries_of_cluster H.fields ≢ j)
+              → (guest / entries_of_cluster H.fields ≢ i) ⊎ (slot_in x H.fields i (guest % entries_of_cluster H.fields) ≡ slot_in g H.fields i (guest % entries_of_cluster H.fields))
           away guest (inl other) = inl other
           away guest (inr other) =
-              let some_words : 0 < words_of_cluster H.fields = some-words H.fields (shaped-in f H safe.consistent) in
-              inr (others i (guest % words_of_cluster H.fields) (record { in_l1 = in_l1; is_there = there_in_memory; in_table = mod_below guest (words_of_cluster H.fields) some_words }) (inr other))
+              let some_words : 0 < entries_of_cluster H.fields = some-words H.fields (shaped-in f H well_formed.consistent) in
+              inr (others i (guest % entries_of_cluster H.fields) (record { in_l1 = in_l1; is_there = there_in_memory; in_table = mod_below guest (entries_of_cluster H.fields) some_words }) (inr other))
 
       -- What is cached stays safe.
-      pub word-changed : WordChanged (file_with f H order old) i j (mapping_in slot.value j) (mapping_of (layout_of H.fields) w) cached'
+      pub word-changed : EntryChanged (file_with f H order old) i j (mapping_in slot.value j) (mapping_of (layout_of H.fields) w) cached'
       word-changed = record {
-        safe = put-safe table_kind table-kind-laws f H order blocks front key slot back safe new new-is refl (record {
-          apart = few-apart f g x H.fields few table-changed.counts places' safe.apart;
-          ordered = few-ordered f g x H.fields few table-changed.counts places' order safe.ordered;
+        well_formed = put-safe table_kind table-kind-laws f H order blocks front key slot back well_formed new new-is refl (record {
+          apart = few-apart f g x H.fields few table-changed.counts places' well_formed.apart;
+          ordered = few-ordered f g x H.fields few table-changed.counts places' order well_formed.ordered;
           covered = covered;
         });
         was = slot-in-memory j in_table;
@@ -334,7 +334,7 @@ module _ (f : Bytes) (H : Header) (order : CacheDependency) (front : List (ℕ �
       }
 
     -- The word names no more than it did.
-    module _ (fewer : NamesNoMore H.fields (mapping_in slot.value j) (mapping_of (layout_of H.fields) w)) where
+    module _ (fewer : ReferencesNoMore H.fields (mapping_in slot.value j) (mapping_of (layout_of H.fields) w)) where
       no-more : (c : ℕ) → NoMore f g x H.fields c
       no-more c =
           let less : of_mapping H.fields (meets H.fields c) (slot_in x H.fields i j) ≤ of_mapping H.fields (meets H.fields c) (slot_in g H.fields i j) = rw (here, slot-in-memory j in_table) (fewer c).0 in
@@ -345,15 +345,15 @@ module _ (f : Bytes) (H : Header) (order : CacheDependency) (front : List (ℕ �
             copies = copied-stays f g x H.fields i j changes c less';
           }
 
-      pub names-dropped : NamesDropped (file_with f H order old) i j (mapping_in slot.value j) (mapping_of (layout_of H.fields) w) cached'
+      pub names-dropped : ReferencesDropped (file_with f H order old) i j (mapping_in slot.value j) (mapping_of (layout_of H.fields) w) cached'
       names-dropped = record {
         changed = word-changed (λ c. inl (no-more c));
         references = subst (λ (m : Bytes). (c : ℕ) → refs m H.fields c ≤ refs g H.fields c) (sym word-put) (λ c. (no-more c).references);
-        names = subst (λ (m : Bytes). (c : ℕ) → named f m H.fields c ≤ named f g H.fields c) (sym word-put) (λ c. (no-more c).names);
+        names = subst (λ (m : Bytes). (c : ℕ) → references_in_either f m H.fields c ≤ references_in_either f g H.fields c) (sym word-put) (λ c. (no-more c).names);
       }
 
     -- The word names a data cluster that nothing named, and that is counted.
-    module _ (n : ℕ) (means : mapping_of (layout_of H.fields) w ≡ data_at n true) (unnamed : named f g H.fields n ≡ 0) (counted : 1 ≤ count g H.fields n) where
+    module _ (n : ℕ) (means : mapping_of (layout_of H.fields) w ≡ data_at n true) (not_referenced : references_in_either f g H.fields n ≡ 0) (counted : 1 ≤ count g H.fields n) where
       own : of_mapping H.fields (meets H.fields n) (slot_in x H.fields i j) ≡ 1
       own = ap (of_mapping H.fields (meets H.fields n)) (here ∙ means) ∙ meets-own H.fields n
 
@@ -368,27 +368,27 @@ module _ (f : Bytes) (H : Header) (order : CacheDependency) (front : List (ℕ �
             copies = copied-stays f g x H.fields i j changes c (omega (arith, less'));
           }
 
-      once : named f x H.fields n ≡ 1
-      once = named-first f g x H.fields i j changes n unnamed own
+      once : references_in_either f x H.fields n ≡ 1
+      once = named-first f g x H.fields i j changes n not_referenced own
 
       few-names : AreFew f g x H.fields
       few-names c = elim (cases_eq c n) [
-        | inl e ↦ inr (subst (λ k. (named f x H.fields k ≤ 1) × (1 ≤ count g H.fields k)) (sym e) (omega (arith, once), counted))
+        | inl e ↦ inr (subst (λ k. (references_in_either f x H.fields k ≤ 1) × (1 ≤ count g H.fields k)) (sym e) (omega (arith, once), counted))
         | inr apart ↦ inl (no-other c apart)
       ]
 
-      pub cluster-named : ClusterNamed (file_with f H order old) i j (mapping_in slot.value j) n cached'
+      pub cluster-named : ClusterLinked (file_with f H order old) i j (mapping_in slot.value j) n cached'
       cluster-named = record {
-        changed = subst (λ (m : Mapping). WordChanged (file_with f H order old) i j (mapping_in slot.value j) m cached') means (word-changed few-names);
-        references = subst (λ (m : Bytes). refs m H.fields n ≡ 1) (sym word-put) (refs-first f g x H.fields i j changes places places' n unnamed own);
-        names = subst (λ (m : Bytes). named f m H.fields n ≡ 1) (sym word-put) once;
-        others = subst (λ (m : Bytes). (c : ℕ) → c ≢ n → named f m H.fields c ≤ named f g H.fields c) (sym word-put) (λ c apart. (no-other c apart).names);
+        changed = subst (λ (m : Mapping). EntryChanged (file_with f H order old) i j (mapping_in slot.value j) m cached') means (word-changed few-names);
+        references = subst (λ (m : Bytes). refs m H.fields n ≡ 1) (sym word-put) (refs-first f g x H.fields i j changes places places' n not_referenced own);
+        names = subst (λ (m : Bytes). references_in_either f m H.fields n ≡ 1) (sym word-put) once;
+        others = subst (λ (m : Bytes). (c : ℕ) → c ≢ n → references_in_either f m H.fields c ≤ references_in_either f g H.fields c) (sym word-put) (λ c apart. (no-other c apart).names);
       }
 
 -- In memory a word means what it does in the table that is cached.
-module _ (f : Bytes) (H : Header) (cached : Cached) (order : CacheDependency) (key i : ℕ) (value : TableValue) (safe : Safe f H cached order) (caches : CachesTable f H.fields cached key i value) where
+module _ (f : Bytes) (H : Header) (cached : Cached) (order : CacheDependency) (key i : ℕ) (value : TableValue) (well_formed : WellFormed f H cached order) (caches : CachesTable f H.fields cached key i value) where
   found : (s : Slot TableValue) × (lookup (nat_eq key) cached.tables ≡ Some s) × (s.value ≡ value)
-  found = slot-of (lookup (nat_eq key) cached.tables) value caches.there
+  found = slot-of (lookup (nat_eq key) cached.tables) value caches.table_cached
 
   p : Place key cached.tables found.0
   p = place-of-key key cached.tables found.0 found.1
@@ -396,37 +396,37 @@ module _ (f : Bytes) (H : Header) (cached : Cached) (order : CacheDependency) (k
   as-was : cached ≡ tables_with p.front key found.0 p.back cached.blocks
   as-was = ap (λ (ts : List (ℕ × Slot TableValue)). record { tables = ts; blocks = cached.blocks }) p.is
 
-  safe' : Safe f H (tables_with p.front key found.0 p.back cached.blocks) order
-  safe' = subst (λ (o : Cached). Safe f H o order) as-was safe
+  safe' : WellFormed f H (tables_with p.front key found.0 p.back cached.blocks) order
+  safe' = subst (λ (o : Cached). WellFormed f H o order) as-was well_formed
 
   pub cached-layout : value.layout ≡ layout_of H.fields
-  cached-layout = ap (λ (t : TableValue). t.layout) (sym found.2) ∙ (this f H order p.front key found.0 p.back cached.blocks safe' i caches.inside caches.place caches.some).layout
+  cached-layout = ap (λ (t : TableValue). t.layout) (sym found.2) ∙ (this f H order p.front key found.0 p.back cached.blocks safe' i caches.inside caches.place caches.cluster_nonzero).layout
 
-  pub cached-slot : (j : ℕ) → j < words_of_cluster H.fields → slot_in (memory f H.fields cached) H.fields i j ≡ mapping_in value j
+  pub cached-slot : (j : ℕ) → j < entries_of_cluster H.fields → slot_in (memory f H.fields cached) H.fields i j ≡ mapping_in value j
   cached-slot j less =
       subst (λ (o : Cached). slot_in (memory f H.fields o) H.fields i j ≡ mapping_in found.0.value j) (sym as-was)
-      (slot-in-memory f H order p.front key found.0 p.back cached.blocks safe' i caches.inside caches.place caches.some j less)
+      (slot-in-memory f H order p.front key found.0 p.back cached.blocks safe' i caches.inside caches.place caches.cluster_nonzero j less)
       ∙ ap (λ (t : TableValue). mapping_in t j) found.2
 
 -- A word is set there.
-module _ (f : Bytes) (H : Header) (cached cached' : Cached) (order : CacheDependency) (key i j w : ℕ) (safe : Safe f H cached order) (sets : SetsWord f H.fields cached key i j w cached') where
+module _ (f : Bytes) (H : Header) (cached cached' : Cached) (order : CacheDependency) (key i j w : ℕ) (well_formed : WellFormed f H cached order) (sets : SetsEntry f H.fields cached key i j w cached') where
   abbrev s : Slot TableValue
-  s = (found f H cached order key i sets.table safe sets.caches).0
+  s = (found f H cached order key i sets.table well_formed sets.caches).0
 
   same : s.value ≡ sets.table
-  same = (found f H cached order key i sets.table safe sets.caches).2
+  same = (found f H cached order key i sets.table well_formed sets.caches).2
 
   abbrev q : Place key cached.tables s
-  q = p f H cached order key i sets.table safe sets.caches
+  q = p f H cached order key i sets.table well_formed sets.caches
 
   was-so : cached ≡ tables_with q.front key s q.back cached.blocks
-  was-so = as-was f H cached order key i sets.table safe sets.caches
+  was-so = as-was f H cached order key i sets.table well_formed sets.caches
 
   as-is : cached' ≡ record { tables = (key, word_set s j w) ∷ q.front ++ q.back; blocks = cached.blocks }
   as-is =
       ap (λ (bs : List (ℕ × Slot Block)). record { tables = cached'.tables; blocks = bs }) sets.blocks
       ∙ ap (λ (ts : List (ℕ × Slot TableValue)). record { tables = ts; blocks = cached.blocks })
-      (sets.tables ∙ ap (λ (t : TableValue). hit (nat_eq key) cached.tables (with_word t j w)) (sym same) ∙ place-hit key cached.tables s q (with_word s.value j w))
+      (sets.tables ∙ ap (λ (t : TableValue). hit (nat_eq key) cached.tables (with_raw_entry t j w)) (sym same) ∙ place-hit key cached.tables s q (with_raw_entry s.value j w))
 
   -- what was shown of that entry
   of-entry : (P : Cached → Mapping → Cached → Type 0) → P (tables_with q.front key s q.back cached.blocks) (mapping_in s.value j) (record { tables = (key, word_set s j w) ∷ q.front ++ q.back; blocks = cached.blocks }) → P cached (mapping_in sets.table j) cached'
@@ -437,21 +437,21 @@ module _ (f : Bytes) (H : Header) (cached cached' : Cached) (order : CacheDepend
   abbrev means : Mapping
   means = mapping_of (layout_of H.fields) w
 
-  pub word-drops : w < 2 ^ 64 → IsFalse (is_damaged means) → NamesNoMore H.fields (mapping_in sets.table j) means → NamesDropped (file_with f H order cached) i j (mapping_in sets.table j) means cached'
-  word-drops fits sane fewer = of-entry (λ o m k. NamesDropped (file_with f H order o) i j m (mapping_of (layout_of H.fields) w) k)
-      (names-dropped f H order q.front key s q.back cached.blocks (safe' f H cached order key i sets.table safe sets.caches) i sets.caches.inside sets.caches.place sets.caches.some j w sets.inside fits sane
-      (subst (λ (t : TableValue). NamesNoMore H.fields (mapping_in t j) (mapping_of (layout_of H.fields) w)) (sym same) fewer))
+  pub word-drops : w < 2 ^ 64 → IsFalse (is_damaged means) → ReferencesNoMore H.fields (mapping_in sets.table j) means → ReferencesDropped (file_with f H order cached) i j (mapping_in sets.table j) means cached'
+  word-drops fits sane fewer = of-entry (λ o m k. ReferencesDropped (file_with f H order o) i j m (mapping_of (layout_of H.fields) w) k)
+      (names-dropped f H order q.front key s q.back cached.blocks (safe' f H cached order key i sets.table well_formed sets.caches) i sets.caches.inside sets.caches.place sets.caches.cluster_nonzero j w sets.inside fits sane
+      (subst (λ (t : TableValue). ReferencesNoMore H.fields (mapping_in t j) (mapping_of (layout_of H.fields) w)) (sym same) fewer))
 
-  pub word-names : (n : ℕ) → w < 2 ^ 64 → means ≡ data_at n true → named f (memory f H.fields cached) H.fields n ≡ 0 → 1 ≤ count (memory f H.fields cached) H.fields n → ClusterNamed (file_with f H order cached) i j (mapping_in sets.table j) n cached'
-  word-names n fits is unnamed counted = of-entry (λ o m k. ClusterNamed (file_with f H order o) i j m n k)
-      (cluster-named f H order q.front key s q.back cached.blocks (safe' f H cached order key i sets.table safe sets.caches) i sets.caches.inside sets.caches.place sets.caches.some j w sets.inside fits (ap is_damaged is) n is
-      (subst (λ (o : Cached). named f (memory f H.fields o) H.fields n ≡ 0) was-so unnamed) (subst (λ (o : Cached). 1 ≤ count (memory f H.fields o) H.fields n) was-so counted))
+  pub word-names : (n : ℕ) → w < 2 ^ 64 → means ≡ data_at n true → references_in_either f (memory f H.fields cached) H.fields n ≡ 0 → 1 ≤ count (memory f H.fields cached) H.fields n → ClusterLinked (file_with f H order cached) i j (mapping_in sets.table j) n cached'
+  word-names n fits is not_referenced counted = of-entry (λ o m k. ClusterLinked (file_with f H order o) i j m n k)
+      (cluster-named f H order q.front key s q.back cached.blocks (safe' f H cached order key i sets.table well_formed sets.caches) i sets.caches.inside sets.caches.place sets.caches.cluster_nonzero j w sets.inside fits (ap is_damaged is) n is
+      (subst (λ (o : Cached). references_in_either f (memory f H.fields o) H.fields n ≡ 0) was-so not_referenced) (subst (λ (o : Cached). 1 ≤ count (memory f H.fields o) H.fields n) was-so counted))
 
 -- The word of a data cluster with its mark, as a table writes it.
-pub cluster-mapped : (f : Bytes) (H : Header) (cached cached' : Cached) (order : CacheDependency) (key i j n : ℕ) → Safe f H cached order → (sets : SetsWord f H.fields cached key i j (2 ^ 63 + n * cluster_size H.fields) cached')
-    → n ≢ 0 → IsInReach H.fields.cluster_bits n → named f (memory f H.fields cached) H.fields n ≡ 0 → 1 ≤ count (memory f H.fields cached) H.fields n
-    → ClusterNamed (file_with f H order cached) i j (mapping_in sets.table j) n cached'
-cluster-mapped f H cached cached' order key i j n safe sets some near unnamed counted =
-    let shaped : Shaped H.fields = shaped-in f H safe.consistent in
-    word-names f H cached cached' order key i j (2 ^ 63 + n * cluster_size H.fields) safe sets n (mapped_fits H.fields.cluster_bits n near)
-    (mapped_means (layout_of H.fields) n shaped.low near (inl (omega (arith, some)))) unnamed counted
+pub cluster-mapped : (f : Bytes) (H : Header) (cached cached' : Cached) (order : CacheDependency) (key i j n : ℕ) → WellFormed f H cached order → (sets : SetsEntry f H.fields cached key i j (2 ^ 63 + n * cluster_size H.fields) cached')
+    → n ≢ 0 → IsAddressable H.fields.cluster_bits n → references_in_either f (memory f H.fields cached) H.fields n ≡ 0 → 1 ≤ count (memory f H.fields cached) H.fields n
+    → ClusterLinked (file_with f H order cached) i j (mapping_in sets.table j) n cached'
+cluster-mapped f H cached cached' order key i j n well_formed sets some near not_referenced counted =
+    let shaped : Shaped H.fields = shaped-in f H well_formed.consistent in
+    word-names f H cached cached' order key i j (2 ^ 63 + n * cluster_size H.fields) well_formed sets n (mapped_fits H.fields.cluster_bits n near)
+    (mapped_means (layout_of H.fields) n shaped.low near (inl (omega (arith, some)))) not_referenced counted

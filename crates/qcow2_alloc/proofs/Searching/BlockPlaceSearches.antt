@@ -15,16 +15,16 @@ use Rattle.qcow2_alloc.specs.declared.file.ImageFile.{ImageFile}
 use Rattle.qcow2_alloc.specs.Allocating.{MakesBlock}
 use Rattle.qcow2_alloc.specs.Allocators.{metadata_of}
 use Rattle.qcow2_alloc.specs.Caches.{cached_in, order_of, cached_file}
-use Rattle.qcow2_alloc.specs.Going.{WasNotCutOff}
+use Rattle.qcow2_alloc.specs.Going.{HadNoResourceError}
 use Rattle.qcow2_alloc.specs.MakingBlocks.{Begins, IsFreePlace}
-use Rattle.qcow2_alloc.specs.Quiet.{Metadata, counted, IsSound, Quietly}
+use Rattle.qcow2_alloc.specs.GuestView.{Metadata, counted, IsSound, PreservesGuest}
 use Rattle.qcow2_alloc.specs.SearchingClusters.{IsSafeWith, Looked, LooksForFree}
-use Rattle.qcow2_alloc.specs.State.{ImageState, lent, metadata}
+use Rattle.qcow2_alloc.specs.State.{ImageState, image_state, metadata}
 use Rattle.qcow2_alloc.proofs.Causes.{cause-weaker}
 use Rattle.qcow2_alloc.proofs.Searching.FreeClusters.{flushes-count}
 use Rattle.qcow2_alloc.proofs.Caching.UnpinnedCaches.{loose-all}
 use Rattle.qcow2_alloc.proofs.Blocks.BlockCreationCalls.{Follows, begins-none, begins-then, begins-refused, freeing-allocates}
-use Rattle.qcow2_alloc.proofs.Quiet.QuietFlushes.{going-quietly}
+use Rattle.qcow2_alloc.proofs.GuestView.QuietFlushes.{going-quietly}
 
 -- An answer of a search
 abbrev pub Found : Type 0
@@ -47,7 +47,7 @@ module _ {S : Type 0} (state : S → StorageState) (image : ImageState S) (i : �
   Keeps = IsTrue (state image.file.image).shape.keeps
 
   safe-with : Keeps → IsSound m0 → IsSafeWith state image.table image.caches image.file
-  safe-with keeps sound = record { keeps = keeps; safe = sound.safe; table_of_file = sound.table }
+  safe-with keeps sound = record { keeps = keeps; well_formed = sound.well_formed; table_of_file = sound.table }
 
   module _ (result : Found) (looked : Looked state image.table (cached_file image.caches image.file) result (cached_file C fC)) where
     moved : (P : Metadata → Type 0) → P (record m0 { file = bytes_of (state fC.image).bytes; cached = cached_in C }) → P mC
@@ -56,27 +56,27 @@ module _ {S : Type 0} (state : S → StorageState) (image : ImageState S) (i : �
         (subst (λ (o : CacheDependency). P (record m0 { file = bytes_of (state fC.image).bytes; cached = cached_in C; order = o })) (sym looked.order) p)
 
     -- Each cluster is counted as it was.
-    counts-same : Keeps → IsSound m0 → WasNotCutOff result → (c : ℕ) → counted mC c ≡ counted m0 c
+    counts-same : Keeps → IsSound m0 → HadNoResourceError result → (c : ℕ) → counted mC c ≡ counted m0 c
     counts-same keeps sound whole c =
-        moved (λ m. counted m c ≡ counted m0 c) (flushes-count m0 (state image.file.image).bytes (state fC.image).bytes (cached_in C) refl (looked.going.holds keeps sound.safe tt (inl whole)) c).0
+        moved (λ m. counted m c ≡ counted m0 c) (flushes-count m0 (state image.file.image).bytes (state fC.image).bytes (cached_in C) refl (looked.writes_back_cached.holds keeps sound.well_formed tt (inl whole)) c).0
 
-    looking : Follows state i image (WasNotCutOff result) (λ _. 0) image.caches image.file C fC
+    looking : Follows state i image (HadNoResourceError result) (λ _. 0) image.caches image.file C fC
     looking = record {
-      shape = looked.going.shape;
-      later = looked.going.later;
-      faults = looked.going.faults;
-      quiet = λ order keeps sound s. moved (λ m. Quietly (WasNotCutOff result) (λ _. 0) (λ _. 0) (state image.file.image) m0 (state fC.image) m)
-          (going-quietly m0 (WasNotCutOff result) (state image.file.image) (state fC.image) (cached_in C) refl looked.going);
+      shape = looked.writes_back_cached.shape;
+      counts_not_fallen = looked.writes_back_cached.counts_not_fallen;
+      faults = looked.writes_back_cached.faults;
+      guest_unchanged = λ order keeps sound s. moved (λ m. PreservesGuest (HadNoResourceError result) (λ _. 0) (λ _. 0) (state image.file.image) m0 (state fC.image) m)
+          (going-quietly m0 (HadNoResourceError result) (state image.file.image) (state fC.image) (cached_in C) refl looked.writes_back_cached);
       raised = λ order keeps sound s whole c. inl (counts-same keeps s whole c);
-      stays = record { header = looked.header; order = looked.order; loose = looked.loose; room = looked.room };
+      stays = record { header = looked.header; order = looked.order; loose = looked.keeps_unpinned_room; room = looked.room };
     }
 
-  pub looked-refused : (fault : Fault) → Looked state image.table (cached_file image.caches image.file) (refused_so fault) (cached_file C fC) → MakesBlock state i image (Err fault) (lent image.table C fC image.pending)
+  pub looked-refused : (fault : Fault) → Looked state image.table (cached_file image.caches image.file) (refused_so fault) (cached_file C fC) → MakesBlock state i image (Err fault) (image_state image.table C fC image.pending)
   looked-refused fault looked =
       begins-refused state i image (λ _. 0) (λ _. 0) image.caches image.file C fC (begins-none state i image) fault (looking (refused_so fault) looked) (λ order keeps sound whole c. omega arith)
       (cause-weaker (freeing-allocates (λ holds. safe-with holds.0 holds.2) (λ u. loose-all image.table image.caches u.0 u.2) refl) fault looked.cause)
 
-  pub looked-begins : (found : Option ℕ) → Looked state image.table (cached_file image.caches image.file) (found_so found) (cached_file C fC) → Begins state image (λ _. 0) (lent image.table C fC image.pending)
+  pub looked-begins : (found : Option ℕ) → Looked state image.table (cached_file image.caches image.file) (found_so found) (cached_file C fC) → Begins state image (λ _. 0) (image_state image.table C fC image.pending)
   looked-begins found looked =
       begins-then state i image (λ _. 0) (λ _. 0) image.caches image.file C fC (begins-none state i image) (λ _. 0) (λ c. omega arith) (looking (found_so found) looked)
 
@@ -84,13 +84,13 @@ module _ {S : Type 0} (state : S → StorageState) (image : ImageState S) (i : �
   free-place : (from place : ℕ) → LooksForFree state image.table from (i * counters_of_block image.file.header.fields) (cached_file image.caches image.file) (found_so (Some place)) (cached_file C fC) → Keeps → IsSound m0 → IsFreePlace mC i place
   free-place from place looks keeps sound =
       let found = looks.found (safe-with keeps sound) in
-      let inside = block-inside m0.file m0.header.fields (place / counters_of_block image.file.header.fields) found.there in
+      let inside = block-inside m0.file m0.header.fields (place / counters_of_block image.file.header.fields) found.has_counter in
       let same : (c : ℕ) → counted mC c ≡ counted m0 c = counts-same (found_so (Some place)) looks.looked keeps sound tt in
       record {
         below = subst (λ (h : Header). place < i * counters_of_block h.fields) (sym looks.looked.header) found.before;
         uncounted = same place ∙ found.free;
-        there = subst (λ (h : Header). block_offset (slice_index image.table.words (place / counters_of_block h.fields)) ≢ 0) (sym looks.looked.header)
-            (λ none. found.there (sym (sound.table.names (place / counters_of_block image.file.header.fields) inside) ∙ none));
+        block_exists = subst (λ (h : Header). block_offset (slice_index image.table.raw_entries (place / counters_of_block h.fields)) ≢ 0) (sym looks.looked.header)
+            (λ none. found.has_counter (sym (sound.table.names (place / counters_of_block image.file.header.fields) inside) ∙ none));
       }
 
   pub found-free : (from place : ℕ) (found : Option ℕ) → found ≡ Some place → LooksForFree state image.table from (i * counters_of_block image.file.header.fields) (cached_file image.caches image.file) (found_so found) (cached_file C fC) → order_of image.caches ≡ L2DependsOnRb → Keeps → IsSound m0 → IsFreePlace mC i place

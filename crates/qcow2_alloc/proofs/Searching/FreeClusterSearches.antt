@@ -12,7 +12,7 @@ use Rattle.qcow2_types.specs.Counts.{block_at, counters_of_block}
 use Rattle.qcow2_metadata.specs.Tables.{TableValue}
 use Rattle.qcow2_alloc.specs.declared.cache.MetadataCaches.{MetadataCaches}
 use Rattle.qcow2_alloc.specs.declared.file.ImageFile.{ImageFile}
-use Rattle.qcow2_alloc.specs.Allocators.{named_block, UsesBlock}
+use Rattle.qcow2_alloc.specs.Allocators.{referenced_block, UsesBlock}
 use Rattle.qcow2_alloc.specs.Caches.{cached_file}
 use Rattle.qcow2_alloc.specs.Scanning.{AreCounted, FindsZero, Reads}
 use Rattle.qcow2_alloc.specs.SearchingClusters.{HasCounter, FindsFree, counts_in, IsSafeWith, Looked, LooksForFree}
@@ -54,7 +54,7 @@ module _ {S : Type 0} (state : S → StorageState) (table : TableValue) (from : 
   own j lt = div-mul-add i k j lt
 
   -- There is none.
-  pub finds-none : named_block table i ≡ None → LooksForFree state table from ((i + 1) * k) (cached_file old before) (Ok None) (cached_file old before)
+  pub finds-none : referenced_block table i ≡ None → LooksForFree state table from ((i + 1) * k) (cached_file old before) (Ok None) (cached_file old before)
   finds-none none = record {
     looked = looked-none state table None old before;
     found = λ sound z ge lt there.
@@ -65,7 +65,7 @@ module _ {S : Type 0} (state : S → StorageState) (table : TableValue) (from : 
         absurd (there (rw same (unnamed-block (bytes_of (state before.image).bytes) before.header table i sound.table_of_file none)));
   }
 
-  module _ (key : ℕ) (named : named_block table i ≡ Some key) (new : MetadataCaches S) (after : ImageFile S) where
+  module _ (key : ℕ) (named : referenced_block table i ≡ Some key) (new : MetadataCaches S) (after : ImageFile S) where
     abbrev Read : Option ℕ → Type 0
     Read = IsRead state table (FindsZero index) key i named old before new after
 
@@ -74,7 +74,7 @@ module _ {S : Type 0} (state : S → StorageState) (table : TableValue) (from : 
 
     there : IsSafeWith state table old before → block_at (bytes_of (state before.image).bytes) before.header.fields i ≢ 0
     there sound empty =
-        let at = named-block (bytes_of (state before.image).bytes) before.header table i sound.table_of_file key sound.safe.consistent named in
+        let at = named-block (bytes_of (state before.image).bytes) before.header table i sound.table_of_file key sound.well_formed.consistent named in
         place-there (cluster_size before.header.fields) key (pow_pos before.header.fields.cluster_bits) at.some (sym at.place ∙ empty)
 
     finds : IsSafeWith state table old before → (found : Option ℕ) → Read found → IfOk (located (i * k) (Ok found)) Finds
@@ -88,9 +88,9 @@ module _ {S : Type 0} (state : S → StorageState) (table : TableValue) (from : 
         let inside : j < k = (let lt = is.1 in omega (arith, lt, long)) in
         let ge = is.0 in
         record {
-          behind = omega (arith, at, ge);
+          not_before_start = omega (arith, at, ge);
           before = omega (arith, inside);
-          there = rw (own j inside) (there sound);
+          has_counter = rw (own j inside) (there sound);
           free = read.counted sound j is.1 ∙ is.2;
           least = λ z ge' lt has. counted-above (counts_in state old before) i k index read.counters long (read.counted sound) j z is.3 (omega (arith, inside)) (omega (arith, at, ge')) (omega (arith, lt));
         }
@@ -162,9 +162,9 @@ module _ {S : Type 0} (state : S → StorageState) (table : TableValue) (from : 
         looked = looked-then state table old before tt mid between (Ok (Some c)) new after searched.looked looks.looked;
         found = λ sound.
             let first = looks.found (sound-mid sound) in record {
-              behind = let was = searched.behind in let ge = first.behind in omega (arith, was, ge);
+              not_before_start = let was = searched.behind in let ge = first.not_before_start in omega (arith, was, ge);
               before = let lt = first.before in omega (arith, lt, le);
-              there = λ none. first.there (same-counter sound c ∙ none);
+              has_counter = λ none. first.has_counter (same-counter sound c ∙ none);
               free = sym (same-count sound c) ∙ first.free;
               least = λ z ge lt. passed-more sound c first.least z ge lt;
             };

@@ -6,7 +6,7 @@ use Rattle.qcow2_types.specs.Header.{cluster_size}
 use Rattle.qcow2_types.specs.Counts.{block_at, counters_of_block, count}
 use Rattle.qcow2_types.specs.Pending.{FreeEntry}
 use Rattle.qcow2_types.specs.References.{meets}
-use Rattle.qcow2_types.specs.Versions.{named}
+use Rattle.qcow2_types.specs.Versions.{references_in_either}
 use Rattle.qcow2_types.proofs.Changes.Frames.{refcount_table-part}
 use Rattle.qcow2_types.proofs.Fields.HeaderLimits.{header-limited}
 use Rattle.qcow2_types.proofs.Changes.WriteBack.{place-whole}
@@ -15,19 +15,19 @@ use Rattle.qcow2_alloc.specs.declared.cache.CacheDependency.{CacheDependency}
 use Rattle.qcow2_alloc.specs.declared.cache.CacheDependency.TheVariants.{L2DependsOnRb}
 use Rattle.qcow2_alloc.specs.FreeList.{covers}
 use Rattle.qcow2_alloc.specs.MakingRoom.{newly, formerly, run_of, IsReadyTable, TableSwitched, with_table}
-use Rattle.qcow2_alloc.specs.Quiet.{Metadata, in_memory, counted, referenced, named_at_all, waiting, covers_metadata, IsUsed, IsSound, IsQuiet}
-use Rattle.qcow2_alloc.specs.Safety.{IsOrdered, IsSettled, AreBlocksClean}
+use Rattle.qcow2_alloc.specs.GuestView.{Metadata, in_memory, counted, referenced, referenced_at_all, waiting, covers_metadata, IsUsed, IsSound, GuestUnchanged}
+use Rattle.qcow2_alloc.specs.WellFormedness.{IsOrdered, IsSettled, AreBlocksClean}
 use Rattle.qcow2_alloc.specs.Memory.{Cached, memory}
 use Rattle.qcow2_alloc.proofs.Memory.MemoryWords.{counts-same}
 use Rattle.qcow2_alloc.proofs.Memory.SafeLaws.{settled-names}
 use Rattle.qcow2_alloc.proofs.Freeing.ClusterOccurrences.{covers-meets}
-use Rattle.qcow2_alloc.proofs.Quiet.QuietEntries.{push-quiet}
+use Rattle.qcow2_alloc.proofs.GuestView.QuietEntries.{push-quiet}
 use Rattle.qcow2_alloc.proofs.Memory.KeptWords.{structure-named}
 
 -- While blocks are written first, what isn't counted in memory is named nowhere, and nothing waits to free it.
-pub uncounted-free : (m : Metadata) → IsSound m → m.order ≡ L2DependsOnRb → (c : ℕ) → counted m c ≡ 0 → (named_at_all m c ≡ 0) × (waiting m c ≡ 0) × (IsUsed m c → ⊥)
+pub uncounted-free : (m : Metadata) → IsSound m → m.order ≡ L2DependsOnRb → (c : ℕ) → counted m c ≡ 0 → (referenced_at_all m c ≡ 0) × (waiting m c ≡ 0) × (IsUsed m c → ⊥)
 uncounted-free m sound order c none =
-    let first = subst (λ (o : CacheDependency). IsOrdered o m.file (in_memory m) m.header.fields) order sound.safe.ordered in
+    let first = subst (λ (o : CacheDependency). IsOrdered o m.file (in_memory m) m.header.fields) order sound.well_formed.ordered in
     let le = first.cached c in
     let covers_all = sound.covered c in (
       omega (arith, le, none),
@@ -37,16 +37,16 @@ uncounted-free m sound order c none =
 
 -- Flushes leave each count in memory, and name no cluster anew. Where no block waits to be written the file counts what memory does.
 pub flushes-count : (m : Metadata) (old new : List ℕ) (cached' : Cached) → m.file ≡ bytes_of old → IsSettled m.header m.order old m.cached new cached' → (c : ℕ)
-    → (counted (record m { file = bytes_of new; cached = cached' }) c ≡ counted m c) × (named_at_all (record m { file = bytes_of new; cached = cached' }) c ≤ named_at_all m c)
+    → (counted (record m { file = bytes_of new; cached = cached' }) c ≡ counted m c) × (referenced_at_all (record m { file = bytes_of new; cached = cached' }) c ≤ referenced_at_all m c)
 flushes-count m old new cached' at settled c =
     let same : memory (bytes_of old) m.header.fields m.cached ≡ in_memory m = ap (λ (f : Bytes). memory f m.header.fields m.cached) (sym at) in (
       ap (λ (g : Bytes). count g m.header.fields c) (settled.memory_same ∙ same),
-      subst (λ (f : Bytes). named (bytes_of new) (memory (bytes_of new) m.header.fields cached') m.header.fields c ≤ named f (memory f m.header.fields m.cached) m.header.fields c) (sym at)
+      subst (λ (f : Bytes). references_in_either (bytes_of new) (memory (bytes_of new) m.header.fields cached') m.header.fields c ≤ references_in_either f (memory f m.header.fields m.cached) m.header.fields c) (sym at)
           (settled-names m.header m.order old new m.cached cached' settled c),
     )
 
 pub clean-counts : (m : Metadata) → IsSound m → AreBlocksClean m.cached → (c : ℕ) → counted m c ≡ count m.file m.header.fields c
-clean-counts m sound clean c = counts-same m.file m.header sound.safe.consistent m.cached sound.safe.tables sound.safe.blocks clean c
+clean-counts m sound clean c = counts-same m.file m.header sound.well_formed.consistent m.cached sound.well_formed.tables sound.well_formed.blocks clean c
 
 module _ (m : Metadata) (table : TableValue) (t n : ℕ) (x : Bytes) (sound : IsSound m) (ready : IsReadyTable m table t n) (switched : TableSwitched m (with_table m table t n x) t n) (sound' : IsSound (with_table m table t n x)) where
   abbrev m' : Metadata
@@ -58,16 +58,16 @@ module _ (m : Metadata) (table : TableValue) (t n : ℕ) (x : Bytes) (sound : Is
 
   pub old-run : (c : ℕ) → covers c e ≡ formerly m c
   old-run c =
-      let limited = header-limited true m.file m.header sound.safe.consistent.readable.loads in
+      let limited = header-limited true m.file m.header sound.well_formed.consistent.readable.loads in
       covers-meets m.header.fields c e
       ∙ ap (λ p. meets m.header.fields c p (m.header.fields.refcount_table_clusters * cluster_size m.header.fields)) (place-whole m.header.fields.cluster_bits m.header.fields.refcount_table_offset limited.refcount_place)
 
   -- Each of them was named, by the table alone, and so nothing names it now.
-  was-named : (c : ℕ) → 0 < formerly m c → (named_at_all m c ≡ 1) × (newly m t n c ≡ 0)
+  was-named : (c : ℕ) → 0 < formerly m c → (referenced_at_all m c ≡ 1) × (newly m t n c ≡ 0)
   was-named c some =
       let part = refcount_table-part m.file m.header.fields (meets m.header.fields c) in
       let all = structure-named m.file (in_memory m) m.header.fields c in
-      let one = sound.safe.apart c (omega (arith, part, some)) in (
+      let one = sound.well_formed.apart c (omega (arith, part, some)) in (
         omega (arith, part, all, one, some),
         elim (cases_lt 0 (newly m t n c)) [
           | inl new ↦ let none = (ready.free c new).0 in absurd (omega (arith, part, all, some, none))
@@ -91,13 +91,13 @@ module _ (m : Metadata) (table : TableValue) (t n : ℕ) (x : Bytes) (sound : Is
             ]
       ]
 
-  unnamed : (c : ℕ) → 0 < covers_metadata c e → named_at_all m' c ≡ 0
-  unnamed c some =
+  not_referenced : (c : ℕ) → 0 < covers_metadata c e → referenced_at_all m' c ≡ 0
+  not_referenced c some =
       let run = old-run c in
       let moved = switched.names c in
       let was = was-named c (omega (arith, run, some)) in
       omega (arith, moved, was.0, was.1, run, some)
 
   -- They wait to be freed then.
-  pub old-table-waits : IsSound (record m' { pending = m.pending ++ e ∷ [] }) × IsQuiet (λ _. 0) (λ c. covers c e) m' (record m' { pending = m.pending ++ e ∷ [] })
-  old-table-waits = push-quiet m' e sound' enough unnamed
+  pub old-table-waits : IsSound (record m' { pending = m.pending ++ e ∷ [] }) × GuestUnchanged (λ _. 0) (λ c. covers c e) m' (record m' { pending = m.pending ++ e ∷ [] })
+  old-table-waits = push-quiet m' e sound' enough not_referenced

@@ -13,7 +13,7 @@ use Rattle.qcow2_metadata.specs.Tables.{TableValue}
 use Rattle.qcow2_alloc.specs.declared.allocation.searching.Run.{Run}
 use Rattle.qcow2_alloc.specs.declared.cache.MetadataCaches.{MetadataCaches}
 use Rattle.qcow2_alloc.specs.declared.file.ImageFile.{ImageFile}
-use Rattle.qcow2_alloc.specs.Allocators.{named_block, UsesBlock}
+use Rattle.qcow2_alloc.specs.Allocators.{referenced_block, UsesBlock}
 use Rattle.qcow2_alloc.specs.Caches.{CachedFile, cached_file}
 use Rattle.qcow2_alloc.specs.Scanning.{next_of, IsRunSoFar, ScansSome, Reads, ExtendsRun}
 use Rattle.qcow2_alloc.specs.SearchingClusters.{counts_in, IsSafeWith, Looked, LooksForRun}
@@ -44,31 +44,31 @@ module _ {S : Type 0} (state : S → StorageState) (table : TableValue) (n : ℕ
   split : next_of run ≡ i * k + index
   split = let both = mod-add-div' (next_of run) k in omega (arith, both)
 
-  abbrev Read : (key : ℕ) → named_block table i ≡ Some key → MetadataCaches S → ImageFile S → Run → Type 0
+  abbrev Read : (key : ℕ) → referenced_block table i ≡ Some key → MetadataCaches S → ImageFile S → Run → Type 0
   Read key named new after = IsRead state table ScansRun key i named old before new after
 
   -- The block was scanned,
-  pub extends-some : (key : ℕ) → named_block table i ≡ Some key → (result : Result Run Fault) (new : MetadataCaches S) (after : ImageFile S) → UsesBlock state key (Reads k ScansRun) (cached_file old before) result (cached_file new after) → ExtendsRun state table n run (cached_file old before) result (cached_file new after)
+  pub extends-some : (key : ℕ) → referenced_block table i ≡ Some key → (result : Result Run Fault) (new : MetadataCaches S) (after : ImageFile S) → UsesBlock state key (Reads k ScansRun) (cached_file old before) result (cached_file new after) → ExtendsRun state table n run (cached_file old before) result (cached_file new after)
   extends-some key named result new after uses =
       let known = reads-known state table ScansRun key i named old before new after result uses in record {
         looked = reads-looked state table ScansRun key i named old before new after result uses;
         more = ok-weaker (Read key named new after) (λ (now : Run). next_of run < next_of now) (λ now read. let moved = read.reads.scans.moved in let more = read.reads.more in omega (arith, moved, more)) result known;
         rising = ok-weaker (Read key named new after) (λ (now : Run). run.first ≤ now.first) (λ now read. read.reads.scans.rising) result known;
-        near = ok-weaker (Read key named new after) (λ (now : Run). next_of now ≤ (i + 1) * k)
+        end_in_block = ok-weaker (Read key named new after) (λ (now : Run). next_of now ≤ (i + 1) * k)
             (λ now read. let moved = read.reads.scans.moved in let inside = read.reads.inside in let long = read.long in let at = split in omega (arith, moved, inside, long, at)) result known;
         so_far = λ sound. ok-weaker (Read key named new after) (λ (now : Run). (from : ℕ) → IsRunSoFar (counts_in state old before) from n run → IsRunSoFar (counts_in state old before) from n now)
             (λ now read from so_far. read.reads.scans.so_far (counts_in state old before) from (i * k) split (read.counted sound) so_far) result known;
       }
 
   -- or there is none, and its clusters aren't counted.
-  pub extends-none : 0 < k → named_block table i ≡ None → ExtendsRun state table n run (cached_file old before) (Ok (longer run (k - index))) (cached_file old before)
+  pub extends-none : 0 < k → referenced_block table i ≡ None → ExtendsRun state table n run (cached_file old before) (Ok (longer run (k - index))) (cached_file old before)
   extends-none some none =
       let at = split in
       let below = mod_below (next_of run) k some in record {
         looked = looked-none state table (longer run (k - index)) old before;
         more = omega (arith, below);
         rising = omega arith;
-        near = omega (arith, at, below);
+        end_in_block = omega (arith, at, below);
         so_far = λ sound from so_far. run-longer (counts_in state old before) from n run (k - index)
             (λ c ge lt.
             let own : c / k ≡ i = same-block c ge (omega (arith, lt, at, below)) in
@@ -87,19 +87,19 @@ module _ {S : Type 0} (state : S → StorageState) (table : TableValue) (n : ℕ
 pub record RunSearched {S : Type 0} (state : S → StorageState) (table : TableValue) (from n : ℕ) (old : CachedFile S) (run : Run) (new : CachedFile S) : Type 0 where
   pub looked : Looked state {T = Unit {0}} table old (Ok tt) new
   pub behind : from ≤ run.first
-  pub within : next_of run ≤ max from (length table.words * counters_of_block old.file.header.fields)
+  pub within : next_of run ≤ max from (length table.raw_entries * counters_of_block old.file.header.fields)
   pub so_far : IsSafeWith state table old.caches old.file → IsRunSoFar (counts_in state old.caches old.file) from n run
 
 module _ {S : Type 0} (state : S → StorageState) (table : TableValue) (from n : ℕ) (old : MetadataCaches S) (before : ImageFile S) where
   module _ (run : Run) (mid : MetadataCaches S) (between : ImageFile S) (searched : RunSearched state table from n (cached_file old before) run (cached_file mid between)) where
     -- It goes on,
-    pub searched-then : next_of run / counters_of_block before.header.fields < length table.words → (now : Run) (new : MetadataCaches S) (after : ImageFile S) → ExtendsRun state table n run (cached_file mid between) (Ok now) (cached_file new after) → RunSearched state table from n (cached_file old before) now (cached_file new after)
+    pub searched-then : next_of run / counters_of_block before.header.fields < length table.raw_entries → (now : Run) (new : MetadataCaches S) (after : ImageFile S) → ExtendsRun state table n run (cached_file mid between) (Ok now) (cached_file new after) → RunSearched state table from n (cached_file old before) now (cached_file new after)
     searched-then inside now new after extends = record {
       behind = let first = searched.behind in let rising = extends.rising in omega (arith, first, rising);
       within =
           let near : next_of now ≤ (next_of run / counters_of_block before.header.fields + 1) * counters_of_block before.header.fields =
-          subst (λ (h : Header). next_of now ≤ (next_of run / counters_of_block h.fields + 1) * counters_of_block h.fields) searched.looked.header extends.near in
-          let le : (next_of run / counters_of_block before.header.fields + 1) * counters_of_block before.header.fields ≤ length table.words * counters_of_block before.header.fields = mul-le-mul (omega (arith, inside)) (omega arith) in
+          subst (λ (h : Header). next_of now ≤ (next_of run / counters_of_block h.fields + 1) * counters_of_block h.fields) searched.looked.header extends.end_in_block in
+          let le : (next_of run / counters_of_block before.header.fields + 1) * counters_of_block before.header.fields ≤ length table.raw_entries * counters_of_block before.header.fields = mul-le-mul (omega (arith, inside)) (omega arith) in
           omega (arith, near, le);
       looked = looked-answer state table old before now tt new after (looked-then state table old before tt mid between (Ok now) new after searched.looked extends.looked);
       so_far = λ sound.
@@ -111,21 +111,21 @@ module _ {S : Type 0} (state : S → StorageState) (table : TableValue) (from n 
 
     -- or is refused,
     pub searched-refused : (fault : Fault) (new : MetadataCaches S) (after : ImageFile S) → ExtendsRun state table n run (cached_file mid between) (Err fault) (cached_file new after) → LooksForRun state table from n (cached_file old before) (Err fault) (cached_file new after)
-    searched-refused fault new after extends = record { looked = looked-refused state table old before fault new after (looked-then state table old before tt mid between (Err fault) new after searched.looked extends.looked); near = tt; found = λ sound. tt }
+    searched-refused fault new after extends = record { looked = looked-refused state table old before fault new after (looked-then state table old before tt mid between (Err fault) new after searched.looked extends.looked); result_bounded = tt; found = λ sound. tt }
 
     -- or ends with a run that is long enough,
     pub searched-long : n ≤ run.len → LooksForRun state table from n (cached_file old before) (Ok run.first) (cached_file mid between)
-    searched-long long = record { looked = looked-answer state table old before tt run.first mid between searched.looked; near = (searched.behind, let within = searched.within in omega (arith, within)); found = λ sound. run-found (counts_in state old before) from n run long (searched.so_far sound) }
+    searched-long long = record { looked = looked-answer state table old before tt run.first mid between searched.looked; result_bounded = (searched.behind, let within = searched.within in omega (arith, within)); found = λ sound. run-found (counts_in state old before) from n run long (searched.so_far sound) }
 
     -- or behind the table.
-    pub searched-all : length table.words ≤ next_of run / counters_of_block before.header.fields → LooksForRun state table from n (cached_file old before) (Ok run.first) (cached_file mid between)
+    pub searched-all : length table.raw_entries ≤ next_of run / counters_of_block before.header.fields → LooksForRun state table from n (cached_file old before) (Ok run.first) (cached_file mid between)
     searched-all past = record {
       looked = looked-answer state table old before tt run.first mid between searched.looked;
-      near = (searched.behind, let within = searched.within in omega (arith, within));
+      result_bounded = (searched.behind, let within = searched.within in omega (arith, within));
       found = λ sound.
           let h = before.header.fields in
-          let some = some-counters h (shaped-in (bytes_of (state before.image).bytes) before.header sound.safe.consistent) in
-          let all = blocks-before (next_of run) (length table.words) (counters_of_block h) past in
+          let some = some-counters h (shaped-in (bytes_of (state before.image).bytes) before.header sound.well_formed.consistent) in
+          let all = blocks-before (next_of run) (length table.raw_entries) (counters_of_block h) past in
           run-last (counts_in state old before) from n run
-          (λ c ge. uncounted-behind state table old before sound c (le-div (length table.words) c (counters_of_block h) some (omega (arith, all, ge)))) (searched.so_far sound);
+          (λ c ge. uncounted-behind state table old before sound c (le-div (length table.raw_entries) c (counters_of_block h) some (omega (arith, all, ge)))) (searched.so_far sound);
     }

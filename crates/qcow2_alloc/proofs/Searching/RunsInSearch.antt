@@ -9,8 +9,8 @@ use Rattle.qcow2_alloc.specs.Scanning.{next_of, IsRunSoFar, Scans}
 use Rattle.qcow2_alloc.specs.SearchingClusters.{IsFirstRun}
 
 -- The clusters that the blocks of a table count have numbers of 64 bits.
-pub few-clusters : (i k words bits : ℕ) → i < words → words ≤ 2 ^ 20 → 2 ^ bits ≡ k → bits ≤ 24 → (i + 1) * k < 2 ^ 64
-few-clusters i k words bits inside few size least =
+pub few-clusters : (i k raw_entries bits : ℕ) → i < raw_entries → raw_entries ≤ 2 ^ 20 → 2 ^ bits ≡ k → bits ≤ 24 → (i + 1) * k < 2 ^ 64
+few-clusters i k raw_entries bits inside few size least =
     let most : 2 ^ bits ≤ 2 ^ 24 = pow_mono least in
     let up : i + 1 ≤ 2 ^ 20 = omega (arith, inside, few) in
     let wide : k ≤ 2 ^ 24 = omega (arith, most, size) in
@@ -51,7 +51,7 @@ run_then run is_free = if is_free then longer run 1 else none_from (next_of run 
 -- The same counts have the same runs.
 pub run-same : (counts counts' : ℕ → ℕ) (from n : ℕ) (run : Run) → ((c : ℕ) → counts' c ≡ counts c) → IsRunSoFar counts from n run → IsRunSoFar counts' from n run
 run-same counts counts' from n run same so_far = record {
-  behind = so_far.behind;
+  not_before_start = so_far.not_before_start;
   free = λ c ge lt. same c ∙ so_far.free c ge lt;
   least = λ z ge lt. let found = so_far.least z ge lt in (found.0, found.1, found.2, subst (λ k. 0 < k) (sym (same found.0)) found.3);
 }
@@ -59,12 +59,12 @@ run-same counts counts' from n run same so_far = record {
 module _ (counts : ℕ → ℕ) (from n : ℕ) where
   -- It begins with none.
   pub run-none : IsRunSoFar counts from n (none_from from)
-  run-none = record { behind = omega arith; free = λ c ge lt. absurd (omega (arith, ge, lt)); least = λ z ge lt. absurd (omega (arith, ge, lt)) }
+  run-none = record { not_before_start = omega arith; free = λ c ge lt. absurd (omega (arith, ge, lt)); least = λ z ge lt. absurd (omega (arith, ge, lt)) }
 
   -- Clusters behind it that aren't counted extend it;
   pub run-longer : (run : Run) (k : ℕ) → ((c : ℕ) → next_of run ≤ c → c < next_of run + k → counts c ≡ 0) → IsRunSoFar counts from n run → IsRunSoFar counts from n (longer run k)
   run-longer run k none so_far = record {
-    behind = so_far.behind;
+    not_before_start = so_far.not_before_start;
     free = λ c ge lt. elim (cases_lt c (next_of run)) [ inl inside ↦ so_far.free c ge inside | inr past ↦ none c past (omega (arith, lt)) ];
     least = so_far.least;
   }
@@ -72,7 +72,7 @@ module _ (counts : ℕ → ℕ) (from n : ℕ) where
   -- behind one that is, another begins, while it is too short.
   pub run-anew : (run : Run) → run.len < n → 0 < counts (next_of run) → IsRunSoFar counts from n run → IsRunSoFar counts from n (none_from (next_of run + 1))
   run-anew run short some so_far = record {
-    behind = let was = so_far.behind in omega (arith, was);
+    not_before_start = let was = so_far.not_before_start in omega (arith, was);
     free = λ c ge lt. absurd (omega (arith, ge, lt));
     least = λ z ge lt. elim (cases_lt z run.first) [
       | inl before ↦ so_far.least z ge before
@@ -82,12 +82,12 @@ module _ (counts : ℕ → ℕ) (from n : ℕ) where
 
   -- One that is long enough is the first,
   pub run-found : (run : Run) → n ≤ run.len → IsRunSoFar counts from n run → IsFirstRun counts from n run.first
-  run-found run long so_far = record { behind = so_far.behind; free = λ c ge lt. so_far.free c ge (omega (arith, lt, long)); least = so_far.least }
+  run-found run long so_far = record { not_before_start = so_far.not_before_start; free = λ c ge lt. so_far.free c ge (omega (arith, lt, long)); least = so_far.least }
 
   -- and so is one behind which nothing is counted.
   pub run-last : (run : Run) → ((c : ℕ) → next_of run ≤ c → counts c ≡ 0) → IsRunSoFar counts from n run → IsFirstRun counts from n run.first
   run-last run none so_far = record {
-    behind = so_far.behind;
+    not_before_start = so_far.not_before_start;
     free = λ c ge lt. elim (cases_lt c (next_of run)) [ inl inside ↦ so_far.free c ge inside | inr past ↦ none c past ];
     least = so_far.least;
   }

@@ -6,7 +6,7 @@ use Rattle.std.specs.Map.{lookup}
 use Rattle.std.proofs.lemmas.Bool.{cases_eq}
 use Rattle.std.proofs.lemmas.Nat.{div-mul-add, mod-mul-add}
 use Rattle.imago_storage.specs.State.{StorageState}
-use Rattle.imago_storage.specs.Calls.{Kept}
+use Rattle.imago_storage.specs.Calls.{UnchangedButFaults}
 use Rattle.imago_storage.specs.declared.fault.Fault.{Fault}
 use Rattle.imago_storage.specs.declared.fault.Fault.TheVariants.{DamagedTable}
 use Rattle.imago_storage.proofs.Composing.{keeps_on, no_stops, later_same}
@@ -14,24 +14,24 @@ use Rattle.qcow2_types.specs.Bytes.{Bytes, bytes_of}
 use Rattle.qcow2_types.specs.Header.{Header}
 use Rattle.qcow2_types.specs.Counts.{block_at, count, counters_of_block}
 use Rattle.qcow2_types.proofs.Counting.Leaks.{count-no-block, count-past}
-use Rattle.qcow2_metadata.specs.Places.{IsInReach}
+use Rattle.qcow2_metadata.specs.Places.{IsAddressable}
 use Rattle.qcow2_metadata.specs.Tables.{TableValue}
 use Rattle.qcow2_metadata.specs.Blocks.{Block}
 use Rattle.qcow2_alloc.specs.declared.async_lru_cache.Slot.{Slot}
 use Rattle.qcow2_alloc.specs.declared.cache.CacheDependency.{CacheDependency}
 use Rattle.qcow2_alloc.specs.declared.cache.MetadataCaches.{MetadataCaches}
 use Rattle.qcow2_alloc.specs.declared.file.ImageFile.{ImageFile}
-use Rattle.qcow2_alloc.specs.Allocators.{named_block, UsesBlock, BlockUsed}
+use Rattle.qcow2_alloc.specs.Allocators.{referenced_block, UsesBlock, BlockUsed}
 use Rattle.qcow2_alloc.specs.Cache.{hit}
 use Rattle.qcow2_alloc.specs.Caches.{cached_in, order_of, cached_file}
 use Rattle.qcow2_alloc.specs.CachesLending.{with_blocks}
 use Rattle.qcow2_alloc.specs.Changes.{CachesBlock, StaysAsItIs}
 use Rattle.qcow2_alloc.specs.Finding.{BlockFound, IsPinnedFull, search_causes}
-use Rattle.qcow2_alloc.specs.Freeing.{IsLoose, freeing_causes}
-use Rattle.qcow2_alloc.specs.Going.{Going, Always, WasNotCutOff, AreTablesInReach, AreBlocksInReach}
+use Rattle.qcow2_alloc.specs.Freeing.{HasUnpinnedRoom, freeing_causes}
+use Rattle.qcow2_alloc.specs.Going.{WritesBackCached, Always, HadNoResourceError, AreTablesAddressable, AreBlocksAddressable}
 use Rattle.qcow2_alloc.specs.Memory.{Cached, memory}
-use Rattle.qcow2_alloc.specs.Quiet.{IsTableOf}
-use Rattle.qcow2_alloc.specs.Safety.{Safe, IsSettled, IsCachedBlock}
+use Rattle.qcow2_alloc.specs.GuestView.{IsTableOf}
+use Rattle.qcow2_alloc.specs.WellFormedness.{WellFormed, IsSettled, IsCachedBlock}
 use Rattle.qcow2_alloc.specs.Scanning.{Reads, AreCounted}
 use Rattle.qcow2_alloc.specs.SearchingClusters.{counts_in, IsSafeWith, KeepsClean, Looked}
 use Rattle.qcow2_alloc.proofs.Caching.UnpinnedCaches.{loose-on, loose-never}
@@ -43,37 +43,37 @@ use Rattle.qcow2_alloc.proofs.Memory.CounterChanges.{cached-count}
 use Rattle.qcow2_alloc.proofs.Memory.MemoryWords.{places-in-memory}
 use Rattle.qcow2_alloc.proofs.Blocks.TableBlocks.{IsNamed, named-block}
 use Rattle.qcow2_alloc.proofs.Caching.Places.{slot-of}
-use Rattle.qcow2_alloc.proofs.Quiet.QuietFlushes.{still-table}
+use Rattle.qcow2_alloc.proofs.GuestView.QuietFlushes.{still-table}
 use Rattle.qcow2_alloc.proofs.Memory.SafeLaws.{safe-reach}
 use Rattle.qcow2_alloc.proofs.Caching.SearchOutcomes.{all-at}
 use Rattle.qcow2_alloc.proofs.Caching.EntryUses.{all-hit, block-used}
 
 -- What is used of the caches, and stays as it is, asks nothing of the storage.
-going-used : (H : Header) (order : CacheDependency) (s : StorageState) (cached cached' : Cached) → (Safe (bytes_of s.bytes) H cached order → StaysAsItIs (bytes_of s.bytes) H cached order cached') → Going H order Always ⊤ s cached s cached'
+going-used : (H : Header) (order : CacheDependency) (s : StorageState) (cached cached' : Cached) → (WellFormed (bytes_of s.bytes) H cached order → StaysAsItIs (bytes_of s.bytes) H cached order cached') → WritesBackCached H order Always ⊤ s cached s cached'
 going-used H order s cached cached' stays = record {
   shape = refl;
-  later = later_same s;
+  counts_not_fallen = later_same s;
   faults = λ done. (refl, refl);
   ready = λ r. r;
-  passes = λ keeps safe ready calm. (λ same. same, no_stops _ s s refl refl);
-  holds = λ keeps safe ready why. let stay = stays safe in
-      record { safe = stay.safe; memory_same = stay.memory_same; left = left-same (bytes_of s.bytes) (memory (bytes_of s.bytes) H.fields cached) H safe.consistent };
+  passes = λ keeps well_formed ready no_change_refused. (λ same. same, no_stops _ s s refl refl);
+  holds = λ keeps well_formed ready why. let stay = stays well_formed in
+      record { well_formed = stay.well_formed; memory_same = stay.memory_same; left = left-same (bytes_of s.bytes) (memory (bytes_of s.bytes) H.fields cached) H well_formed.consistent };
 }
 
 -- Two calls that change nothing change nothing.
-pub kept-then : (a b c : StorageState) → Kept a b → Kept b c → Kept a c
+pub kept-then : (a b c : StorageState) → UnchangedButFaults a b → UnchangedButFaults b c → UnchangedButFaults a c
 kept-then a b c first second = record {
   shape = second.shape ∙ first.shape;
   bytes = second.bytes ∙ first.bytes;
   refusals = second.refusals ∙ first.refusals;
-  stop = second.stop ∙ first.stop;
-  past = second.past ∙ first.past;
+  crash_image = second.crash_image ∙ first.crash_image;
+  past_crash_images = second.past_crash_images ∙ first.past_crash_images;
 }
 
 module _ {S : Type 0} (state : S → StorageState) where
   -- Nothing waits to be written where nothing was done,
   pub clean-none : (caches : MetadataCaches S) (file : ImageFile S) → KeepsClean state (cached_file caches file) (cached_file caches file)
-  clean-none caches file tables blocks = record { kept = kept-same (state file.image); tables = tables; blocks = blocks }
+  clean-none caches file tables blocks = record { unchanged_but_faults = kept-same (state file.image); tables = tables; blocks = blocks }
 
   -- nor behind two calls of which each leaves it so.
   pub clean-then : (old : MetadataCaches S) (before : ImageFile S) (mid : MetadataCaches S) (between : ImageFile S) (new : MetadataCaches S) (after : ImageFile S)
@@ -81,16 +81,16 @@ module _ {S : Type 0} (state : S → StorageState) where
   clean-then old before mid between new after first second tables blocks =
       let one = first tables blocks in
       let two = second one.tables one.blocks in
-      record { kept = kept-then (state before.image) (state between.image) (state after.image) one.kept two.kept; tables = two.tables; blocks = two.blocks }
+      record { unchanged_but_faults = kept-then (state before.image) (state between.image) (state after.image) one.unchanged_but_faults two.unchanged_but_faults; tables = two.tables; blocks = two.blocks }
 
 module _ {S : Type 0} (state : S → StorageState) (table : TableValue) where
   -- Nothing was searched yet.
   pub looked-none : {T : Type 0} (v : T) (caches : MetadataCaches S) (file : ImageFile S) → Looked state table (cached_file caches file) (Ok v) (cached_file caches file)
   looked-none v caches file = record {
-    going = going-none file.header (order_of caches) Always ⊤ (state file.image) (cached_in caches);
+    writes_back_cached = going-none file.header (order_of caches) Always ⊤ (state file.image) (cached_in caches);
     order = refl;
     header = refl;
-    loose = λ any loose. loose;
+    keeps_unpinned_room = λ any loose. loose;
     room = record { tables = refl; blocks = refl; entries = refl };
     clean = clean-none state caches file;
     cause = refl;
@@ -98,22 +98,22 @@ module _ {S : Type 0} (state : S → StorageState) (table : TableValue) where
 
   -- It does the same whatever it answers.
   pub looked-answer : {T U : Type 0} (old : MetadataCaches S) (before : ImageFile S) (v : T) (w : U) (new : MetadataCaches S) (after : ImageFile S) → Looked state table (cached_file old before) (Ok v) (cached_file new after) → Looked state table (cached_file old before) (Ok w) (cached_file new after)
-  looked-answer old before v w new after looked = record { going = looked.going; order = looked.order; header = looked.header; loose = looked.loose; room = looked.room; clean = looked.clean; cause = looked.cause }
+  looked-answer old before v w new after looked = record { writes_back_cached = looked.writes_back_cached; order = looked.order; header = looked.header; keeps_unpinned_room = looked.keeps_unpinned_room; room = looked.room; clean = looked.clean; cause = looked.cause }
 
   pub looked-refused : {T U : Type 0} (old : MetadataCaches S) (before : ImageFile S) (fault : Fault) (new : MetadataCaches S) (after : ImageFile S) → Looked state {T = T} table (cached_file old before) (Err fault) (cached_file new after) → Looked state {T = U} table (cached_file old before) (Err fault) (cached_file new after)
-  looked-refused old before fault new after looked = record { going = looked.going; order = looked.order; header = looked.header; loose = looked.loose; room = looked.room; clean = looked.clean; cause = looked.cause }
+  looked-refused old before fault new after looked = record { writes_back_cached = looked.writes_back_cached; order = looked.order; header = looked.header; keeps_unpinned_room = looked.keeps_unpinned_room; room = looked.room; clean = looked.clean; cause = looked.cause }
 
   module _ {T : Type 0} (old : MetadataCaches S) (before : ImageFile S) (v : T) (new : MetadataCaches S) (after : ImageFile S) (looked : Looked state table (cached_file old before) (Ok v) (cached_file new after)) (sound : IsSafeWith state table old before) where
     settled : IsSettled before.header (order_of old) (state before.image).bytes (cached_in old) (state after.image).bytes (cached_in new)
-    settled = looked.going.holds sound.keeps sound.safe tt (inl tt)
+    settled = looked.writes_back_cached.holds sound.keeps sound.well_formed tt (inl tt)
 
     -- What was safe is so behind a search, for the next one,
     pub safe-still : IsSafeWith state table new after
     safe-still =
         let x = bytes_of (state after.image).bytes in record {
-          keeps = keeps_on (state before.image) (state after.image) looked.going.shape sound.keeps;
-          safe = subst (λ (h : Header). Safe x h (cached_in new) (order_of new)) (sym looked.header) (subst (λ (o : CacheDependency). Safe x before.header (cached_in new) o) (sym looked.order) settled.safe);
-          table_of_file = subst (λ (h : Header). IsTableOf x h.fields table) (sym looked.header) (still-table (bytes_of (state before.image).bytes) x before.header.fields table settled.left.words.places.blocks sound.table_of_file);
+          keeps = keeps_on (state before.image) (state after.image) looked.writes_back_cached.shape sound.keeps;
+          well_formed = subst (λ (h : Header). WellFormed x h (cached_in new) (order_of new)) (sym looked.header) (subst (λ (o : CacheDependency). WellFormed x before.header (cached_in new) o) (sym looked.order) settled.well_formed);
+          table_of_file = subst (λ (h : Header). IsTableOf x h.fields table) (sym looked.header) (still-table (bytes_of (state before.image).bytes) x before.header.fields table settled.left.raw_entries.places.blocks sound.table_of_file);
         }
 
     -- and counts what it did,
@@ -124,39 +124,39 @@ module _ {S : Type 0} (state : S → StorageState) (table : TableValue) where
 
     -- in the blocks that it did.
     pub blocks-still : (i : ℕ) → block_at (bytes_of (state after.image).bytes) before.header.fields i ≡ block_at (bytes_of (state before.image).bytes) before.header.fields i
-    blocks-still i = settled.left.words.places.blocks i
+    blocks-still i = settled.left.raw_entries.places.blocks i
 
   module _ {T U : Type 0} (old : MetadataCaches S) (before : ImageFile S) (v : T) (mid : MetadataCaches S) (between : ImageFile S) (result : Result U Fault) (new : MetadataCaches S) (after : ImageFile S)
       (first : Looked state table (cached_file old before) (Ok v) (cached_file mid between)) (second : Looked state table (cached_file mid between) result (cached_file new after)) where
     abbrev Goes : Header → CacheDependency → Type 0
-    Goes h o = Going h o Always (WasNotCutOff result) (state between.image) (cached_in mid) (state after.image) (cached_in new)
+    Goes h o = WritesBackCached h o Always (HadNoResourceError result) (state between.image) (cached_in mid) (state after.image) (cached_in new)
 
     -- A search may go on behind another.
     pub looked-then : Looked state table (cached_file old before) result (cached_file new after)
     looked-then =
-        let going : Goes before.header (order_of old) = subst (λ (h : Header). Goes h (order_of old)) first.header (subst (λ (o : CacheDependency). Goes between.header o) first.order second.going) in record {
-          going = going-weaker before.header (order_of old) Always (⊤ × WasNotCutOff result) (WasNotCutOff result) (state before.image) (state after.image) (cached_in old) (cached_in new) (λ whole. (tt, whole))
-              (going-both before.header (order_of old) Always ⊤ (WasNotCutOff result) (state before.image) (state between.image) (state after.image) (cached_in old) (cached_in mid) (cached_in new) first.going going);
+        let going : Goes before.header (order_of old) = subst (λ (h : Header). Goes h (order_of old)) first.header (subst (λ (o : CacheDependency). Goes between.header o) first.order second.writes_back_cached) in record {
+          writes_back_cached = going-weaker before.header (order_of old) Always (⊤ × HadNoResourceError result) (HadNoResourceError result) (state before.image) (state after.image) (cached_in old) (cached_in new) (λ whole. (tt, whole))
+              (going-both before.header (order_of old) Always ⊤ (HadNoResourceError result) (state before.image) (state between.image) (state after.image) (cached_in old) (cached_in mid) (cached_in new) first.writes_back_cached going);
           order = second.order ∙ first.order;
           header = second.header ∙ first.header;
-          loose = λ any loose. second.loose any (first.loose any loose);
+          keeps_unpinned_room = λ any loose. second.keeps_unpinned_room any (first.keeps_unpinned_room any loose);
           room = record { tables = second.room.tables ∙ first.room.tables; blocks = second.room.blocks ∙ first.room.blocks; entries = second.room.entries ∙ first.room.entries };
           clean = clean-then state old before mid between new after first.clean second.clean;
-          cause = fails-weaker _ _ (freeing-weaker (safe-still old before v mid between first) (first.loose true) first.cause) (λ same. same ∙ first.cause) result second.cause;
+          cause = fails-weaker _ _ (freeing-weaker (safe-still old before v mid between first) (first.keeps_unpinned_room true) first.cause) (λ same. same ∙ first.cause) result second.cause;
         }
 
   -- The search of a block that the refcount table names.
-  module _ (key i : ℕ) (named : named_block table i ≡ Some key) (old : MetadataCaches S) (before : ImageFile S) (new : MetadataCaches S) (after : ImageFile S) where
+  module _ (key i : ℕ) (named : referenced_block table i ≡ Some key) (old : MetadataCaches S) (before : ImageFile S) (new : MetadataCaches S) (after : ImageFile S) where
     named-there : IsSafeWith state table old before → IsNamed (bytes_of (state before.image).bytes) before.header i key
-    named-there sound = named-block (bytes_of (state before.image).bytes) before.header table i sound.table_of_file key sound.safe.consistent named
+    named-there sound = named-block (bytes_of (state before.image).bytes) before.header table i sound.table_of_file key sound.well_formed.consistent named
 
-    search-frees : Implies (search_causes (IsInReach before.header.fields.cluster_bits key × AreBlocksInReach (cached_in old) × AreTablesInReach (cached_in old)) (IsPinnedFull old.rb.slots.cap (cached_in old).blocks) (state before.image).faults (state after.image).faults)
-        (freeing_causes (IsSafeWith state table old before) (IsLoose table old true) (state before.image).faults (state after.image).faults)
+    search-frees : Implies (search_causes (IsAddressable before.header.fields.cluster_bits key × AreBlocksAddressable (cached_in old) × AreTablesAddressable (cached_in old)) (IsPinnedFull old.rb.slots.cap (cached_in old).blocks) (state before.image).faults (state after.image).faults)
+        (freeing_causes (IsSafeWith state table old before) (HasUnpinnedRoom table old true) (state before.image).faults (state after.image).faults)
     search-frees = record {
       before = omega arith;
       after = omega arith;
       damaged = λ wrong sound.
-          let reach = safe-reach (bytes_of (state before.image).bytes) before.header (cached_in old) (order_of old) sound.safe in
+          let reach = safe-reach (bytes_of (state before.image).bytes) before.header (cached_in old) (order_of old) sound.well_formed in
           wrong ((named-there sound).reach, reach.1, reach.0);
       counter = absurd;
       full = λ full loose. loose-never table old true loose full;
@@ -164,29 +164,29 @@ module _ {S : Type 0} (state : S → StorageState) (table : TableValue) where
     }
 
     clean-found : (answer : Result Unit Fault) → BlockFound state key old before answer new after → KeepsClean state (cached_file old before) (cached_file new after)
-    clean-found answer found tables blocks = let still = found.still blocks tables in record { kept = still.0; tables = still.2; blocks = still.1 }
+    clean-found answer found tables blocks = let has_no_dirty_data = found.has_no_dirty_data blocks tables in record { unchanged_but_faults = has_no_dirty_data.0; tables = has_no_dirty_data.2; blocks = has_no_dirty_data.1 }
 
-    loose-found : (answer : Result Unit Fault) → BlockFound state key old before answer new after → (any : Bool) → IsLoose table old any → IsLoose table new any
+    loose-found : (answer : Result Unit Fault) → BlockFound state key old before answer new after → (any : Bool) → HasUnpinnedRoom table old any → HasUnpinnedRoom table new any
     loose-found answer found = loose-on table old new found.sought.pinned found.room.0
 
     found-refused : {T : Type 0} (fault : Fault) → BlockFound state key old before (Err fault) new after → Looked state {T = T} table (cached_file old before) (Err fault) (cached_file new after)
     found-refused fault found = record {
-      going = found.going;
+      writes_back_cached = found.writes_back_cached;
       order = found.others.0;
       header = found.others.1;
-      loose = loose-found (Err fault) found;
-      room = record { tables = found.room.1; blocks = found.room.0; entries = found.kept };
+      keeps_unpinned_room = loose-found (Err fault) found;
+      room = record { tables = found.room.1; blocks = found.room.0; entries = found.other_unchanged };
       clean = clean-found (Err fault) found;
       cause = cause-weaker search-frees fault found.cause;
     }
 
     found-looked : BlockFound state key old before (Ok tt) new after → Looked state {T = Unit {0}} table (cached_file old before) (Ok tt) (cached_file new after)
     found-looked found = record {
-      going = found.going;
+      writes_back_cached = found.writes_back_cached;
       order = found.others.0;
       header = found.others.1;
-      loose = loose-found (Ok tt) found;
-      room = record { tables = found.room.1; blocks = found.room.0; entries = found.kept };
+      keeps_unpinned_room = loose-found (Ok tt) found;
+      room = record { tables = found.room.1; blocks = found.room.0; entries = found.other_unchanged };
       clean = clean-found (Ok tt) found;
       cause = found.cause;
     }
@@ -198,7 +198,7 @@ module _ {S : Type 0} (state : S → StorageState) (table : TableValue) where
   clean-used : (key : ℕ) (mid : MetadataCaches S) (after : ImageFile S) (block : Block) → option_map (λ (s : Slot Block). s.value) (lookup (nat_eq key) (cached_in mid).blocks) ≡ Some block
       → KeepsClean state (cached_file mid after) (cached_file (used_caches key mid block) after)
   clean-used key mid after block there tables blocks = record {
-    kept = kept-same (state after.image);
+    unchanged_but_faults = kept-same (state after.image);
     tables = tables;
     blocks = all-hit (λ (b : Block). b.modified ≡ false) key (cached_in mid).blocks block there blocks;
   }
@@ -206,11 +206,11 @@ module _ {S : Type 0} (state : S → StorageState) (table : TableValue) where
   used-looked : (key : ℕ) (mid : MetadataCaches S) (after : ImageFile S) (block : Block) → option_map (λ (s : Slot Block). s.value) (lookup (nat_eq key) (cached_in mid).blocks) ≡ Some block
       → Looked state {T = Unit {0}} table (cached_file mid after) (Ok tt) (cached_file (used_caches key mid block) after)
   used-looked key mid after block there = record {
-    going = going-used after.header (order_of mid) (state after.image) (cached_in mid) (cached_in (used_caches key mid block))
-        (λ safe. block-used (bytes_of (state after.image).bytes) after.header (cached_in mid) (order_of mid) key safe block there);
+    writes_back_cached = going-used after.header (order_of mid) (state after.image) (cached_in mid) (cached_in (used_caches key mid block))
+        (λ well_formed. block-used (bytes_of (state after.image).bytes) after.header (cached_in mid) (order_of mid) key well_formed block there);
     order = refl;
     header = refl;
-    loose = loose-on table mid (used_caches key mid block) (pins-hit key (cached_in mid).blocks block) refl;
+    keeps_unpinned_room = loose-on table mid (used_caches key mid block) (pins-hit key (cached_in mid).blocks block) refl;
     room = record { tables = refl; blocks = refl; entries = refl };
     clean = clean-used key mid after block there;
     cause = refl;
@@ -222,25 +222,25 @@ module _ {S : Type 0} (state : S → StorageState) (table : TableValue) where
   block-long key caches file block there sound =
       let f = bytes_of (state file.image).bytes in
       let found = slot-of (lookup (nat_eq key) (cached_in caches).blocks) block there in
-      let fits : IsCachedBlock f file.header.fields key found.0.value = all-at (λ (e : ℕ × Slot Block). IsCachedBlock f file.header.fields e.0 e.1.value) key (cached_in caches).blocks found.0 found.1 sound.safe.blocks in
+      let fits : IsCachedBlock f file.header.fields key found.0.value = all-at (λ (e : ℕ × Slot Block). IsCachedBlock f file.header.fields e.0 e.1.value) key (cached_in caches).blocks found.0 found.1 sound.well_formed.blocks in
       ap (λ (b : Block). length b.counters) (sym found.2) ∙ fits.long
 
   -- and they are the counts of its clusters.
-  block-counts : (key i : ℕ) → named_block table i ≡ Some key → (caches : MetadataCaches S) (file : ImageFile S) (block : Block) → option_map (λ (s : Slot Block). s.value) (lookup (nat_eq key) (cached_in caches).blocks) ≡ Some block
+  block-counts : (key i : ℕ) → referenced_block table i ≡ Some key → (caches : MetadataCaches S) (file : ImageFile S) (block : Block) → option_map (λ (s : Slot Block). s.value) (lookup (nat_eq key) (cached_in caches).blocks) ≡ Some block
       → IsSafeWith state table caches file → AreCounted (counts_in state caches file) (i * counters_of_block file.header.fields) block.counters
   block-counts key i named caches file block there sound j lt =
       let f = bytes_of (state file.image).bytes in
       let k = counters_of_block file.header.fields in
-      let place = named-block f file.header table i sound.table_of_file key sound.safe.consistent named in
+      let place = named-block f file.header table i sound.table_of_file key sound.well_formed.consistent named in
       let long = block-long key caches file block there sound in
       let inside : j < k = omega (arith, lt, long) in
       let own : (i * k + j) / k ≡ i = div-mul-add i k j inside in
       let at : (i * k + j) % k ≡ j = mod-mul-add i k j inside in
-      let caches-it : CachesBlock f file.header.fields (cached_in caches) key (i * k + j) block = record { there = there; counts = ap (λ n. block_at f file.header.fields n) own ∙ place.place; some = place.some } in
-      cached-count f file.header (cached_in caches) (order_of caches) key (i * k + j) block sound.safe caches-it ∙ ap (λ n. slice_index block.counters n) at
+      let caches-it : CachesBlock f file.header.fields (cached_in caches) key (i * k + j) block = record { block_cached = there; counts = ap (λ n. block_at f file.header.fields n) own ∙ place.place; cluster_nonzero = place.some } in
+      cached-count f file.header (cached_in caches) (order_of caches) key (i * k + j) block sound.well_formed caches-it ∙ ap (λ n. slice_index block.counters n) at
 
   -- A block that the refcount table names is found and read, or that is refused.
-  module _ {T : Type 0} (P : List ℕ → T → Type 0) (key i : ℕ) (named : named_block table i ≡ Some key) (old : MetadataCaches S) (before : ImageFile S) (new : MetadataCaches S) (after : ImageFile S) where
+  module _ {T : Type 0} (P : List ℕ → T → Type 0) (key i : ℕ) (named : referenced_block table i ≡ Some key) (old : MetadataCaches S) (before : ImageFile S) (new : MetadataCaches S) (after : ImageFile S) where
     abbrev k : ℕ
     k = counters_of_block before.header.fields
 
@@ -253,25 +253,25 @@ module _ {S : Type 0} (state : S → StorageState) (table : TableValue) where
 
       used-there : Looked state {T = Unit {0}} table (cached_file old before) (Ok tt) (cached_file new after)
       used-there = subst (λ (m : MetadataCaches S). Looked state {T = Unit {0}} table (cached_file old before) (Ok tt) (cached_file m after)) (sym same-block)
-          (looked-then old before tt used.mid after (Ok tt) (used_caches key used.mid used.value) after found-first (used-looked key used.mid after used.value used.there))
+          (looked-then old before tt used.mid after (Ok tt) (used_caches key used.mid used.value) after found-first (used-looked key used.mid after used.value used.value_cached))
 
       mid-long : IsSafeWith state table old before → length used.value.counters ≡ k
       mid-long sound =
-          block-long key used.mid after used.value used.there (safe-still old before tt used.mid after found-first sound)
+          block-long key used.mid after used.value used.value_cached (safe-still old before tt used.mid after found-first sound)
           ∙ ap (λ (h : Header). counters_of_block h.fields) used.found.others.1
 
       mid-counts : IsSafeWith state table old before → AreCounted (counts_in state old before) (i * k) used.value.counters
       mid-counts sound j lt =
           sym (counts-still old before tt used.mid after found-first sound (i * k + j))
           ∙ subst (λ (h : Header). counts_in state used.mid after (i * counters_of_block h.fields + j) ≡ slice_index used.value.counters j) used.found.others.1
-          (block-counts key i named used.mid after used.value used.there (safe-still old before tt used.mid after found-first sound) j lt)
+          (block-counts key i named used.mid after used.value used.value_cached (safe-still old before tt used.mid after found-first sound) j lt)
 
       even-looked : (r : Result T Fault) → MatchResult r (P used.value.counters) (λ fault. ⊥) → Looked state table (cached_file old before) r (cached_file new after)
-      even-looked (Ok v) reads = let u = used-there in record { going = u.going; order = u.order; header = u.header; loose = u.loose; room = u.room; clean = u.clean; cause = u.cause }
+      even-looked (Ok v) reads = let u = used-there in record { writes_back_cached = u.writes_back_cached; order = u.order; header = u.header; keeps_unpinned_room = u.keeps_unpinned_room; room = u.room; clean = u.clean; cause = u.cause }
       even-looked (Err fault) never = absurd never
 
       odd-looked : length used.value.counters ≢ k → Looked state {T = T} table (cached_file old before) (Err DamagedTable) (cached_file new after)
-      odd-looked odd = let u = used-there in record { going = u.going; order = u.order; header = u.header; loose = u.loose; room = u.room; clean = u.clean; cause = λ sound. odd (mid-long sound) }
+      odd-looked odd = let u = used-there in record { writes_back_cached = u.writes_back_cached; order = u.order; header = u.header; keeps_unpinned_room = u.keeps_unpinned_room; room = u.room; clean = u.clean; cause = λ sound. odd (mid-long sound) }
 
       used-read : Looked state table (cached_file old before) result (cached_file new after)
       used-read = elim (cases_eq (length used.value.counters) k) [
@@ -306,12 +306,12 @@ module _ {S : Type 0} (state : S → StorageState) (table : TableValue) where
     pub uncounted : (c : ℕ) → block_at (bytes_of (state file.image).bytes) file.header.fields (c / counters_of_block file.header.fields) ≡ 0 → counts_in state caches file c ≡ 0
     uncounted c none =
         let f = bytes_of (state file.image).bytes in
-        let places = places-in-memory f file.header sound.safe.consistent (cached_in caches) sound.safe.tables sound.safe.blocks in
+        let places = places-in-memory f file.header sound.well_formed.consistent (cached_in caches) sound.well_formed.tables sound.well_formed.blocks in
         let empty : block_at (memory f file.header.fields (cached_in caches)) file.header.fields (c / counters_of_block file.header.fields) ≡ 0 = places.blocks (c / counters_of_block file.header.fields) ∙ none in
         count-no-block (memory f file.header.fields (cached_in caches)) file.header.fields c empty
 
     -- and none is behind those that the table's blocks count.
-    pub uncounted-behind : (c : ℕ) → length table.words ≤ c / counters_of_block file.header.fields → counts_in state caches file c ≡ 0
+    pub uncounted-behind : (c : ℕ) → length table.raw_entries ≤ c / counters_of_block file.header.fields → counts_in state caches file c ≡ 0
     uncounted-behind c past =
         let long = sound.table_of_file.long in
         count-past (memory (bytes_of (state file.image).bytes) file.header.fields (cached_in caches)) file.header.fields c (omega (arith, long, past))

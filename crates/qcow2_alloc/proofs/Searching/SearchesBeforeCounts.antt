@@ -17,21 +17,21 @@ use Rattle.qcow2_alloc.specs.declared.file.ImageFile.{ImageFile}
 use Rattle.qcow2_alloc.specs.Allocating.{Allocating}
 use Rattle.qcow2_alloc.specs.Allocators.{metadata_of}
 use Rattle.qcow2_alloc.specs.Caches.{cached_in, order_of, cached_file}
-use Rattle.qcow2_alloc.specs.Going.{WasNotCutOff}
-use Rattle.qcow2_alloc.specs.Quiet.{Metadata, counted, IsSound, Quietly}
+use Rattle.qcow2_alloc.specs.Going.{HadNoResourceError}
+use Rattle.qcow2_alloc.specs.GuestView.{Metadata, counted, IsSound, PreservesGuest}
 use Rattle.qcow2_alloc.specs.SearchingClusters.{FindsFree, HasCounter, IsSafeWith, Looked, LooksForFree, counts_in}
-use Rattle.qcow2_alloc.specs.State.{ImageState, lent, metadata}
+use Rattle.qcow2_alloc.specs.State.{ImageState, image_state, metadata}
 use Rattle.qcow2_alloc.proofs.Handing.CountSequences.{moved-none}
 use Rattle.qcow2_alloc.proofs.Searching.FreeClusters.{flushes-count}
 use Rattle.qcow2_alloc.proofs.Memory.Patches.{shaped-in}
-use Rattle.qcow2_alloc.proofs.Quiet.QuietFlushes.{going-quietly}
+use Rattle.qcow2_alloc.proofs.GuestView.QuietFlushes.{going-quietly}
 
 module _ {S : Type 0} (state : S → StorageState) (s : ImageState S) where
   abbrev Old : Metadata
   Old = metadata state s
 
   pub sound-safe : IsTrue (state s.file.image).shape.keeps → IsSound Old → IsSafeWith state s.table s.caches s.file
-  sound-safe keeps sound = record { keeps = keeps; safe = sound.safe; table_of_file = sound.table }
+  sound-safe keeps sound = record { keeps = keeps; well_formed = sound.well_formed; table_of_file = sound.table }
 
   module _ (T : Type 0) (result : Result T Fault) (new : MetadataCaches S) (after : ImageFile S) (looked : Looked state s.table (cached_file s.caches s.file) result (cached_file new after)) where
     abbrev New : Metadata
@@ -43,37 +43,37 @@ module _ {S : Type 0} (state : S → StorageState) (s : ImageState S) where
         (subst (λ (o : CacheDependency). P (record Old { file = bytes_of (state after.image).bytes; cached = cached_in new; order = o })) (sym looked.order) p)
 
     -- Each cluster is counted as it was.
-    pub counts-looked : IsTrue (state s.file.image).shape.keeps → IsSound Old → WasNotCutOff result → (c : ℕ) → counted New c ≡ counted Old c
+    pub counts-looked : IsTrue (state s.file.image).shape.keeps → IsSound Old → HadNoResourceError result → (c : ℕ) → counted New c ≡ counted Old c
     counts-looked keeps sound whole c =
-        moved (λ m. counted m c ≡ counted Old c) (flushes-count Old (state s.file.image).bytes (state after.image).bytes (cached_in new) refl (looked.going.holds keeps sound.safe tt (inl whole)) c).0
+        moved (λ m. counted m c ≡ counted Old c) (flushes-count Old (state s.file.image).bytes (state after.image).bytes (cached_in new) refl (looked.writes_back_cached.holds keeps sound.well_formed tt (inl whole)) c).0
 
-    pub looked-allocates : Allocating state (WasNotCutOff result) (λ _. 0) s (lent s.table new after s.pending)
+    pub looked-allocates : Allocating state (HadNoResourceError result) (λ _. 0) s (image_state s.table new after s.pending)
     looked-allocates = record {
-      faults = looked.going.faults;
-      quiet = λ order. moved (λ m. Quietly (WasNotCutOff result) (λ _. 0) (λ _. 0) (state s.file.image) Old (state after.image) m) (going-quietly Old (WasNotCutOff result) (state s.file.image) (state after.image) (cached_in new) refl looked.going);
+      faults = looked.writes_back_cached.faults;
+      guest_unchanged = λ order. moved (λ m. PreservesGuest (HadNoResourceError result) (λ _. 0) (λ _. 0) (state s.file.image) Old (state after.image) m) (going-quietly Old (HadNoResourceError result) (state s.file.image) (state after.image) (cached_in new) refl looked.writes_back_cached);
       raised = λ order keeps sound whole c. inl (counts-looked keeps sound whole c);
       order = looked.order;
       moved = moved-none s.file.header after.header looked.header;
       longer = omega arith;
-      loose = looked.loose;
+      keeps_unpinned_room = looked.keeps_unpinned_room;
       room = looked.room;
     }
 
   -- A cluster whose block the refcount table names has a counter.
-  pub counter-there : IsSound Old → (c : ℕ) → block_offset (slice_index s.table.words (c / counters_of_block s.file.header.fields)) ≢ 0 → HasCounter (bytes_of (state s.file.image).bytes) s.file.header.fields c
-  counter-there sound c some none = elim (cases_lt (c / counters_of_block s.file.header.fields) (length s.table.words)) [
+  pub counter-there : IsSound Old → (c : ℕ) → block_offset (slice_index s.table.raw_entries (c / counters_of_block s.file.header.fields)) ≢ 0 → HasCounter (bytes_of (state s.file.image).bytes) s.file.header.fields c
+  counter-there sound c some none = elim (cases_lt (c / counters_of_block s.file.header.fields) (length s.table.raw_entries)) [
     | inl inside ↦ let long = sound.table.long in some (sound.table.names (c / counters_of_block s.file.header.fields) (omega (arith, inside, long)) ∙ none)
-    | inr past ↦ some (ap block_offset (get_or_past s.table.words (c / counters_of_block s.file.header.fields) 0 past))
+    | inr past ↦ some (ap block_offset (get_or_past s.table.raw_entries (c / counters_of_block s.file.header.fields) 0 past))
   ]
 
   -- What is found in the block of a cluster tells whether it is counted.
-  module _ (c : ℕ) (some : block_offset (slice_index s.table.words (c / counters_of_block s.file.header.fields)) ≢ 0) (found : Option ℕ) (new : MetadataCaches S) (after : ImageFile S)
+  module _ (c : ℕ) (some : block_offset (slice_index s.table.raw_entries (c / counters_of_block s.file.header.fields)) ≢ 0) (found : Option ℕ) (new : MetadataCaches S) (after : ImageFile S)
       (looks : LooksForFree state s.table c ((c / counters_of_block s.file.header.fields + 1) * counters_of_block s.file.header.fields) (cached_file s.caches s.file) (Ok found) (cached_file new after)) (keeps : IsTrue (state s.file.image).shape.keeps) (sound : IsSound Old) where
     same : counted (metadata_of state after new s.table s.pending) c ≡ counted Old c
     same = counts-looked (Option ℕ) (Ok found) new after looks.looked keeps sound tt c
 
     behind : c < (c / counters_of_block s.file.header.fields + 1) * counters_of_block s.file.header.fields
-    behind = let shape = div-add-mod' c (counters_of_block s.file.header.fields) in let below = mod_below c (counters_of_block s.file.header.fields) (some-counters s.file.header.fields (shaped-in Old.file Old.header sound.safe.consistent)) in omega (arith, shape, below)
+    behind = let shape = div-add-mod' c (counters_of_block s.file.header.fields) in let below = mod_below c (counters_of_block s.file.header.fields) (some-counters s.file.header.fields (shaped-in Old.file Old.header sound.well_formed.consistent)) in omega (arith, shape, below)
 
     pub counted-found : found ≢ Some c → 0 < counted (metadata_of state after new s.table s.pending) c
     counted-found other = let more = by-found found (looks.found (sound-safe keeps sound)) other in let is = same in omega (arith, more, is)
@@ -82,7 +82,7 @@ module _ {S : Type 0} (state : S → StorageState) (s : ImageState S) where
         by-found None all apart = all c (omega arith) behind (counter-there sound c some)
         by-found (Some d) first apart = elim (cases_lt c d) [
           | inl earlier ↦ first.least c (omega arith) earlier (counter-there sound c some)
-          | inr past ↦ let ge = first.behind in absurd (apart (let at : d ≡ c = omega (arith, ge, past) in ap (λ (n : ℕ). Some n) at))
+          | inr past ↦ let ge = first.not_before_start in absurd (apart (let at : d ≡ c = omega (arith, ge, past) in ap (λ (n : ℕ). Some n) at))
         ]
 
     pub free-found : found ≡ Some c → counted (metadata_of state after new s.table s.pending) c ≡ 0

@@ -11,9 +11,9 @@ use Rattle.qcow2_metadata.specs.Tables.{TableValue}
 use Rattle.qcow2_alloc.specs.FillingBlocks.{FillsFrom, made_for}
 use Rattle.qcow2_alloc.specs.FreeList.{covers}
 use Rattle.qcow2_alloc.specs.GrowingTables.{TableGrown}
-use Rattle.qcow2_alloc.specs.Growing.{lacks, lacking, IsFirstRoom}
+use Rattle.qcow2_alloc.specs.Growing.{lacks, lacking, IsFirstFreeArea}
 use Rattle.qcow2_alloc.specs.MakingRoom.{rank, run_of}
-use Rattle.qcow2_alloc.specs.Quiet.{Metadata, counted}
+use Rattle.qcow2_alloc.specs.GuestView.{Metadata, counted}
 use Rattle.qcow2_alloc.specs.SearchingClusters.{IsFirstRun}
 use Rattle.qcow2_alloc.proofs.Blocks.RunCounts.{covers-behind}
 use Rattle.qcow2_alloc.proofs.Blocks.BlockRowPlaces.{lacking-fewer}
@@ -84,7 +84,7 @@ module _ (table0 : TableValue) (k s e more L : ℕ) (table : TableValue) (counts
   ]
 
   -- So does a room.
-  pub room-near : (from n first total t : ℕ) → from ≤ s → IsFirstRoom table k counts from n first total → t ≡ n + lacking table k (edge table0 k s more L table) t → edge table0 k s more L table + t ≤ e → first ≤ edge table0 k s more L table
+  pub room-near : (from n first total t : ℕ) → from ≤ s → IsFirstFreeArea table k counts from n first total → t ≡ n + lacking table k (edge table0 k s more L table) t → edge table0 k s more L table + t ≤ e → first ≤ edge table0 k s more L table
   room-near from n first total t behind room enough inside = elim (cases_lt (edge table0 k s more L table) first) [
     | inr le ↦ le
     | inl before ↦
@@ -114,8 +114,8 @@ module _ (table0 : TableValue) (s e more L : ℕ) (mark n z end : ℕ) (m m' : M
   -- They are before the end of the run.
   pub fill-near : 0 < k → (first len : ℕ) → first / k ≤ z / k → ((i : ℕ) → i < end → i * k < first + len) → mark ≤ z → end ≤ z / k + n → ((c : ℕ) → z ≤ c → c < z + n → counted m c ≡ 0) → (c : ℕ) → counted m' c ≢ counted m c → c < z + made_for m m' first len
   fill-near some first len low all behind few free c changed =
-      let most = fills.few first len in
-      fills.near first len z low all behind refl (λ x above below. free x above (omega (arith, below, most, few))) c changed
+      let most = fills.fewer_by_range first len in
+      fills.taken_before_end first len z low all behind refl (λ x above below. free x above (omega (arith, below, most, few))) c changed
 
   pub room-filled : 0 < k → RoomKept table0 k s e more L m.table (counted m) → s ≤ mark ⊎ (z < s → z + n ≤ s) → mark ≤ z → end ≤ z / k + n → ((i : ℕ) → i < end → i * k < z + n) → ((c : ℕ) → z ≤ c → c < z + n → counted m c ≡ 0)
       → z ≤ edge table0 k s more L m.table → z + n ≤ s + L → RoomKept table0 k s e more L m'.table (counted m')
@@ -134,7 +134,7 @@ module _ (table0 : TableValue) (s e more L : ℕ) (mark n z end : ℕ) (m m' : M
             omega (arith, lt, le, fewer, near)
         | inl before ↦
             let lt = fill-near some z n (omega arith) all behind few free c changed in
-            let most = fills.few z n in
+            let most = fills.fewer_by_range z n in
             let ends : z + n ≤ s = elim apart [ inl le ↦ absurd (omega (arith, le, behind, before)) | inr from ↦ from before ] in
             absurd (omega (arith, lt, most, few, ends, above))
       ]
@@ -148,12 +148,12 @@ module _ (table0 : TableValue) (s e L tc : ℕ) (mark at : ℕ) (m m' : Metadata
   kk = counters_of_block m.header.fields
 
   -- What it names anew is lacking no more.
-  named-anew : grown.first ≢ 0 → (i : ℕ) → lacks m.table kk grown.first grown.total i ≡ true → block_offset (slice_index m'.table.words i) ≢ 0
+  named-anew : grown.first ≢ 0 → (i : ℕ) → lacks m.table kk grown.first grown.total i ≡ true → block_offset (slice_index m'.table.raw_entries i) ≢ 0
   named-anew some i is none =
       let there = place-there (cluster_size m.header.fields) (grown.first + rank (lacks m.table kk grown.first grown.total) i) (pow_pos m.header.fields.cluster_bits) (λ zero. some (omega (arith, zero))) in
       there (sym (grown.news i is) ∙ none)
 
-  still-lacking : grown.first ≢ 0 → (i : ℕ) → block_offset (slice_index m'.table.words i) ≡ 0 → block_offset (slice_index m.table.words i) ≡ 0
+  still-lacking : grown.first ≢ 0 → (i : ℕ) → block_offset (slice_index m'.table.raw_entries i) ≡ 0 → block_offset (slice_index m.table.raw_entries i) ≡ 0
   still-lacking some i none = elim (cases_Bool (lacks m.table kk grown.first grown.total i)) [
     | inl is ↦ absurd (named-anew some i is none)
     | inr not ↦ sym (grown.olds i (λ so. let both = sym not ∙ so in cc)) ∙ none
@@ -170,7 +170,7 @@ module _ (table0 : TableValue) (s e L tc : ℕ) (mark at : ℕ) (m m' : Metadata
         let within = lacks-inside m.table kk grown.first grown.total i is in
             let lt = within.1 in
             lacks-so m.table kk s L i (lacks-none m.table kk grown.first grown.total i is) past (omega (arith, lt, inside)),
-        elim (cases_Bool (new i)) [ inl still ↦ absurd (named-anew some i is (lacks-none m'.table kk s L i still)) | inr gone ↦ gone ],
+        elim (cases_Bool (new i)) [ inl has_no_dirty_data ↦ absurd (named-anew some i is (lacks-none m'.table kk s L i has_no_dirty_data)) | inr gone ↦ gone ],
       ))
       (λ i is. let within = lacks-inside m'.table kk s L i is in lacks-so m.table kk s L i (still-lacking some i (lacks-none m'.table kk s L i is)) within.0 within.1)
       (λ i is. (lacks-inside m'.table kk s L i is).0) in

@@ -5,15 +5,15 @@ use Rattle.std.proofs.lemmas.Bool.{cases_eq, cases_lt}
 use Rattle.std.proofs.Math.Nat.{mul-le-mul, div-mul-le_self, min-le_left}
 use Rattle.std.proofs.lemmas.Nat.{le-div}
 use Rattle.qcow2_types.specs.Counts.{block_at, counters_of_block}
-use Rattle.qcow2_types.specs.Header.{Shaped, words_of_cluster}
+use Rattle.qcow2_types.specs.Header.{Shaped, entries_of_cluster}
 use Rattle.qcow2_types.proofs.Counting.Leaks.{count-no-block}
 use Rattle.qcow2_types.proofs.Counting.Parts.{block-inside}
-use Rattle.qcow2_metadata.specs.Places.{IsInReach}
+use Rattle.qcow2_metadata.specs.Places.{IsAddressable}
 use Rattle.qcow2_metadata.specs.Tables.{TableValue, IsEnough, IsGrownLength}
 use Rattle.qcow2_alloc.specs.FillingBlocks.{FillsFrom}
-use Rattle.qcow2_alloc.specs.Growing.{IsFirstRoom}
-use Rattle.qcow2_alloc.specs.GrowingTables.{IsRoomToGrow, IsRoomInReach, NoPlaceToGrow, TableGrown}
-use Rattle.qcow2_alloc.specs.Quiet.{Metadata, IsSound, in_memory, counted}
+use Rattle.qcow2_alloc.specs.Growing.{IsFirstFreeArea}
+use Rattle.qcow2_alloc.specs.GrowingTables.{IsFreeAreaToGrow, IsAreaAddressable, NoPlaceToGrow, TableGrown}
+use Rattle.qcow2_alloc.specs.GuestView.{Metadata, IsSound, in_memory, counted}
 use Rattle.qcow2_alloc.specs.SearchingClusters.{IsFirstRun}
 use Rattle.qcow2_alloc.proofs.Space.RoomConsumption.{RoomKept, edge, edge-near, run-near, room-filled, room-grown, quotient-step}
 use Rattle.qcow2_alloc.proofs.Blocks.BlockCreationCalls.{first-counted}
@@ -43,9 +43,9 @@ left-end counts mark (suc d) e free = elim (cases_eq (counts (mark + d)) 0) [
 ]
 
 -- What is counted has a block.
-pub counted-inside : (m : Metadata) (c : ℕ) → IsSound m → 0 < counted m c → c / counters_of_block m.header.fields < length m.table.words
+pub counted-inside : (m : Metadata) (c : ℕ) → IsSound m → 0 < counted m c → c / counters_of_block m.header.fields < length m.table.raw_entries
 counted-inside m c sound some =
-    let places = places-in-memory m.file m.header sound.safe.consistent m.cached sound.safe.tables sound.safe.blocks in
+    let places = places-in-memory m.file m.header sound.well_formed.consistent m.cached sound.well_formed.tables sound.well_formed.blocks in
     let i = c / counters_of_block m.header.fields in
     elim (cases_eq (block_at m.file m.header.fields i) 0) [
       | inl none ↦ absurd (let zero' : counted m c ≡ 0 = count-no-block (in_memory m) m.header.fields c (places.blocks i ∙ none) in omega (arith, some, zero'))
@@ -62,7 +62,7 @@ pub record HasGrown (table0 : TableValue) (k n s e Q : ℕ) (table : TableValue)
   pub low : least_run n ≤ L
   pub fits : L ≤ Q
   pub holds : more + L / k + 2 + n ≤ L
-  pub inside : s + L ≤ length table.words * k
+  pub inside : s + L ≤ length table.raw_entries * k
   pub kept : RoomKept table0 k s e more L table counts
 
 abbrev pub Keeping : TableValue → ℕ → ℕ → ℕ → ℕ → ℕ → TableValue → (ℕ → ℕ) → Type 0
@@ -115,11 +115,11 @@ module _ (table0 : TableValue) (k n sp Q s e mark : ℕ) (sizes : AreSizes k n s
     found-ends (inr was) = let both = found-within was in let le = both.1 in let f = was.fits in omega (arith, le, f, sizes.span, sizes.ends)
 
     -- The table that has grown has a word for it.
-    pub found-counted : HasGrown table0 k n s e Q table counts → (z + (n - 1)) / k < length table.words
-    found-counted was = elim (cases_lt ((z + (n - 1)) / k) (length table.words)) [
+    pub found-counted : HasGrown table0 k n s e Q table counts → (z + (n - 1)) / k < length table.raw_entries
+    found-counted was = elim (cases_lt ((z + (n - 1)) / k) (length table.raw_entries)) [
       | inl inside ↦ inside
       | inr past ↦
-          let le : length table.words * k ≤ (z + (n - 1)) / k * k = mul-le-mul past (omega arith) in
+          let le : length table.raw_entries * k ≤ (z + (n - 1)) / k * k = mul-le-mul past (omega arith) in
           let under = div-mul-le_self (z + (n - 1)) k in
           let both = found-within was in
           let ends = both.1 in
@@ -149,10 +149,10 @@ module _ (table0 : TableValue) (k n sp Q s e mark : ℕ) (sizes : AreSizes k n s
     filled-so : (more L : ℕ) → RoomKept table0 k s e more L m.table (counted m) → z ≤ edge table0 k s more L m.table → z + n ≤ s + L → RoomKept table0 k s e more L m'.table (counted m')
     filled-so more L kept near inside =
         subst (λ (x : ℕ). 0 < x → FillsFrom mark (z / x) end m m' → RoomKept table0 x s e more L m.table (counted m) → end ≤ z / x + n → ((i : ℕ) → i < end → i * x < z + n) → z ≤ edge table0 x s more L m.table → RoomKept table0 x s e more L m'.table (counted m')) size
-        (λ some f kept' few all near'. room-filled table0 s e more L mark n z end m m' f some kept' (apart-or m.table (counted m) z run left) run.behind few all run.free near' inside)
+        (λ some f kept' few all near'. room-filled table0 s e more L mark n z end m m' f some kept' (apart-or m.table (counted m) z run left) run.not_before_start few all run.free near' inside)
         wide fills kept few-blocks in-run near
 
-    pub grown-filled : length m'.table.words ≡ length m.table.words → HasGrown table0 k n s e Q m.table (counted m) → HasGrown table0 k n s e Q m'.table (counted m')
+    pub grown-filled : length m'.table.raw_entries ≡ length m.table.raw_entries → HasGrown table0 k n s e Q m.table (counted m) → HasGrown table0 k n s e Q m'.table (counted m')
     grown-filled same was =
         let both = found-within m.table (counted m) z run was in
         record {
@@ -161,11 +161,11 @@ module _ (table0 : TableValue) (k n sp Q s e mark : ℕ) (sizes : AreSizes k n s
           low = was.low;
           fits = was.fits;
           holds = was.holds;
-          inside = let i = was.inside in let same' : length m'.table.words * k ≡ length m.table.words * k = ap (λ x. x * k) same in omega (arith, i, same');
+          inside = let i = was.inside in let same' : length m'.table.raw_entries * k ≡ length m.table.raw_entries * k = ap (λ x. x * k) same in omega (arith, i, same');
           kept = filled-so was.more was.L was.kept both.0 both.1;
         }
 
-    pub keeping-filled : length m'.table.words ≡ length m.table.words → Keeping table0 k n s e Q m.table (counted m) → Keeping table0 k n s e Q m'.table (counted m')
+    pub keeping-filled : length m'.table.raw_entries ≡ length m.table.raw_entries → Keeping table0 k n s e Q m.table (counted m) → Keeping table0 k n s e Q m'.table (counted m')
     keeping-filled same (inl was) = inl (record {
       kept = λ L low fits.
           let kept = was.kept L low fits in
@@ -176,17 +176,17 @@ module _ (table0 : TableValue) (k n sp Q s e mark : ℕ) (sizes : AreSizes k n s
     keeping-filled same (inr was) = inr (grown-filled same was)
 
   -- or the table is to grow for a run that it has no words for.
-  module _ (m : Metadata) (size : counters_of_block m.header.fields ≡ k) (sound : IsSound m) (z : ℕ) (run : IsFirstRun (counted m) mark n z) (was : HasNotGrown table0 k n s e Q m.table (counted m)) (past : length m.table.words ≤ (z + (n - 1)) / k)
+  module _ (m : Metadata) (size : counters_of_block m.header.fields ≡ k) (sound : IsSound m) (z : ℕ) (run : IsFirstRun (counted m) mark n z) (was : HasNotGrown table0 k n s e Q m.table (counted m)) (past : length m.table.raw_entries ≤ (z + (n - 1)) / k)
       (left : (s ≤ mark) ⊎ ((c : ℕ) × (c + 1 ≡ s) × (0 < counted m c))) where
     -- The run isn't one before the free clusters: those are counted up to there.
     pub run-behind : s ≤ z
     run-behind = elim (cases_lt z s) [
       | inr from ↦ from
       | inl before ↦ elim left [
-        | inl le ↦ let b = run.behind in absurd (omega (arith, le, b, before))
+        | inl le ↦ let b = run.not_before_start in absurd (omega (arith, le, b, before))
         | inr (c, next, some) ↦
             let ends : z + n ≤ s = elim (cases_lt s (z + n)) [ inr le ↦ le | inl over ↦ absurd (let none = run.free c (omega (arith, next, before)) (omega (arith, next, over)) in omega (arith, some, none)) ] in
-            let inside : c / k < length m.table.words = subst (λ (x : ℕ). c / x < length m.table.words) size (counted-inside m c sound some) in
+            let inside : c / k < length m.table.raw_entries = subst (λ (x : ℕ). c / x < length m.table.raw_entries) size (counted-inside m c sound some) in
             let low : (z + (n - 1)) / k ≤ c / k = le-div ((z + (n - 1)) / k) c k wide (let under = div-mul-le_self (z + (n - 1)) k in omega (arith, under, ends, next, sizes.some)) in
             absurd (omega (arith, inside, low, past))
       ]
@@ -199,20 +199,20 @@ module _ (table0 : TableValue) (k n sp Q s e mark : ℕ) (sizes : AreSizes k n s
     index = at k n sp Q s e sizes z run-behind near
 
     abbrev w : ℕ
-    w = words_of_cluster m.header.fields
+    w = entries_of_cluster m.header.fields
 
     shaped : Shaped m.header.fields
-    shaped = shaped-in m.file m.header sound.safe.consistent
+    shaped = shaped-in m.file m.header sound.well_formed.consistent
 
-    module _ (clusters first total : ℕ) (room : IsRoomToGrow m mark index first total clusters) where
+    module _ (clusters first total : ℕ) (room : IsFreeAreaToGrow m mark index first total clusters) where
       long : IsGrownLength w k index (clusters * w)
       long = subst (λ (x : ℕ). IsGrownLength w x index (clusters * w)) size room.long
 
-      first-room : IsFirstRoom m.table k (counted m) (min mark (length m.table.words * k)) clusters first total
-      first-room = subst (λ (x : ℕ). IsFirstRoom m.table x (counted m) (min mark (length m.table.words * x)) clusters first total) size room.room
+      first-room : IsFirstFreeArea m.table k (counted m) (min mark (length m.table.raw_entries * k)) clusters first total
+      first-room = subst (λ (x : ℕ). IsFirstFreeArea m.table x (counted m) (min mark (length m.table.raw_entries * x)) clusters first total) size room.room
 
-      from-low : min mark (length m.table.words * k) ≤ s
-      from-low = let le = min-le_left mark (length m.table.words * k) in omega (arith, le, behind)
+      from-low : min mark (length m.table.raw_entries * k) ≤ s
+      from-low = let le = min-le_left mark (length m.table.raw_entries * k) in omega (arith, le, behind)
 
       abbrev run-length : ℕ
       run-length = grown_run k n sp Q s e sizes z run-behind near w (words-wide m.header.fields shaped) (words-divide m.header.fields shaped) clusters long
@@ -223,8 +223,8 @@ module _ (table0 : TableValue) (k n sp Q s e mark : ℕ) (sizes : AreSizes k n s
       -- Its room ends with the run in which it lies,
       room-inside : first + total ≤ s + run-length
       room-inside =
-          let early = room-early k n sp Q s e sizes z run-behind near w (words-wide m.header.fields shaped) (words-divide m.header.fields shaped) clusters long table0 m.table (counted m) (min mark (length m.table.words * k)) first total (least_run n) least-kept (least-fits k n sp Q s e sizes) (omega arith) first-room from-low in
-          let short = room-short k n sp Q s e sizes z run-behind near w (words-wide m.header.fields shaped) (words-divide m.header.fields shaped) clusters long table0 m.table (counted m) (min mark (length m.table.words * k)) first total (least_run n) least-kept (least-fits k n sp Q s e sizes) (omega arith) first-room from-low in
+          let early = room-early k n sp Q s e sizes z run-behind near w (words-wide m.header.fields shaped) (words-divide m.header.fields shaped) clusters long table0 m.table (counted m) (min mark (length m.table.raw_entries * k)) first total (least_run n) least-kept (least-fits k n sp Q s e sizes) (omega arith) first-room from-low in
+          let short = room-short k n sp Q s e sizes z run-behind near w (words-wide m.header.fields shaped) (words-divide m.header.fields shaped) clusters long table0 m.table (counted m) (min mark (length m.table.raw_entries * k)) first total (least_run n) least-kept (least-fits k n sp Q s e sizes) (omega arith) first-room from-low in
           let low = edge-near table0 k s e 0 (least_run n) m.table (counted m) least-kept wide in
           let few = least-holds k n sp Q s e sizes in
           let ahead' = ahead-one k n sp Q s e sizes z run-behind near in
@@ -244,7 +244,7 @@ module _ (table0 : TableValue) (k n sp Q s e mark : ℕ) (sizes : AreSizes k n s
       some-total = let is = first-room.room.enough in let c = some-clusters in omega (arith, is, c)
 
       -- and so is in reach.
-      in-reach : (reach : (c : ℕ) → c < sp → IsInReach m.header.fields.cluster_bits c) → IsRoomInReach m first total clusters
+      in-reach : (reach : (c : ℕ) → c < sp → IsAddressable m.header.fields.cluster_bits c) → IsAreaAddressable m first total clusters
       in-reach reach = record {
         reach = reach (first + (total - 1)) (let i = room-inside in let f = run-fits in let t = some-total in omega (arith, i, f, t, sizes.span, sizes.ends));
         inside =
@@ -254,7 +254,7 @@ module _ (table0 : TableValue) (k n sp Q s e mark : ℕ) (sizes : AreSizes k n s
       }
 
     -- There is a place for the table,
-    pub place-there-is : ((c : ℕ) → c < sp → IsInReach m.header.fields.cluster_bits c) → (number : ℕ) → NoPlaceToGrow m mark index number → ⊥
+    pub place-there-is : ((c : ℕ) → c < sp → IsAddressable m.header.fields.cluster_bits c) → (number : ℕ) → NoPlaceToGrow m mark index number → ⊥
     place-there-is reach number (inl none) =
         let most = none.0 (2 ^ 20) (subst (λ (x : ℕ). IsEnough w x index (2 ^ 20)) (sym size) (longest-enough k n sp Q s e sizes z run-behind near w (words-wide m.header.fields shaped) (words-divide m.header.fields shaped))) in
         omega (arith, most)
@@ -269,14 +269,14 @@ module _ (table0 : TableValue) (k n sp Q s e mark : ℕ) (sizes : AreSizes k n s
         let ww = words-wide m.header.fields shaped in
         let wd = words-divide m.header.fields shaped in
         let kept = was.kept L (grown-least k n sp Q s e sizes z run-behind near w ww wd grown.clusters lg) (run-fits grown.clusters grown.first grown.total r) in
-        let early = room-early k n sp Q s e sizes z run-behind near w ww wd grown.clusters lg table0 m.table (counted m) (min mark (length m.table.words * k)) grown.first grown.total L kept (run-fits grown.clusters grown.first grown.total r)
+        let early = room-early k n sp Q s e sizes z run-behind near w ww wd grown.clusters lg table0 m.table (counted m) (min mark (length m.table.raw_entries * k)) grown.first grown.total L kept (run-fits grown.clusters grown.first grown.total r)
         (grown-least k n sp Q s e sizes z run-behind near w ww wd grown.clusters lg) (first-room grown.clusters grown.first grown.total r) (from-low grown.clusters grown.first grown.total r) in
         let some-first : grown.first ≢ 0 = (λ none.
         let free = grown.room.room.room.free grown.first (omega arith) (let t = some-total grown.clusters grown.first grown.total r in omega (arith, t)) in
         let first' : counted m 0 ≡ 0 = subst (λ c. counted m c ≡ 0) none free in
         let some = first-counted m sound in
         omega (arith, first', some)) in
-        let words : length m'.table.words * k ≡ grown.clusters * w * k = ap (λ x. x * k) grown.long in
+        let raw_entries : length m'.table.raw_entries * k ≡ grown.clusters * w * k = ap (λ x. x * k) grown.long in
         let inside = grown-inside k n sp Q s e sizes z run-behind near w ww wd grown.clusters lg in
         record {
           more = grown.clusters;
@@ -284,7 +284,7 @@ module _ (table0 : TableValue) (k n sp Q s e mark : ℕ) (sizes : AreSizes k n s
           low = grown-least k n sp Q s e sizes z run-behind near w ww wd grown.clusters lg;
           fits = run-fits grown.clusters grown.first grown.total r;
           holds = grown-holds k n sp Q s e sizes z run-behind near w ww wd grown.clusters lg;
-          inside = omega (arith, words, inside);
+          inside = omega (arith, raw_entries, inside);
           kept = subst (λ (x : ℕ). 0 < x → RoomKept table0 x s e 0 L m.table (counted m) → grown.first ≤ edge table0 x s 0 L m.table → RoomKept table0 x s e grown.clusters L m'.table (counted m')) size
               (λ some' kept' early'. room-grown table0 s e L grown.clusters mark index m m' grown some' kept' some-first refl early' (room-inside grown.clusters grown.first grown.total r)) wide kept early;
         }

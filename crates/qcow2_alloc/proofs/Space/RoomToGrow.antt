@@ -3,7 +3,7 @@ use Rattle.std.proofs.Common.{◌≡◌, ℕ, ◌+◌, ◌-◌, ◌*◌, ◌/◌
 use Rattle.std.proofs.lemmas.Bool.{cases_lt}
 use Rattle.std.proofs.Math.Nat.{mul-le-mul, div-mul-le_self, lt-div-mul-add, mul-div_left}
 use Rattle.qcow2_metadata.specs.Tables.{IsEnough, IsGrownLength, TableValue}
-use Rattle.qcow2_alloc.specs.Growing.{lacking, IsFirstRoom}
+use Rattle.qcow2_alloc.specs.Growing.{lacking, IsFirstFreeArea}
 use Rattle.qcow2_alloc.proofs.Growth.FirstRooms.{lacking-few}
 use Rattle.qcow2_alloc.proofs.Space.RoomConsumption.{RoomKept, edge, edge-near, room-near, room-long, quotient-few}
 
@@ -96,14 +96,14 @@ module _ (k n space Q s e : ℕ) (sizes : AreSizes k n space Q s e) where
     ]
 
     -- There is a length for that.
-    module _ (w : ℕ) (words : 64 ≤ w) (whole : 2 ^ 20 % w ≡ 0) where
+    module _ (w : ℕ) (raw_entries : 64 ≤ w) (whole : 2 ^ 20 % w ≡ 0) where
       pub longest-enough : IsEnough w k at (2 ^ 20)
       longest-enough = record {
         whole = whole;
         above = let le = at-few in omega (arith, le);
         room =
             let le = at-few in
-            let q = quotient-few w (2 ^ 20) words in
+            let q = quotient-few w (2 ^ 20) raw_entries in
             let more : (2 ^ 20 - at) * 1 ≤ (2 ^ 20 - at) * (k - 1) = mul-le-mul (omega arith) (let wide = sizes.wide in omega (arith, wide)) in
             omega (arith, le, q, more);
       }
@@ -117,13 +117,13 @@ module _ (k n space Q s e : ℕ) (sizes : AreSizes k n space Q s e) where
         short = long.least (2 ^ 20) longest-enough
 
         pub clusters-few : clusters ≤ 2 ^ 14
-        clusters-few = let le : clusters * 64 ≤ clusters * w = mul-le-mul (omega arith) words in let s' = short in omega (arith, le, s')
+        clusters-few = let le : clusters * 64 ≤ clusters * w = mul-le-mul (omega arith) raw_entries in let s' = short in omega (arith, le, s')
 
         pub behind-few : behind ≤ 2 ^ 20
         behind-few = let s' = short in omega (arith, s')
 
         blocks : clusters ≤ behind * (k - 1)
-        blocks = let is = mul-div_left clusters (let wd : 0 < w = omega (arith, words) in wd) in let room = long.enough.room in omega (arith, is, room)
+        blocks = let is = mul-div_left clusters (let wd : 0 < w = omega (arith, raw_entries) in wd) in let room = long.enough.room in omega (arith, is, room)
 
         behind-counts : behind * k ≡ behind * (k - 1) + behind
         behind-counts = let p = positive in mul-pred behind k p
@@ -189,7 +189,7 @@ module _ (k n space Q s e : ℕ) (sizes : AreSizes k n space Q s e) where
         grown-inside = let x = ahead-holds in let r = reaches in let b = blocks in let c = behind-counts in omega (arith, x, r, b, c, from)
 
         -- Its room lies in it.
-        module _ (table0 table : TableValue) (counts : ℕ → ℕ) (from' first total L : ℕ) (kept : RoomKept table0 k s e 0 L table counts) (fits : L ≤ Q) (low : least_run n ≤ L) (room : IsFirstRoom table k counts from' clusters first total) (early : from' ≤ s) where
+        module _ (table0 table : TableValue) (counts : ℕ → ℕ) (from' first total L : ℕ) (kept : RoomKept table0 k s e 0 L table counts) (fits : L ≤ Q) (low : least_run n ≤ L) (room : IsFirstFreeArea table k counts from' clusters first total) (early : from' ≤ s) where
           pub room-short : total ≤ most
           room-short =
               let t = room-long table k first clusters most most (omega arith) (most-enough table first) in

@@ -4,12 +4,12 @@ use Rattle.std.proofs.lemmas.Nat.{le-div, pow-add, pow_pos}
 use Rattle.std.proofs.Math.Nat.{div-mul-le_self, lt-div-mul-add, min-le_left, min-le_right, mul-le-mul, mul-mod_left, mul-div_left}
 use Rattle.std.proofs.Math.Pow.{pow_mono}
 use Rattle.qcow2_types.specs.Counts.{counters_of_block}
-use Rattle.qcow2_types.specs.Header.{Fields, Shaped, cluster_size, words_of_cluster}
+use Rattle.qcow2_types.specs.Header.{Fields, Shaped, cluster_size, entries_of_cluster}
 use Rattle.qcow2_types.specs.Words.{max_offset}
-use Rattle.qcow2_metadata.specs.Places.{IsInReach}
+use Rattle.qcow2_metadata.specs.Places.{IsAddressable}
 use Rattle.qcow2_metadata.proofs.Powers.{power-counters}
 use Rattle.qcow2_alloc.specs.Crowding.{space, room_for, IsRoomy}
-use Rattle.qcow2_alloc.specs.Quiet.{Metadata}
+use Rattle.qcow2_alloc.specs.GuestView.{Metadata}
 use Rattle.qcow2_alloc.proofs.Space.RoomToGrow.{AreSizes}
 
 module _ (h : Fields) (shaped : Shaped h) where
@@ -22,15 +22,15 @@ module _ (h : Fields) (shaped : Shaped h) where
   counters-narrow : k ≤ 2 ^ 24
   counters-narrow = let le : 2 ^ (h.cluster_bits + 3 - h.refcount_order) ≤ 2 ^ 24 = pow_mono {i = h.cluster_bits + 3 - h.refcount_order} {j = 24} (omega (arith, shaped.high)) in subst (λ n. n ≤ 2 ^ 24) (power-counters h shaped) le
 
-  words-are : words_of_cluster h ≡ 2 ^ (h.cluster_bits - 3)
+  words-are : entries_of_cluster h ≡ 2 ^ (h.cluster_bits - 3)
   words-are =
       let split : h.cluster_bits ≡ h.cluster_bits - 3 + 3 = omega (arith, shaped.low) in
       ap (λ n. 2 ^ n / 8) split ∙ ap (λ n. n / 8) (pow-add 2 (h.cluster_bits - 3) 3) ∙ mul-div_left (2 ^ (h.cluster_bits - 3)) (omega arith)
 
-  pub words-wide : 64 ≤ words_of_cluster h
+  pub words-wide : 64 ≤ entries_of_cluster h
   words-wide = let le : 2 ^ 6 ≤ 2 ^ (h.cluster_bits - 3) = pow_mono {i = 6} {j = h.cluster_bits - 3} (omega (arith, shaped.low)) in subst (λ n. 64 ≤ n) (sym words-are) le
 
-  pub words-divide : 2 ^ 20 % words_of_cluster h ≡ 0
+  pub words-divide : 2 ^ 20 % entries_of_cluster h ≡ 0
   words-divide =
       let split : 20 ≡ 20 - (h.cluster_bits - 3) + (h.cluster_bits - 3) = omega (arith, shaped.high) in
       let power : 2 ^ 20 ≡ 2 ^ (20 - (h.cluster_bits - 3)) * 2 ^ (h.cluster_bits - 3) = ap (λ n. 2 ^ n) split ∙ pow-add 2 (20 - (h.cluster_bits - 3)) (h.cluster_bits - 3) in
@@ -51,7 +51,7 @@ module _ (h : Fields) (shaped : Shaped h) where
   space-least n one two = omega (arith, one, two)
 
   -- Words can name each cluster of it.
-  pub space-reach : (c : ℕ) → c < space h → IsInReach h.cluster_bits c
+  pub space-reach : (c : ℕ) → c < space h → IsAddressable h.cluster_bits c
   space-reach c inside =
       let below = space-offsets in
       let le : c * cluster_size h ≤ max_offset / cluster_size h * cluster_size h = mul-le-mul (omega (arith, inside, below)) (omega arith) in

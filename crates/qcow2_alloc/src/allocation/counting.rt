@@ -2,10 +2,10 @@
 ghost use Rattle.std.specs.Prelude.{◌≤◌, ◌+◌, ◌^◌, List};
 ghost use Rattle.qcow2_metadata.specs.Blocks.{Block};
 ghost use Rattle.qcow2_types.specs.Pending.{FreeEntry};
-ghost use Rattle.qcow2_alloc.specs.Allocating.{Raises, RaisesCluster, CountsRun, CountsNamed};
-ghost use Rattle.qcow2_alloc.specs.Allocators.{table_of, UsesBlock, Lowers};
+ghost use Rattle.qcow2_alloc.specs.Allocating.{IncrementsCounter, IncrementsCluster, CountsRun, CountsReferenced};
+ghost use Rattle.qcow2_alloc.specs.Allocators.{table_of, UsesBlock, DecrementsCounter};
 ghost use Rattle.qcow2_alloc.specs.Caches.{cached_file};
-ghost use Rattle.qcow2_alloc.specs.State.{lent};
+ghost use Rattle.qcow2_alloc.specs.State.{image_state};
 
 use crate::allocation::Allocator;
 use crate::allocation::searching::Run;
@@ -23,14 +23,14 @@ impl Allocator {
         caches: &mut MetadataCaches<S>,
         cluster: HostCluster,
     ) -> Result<(), Fault>
-        ensures { RaisesCluster S.state (table_of self.now) cluster (cached_file caches.old file.old) result
+        ensures { IncrementsCluster S.state (table_of self.now) cluster (cached_file caches.old file.old) result
             (cached_file caches.new file.new) }
     {
         let (rt_index, rb_index) = cluster.rt_rb_indices(file.header.rb_bits());
         let Some(rb_cluster) = self.block_cluster(rt_index) else {
             return Err(Fault::DamagedTable);
         };
-        raise_in(caches, file, rb_cluster, rb_index)
+        increment_in(caches, file, rb_cluster, rb_index)
     }
 
     // Counts clusters in a row that aren't counted yet, from the first to the last.
@@ -43,8 +43,8 @@ impl Allocator {
     ) -> Result<(), Fault>
         requires fits { first + count ≤ 2 ^ 64 }
         ensures { (pending : List FreeEntry)
-            → CountsRun S.state first count (lent (table_of self.now) caches.old file.old pending) result
-            (lent (table_of self.now) caches.new file.new pending) }
+            → CountsRun S.state first count (image_state (table_of self.now) caches.old file.old pending) result
+            (image_state (table_of self.now) caches.new file.new pending) }
     {
         for index in 0..count {
             self.count_cluster(file, caches, HostCluster(first.0 + index))?;
@@ -53,7 +53,7 @@ impl Allocator {
     }
 
     // Counts those clusters of a run that a block counts which the refcount table names. The others are for new blocks to count.
-    pub(crate) fn count_named<S: Storage>(
+    pub(crate) fn count_referenced<S: Storage>(
         &self,
         file: &mut ImageFile<S>,
         caches: &mut MetadataCaches<S>,
@@ -61,8 +61,8 @@ impl Allocator {
     ) -> Result<(), Fault>
         requires fits { run.first + run.len ≤ 2 ^ 64 }
         ensures { (pending : List FreeEntry)
-            → CountsNamed S.state run.first run.len (lent (table_of self.now) caches.old file.old pending) result
-            (lent (table_of self.now) caches.new file.new pending) }
+            → CountsReferenced S.state run.first run.len (image_state (table_of self.now) caches.old file.old pending) result
+            (image_state (table_of self.now) caches.new file.new pending) }
     {
         let rb_bits = file.header.rb_bits();
         for index in 0..run.len() {
@@ -76,8 +76,8 @@ impl Allocator {
 }
 
 // Raises a counter of a block from 0 to 1.
-fn raise_counter(block: &mut RefBlock, index: usize) -> Result<(), Fault>
-    ensures { Raises index block.old result block.new }
+fn increment_counter(block: &mut RefBlock, index: usize) -> Result<(), Fault>
+    ensures { IncrementsCounter index block.old result block.new }
 {
     if index >= block.entries() {
         return Err(Fault::DamagedTable);
@@ -90,21 +90,21 @@ fn raise_counter(block: &mut RefBlock, index: usize) -> Result<(), Fault>
 }
 
 // Raises a counter of the block in a cluster from 0 to 1.
-fn raise_in<S: Storage>(
+fn increment_in<S: Storage>(
     caches: &mut MetadataCaches<S>,
     file: &mut ImageFile<S>,
     rb_cluster: HostCluster,
     index: usize,
 ) -> Result<(), Fault>
-    ensures { UsesBlock S.state rb_cluster (Raises index) (cached_file caches.old file.old) result (cached_file caches.new file.new) }
+    ensures { UsesBlock S.state rb_cluster (IncrementsCounter index) (cached_file caches.old file.old) result (cached_file caches.new file.new) }
 {
     let block = caches.rb_get_or_insert(file, rb_cluster)?;
-    raise_counter(block, index)
+    increment_counter(block, index)
 }
 
 // Lowers a counter of a block by 1.
-fn lower_counter(block: &mut RefBlock, index: usize) -> Result<(), Fault>
-    ensures { Lowers index block.old result block.new }
+fn decrement_counter(block: &mut RefBlock, index: usize) -> Result<(), Fault>
+    ensures { DecrementsCounter index block.old result block.new }
 {
     if index >= block.entries() {
         return Err(Fault::DamagedTable);
@@ -114,14 +114,14 @@ fn lower_counter(block: &mut RefBlock, index: usize) -> Result<(), Fault>
 }
 
 // Lowers a counter of the block in a cluster by 1.
-pub(super) fn lower_in<S: Storage>(
+pub(super) fn decrement_in<S: Storage>(
     caches: &mut MetadataCaches<S>,
     file: &mut ImageFile<S>,
     rb_cluster: HostCluster,
     index: usize,
 ) -> Result<(), Fault>
-    ensures { UsesBlock S.state rb_cluster (Lowers index) (cached_file caches.old file.old) result (cached_file caches.new file.new) }
+    ensures { UsesBlock S.state rb_cluster (DecrementsCounter index) (cached_file caches.old file.old) result (cached_file caches.new file.new) }
 {
     let block = caches.rb_get_or_insert(file, rb_cluster)?;
-    lower_counter(block, index)
+    decrement_counter(block, index)
 }

@@ -2,18 +2,18 @@
 //! first half of imago's `grow_reftable` and of qemu's `qcow2_refcount_area`. Words of the table are its entries there.
 ghost use Rattle.std.specs.Prelude.{◌≡◌, ◌≤◌, ◌<◌, ◌+◌, ◌*◌, ◌/◌, ◌^◌, IfOk, length, ℕ, ◌-◌, ◌++◌, OnOk, OnErr, IfErr, min};
 ghost use Rattle.qcow2_types.specs.Counts.{counters_of_block};
-ghost use Rattle.qcow2_alloc.specs.Allocators.{table_of, mark_of};
+ghost use Rattle.qcow2_alloc.specs.Allocators.{table_of, first_free_of};
 ghost use Rattle.qcow2_alloc.specs.Caches.{cached_file};
-ghost use Rattle.qcow2_alloc.specs.Growing.{lacking, needed_for, GrowsRoom, LooksForRoom};
+ghost use Rattle.qcow2_alloc.specs.Growing.{lacking, needed_for, GrowsFreeArea, LooksForFreeArea};
 ghost use Rattle.qcow2_alloc.specs.GrowingTables.{GrowsTable, table_run};
 ghost use Rattle.qcow2_alloc.specs.MovingTables.{IsPlan, IsCopyFor, placing_causes, IsGrownFor, growing_causes, EntersFree};
-ghost use Rattle.qcow2_alloc.specs.State.{lent_to, seen};
+ghost use Rattle.qcow2_alloc.specs.State.{allocator_state, seen};
 ghost use Rattle.qcow2_alloc.specs.Causes.{HasCause};
 
 use crate::allocation::Allocator;
 use crate::allocation::searching::Run;
 use crate::cache::MetadataCaches;
-use crate::clusters_to_free::{ClustersToFreeList, HeldRoom};
+use crate::clusters_to_free::{ClustersToFreeList, ReservedSlot};
 use crate::file::ImageFile;
 use imago_storage::{Fault, Storage};
 use qcow2_metadata::{Header, RefTable, Table};
@@ -39,20 +39,20 @@ impl Allocator {
         lacking
     }
 
-    // The first room, from a cluster on, for so many clusters and the blocks that are lacking for them: see `IsFirstRoom`. The search
+    // The first room, from a cluster on, for so many clusters and the blocks that are lacking for them: see `IsFirstFreeArea`. The search
     // always ends.
-    pub(super) fn find_room<S: Storage>(
+    pub(super) fn find_free_area<S: Storage>(
         &self,
         file: &mut ImageFile<S>,
         caches: &mut MetadataCaches<S>,
         from: HostCluster,
         clusters: u64,
     ) -> Result<Run, Fault>
-        requires near { from ≤ length (table_of self.now).words * counters_of_block file.old.header.fields }
-        requires few { clusters ≤ 2 ^ 24 }
-        ensures looks { LooksForRoom S.state (table_of self.now) from clusters (cached_file caches.old file.old) result
+        requires start_in_space { from ≤ length (table_of self.now).raw_entries * counters_of_block file.old.header.fields }
+        requires count_bounded { clusters ≤ 2 ^ 24 }
+        ensures looks { LooksForFreeArea S.state (table_of self.now) from clusters (cached_file caches.old file.old) result
             (cached_file caches.new file.new) }
-        ensures within { IfOk result (λ room. (room.first ≤ length (table_of self.now).words * counters_of_block file.old.header.fields)
+        ensures within { IfOk result (λ room. (room.first ≤ length (table_of self.now).raw_entries * counters_of_block file.old.header.fields)
             × (room.len ≤ 2 * clusters + 4)) }
         ensures enough { IfOk result (λ room. room.len
             ≡ clusters + lacking (table_of self.now) (counters_of_block file.old.header.fields) room.first room.len) }
@@ -65,14 +65,14 @@ impl Allocator {
         };
         let mut needed = clusters + self.lacking_for(room, rb_bits);
         while room.len() < needed {
-            room = self.grow_room(file, caches, room, needed, clusters)?;
+            room = self.grow_free_area(file, caches, room, needed, clusters)?;
             needed = clusters + self.lacking_for(room, rb_bits);
         }
         Ok(room)
     }
 
     // The run with the length that it needs, where that is uncounted too, and else the first one of so many clusters behind its first.
-    fn grow_room<S: Storage>(
+    fn grow_free_area<S: Storage>(
         &self,
         file: &mut ImageFile<S>,
         caches: &mut MetadataCaches<S>,
@@ -82,7 +82,7 @@ impl Allocator {
     ) -> Result<Run, Fault>
         requires fits { room.first + 1 < 2 ^ 64 }
         requires needed { needed ≡ needed_for (table_of self.now) (counters_of_block file.old.header.fields) clusters room }
-        ensures { GrowsRoom S.state (table_of self.now) clusters room (cached_file caches.old file.old) result
+        ensures { GrowsFreeArea S.state (table_of self.now) clusters room (cached_file caches.old file.old) result
             (cached_file caches.new file.new) }
     {
         let start = room.first();
@@ -109,13 +109,13 @@ impl Allocator {
         list: &mut ClustersToFreeList,
         at: usize,
     ) -> Result<(), Fault>
-        requires past { length (table_of self.old).words ≤ at }
-        ensures grows { GrowsTable S.state at (lent_to self.old caches.old file.old list.old) result
-            (lent_to self.new caches.new file.new list.new) }
+        requires past { length (table_of self.old).raw_entries ≤ at }
+        ensures grows { GrowsTable S.state at (allocator_state self.old caches.old file.old list.old) result
+            (allocator_state self.new caches.new file.new list.new) }
         ensures held { list.new.held ≡ list.old.held }
     {
         let copy = self.grown_copy(&file.header, at)?;
-        let hold = list.hold()?;
+        let hold = list.reserve_slot()?;
         self.place_grown(file, caches, list, hold, copy)
     }
 
@@ -126,18 +126,18 @@ impl Allocator {
         file: &mut ImageFile<S>,
         caches: &mut MetadataCaches<S>,
         list: &mut ClustersToFreeList,
-        hold: HeldRoom,
+        hold: ReservedSlot,
         mut copy: RefTable,
     ) -> Result<(), Fault>
-        requires grown { (at : ℕ) × (length (table_of self.old).words ≤ at)
+        requires grown { (at : ℕ) × (length (table_of self.old).raw_entries ≤ at)
             × IsGrownFor file.old.header.fields (table_of self.old) at copy }
         requires held { 0 < list.old.held }
         ensures grows { (at : ℕ) → IsGrownFor file.old.header.fields (table_of self.old) at copy
-            → GrowsTable S.state at (lent_to self.old caches.old file.old list.old) result (lent_to self.new caches.new file.new list.new) }
+            → GrowsTable S.state at (allocator_state self.old caches.old file.old list.old) result (allocator_state self.new caches.new file.new list.new) }
         ensures held { list.new.held ≡ list.old.held - 1 }
     {
-        let from = self.room_start(file.header.rb_bits());
-        let room = match self.find_room(file, caches, from, copy.cluster_count().0) {
+        let from = self.free_area_start(file.header.rb_bits());
+        let room = match self.find_free_area(file, caches, from, copy.cluster_count().0) {
             Ok(room) => room,
             Err(fault) => {
                 list.release(hold);
@@ -146,7 +146,7 @@ impl Allocator {
         };
         let taken = room;
         match self.place_copy(&mut copy, &file.header, room) {
-            Ok(()) => self.enter_room(file, caches, list, hold, copy, taken),
+            Ok(()) => self.enter_free_area(file, caches, list, hold, copy, taken),
             Err(fault) => {
                 list.release(hold);
                 Err(fault)
@@ -156,12 +156,12 @@ impl Allocator {
 
     // Lets a table that was placed in a room in memory become the refcount table. The clusters of the old one wait to be freed then, in the
     // room that is held for them.
-    fn enter_room<S: Storage>(
+    fn enter_free_area<S: Storage>(
         &mut self,
         file: &mut ImageFile<S>,
         caches: &mut MetadataCaches<S>,
         list: &mut ClustersToFreeList,
-        hold: HeldRoom,
+        hold: ReservedSlot,
         table: RefTable,
         room: Run,
     ) -> Result<(), Fault>
@@ -170,9 +170,9 @@ impl Allocator {
         ensures fills { EntersFree S.state room table (seen self.old caches.old file.old list.old) result
             (seen self.new caches.new file.new list.new) }
         ensures waits { OnOk result (list.new.entries ≡ list.old.entries ++ table_run file.old.header.fields) }
-        ensures kept { OnErr result (list.new.entries ≡ list.old.entries) }
+        ensures unchanged_on_error { OnErr result (list.new.entries ≡ list.old.entries) }
         ensures held { list.new.held ≡ list.old.held - 1 }
-        ensures mark { mark_of self.new ≡ mark_of self.old }
+        ensures mark { first_free_of self.new ≡ first_free_of self.old }
     {
         let clusters = file.header.reftable_clusters();
         // No sound image has a refcount table of no clusters.
@@ -182,7 +182,7 @@ impl Allocator {
         }
         let offset = file.header.reftable_offset();
         let first = offset.cluster(file.header.cluster_bits());
-        match self.fill_room(file, caches, table, room) {
+        match self.fill_free_area(file, caches, table, room) {
             Ok(()) => {
                 let old = ClustersToFreeEntry::metadata(first, clusters);
                 list.give_back(hold, PendingClusters::new(old));
@@ -197,7 +197,7 @@ impl Allocator {
 
     // A copy of the refcount table that has grown in memory until it holds an index.
     pub(super) fn grown_copy(&self, header: &Header, at: usize) -> Result<RefTable, Fault>
-        requires past { length (table_of self.now).words ≤ at }
+        requires past { length (table_of self.now).raw_entries ≤ at }
         ensures ok { IfOk result (IsGrownFor header.now.fields (table_of self.now) at) }
         ensures err { IfErr result (HasCause (growing_causes header.now.fields (table_of self.now) at)) }
     {
@@ -208,9 +208,9 @@ impl Allocator {
     }
 
     // Where the search for a room begins: at the mark, or where the clusters end that the refcount table can count.
-    fn room_start(&self, rb_bits: u32) -> HostCluster
+    fn free_area_start(&self, rb_bits: u32) -> HostCluster
         requires { rb_bits ≤ 24 }
-        ensures { result ≡ min (mark_of self.now) (length (table_of self.now).words * 2 ^ rb_bits) }
+        ensures { result ≡ min (first_free_of self.now) (length (table_of self.now).raw_entries * 2 ^ rb_bits) }
     {
         let end = HostCluster::from_ref_indices(self.reftable.entries(), 0, rb_bits);
         HostCluster(self.first_free_cluster.0.min(end.0))
@@ -221,7 +221,7 @@ impl Allocator {
         requires copy { IsCopyFor header.now.fields (table_of self.now) room copy.old }
         requires fits { room.first + room.len + 2 ^ 24 < 2 ^ 64 }
         ensures ok { OnOk result (IsPlan header.now.fields (table_of self.now) room copy.new
-            × (length copy.new.words ≡ length copy.old.words)) }
+            × (length copy.new.raw_entries ≡ length copy.old.raw_entries)) }
         ensures err { IfErr result (HasCause (placing_causes header.now.fields (table_of self.now) room copy.old)) }
     {
         let rb_bits = header.rb_bits();
@@ -235,7 +235,7 @@ impl Allocator {
             return Err(Fault::Limit(last));
         }
         copy.set_cluster(HostCluster(first + self.lacking_for(room, rb_bits)));
-        self.name_new_blocks(copy, header, room)?;
+        self.link_new_blocks(copy, header, room)?;
         Ok(())
     }
 }

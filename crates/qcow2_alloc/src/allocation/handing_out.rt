@@ -1,20 +1,20 @@
 //! Clusters are counted and handed out. qemu and imago allocate them: their refcounts come to be above 0, and they are pending, imago's
 //! `PendingClusters`.
 ghost use Rattle.std.specs.Prelude.{◌≡◌, ◌<◌, ◌+◌, ◌^◌, ◌≢◌, ◌==◌, ◌≤◌, ◌/◌, List, IfOk, OnErr, OnOk, slice_index, true};
-ghost use Rattle.qcow2_alloc.specs.Allocators.{mark_of, table_of};
-ghost use Rattle.qcow2_alloc.specs.ReadyingRuns.{Allocates, Spares, mark_behind};
-ghost use Rattle.qcow2_alloc.specs.State.{lent, lent_to, seen, with_mark};
+ghost use Rattle.qcow2_alloc.specs.Allocators.{first_free_of, table_of};
+ghost use Rattle.qcow2_alloc.specs.ReadyingRuns.{Allocates, LeavesUntouched, first_free_after};
+ghost use Rattle.qcow2_alloc.specs.State.{image_state, allocator_state, seen, with_first_free};
 ghost use Rattle.qcow2_types.specs.Counts.{counters_of_block};
 ghost use Rattle.qcow2_types.specs.Pending.{FreeEntry};
 ghost use Rattle.qcow2_types.specs.Words.{block_offset};
-ghost use Rattle.qcow2_metadata.specs.Places.{IsInReach};
-ghost use Rattle.qcow2_alloc.specs.HandingOut.{AllocatesClusters, AllocatesClusterAt, IsBarred, mark_past};
-ghost use Rattle.qcow2_alloc.specs.HandingOutOne.{AllocatesAt, CountsOne, ReadiesCounter, ReadiesWord, tells_limit};
+ghost use Rattle.qcow2_metadata.specs.Places.{IsAddressable};
+ghost use Rattle.qcow2_alloc.specs.HandingOut.{AllocatesClusters, AllocatesClusterAt, IsBarred, first_free_past};
+ghost use Rattle.qcow2_alloc.specs.HandingOutOne.{AllocatesAt, CountsOne, ReadiesCounter, ReadiesRawEntry, tells_limit};
 
 use crate::allocation::Allocator;
 use crate::cache::MetadataCaches;
 use crate::clusters_to_free::ClustersToFreeList;
-use crate::file::{ImageFile, is_in_reach};
+use crate::file::{ImageFile, is_addressable};
 use imago_storage::{Fault, Storage};
 use qcow2_metadata::Table;
 use qcow2_types::{ClusterCount, ClustersToFreeEntry, HostCluster, PendingClusters};
@@ -41,10 +41,10 @@ impl Allocator {
         begun: &mut bool,
     ) -> Result<PendingClusters, Fault>
         ensures begins { 0 < count → OnOk result (begun.new ≡ true) }
-        ensures spares { Spares S.state begun.old begun.new self.old (seen self.old caches.old file.old list.old) self.new
+        ensures untouched_unless_begun { LeavesUntouched S.state begun.old begun.new self.old (seen self.old caches.old file.old list.old) self.new
             (seen self.new caches.new file.new list.new) }
-        ensures allocates { Allocates S.state count metadata (lent_to self.old caches.old file.old list.old) result
-            (lent_to self.new caches.new file.new list.new) }
+        ensures allocates { Allocates S.state count metadata (allocator_state self.old caches.old file.old list.old) result
+            (allocator_state self.new caches.new file.new list.new) }
         ensures held { list.new.held ≡ list.old.held }
     {
         if count == ClusterCount(0) {
@@ -53,7 +53,7 @@ impl Allocator {
         let first = self.ready_run(file, caches, list, count.0, begun)?;
         // Where this refuses, what was counted of the run leaks.
         self.count_run(file, caches, first, count.0)?;
-        self.first_free_cluster = next_mark(self.first_free_cluster, first, count);
+        self.first_free_cluster = next_first_free(self.first_free_cluster, first, count);
         Ok(pending_run(first, count, metadata))
     }
 
@@ -68,10 +68,10 @@ impl Allocator {
         begun: &mut bool,
     ) -> Result<PendingClusters, Fault>
         ensures begins { 0 < count → OnOk result (begun.new ≡ true) }
-        ensures spares { Spares S.state begun.old begun.new self.old (seen self.old caches.old file.old list.old) self.new
+        ensures untouched_unless_begun { LeavesUntouched S.state begun.old begun.new self.old (seen self.old caches.old file.old list.old) self.new
             (seen self.new caches.new file.new list.new) }
-        ensures allocates { AllocatesClusters S.state count metadata (lent_to self.old caches.old file.old list.old) result
-            (lent_to self.new caches.new file.new list.new) }
+        ensures allocates { AllocatesClusters S.state count metadata (allocator_state self.old caches.old file.old list.old) result
+            (allocator_state self.new caches.new file.new list.new) }
         ensures held { list.new.held ≡ list.old.held }
     {
         if !list.is_empty() {
@@ -90,8 +90,8 @@ impl Allocator {
         list: &mut ClustersToFreeList,
         cluster: HostCluster,
     ) -> Result<Option<PendingClusters>, Fault>
-        ensures allocates { AllocatesClusterAt S.state cluster (lent_to self.old caches.old file.old list.old) result
-            (lent_to self.new caches.new file.new list.new) }
+        ensures allocates { AllocatesClusterAt S.state cluster (allocator_state self.old caches.old file.old list.old) result
+            (allocator_state self.new caches.new file.new list.new) }
         ensures held { list.new.held ≡ list.old.held }
     {
         caches.l2_depends_on_rb(file)?;
@@ -106,11 +106,11 @@ impl Allocator {
         list: &mut ClustersToFreeList,
         cluster: HostCluster,
     ) -> Result<Option<PendingClusters>, Fault>
-        ensures allocates { AllocatesAt S.state (λ m. IsBarred m (mark_of self.old) cluster) cluster
-            (lent_to self.old caches.old file.old list.old) result (lent_to self.new caches.new file.new list.new) }
+        ensures allocates { AllocatesAt S.state (λ m. IsBarred m (first_free_of self.old) cluster) cluster
+            (allocator_state self.old caches.old file.old list.old) result (allocator_state self.new caches.new file.new list.new) }
         ensures held { list.new.held ≡ list.old.held }
     {
-        if !is_in_reach(cluster, file.header.cluster_bits()) {
+        if !is_addressable(cluster, file.header.cluster_bits()) {
             return Ok(None);
         }
         match self.ensure_counter(file, caches, list, cluster)? {
@@ -120,15 +120,15 @@ impl Allocator {
     }
 
     // Lets the refcount table grow until it has a word for a cluster, unless there is no place for a table that long.
-    fn ensure_word<S: Storage>(
+    fn ensure_entry<S: Storage>(
         &mut self,
         file: &mut ImageFile<S>,
         caches: &mut MetadataCaches<S>,
         list: &mut ClustersToFreeList,
         cluster: HostCluster,
     ) -> Result<Readiness, Fault>
-        ensures readies { ReadiesWord S.state cluster (lent_to self.old caches.old file.old list.old) result
-            (lent_to self.new caches.new file.new list.new) }
+        ensures readies { ReadiesRawEntry S.state cluster (allocator_state self.old caches.old file.old list.old) result
+            (allocator_state self.new caches.new file.new list.new) }
         ensures held { list.new.held ≡ list.old.held }
     {
         let index = cluster.rt_index(file.header.rb_bits());
@@ -155,12 +155,12 @@ impl Allocator {
         list: &mut ClustersToFreeList,
         cluster: HostCluster,
     ) -> Result<Readiness, Fault>
-        requires reach { IsInReach file.old.header.fields.cluster_bits cluster }
-        ensures readies { ReadiesCounter S.state cluster (lent_to self.old caches.old file.old list.old) result
-            (lent_to self.new caches.new file.new list.new) }
+        requires reach { IsAddressable file.old.header.fields.cluster_bits cluster }
+        ensures readies { ReadiesCounter S.state cluster (allocator_state self.old caches.old file.old list.old) result
+            (allocator_state self.new caches.new file.new list.new) }
         ensures held { list.new.held ≡ list.old.held }
     {
-        if let Readiness::NoPlace = self.ensure_word(file, caches, list, cluster)? {
+        if let Readiness::NoPlace = self.ensure_entry(file, caches, list, cluster)? {
             return Ok(Readiness::NoPlace);
         }
         let index = cluster.rt_index(file.header.rb_bits());
@@ -175,11 +175,11 @@ impl Allocator {
         caches: &mut MetadataCaches<S>,
         cluster: HostCluster,
     ) -> Result<Option<PendingClusters>, Fault>
-        requires there { block_offset (slice_index (table_of self.old).words (cluster / counters_of_block file.old.header.fields)) ≢ 0 }
-        requires reach { IsInReach file.old.header.fields.cluster_bits cluster }
+        requires block_exists { block_offset (slice_index (table_of self.old).raw_entries (cluster / counters_of_block file.old.header.fields)) ≢ 0 }
+        requires reach { IsAddressable file.old.header.fields.cluster_bits cluster }
         ensures allocates { (pending : List FreeEntry)
-            → AllocatesAt S.state (λ _. ⊥) cluster (with_mark (lent (table_of self.old) caches.old file.old pending) (mark_of self.old))
-            result (with_mark (lent (table_of self.old) caches.new file.new pending) (mark_of self.new)) }
+            → AllocatesAt S.state (λ _. ⊥) cluster (with_first_free (image_state (table_of self.old) caches.old file.old pending) (first_free_of self.old))
+            result (with_first_free (image_state (table_of self.old) caches.new file.new pending) (first_free_of self.new)) }
         ensures table { table_of self.new ≡ table_of self.old }
     {
         let found = self.find_in_block(file, caches, cluster)?;
@@ -196,13 +196,13 @@ impl Allocator {
         caches: &mut MetadataCaches<S>,
         cluster: HostCluster,
     ) -> Result<Option<PendingClusters>, Fault>
-        requires reach { IsInReach file.old.header.fields.cluster_bits cluster }
+        requires reach { IsAddressable file.old.header.fields.cluster_bits cluster }
         ensures counts { (pending : List FreeEntry)
-            → CountsOne S.state cluster (lent (table_of self.old) caches.old file.old pending) result
-            (lent (table_of self.old) caches.new file.new pending) }
+            → CountsOne S.state cluster (image_state (table_of self.old) caches.old file.old pending) result
+            (image_state (table_of self.old) caches.new file.new pending) }
         ensures table { table_of self.new ≡ table_of self.old }
-        ensures further { IfOk result (λ found. mark_of self.new ≡ mark_past (mark_of self.old) cluster found) }
-        ensures stays { OnErr result (mark_of self.new ≡ mark_of self.old) }
+        ensures further { IfOk result (λ found. first_free_of self.new ≡ first_free_past (first_free_of self.old) cluster found) }
+        ensures stays { OnErr result (first_free_of self.new ≡ first_free_of self.old) }
     {
         if cluster == HostCluster(0) {
             return Err(Fault::DamagedTable);
@@ -228,9 +228,9 @@ fn pending_run(first: HostCluster, count: ClusterCount, metadata: bool) -> Pendi
 }
 
 // Where the search for free clusters begins once a run is counted that it found.
-fn next_mark(mark: HostCluster, first: HostCluster, count: ClusterCount) -> HostCluster
+fn next_first_free(mark: HostCluster, first: HostCluster, count: ClusterCount) -> HostCluster
     requires fits { first + count < 2 ^ 64 }
-    ensures { result ≡ mark_behind mark count first }
+    ensures { result ≡ first_free_after mark count first }
 {
     if first == mark {
         first + count

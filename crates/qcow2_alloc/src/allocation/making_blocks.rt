@@ -2,20 +2,20 @@
 //! refblock, which `ensure_rb` makes; qemu's call is `alloc_refcount_block`.
 ghost use Rattle.std.specs.Prelude.{IsTrue, ◌≡◌, ◌≢◌, ◌≤◌, ◌<◌, ◌*◌, ◌+◌, ◌/◌, ◌%◌, ◌^◌, ℕ, List, Some, true, OnOk, IfOk, IfErr, IsOkUnless, Err, length, replicate, slice_index, slice_set, ◌-◌};
 ghost use Rattle.qcow2_metadata.specs.Blocks.{block_of};
-ghost use Rattle.qcow2_metadata.specs.Places.{IsInReach, IsPlaced, place_of};
-ghost use Rattle.qcow2_metadata.specs.Tables.{IsPlacedTable, IsNamable};
+ghost use Rattle.qcow2_metadata.specs.Places.{IsAddressable, IsPlaced, place_of};
+ghost use Rattle.qcow2_metadata.specs.Tables.{IsPlacedTable, CanBeReferenced};
 ghost use Rattle.qcow2_types.specs.Counts.{counters_of_block};
 ghost use Rattle.qcow2_types.specs.Header.{cluster_size};
 ghost use Rattle.qcow2_types.specs.Pending.{FreeEntry};
 ghost use Rattle.qcow2_types.specs.Words.{block_offset};
 ghost use Rattle.qcow2_alloc.specs.Allocating.{MakesBlock};
 ghost use Rattle.qcow2_alloc.specs.declared.cache.CacheDependency.TheVariants.{L2DependsOnRb};
-ghost use Rattle.qcow2_alloc.specs.Allocators.{metadata_of, table_of, mark_of};
+ghost use Rattle.qcow2_alloc.specs.Allocators.{metadata_of, table_of, first_free_of};
 ghost use Rattle.qcow2_alloc.specs.Caches.{order_of};
 ghost use Rattle.qcow2_alloc.specs.FillingBlocks.{IsBlockPlaced};
-ghost use Rattle.qcow2_alloc.specs.Quiet.{IsSound};
-ghost use Rattle.qcow2_alloc.specs.MakingBlocks.{CanName, naming_causes, NamesWritten, MakesIn};
-ghost use Rattle.qcow2_alloc.specs.State.{lent};
+ghost use Rattle.qcow2_alloc.specs.GuestView.{IsSound};
+ghost use Rattle.qcow2_alloc.specs.MakingBlocks.{CanReference, naming_causes, LinksWritten, MakesIn};
+ghost use Rattle.qcow2_alloc.specs.State.{image_state};
 ghost use Rattle.qcow2_alloc.specs.FreeList.{covers};
 ghost use Rattle.qcow2_alloc.specs.Growing.{lacking};
 ghost use Rattle.qcow2_alloc.specs.MakingRoom.{run_of};
@@ -26,7 +26,7 @@ ghost use Rattle.qcow2_alloc.specs.Causes.{HasCause};
 use crate::allocation::Allocator;
 use crate::allocation::searching::Run;
 use crate::cache::MetadataCaches;
-use crate::file::{ImageFile, is_in_reach};
+use crate::file::{ImageFile, is_addressable};
 use imago_storage::{Fault, Storage};
 use qcow2_metadata::{Header, RefBlock, Table};
 use qcow2_types::{ClusterCount, ClustersToFreeEntry, HostCluster, PendingClusters};
@@ -45,16 +45,16 @@ impl Allocator {
         caches: &mut MetadataCaches<S>,
         index: usize,
     ) -> Result<(), Fault>
-        requires inside { index < length (table_of self.old).words }
-        requires empty { block_offset (slice_index (table_of self.old).words index) ≡ 0 }
+        requires inside { index < length (table_of self.old).raw_entries }
+        requires empty { block_offset (slice_index (table_of self.old).raw_entries index) ≡ 0 }
         ensures makes { (pending : List FreeEntry)
-            → MakesBlock S.state index (lent (table_of self.old) caches.old file.old pending) result
-            (lent (table_of self.new) caches.new file.new pending) }
+            → MakesBlock S.state index (image_state (table_of self.old) caches.old file.old pending) result
+            (image_state (table_of self.new) caches.new file.new pending) }
         ensures placed { (pending : List FreeEntry) → order_of caches.old ≡ L2DependsOnRb → IsTrue (S.state file.old.image).shape.keeps
             → IsSound (metadata_of S.state file.old caches.old (table_of self.old) pending)
-            → OnOk result (IsBlockPlaced (mark_of self.old) index (metadata_of S.state file.old caches.old (table_of self.old) pending)
+            → OnOk result (IsBlockPlaced (first_free_of self.old) index (metadata_of S.state file.old caches.old (table_of self.old) pending)
             (metadata_of S.state file.new caches.new (table_of self.new) pending)) }
-        ensures mark { mark_of self.new ≡ mark_of self.old }
+        ensures mark { first_free_of self.new ≡ first_free_of self.old }
     {
         match self.find_counted(file, caches, self.first_free_cluster, index)? {
             Some(place) => self.make_counted_block(file, caches, index, place),
@@ -66,7 +66,7 @@ impl Allocator {
     // themselves can't be written.
     pub(super) fn check_place(&self, bits: u32, place: HostCluster) -> Result<(), Fault>
         requires { bits ≤ 21 }
-        ensures ok { OnOk result (CanName (table_of self.now) bits place × IsInReach bits place) }
+        ensures ok { OnOk result (CanReference (table_of self.now) bits place × IsAddressable bits place) }
         ensures err { IfErr result (HasCause (naming_causes (table_of self.now) bits place)) }
         ensures memory { result ≡ Err Fault.Memory → ⊥ }
     {
@@ -75,11 +75,11 @@ impl Allocator {
         };
         if place == HostCluster(0)
             || self.reftable.cluster_bits() != bits
-            || !is_in_reach(table, bits)
+            || !is_addressable(table, bits)
         {
             return Err(Fault::DamagedTable);
         }
-        if !is_in_reach(place, bits) {
+        if !is_addressable(place, bits) {
             return Err(Fault::Limit(place.0));
         }
         Ok(())
@@ -87,7 +87,7 @@ impl Allocator {
 
     // The first cluster that the block at an index of the refcount table counts.
     fn own_place(&self, index: usize, header: &Header) -> HostCluster
-        requires { index < length (table_of self.now).words }
+        requires { index < length (table_of self.now).raw_entries }
         ensures first { result ≡ index * counters_of_block header.now.fields }
         ensures own { result / counters_of_block header.now.fields ≡ index }
     {
@@ -103,14 +103,14 @@ impl Allocator {
         mut block: RefBlock,
         taken: Option<HostCluster>,
     ) -> Result<(), Fault>
-        requires inside { index < length (table_of self.old).words }
+        requires inside { index < length (table_of self.old).raw_entries }
         requires placed { IsPlacedTable (table_of self.old) }
         requires bits { block.cluster_bits ≡ (table_of self.old).layout.cluster_bits }
-        requires namable { IsNamable (table_of self.old).layout.cluster_bits block.cluster }
-        ensures names { NamesWritten (table_of self.old) index block (S.state file.old.image) result (table_of self.new)
+        requires can_be_referenced { CanBeReferenced (table_of self.old).layout.cluster_bits block.cluster }
+        ensures names { LinksWritten (table_of self.old) index block (S.state file.old.image) result (table_of self.new)
             (S.state file.new.image) }
         ensures header { file.new.header ≡ file.old.header }
-        ensures mark { mark_of self.new ≡ mark_of self.old }
+        ensures mark { first_free_of self.new ≡ first_free_of self.old }
     {
         block.write(self.alloc, &mut file.image)?;
         let pending = match taken {
@@ -129,15 +129,15 @@ impl Allocator {
         caches: &mut MetadataCaches<S>,
         index: usize,
     ) -> Result<(), Fault>
-        requires inside { index < length (table_of self.old).words }
-        requires empty { block_offset (slice_index (table_of self.old).words index) ≡ 0 }
+        requires inside { index < length (table_of self.old).raw_entries }
+        requires empty { block_offset (slice_index (table_of self.old).raw_entries index) ≡ 0 }
         ensures makes { (pending : List FreeEntry)
-            → MakesBlock S.state index (lent (table_of self.old) caches.old file.old pending) result
-            (lent (table_of self.new) caches.new file.new pending) }
+            → MakesBlock S.state index (image_state (table_of self.old) caches.old file.old pending) result
+            (image_state (table_of self.new) caches.new file.new pending) }
         ensures at { OnOk result ((index * counters_of_block file.old.header.fields ≢ 0)
-            × (block_offset (slice_index (table_of self.new).words index)
+            × (block_offset (slice_index (table_of self.new).raw_entries index)
             ≡ index * counters_of_block file.old.header.fields * cluster_size file.old.header.fields)) }
-        ensures mark { mark_of self.new ≡ mark_of self.old }
+        ensures mark { first_free_of self.new ≡ first_free_of self.old }
     {
         let place = self.own_place(index, &file.header);
         self.check_place(file.header.cluster_bits(), place)?;
@@ -155,14 +155,14 @@ impl Allocator {
         index: usize,
         place: HostCluster,
     ) -> Result<(), Fault>
-        requires inside { index < length (table_of self.old).words }
-        requires empty { block_offset (slice_index (table_of self.old).words index) ≡ 0 }
+        requires inside { index < length (table_of self.old).raw_entries }
+        requires empty { block_offset (slice_index (table_of self.old).raw_entries index) ≡ 0 }
         ensures makes { (pending : List FreeEntry)
-            → MakesIn S.state index place (lent (table_of self.old) caches.old file.old pending) result
-            (lent (table_of self.new) caches.new file.new pending) }
-        ensures at { OnOk result ((place ≢ 0) × (block_offset (slice_index (table_of self.new).words index)
+            → MakesIn S.state index place (image_state (table_of self.old) caches.old file.old pending) result
+            (image_state (table_of self.new) caches.new file.new pending) }
+        ensures at { OnOk result ((place ≢ 0) × (block_offset (slice_index (table_of self.new).raw_entries index)
             ≡ place * cluster_size file.old.header.fields)) }
-        ensures mark { mark_of self.new ≡ mark_of self.old }
+        ensures mark { first_free_of self.new ≡ first_free_of self.old }
     {
         if place.0 >= self.own_place(index, &file.header).0 {
             return Err(Fault::DamagedTable);
@@ -184,7 +184,7 @@ impl Allocator {
         file: &mut ImageFile<S>,
         run: Run,
     ) -> Result<(), Fault>
-        requires reach { IsInReach file.old.header.fields.cluster_bits (run.first + (run.len - 1)) }
+        requires reach { IsAddressable file.old.header.fields.cluster_bits (run.first + (run.len - 1)) }
         requires room { lacking (table_of self.now) (counters_of_block file.old.header.fields) run.first run.len ≤ run.len }
         ensures writes { WritesLacking file.old.header (table_of self.now) run (S.state file.old.image) result (S.state file.new.image) }
         ensures header { file.new.header ≡ file.old.header }
@@ -213,7 +213,7 @@ impl Allocator {
         run: Run,
         place: HostCluster,
     ) -> Result<(), Fault>
-        requires reach { IsInReach file.old.header.fields.cluster_bits place }
+        requires reach { IsAddressable file.old.header.fields.cluster_bits place }
         requires own { (index + 1) * counters_of_block file.old.header.fields < 2 ^ 64 }
         requires fits { next_of run < 2 ^ 64 }
         ensures writes { WritesBlockTo file.old.header index run place (S.state file.old.image) result (S.state file.new.image) }

@@ -1,16 +1,16 @@
 //! The room of a grown refcount table is filled: it is counted, blocks and table are written there, and the header names the table by one
 //! request. That is the second half of qemu's `qcow2_refcount_area` and of imago's `grow_reftable`.
 ghost use Rattle.std.specs.Prelude.{◌≡◌, ◌≢◌, ◌≤◌, ◌<◌, ◌+◌, ◌-◌, ◌*◌, ◌^◌, ℕ, List, OnOk, OnErr, IfErr, IsOkUnless, length};
-ghost use Rattle.qcow2_metadata.specs.Places.{IsInReach};
+ghost use Rattle.qcow2_metadata.specs.Places.{IsAddressable};
 ghost use Rattle.qcow2_metadata.specs.Tables.{IsPlacedTable};
 ghost use Rattle.qcow2_types.specs.Counts.{counters_of_block};
 ghost use Rattle.qcow2_types.specs.Pending.{FreeEntry};
-ghost use Rattle.qcow2_alloc.specs.Allocators.{table_of, mark_of};
+ghost use Rattle.qcow2_alloc.specs.Allocators.{table_of, first_free_of};
 ghost use Rattle.qcow2_alloc.specs.Caches.{cached_in, KeepsTables};
 ghost use Rattle.qcow2_alloc.specs.Finding.{PinsNothing};
 ghost use Rattle.qcow2_alloc.specs.Growing.{lacking};
-ghost use Rattle.qcow2_alloc.specs.MovingTables.{MovesTable, NamesNewBlocks, ForgetsRun, IsPinnedWithin, TakesRoom, IsPlan, EntersFree, waiting_then};
-ghost use Rattle.qcow2_alloc.specs.State.{lent};
+ghost use Rattle.qcow2_alloc.specs.MovingTables.{MovesTable, LinksNewBlocks, ForgetsRun, IsPinnedWithin, TakesFreeArea, IsPlan, EntersFree, waiting_then};
+ghost use Rattle.qcow2_alloc.specs.State.{image_state};
 
 use crate::allocation::Allocator;
 use crate::allocation::searching::Run;
@@ -25,7 +25,7 @@ impl Allocator {
     //
     // It refuses with `Fault::Memory`; with `Fault::Storage`; with `Fault::CacheFull` as the public calls do, and then some of the room
     // may be counted; and with `Fault::Counter` and `Fault::DamagedTable`, which no sound image has.
-    pub(super) fn fill_room<S: Storage>(
+    pub(super) fn fill_free_area<S: Storage>(
         &mut self,
         file: &mut ImageFile<S>,
         caches: &mut MetadataCaches<S>,
@@ -34,29 +34,29 @@ impl Allocator {
     ) -> Result<(), Fault>
         requires { IsPlan file.old.header.fields (table_of self.old) room table }
         ensures fills { (pending : List FreeEntry)
-            → EntersFree S.state room table (lent (table_of self.old) caches.old file.old pending) result
-            (lent (table_of self.new) caches.new file.new (waiting_then result file.old.header.fields pending)) }
-        ensures mark { mark_of self.new ≡ mark_of self.old }
+            → EntersFree S.state room table (image_state (table_of self.old) caches.old file.old pending) result
+            (image_state (table_of self.new) caches.new file.new (waiting_then result file.old.header.fields pending)) }
+        ensures mark { first_free_of self.new ≡ first_free_of self.old }
     {
-        self.take_room(file, caches, room)?;
+        self.take_free_area(file, caches, room)?;
         self.move_table(file, table)
     }
 
     // Counts a run of clusters that aren't counted, and writes the blocks that are lacking for that to its first ones. Those that old
     // blocks count are counted in the file before new blocks are named.
-    fn take_room<S: Storage>(
+    fn take_free_area<S: Storage>(
         &self,
         file: &mut ImageFile<S>,
         caches: &mut MetadataCaches<S>,
         room: Run,
     ) -> Result<(), Fault>
-        requires reach { IsInReach file.old.header.fields.cluster_bits (room.first + (room.len - 1)) }
-        requires few { lacking (table_of self.now) (counters_of_block file.old.header.fields) room.first room.len ≤ room.len }
+        requires reach { IsAddressable file.old.header.fields.cluster_bits (room.first + (room.len - 1)) }
+        requires blocks_fit { lacking (table_of self.now) (counters_of_block file.old.header.fields) room.first room.len ≤ room.len }
         ensures { (pending : List FreeEntry)
-            → TakesRoom S.state room (lent (table_of self.now) caches.old file.old pending) result
-            (lent (table_of self.now) caches.new file.new pending) }
+            → TakesFreeArea S.state room (image_state (table_of self.now) caches.old file.old pending) result
+            (image_state (table_of self.now) caches.new file.new pending) }
     {
-        self.count_named(file, caches, room)?;
+        self.count_referenced(file, caches, room)?;
         caches.flush_rb(file)?;
         // What is cached of these clusters was other blocks.
         let blocks = self.lacking_for(room, file.header.rb_bits());
@@ -71,12 +71,12 @@ impl Allocator {
         mut table: RefTable,
     ) -> Result<(), Fault>
         requires placed { IsPlacedTable table }
-        requires few { length table.words ≤ 2 ^ 20 }
+        requires table_bounded { length table.raw_entries ≤ 2 ^ 20 }
         requires bits { table.layout.cluster_bits ≡ file.old.header.fields.cluster_bits }
         requires old_placed { IsPlacedTable (table_of self.old) }
         requires old_bits { (table_of self.old).layout.cluster_bits ≡ file.old.header.fields.cluster_bits }
         ensures moves { MovesTable S.state table (table_of self.old) file.old result (table_of self.new) file.new }
-        ensures mark { mark_of self.new ≡ mark_of self.old }
+        ensures mark { first_free_of self.new ≡ first_free_of self.old }
     {
         table.write(self.alloc, &mut file.image)?;
         file.header.set_reftable(&table);
@@ -97,18 +97,18 @@ impl Allocator {
 
     // Names the blocks that are lacking for a run by the words of a table: they are to stand in its first clusters, in the order of their
     // indices.
-    pub(super) fn name_new_blocks(
+    pub(super) fn link_new_blocks(
         &self,
         table: &mut RefTable,
         header: &Header,
         run: Run,
     ) -> Result<(), Fault>
         requires bits { table.old.layout.cluster_bits ≡ header.now.fields.cluster_bits }
-        requires some { run.first ≢ 0 }
-        requires reach { IsInReach header.now.fields.cluster_bits (run.first + (run.len - 1)) }
-        requires inside { run.first + run.len ≤ length table.old.words * counters_of_block header.now.fields }
+        requires start_nonzero { run.first ≢ 0 }
+        requires reach { IsAddressable header.now.fields.cluster_bits (run.first + (run.len - 1)) }
+        requires inside { run.first + run.len ≤ length table.old.raw_entries * counters_of_block header.now.fields }
         requires room { lacking (table_of self.now) (counters_of_block header.now.fields) run.first run.len ≤ run.len }
-        ensures ok { OnOk result (NamesNewBlocks header.now.fields (table_of self.now) run table.old table.new) }
+        ensures ok { OnOk result (LinksNewBlocks header.now.fields (table_of self.now) run table.old table.new) }
         ensures err { IsOkUnless result Fault.Memory }
     {
         // It lends its place to each word.

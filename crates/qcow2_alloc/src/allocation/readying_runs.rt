@@ -4,21 +4,21 @@ ghost use Rattle.std.specs.Prelude.{true, ◌≡◌, ◌≤◌, IsTrue, List, On
 ghost use Rattle.qcow2_types.specs.Pending.{FreeEntry};
 ghost use Rattle.qcow2_alloc.specs.Allocating.{MakesBlocks};
 ghost use Rattle.qcow2_alloc.specs.declared.cache.CacheDependency.TheVariants.{L2DependsOnRb};
-ghost use Rattle.qcow2_alloc.specs.Allocators.{metadata_of, table_of, mark_of};
+ghost use Rattle.qcow2_alloc.specs.Allocators.{metadata_of, table_of, first_free_of};
 ghost use Rattle.qcow2_alloc.specs.Caches.{order_of};
 ghost use Rattle.qcow2_alloc.specs.FillingBlocks.{FillsFrom};
-ghost use Rattle.qcow2_alloc.specs.Quiet.{IsSound};
-ghost use Rattle.qcow2_alloc.specs.State.{lent, lent_to, seen};
+ghost use Rattle.qcow2_alloc.specs.GuestView.{IsSound};
+ghost use Rattle.qcow2_alloc.specs.State.{image_state, allocator_state, seen};
 ghost use Rattle.qcow2_types.specs.Counts.{counters_of_block};
-ghost use Rattle.qcow2_metadata.specs.Places.{IsInReach};
+ghost use Rattle.qcow2_metadata.specs.Places.{IsAddressable};
 ghost use Rattle.qcow2_alloc.specs.ReadyingBlocks.{ReadiesBlocks, fitting_causes};
-ghost use Rattle.qcow2_alloc.specs.ReadyingRuns.{ReadiesRun, Spares};
+ghost use Rattle.qcow2_alloc.specs.ReadyingRuns.{ReadiesRun, LeavesUntouched};
 ghost use Rattle.qcow2_alloc.specs.Causes.{HasCause};
 
 use crate::allocation::Allocator;
 use crate::cache::MetadataCaches;
 use crate::clusters_to_free::ClustersToFreeList;
-use crate::file::{ImageFile, is_in_reach};
+use crate::file::{ImageFile, is_addressable};
 use imago_storage::{Fault, Storage};
 use qcow2_metadata::{Header, RefTable, Table};
 use qcow2_types::HostCluster;
@@ -42,15 +42,15 @@ impl Allocator {
         end: usize,
     ) -> Result<Provision, Fault>
         requires order { first ≤ end }
-        requires inside { end ≤ length (table_of self.old).words }
+        requires inside { end ≤ length (table_of self.old).raw_entries }
         ensures makes { (pending : List FreeEntry)
-            → MakesBlocks S.state first end (lent (table_of self.old) caches.old file.old pending) result
-            (lent (table_of self.new) caches.new file.new pending) }
+            → MakesBlocks S.state first end (image_state (table_of self.old) caches.old file.old pending) result
+            (image_state (table_of self.new) caches.new file.new pending) }
         ensures fills { (pending : List FreeEntry) → order_of caches.old ≡ L2DependsOnRb → IsTrue (S.state file.old.image).shape.keeps
             → IsSound (metadata_of S.state file.old caches.old (table_of self.old) pending)
-            → OnOk result (FillsFrom (mark_of self.old) first end (metadata_of S.state file.old caches.old (table_of self.old) pending)
+            → OnOk result (FillsFrom (first_free_of self.old) first end (metadata_of S.state file.old caches.old (table_of self.old) pending)
             (metadata_of S.state file.new caches.new (table_of self.new) pending)) }
-        ensures mark { mark_of self.new ≡ mark_of self.old }
+        ensures mark { first_free_of self.new ≡ first_free_of self.old }
     {
         let mut provision = Provision::Complete;
         for index in first..end {
@@ -74,12 +74,12 @@ impl Allocator {
         count: u64,
         begun: &mut bool,
     ) -> Result<HostCluster, Fault>
-        requires some { 1 ≤ count }
+        requires nonempty { 1 ≤ count }
         ensures begins { OnOk result (begun.new ≡ true) }
-        ensures spares { Spares S.state begun.old begun.new self.old (seen self.old caches.old file.old list.old) self.new
+        ensures untouched_unless_begun { LeavesUntouched S.state begun.old begun.new self.old (seen self.old caches.old file.old list.old) self.new
             (seen self.new caches.new file.new list.new) }
-        ensures readies { ReadiesRun S.state count (lent_to self.old caches.old file.old list.old) result
-            (lent_to self.new caches.new file.new list.new) }
+        ensures readies { ReadiesRun S.state count (allocator_state self.old caches.old file.old list.old) result
+            (allocator_state self.new caches.new file.new list.new) }
         ensures held { list.new.held ≡ list.old.held }
     {
         let entries = self.reftable.entries();
@@ -106,7 +106,7 @@ impl Allocator {
 
     // Whether the refcount table has more words than it had, and none at an index still.
     fn has_grown_short_of(&self, entries: usize, index: usize) -> bool
-        ensures { IsTrue result ↔ ((entries < length (table_of self.now).words) × (length (table_of self.now).words ≤ index)) }
+        ensures { IsTrue result ↔ ((entries < length (table_of self.now).raw_entries) × (length (table_of self.now).raw_entries ≤ index)) }
     {
         let now = self.reftable.entries();
         entries < now && now <= index
@@ -124,9 +124,9 @@ impl Allocator {
         count: u64,
     ) -> Result<Provision, Fault>
         requires order { first ≤ last }
-        requires few { last < 2 ^ 20 }
+        requires index_bounded { last < 2 ^ 20 }
         ensures readies { ReadiesBlocks S.state (last + (count / counters_of_block file.old.header.fields + 2)) first last
-            (lent_to self.old caches.old file.old list.old) result (lent_to self.new caches.new file.new list.new) }
+            (allocator_state self.old caches.old file.old list.old) result (allocator_state self.new caches.new file.new list.new) }
         ensures held { list.new.held ≡ list.old.held }
     {
         if last < self.reftable.entries() {
@@ -141,11 +141,11 @@ impl Allocator {
 // The index of the block that counts the last cluster of a run, unless no such run can be counted: words can't name its last cluster, or
 // no refcount table has a word for that one's block.
 fn last_index(first: HostCluster, count: u64, header: &Header) -> Result<usize, Fault>
-    requires some { 1 ≤ count }
+    requires nonempty { 1 ≤ count }
     ensures start { IfOk result (λ last. first ≢ 0) }
-    ensures reach { IfOk result (λ last. IsInReach header.now.fields.cluster_bits (first + (count - 1))) }
+    ensures reach { IfOk result (λ last. IsAddressable header.now.fields.cluster_bits (first + (count - 1))) }
     ensures index { IfOk result (λ last. last ≡ (first + (count - 1)) / counters_of_block header.now.fields) }
-    ensures few { IfOk result (λ last. last < 2 ^ 20) }
+    ensures index_bounded { IfOk result (λ last. last < 2 ^ 20) }
     ensures err { IfErr result (HasCause (fitting_causes header.now.fields count first)) }
     ensures memory { result ≡ Err Fault.Memory → ⊥ }
 {
@@ -155,7 +155,7 @@ fn last_index(first: HostCluster, count: u64, header: &Header) -> Result<usize, 
     let Some(last) = first.0.checked_add(count - 1) else {
         return Err(Fault::Limit(u64::MAX));
     };
-    if !is_in_reach(HostCluster(last), header.cluster_bits()) {
+    if !is_addressable(HostCluster(last), header.cluster_bits()) {
         return Err(Fault::Limit(last));
     }
     let index = HostCluster(last).rt_index(header.rb_bits());

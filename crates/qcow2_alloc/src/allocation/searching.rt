@@ -96,7 +96,7 @@ impl Allocator {
         count: u64,
     ) -> Result<Run, Fault>
         requires short { run.len < count }
-        requires inside { next_of run / counters_of_block file.old.header.fields < length (table_of self.now).words }
+        requires inside { next_of run / counters_of_block file.old.header.fields < length (table_of self.now).raw_entries }
         requires fits { next_of run < 2 ^ 64 }
         ensures { ExtendsRun S.state (table_of self.now) count run (cached_file caches.old file.old) result
             (cached_file caches.new file.new) }
@@ -120,7 +120,7 @@ impl Allocator {
         from: HostCluster,
         end: usize,
     ) -> Result<Option<HostCluster>, Fault>
-        requires inside { end ≤ length (table_of self.now).words }
+        requires inside { end ≤ length (table_of self.now).raw_entries }
         ensures { LooksForFree S.state (table_of self.now) from
             (end * counters_of_block file.old.header.fields) (cached_file caches.old file.old) result (cached_file caches.new file.new) }
     {
@@ -142,7 +142,7 @@ impl Allocator {
         caches: &mut MetadataCaches<S>,
         from: HostCluster,
     ) -> Result<Option<HostCluster>, Fault>
-        requires { from / counters_of_block file.old.header.fields < length (table_of self.now).words }
+        requires { from / counters_of_block file.old.header.fields < length (table_of self.now).raw_entries }
         ensures { LooksForFree S.state (table_of self.now) from
             ((from / counters_of_block file.old.header.fields + 1) * counters_of_block file.old.header.fields)
             (cached_file caches.old file.old) result (cached_file caches.new file.new) }

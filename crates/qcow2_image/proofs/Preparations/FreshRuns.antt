@@ -12,19 +12,19 @@ use Rattle.imago_access.specs.Layer.{Held, Layer, beside, inside, loose}
 use Rattle.imago_access.specs.Room.{IsApart, IsUncutAt}
 use Rattle.qcow2_types.specs.Bytes.{Bytes}
 use Rattle.qcow2_types.specs.Entries.{entry}
-use Rattle.qcow2_types.specs.Header.{Fields, cluster_size, words_of_cluster}
+use Rattle.qcow2_types.specs.Header.{Fields, cluster_size, entries_of_cluster}
 use Rattle.qcow2_types.specs.Words.{Mapping, data_at, zeroes, packed, damaged}
-use Rattle.qcow2_types.specs.Words as words
-use Rattle.qcow2_metadata.specs.Places.{IsInReach}
+use Rattle.qcow2_types.specs.Words as raw_entries
+use Rattle.qcow2_metadata.specs.Places.{IsAddressable}
 use Rattle.qcow2_image.specs.Allocating.{shown_blank, shown_cell, shown_of}
 use Rattle.qcow2_image.specs.Filling.{IsInFirst, IsLeft}
 use Rattle.qcow2_image.specs.HeldHomes.{clusters-from, clusters-of, run-from, run-guest}
-use Rattle.qcow2_image.specs.Holding.{Holding, IsUncopied, copied_to, held_home, held_place, home_or, in_clusters, in_run, place_in}
+use Rattle.qcow2_image.specs.Holding.{PreparedMappingRun, IsUncopied, copied_to, held_writable_location, held_place, writable_location_or, in_clusters, in_run, place_in}
 use Rattle.qcow2_image.specs.Homes.{memory_is}
-use Rattle.qcow2_image.specs.ImageLayer.{blank_of, cell_by, home_by, homes}
+use Rattle.qcow2_image.specs.ImageLayer.{blank_of, cell_by, writable_location_by, writable_locations}
 use Rattle.qcow2_image.specs.Preparing.{IsCovered, IsReservedFor, first_part, first_run, held_run, run_in, run_part}
 use Rattle.qcow2_image.specs.Rooms.{HoldsIn, rest_of}
-use Rattle.qcow2_image.specs.Seen.{file_of, homes_of, layer_in, layer_of, memory_of}
+use Rattle.qcow2_image.specs.Seen.{file_of, writable_locations_of, layer_in, layer_of, memory_of}
 use Rattle.qcow2_image.specs.declared.allocating.Shown.{Shown}
 use Rattle.qcow2_image.specs.declared.allocating.Shown.TheVariants as variant
 use Rattle.qcow2_image.specs.declared.mappings.Reserved.{Reserved}
@@ -40,38 +40,38 @@ blank-shown false f h p = refl
 -- Each place of a guest cluster says what the cluster shows.
 pub shown-says : (backing : Bool) (shown : Shown) (f : Bytes) (h : Fields) (p : ℕ) (m : Mapping) → shown_of backing m ≡ Some shown
     → cell_by (blank_of backing) f h p m ≡ shown_cell f h p shown
-shown-says backing shown f h p words.unmapped is = blank-shown backing f h p ∙ ap (shown_cell f h p) (some-same (shown_blank backing) shown is)
+shown-says backing shown f h p raw_entries.unmapped is = blank-shown backing f h p ∙ ap (shown_cell f h p) (some-same (shown_blank backing) shown is)
 shown-says backing shown f h p (zeroes cluster copied) is = ap (shown_cell f h p) (some-same variant.Zeroes shown is)
 shown-says backing shown f h p (packed offset length) is = ap (shown_cell f h p) (some-same variant.Barred shown is)
 shown-says backing shown f h p (data_at cluster copied) is = ap (shown_cell f h p) (some-same (variant.Data cluster) shown is)
 shown-says backing shown f h p damaged is = absurd (cc is)
 
-uncopied-nowhere : (h : Fields) (p : ℕ) (m : Mapping) → IsUncopied m → home_by h p m ≡ None
+uncopied-nowhere : (h : Fields) (p : ℕ) (m : Mapping) → IsUncopied m → writable_location_by h p m ≡ None
 uncopied-nowhere h p (data_at cluster true) is = absurd is
 uncopied-nowhere h p (data_at cluster false) is = refl
 uncopied-nowhere h p (zeroes cluster copied) is = refl
 uncopied-nowhere h p (packed offset length) is = refl
-uncopied-nowhere h p words.unmapped is = refl
+uncopied-nowhere h p raw_entries.unmapped is = refl
 uncopied-nowhere h p damaged is = refl
 
-nowhere-uncopied : (h : Fields) (p : ℕ) (m : Mapping) → home_by h p m ≡ None → IsUncopied m
+nowhere-uncopied : (h : Fields) (p : ℕ) (m : Mapping) → writable_location_by h p m ≡ None → IsUncopied m
 nowhere-uncopied h p (data_at cluster true) is = absurd (cc is)
 nowhere-uncopied h p (data_at cluster false) is = tt
 nowhere-uncopied h p (zeroes cluster copied) is = tt
 nowhere-uncopied h p (packed offset length) is = tt
-nowhere-uncopied h p words.unmapped is = tt
+nowhere-uncopied h p raw_entries.unmapped is = tt
 nowhere-uncopied h p damaged is = tt
 
 -- A place of the disk that can't be written is in no cluster of its own, in an image that was opened for writing.
-pub homeless-uncopied : (f : Bytes) (h : Fields) (writable : Bool) (p : ℕ) → IsTrue writable → p < h.size → homes writable f h p ≡ None
+pub homeless-uncopied : (f : Bytes) (h : Fields) (writable : Bool) (p : ℕ) → IsTrue writable → p < h.size → writable_locations writable f h p ≡ None
     → IsUncopied (entry f h (p / cluster_size h))
 homeless-uncopied f h writable p may low is =
     nowhere-uncopied h p (entry f h (p / cluster_size h)) (rw (may, lt-ltb p h.size low) at is)
 
 -- Its places can be written nowhere by its word.
-pub uncopied-homeless : (writable : Bool) (f : Bytes) (h : Fields) (p : ℕ) → IsUncopied (entry f h (p / cluster_size h)) → homes writable f h p ≡ None
+pub uncopied-homeless : (writable : Bool) (f : Bytes) (h : Fields) (p : ℕ) → IsUncopied (entry f h (p / cluster_size h)) → writable_locations writable f h p ≡ None
 uncopied-homeless writable f h p is = from (writable && ltb p h.size) where
-  from : (b : Bool) → (if b then home_by h p (entry f h (p / cluster_size h)) else None) ≡ None
+  from : (b : Bool) → (if b then writable_location_by h p (entry f h (p / cluster_size h)) else None) ≡ None
   from true = uncopied-nowhere h p (entry f h (p / cluster_size h)) is
   from false = refl
 
@@ -159,7 +159,7 @@ range-near c offset length p low high apart = elim apart.3 [
 ]
 
 -- An image for which such a run is held, with the layer that it shows then.
-module _ {S : Type 0} (g : Ghosts S) (d : Qcow2 S g) (asked : Asked) (clusters : Reserved) (claim : ℕ) (written : ℕ → Bool)
+module _ {S : Type 0} (g : Ghosts S) (d : Qcow2 S g) (asked : Asked) (clusters : Reserved) (mapping_id : ℕ) (written : ℕ → Bool)
     (unwritten : (p : ℕ) → written p ≡ false) (some : 0 < asked.length) (fits : asked.offset + asked.length ≤ d.tables.file.header.fields.size)
     (any : 0 < clusters.count) where
   abbrev h : Fields
@@ -177,8 +177,8 @@ module _ {S : Type 0} (g : Ghosts S) (d : Qcow2 S g) (asked : Asked) (clusters :
   abbrev run : ℕ
   run = run_in h clusters.count asked.offset asked.length
 
-  abbrev hold : Holding
-  hold = held_run g (run_part h clusters.count asked) clusters d claim written
+  abbrev hold : PreparedMappingRun
+  hold = held_run g (run_part h clusters.count asked) clusters d mapping_id written
 
   abbrev now : Layer
   now = layer_in g d.tables d.mode d.number d.failed (Some hold)
@@ -203,28 +203,28 @@ module _ {S : Type 0} (g : Ghosts S) (d : Qcow2 S g) (asked : Asked) (clusters :
   first-place = let same : clusters.host ≡ clusters.host + (guest - guest) = omega arith in ap (λ x. place_in h x asked.offset) same
 
   -- The guest clusters behind the first are going to be written as a whole.
-  module _ (row : guest % words_of_cluster h + count ≤ words_of_cluster h)
+  module _ (row : guest % entries_of_cluster h + count ≤ entries_of_cluster h)
       (covered : (i : ℕ) → 0 < i → i < count → IsCovered h asked (guest + i)) where
     -- They can be named, and are held.
-    pub fresh-held : IsInReach h.cluster_bits (clusters.host + (count - 1)) → IsReservedFor g guest clusters d.tables
+    pub fresh-held : IsAddressable h.cluster_bits (clusters.host + (count - 1)) → IsReservedFor g guest clusters d.tables
         → ((i : ℕ) → i < count → IsUncopied (entry (file_of g d.tables) h (guest + i))) → HoldsIn g d.tables hold
     fresh-held near reserved uncopied = record {
       space = reserved.space;
-      there = reserved.there;
+      space_known = reserved.space_known;
       held = record {
         any = any;
         row = row;
-        under = reserved.under;
+        layers_below = reserved.layers_below;
         own = reserved.own;
         uncopied = uncopied;
-        some = reserved.some;
+        host_nonzero = reserved.host_nonzero;
         reach = near;
         placed = first-place;
         long = long;
         first = part-low c count asked.offset asked.length run one any refl;
         last = part-high c count asked.offset asked.length run one any refl;
         on_disk = omega (arith, short, fits);
-        kept = λ p here not-yet. refl;
+        unwritten_is_copied = λ p here not-yet. refl;
         beside = λ p here out. unwritten p;
       };
       room = reserved.room;
@@ -254,30 +254,30 @@ module _ {S : Type 0} (g : Ghosts S) (d : Qcow2 S g) (asked : Asked) (clusters :
       ]
     ]
 
-    module _ (near : IsInReach h.cluster_bits (clusters.host + (count - 1))) (reserved : IsReservedFor g guest clusters d.tables)
+    module _ (near : IsAddressable h.cluster_bits (clusters.host + (count - 1))) (reserved : IsReservedFor g guest clusters d.tables)
         (uncopied : (i : ℕ) → i < count → IsUncopied (entry (file_of g d.tables) h (guest + i))) (under : ℕ → Value)
         (filled : (p : ℕ) → IsInFirst h asked p → IsLeft (first_part h asked) p → IsCopied under (layer_of g d) p (file_of g d.tables (place_in h clusters.host p))) where
       holds : HoldsIn g d.tables hold
       holds = fresh-held near reserved uncopied
 
       -- Its places are in no cluster by their words,
-      homeless-at : (p : ℕ) → (guest ≤ p / c) × (p / c < guest + count) → homes_of g d p ≡ None
+      homeless-at : (p : ℕ) → (guest ≤ p / c) × (p / c < guest + count) → writable_locations_of g d p ≡ None
       homeless-at p at =
           let i : ℕ = p / c - guest in
           let whole : guest + i ≡ p / c = omega (arith, at.0) in
-          let word : entry (memory_of g d.tables) h (p / c) ≡ entry (file_of g d.tables) h (guest + i) =
+          let raw_entry : entry (memory_of g d.tables) h (p / c) ≡ entry (file_of g d.tables) h (guest + i) =
           ap (λ (m : Bytes). entry m h (p / c)) (memory_is g d.tables) ∙ ap (entry (file_of g d.tables) h) (sym whole) in
           uncopied-homeless d.mode.writable (memory_of g d.tables) h p
-          (subst IsUncopied (sym word) (uncopied i (omega (arith, at.0, at.1))))
+          (subst IsUncopied (sym raw_entry) (uncopied i (omega (arith, at.0, at.1))))
 
       -- but those of the run are at home where it is held.
-      home-at : (i : ℕ) → i < run → now.home (asked.offset + i) ≡ Some (0, place_in h clusters.host asked.offset + i)
+      home-at : (i : ℕ) → i < run → now.writable_location (asked.offset + i) ≡ Some (0, place_in h clusters.host asked.offset + i)
       home-at i less =
           let in-run : in_run hold (asked.offset + i) ≡ true = and_from (leb asked.offset (asked.offset + i)) (ltb (asked.offset + i) (asked.offset + run))
           (le-leb asked.offset (asked.offset + i) (omega arith)) (lt-ltb (asked.offset + i) (asked.offset + run) (omega (arith, less))) in
           let at = run-guest (rest_of g d.tables holds.space) hold holds.held (asked.offset + i) in-run in
           let behind : asked.offset + i - asked.offset ≡ i = omega arith in
-          ap (λ (o : Option (ℕ × ℕ)). home_or o (held_home hold (asked.offset + i))) (homeless-at (asked.offset + i) at)
+          ap (λ (o : Option (ℕ × ℕ)). writable_location_or o (held_writable_location hold (asked.offset + i))) (homeless-at (asked.offset + i) at)
           ∙ rw in-run (ap (λ (n : ℕ). Some (0, place_in h clusters.host asked.offset + n)) behind)
 
       -- a place beside the run
@@ -325,7 +325,7 @@ module _ {S : Type 0} (g : Ghosts S) (d : Qcow2 S g) (asked : Asked) (clusters :
               | inr all ↦ absurd (both_ways (in_run hold p) out (and_from (leb asked.offset p) (ltb p (asked.offset + run))
                   (le-leb asked.offset p all.1) (lt-ltb p (asked.offset + run) all.2)))
             ],
-            ap (λ (o : Option (ℕ × ℕ)). home_or o (held_home hold p)) (homeless-at p there.0) ∙ rw out refl,
+            ap (λ (o : Option (ℕ × ℕ)). writable_location_or o (held_writable_location hold p)) (homeless-at p there.0) ∙ rw out refl,
           )
 
       -- what is held of a place, by where it lies
@@ -343,12 +343,12 @@ module _ {S : Type 0} (g : Ghosts S) (d : Qcow2 S g) (asked : Asked) (clusters :
       holds-at p true true is is' = inside-at p is is' asked.overwrite refl
       holds-at p true false is is' = beside-at p is is'
 
-      pub fresh-prepared : Prepared under (layer_of g d) now asked (run_at 0 (place_in h clusters.host asked.offset) run (Some claim))
+      pub fresh-prepared : Prepared under (layer_of g d) now asked (run_at 0 (place_in h clusters.host asked.offset) run (Some mapping_id))
       fresh-prepared = record {
         fixed = refl;
         size = refl;
         cell = refl;
-        home = home-at;
+        writable_location = home-at;
         unspent = refl;
         holds = λ p. subst (IsHolding under now asked.offset run asked.overwrite p) (sym (held-is p (in_clusters h hold p) (in_run hold p) refl refl))
             (holds-at p (in_clusters h hold p) (in_run hold p) refl refl);

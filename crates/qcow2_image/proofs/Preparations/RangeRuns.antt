@@ -6,27 +6,27 @@ use Rattle.std.proofs.lemmas.Nat.{div-add-mod', mod_below, pow_pos}
 use Rattle.imago_storage.specs.declared.storage.Storage.{Ghosts}
 use Rattle.imago_access.specs.Changes.{Asked}
 use Rattle.qcow2_types.specs.Entries.{entry}
-use Rattle.qcow2_types.specs.Header.{Fields, cluster_size, words_of_cluster}
+use Rattle.qcow2_types.specs.Header.{Fields, cluster_size, entries_of_cluster}
 use Rattle.qcow2_types.specs.Words.{Mapping, damaged, data_at, packed, zeroes}
-use Rattle.qcow2_types.specs.Words as words
+use Rattle.qcow2_types.specs.Words as raw_entries
 use Rattle.qcow2_image.specs.Holding.{IsUncopied}
 use Rattle.qcow2_image.specs.Looking.{Follows}
 use Rattle.qcow2_image.specs.Preparing.{CoversMost, IsRun, first_run, run_in}
-use Rattle.qcow2_image.specs.Seen.{IsSeen, file_of}
+use Rattle.qcow2_image.specs.Seen.{IsCacheCoherent, file_of}
 use Rattle.qcow2_image.specs.declared.qcow2.Qcow2.{Qcow2}
 
 -- What goes on from a cluster that isn't written where it is isn't so, either.
 follows-uncopied : (a b : Mapping) → Follows a b → IsUncopied a → IsUncopied b
 follows-uncopied a (zeroes cluster mark) on is = tt
 follows-uncopied a (packed offset length) on is = tt
-follows-uncopied a words.unmapped on is = tt
+follows-uncopied a raw_entries.unmapped on is = tt
 follows-uncopied a damaged on is = tt
 follows-uncopied (data_at cluster true) (data_at next mark) on is = absurd is
 follows-uncopied (data_at cluster false) (data_at next mark) on is = subst (λ m. IsUncopied (data_at next m)) (sym on.1) tt
 follows-uncopied (zeroes None mark') (data_at next mark) on is = absurd on
 follows-uncopied (zeroes (Some cluster) mark') (data_at next mark) on is = absurd on
 follows-uncopied (packed offset length) (data_at next mark) on is = absurd on
-follows-uncopied words.unmapped (data_at next mark) on is = absurd on
+follows-uncopied raw_entries.unmapped (data_at next mark) on is = absurd on
 follows-uncopied damaged (data_at next mark) on is = absurd on
 
 run-uncopied : (mapped : ℕ → Mapping) (guest n : ℕ) → ((k : ℕ) → k + 1 < n → Follows (mapped (guest + k)) (mapped (guest + k + 1)))
@@ -40,9 +40,9 @@ run-uncopied mapped guest n each first (suc i) less =
     (run-uncopied mapped guest n each first i (omega (arith, less))))
 
 -- A range covers its guest clusters to the begin of the last one.
-module _ (h : Fields) (offset length n : ℕ) (inside : offset + length ≤ h.size) (some : 0 < length) (words : 0 < words_of_cluster h) (any : 0 < n)
+module _ (h : Fields) (offset length n : ℕ) (inside : offset + length ≤ h.size) (some : 0 < length) (raw_entries : 0 < entries_of_cluster h) (any : 0 < n)
     (most : (n ≡ 1) ⊎ ((offset / cluster_size h + n ≤ (offset + length) / cluster_size h)
-    × (offset / cluster_size h % words_of_cluster h + n ≤ words_of_cluster h))) where
+    × (offset / cluster_size h % entries_of_cluster h + n ≤ entries_of_cluster h))) where
   abbrev c : ℕ
   c = cluster_size h
 
@@ -59,7 +59,7 @@ module _ (h : Fields) (offset length n : ℕ) (inside : offset + length ≤ h.si
   covers-most = record {
     any = any;
     row = elim most [
-      | inl single ↦ let below = mod_below guest (words_of_cluster h) words in omega (arith, single, below)
+      | inl single ↦ let below = mod_below guest (entries_of_cluster h) raw_entries in omega (arith, single, below)
       | inr several ↦ several.1
     ];
     inside = elim most [
@@ -107,7 +107,7 @@ module _ {S : Type 0} (g : Ghosts S) (asked : Asked) (d : Qcow2 S g) (most : ℕ
   }
 
   pub run-found : IsTrue asked.overwrite → (n : ℕ) → 0 < n → n ≤ most
-      → (IsSeen g d.tables → (k : ℕ) → k + 1 < n → Follows (entry (file_of g d.tables) d.tables.file.header.fields (first + k))
+      → (IsCacheCoherent g d.tables → (k : ℕ) → k + 1 < n → Follows (entry (file_of g d.tables) d.tables.file.header.fields (first + k))
       (entry (file_of g d.tables) d.tables.file.header.fields (first + k + 1))) → IsRun g asked n d
   run-found over n any few each = record {
     any = any;

@@ -10,12 +10,12 @@ use Rattle.imago_storage.specs.Steps.{Call}
 use Rattle.imago_storage.specs.declared.fault.Fault.{Fault}
 use Rattle.imago_storage.specs.declared.fault.Fault.TheVariants.{DamagedTable, Failed, MissingData, Memory, Storage, Limit}
 use Rattle.imago_storage.specs.declared.storage.Storage.{Ghosts}
-use Rattle.imago_access.specs.declared.seen.Seen.{Ghosts as SeenGhosts}
-use Rattle.imago_access.specs.declared.seen.SeenBelow.{Ghosts as GhostsBelow}
+use Rattle.imago_access.specs.declared.driver_model.DriverModel.{Ghosts as SeenGhosts}
+use Rattle.imago_access.specs.declared.driver_model.LayersBelowModel.{Ghosts as GhostsBelow}
 use Rattle.imago_access.specs.Chain.{at}
 use Rattle.imago_access.specs.Changes.{Asked, IsHolding}
-use Rattle.imago_access.specs.Files.{ImageCause, IsMild, WasNotCutOff, files}
-use Rattle.imago_access.specs.Going.{Went}
+use Rattle.imago_access.specs.Files.{ImageCause, IsNotResourceError, HadNoResourceError, files}
+use Rattle.imago_access.specs.Going.{MutatingCall}
 use Rattle.imago_access.specs.Layer.{Cell, IsFree, Layer, loose, own, unmapped}
 use Rattle.imago_access.specs.Mappings.{IsMappedRun}
 use Rattle.imago_access.specs.Parts.{IsUncutPart, PartCause, announces}
@@ -25,39 +25,39 @@ use Rattle.imago_access.specs.Room.{IsUncutAt}
 use Rattle.imago_access.proofs.ImageCauses.{failed_left}
 use Rattle.imago_access.proofs.Marking.{over_plain}
 use Rattle.qcow2_types.specs.Bytes.{Bytes}
-use Rattle.qcow2_types.specs.Header.{Fields, Header, cluster_size, words_of_cluster}
+use Rattle.qcow2_types.specs.Header.{Fields, Header, cluster_size, entries_of_cluster}
 use Rattle.qcow2_types.specs.Words.{Mapping, data_at, zeroes, packed, damaged, is_damaged}
-use Rattle.qcow2_types.specs.Words as words
+use Rattle.qcow2_types.specs.Words as raw_entries
 use Rattle.qcow2_types.specs.Entries.{entry, l2_table}
 use Rattle.qcow2_types.specs.Consistency.{IsConsistent}
 use Rattle.qcow2_types.proofs.Counting.Consistent.{some-words, consistent-shaped}
 use Rattle.qcow2_types.proofs.Showing.Shows.{guest-slot-there, guest-slot-none, guest-live}
 use Rattle.qcow2_types.proofs.Counting.Sound.{sound-words}
 use Rattle.qcow2_types.proofs.Showing.Values.{entry-slot}
-use Rattle.qcow2_image.specs.contracts.qcow2.Qcow2Seen.TheImpl.{ghosts}
+use Rattle.qcow2_image.specs.contracts.qcow2.Qcow2DriverModel.TheImpl.{ghosts}
 use Rattle.qcow2_image.specs.declared.qcow2.Qcow2.{Qcow2}
 use Rattle.qcow2_image.specs.declared.qcow2.PreparedMappingState.{PreparedMappingState}
 use Rattle.qcow2_image.specs.HeldHomes.{free_loose}
-use Rattle.qcow2_image.specs.Holding.{Holding, claim_held, held_home, home_or, homes_with}
+use Rattle.qcow2_image.specs.Holding.{PreparedMappingRun, mapping_id_held, held_writable_location, writable_location_or, writable_locations_with}
 use Rattle.qcow2_image.specs.Homes.{memory_is}
 use Rattle.qcow2_image.specs.ImageLayer.{blank_of, blanks, cell_by}
 use Rattle.qcow2_image.specs.Looking.{IsWholeRun, IsWholeRunIn}
-use Rattle.qcow2_image.specs.Rooms.{IsSafe, was_safe}
-use Rattle.qcow2_image.specs.Seen.{IsSeen, file_of, homes_of, layer_of}
+use Rattle.qcow2_image.specs.Rooms.{IsWellFormed, was_well_formed}
+use Rattle.qcow2_image.specs.Seen.{IsCacheCoherent, file_of, writable_locations_of, layer_of}
 use Rattle.qcow2_image.specs.Steps.{KeepsImage}
 use Rattle.qcow2_image.specs.Unspent.{holding_in}
-use Rattle.qcow2_image.specs.Writing.{IsHomeAt, HadNoPlace}
+use Rattle.qcow2_image.specs.Writing.{IsWritableAt, HadNoPlace}
 use Rattle.qcow2_image.proofs.Steps.{began-kept, looked-kept, marks-kept, takes-kept}
 
 -- No guest cluster of a consistent image is damaged,
 pub never-damaged : (f : Bytes) (H : Header) → IsConsistent f H → (g : ℕ) → entry f H.fields g ≢ damaged
-never-damaged f H was g is = elim (cases_eq (l2_table f H.fields (g / words_of_cluster H.fields)) 0) [
+never-damaged f H was g is = elim (cases_eq (l2_table f H.fields (g / entries_of_cluster H.fields)) 0) [
   | inl none ↦
-      let bad : words.unmapped ≡ damaged = sym (guest-slot-none f H.fields g none) ∙ (sym (entry-slot f H.fields g was.readable.tables) ∙ is) in
+      let bad : raw_entries.unmapped ≡ damaged = sym (guest-slot-none f H.fields g none) ∙ (sym (entry-slot f H.fields g was.readable.tables) ∙ is) in
       absurd (cc bad)
   | inr there ↦
       let live = guest-live f H.fields g (some-words H.fields (consistent-shaped f H was)) there in
-      let sound = (sound-words f H.fields was.readable.tables).slots (g / words_of_cluster H.fields) (g % words_of_cluster H.fields) live in
+      let sound = (sound-words f H.fields was.readable.tables).slots (g / entries_of_cluster H.fields) (g % entries_of_cluster H.fields) live in
       let bad = sym (guest-slot-there f H.fields g there) ∙ (sym (entry-slot f H.fields g was.readable.tables) ∙ is) in
       absurd (cc (sym (ap is_damaged bad) ∙ sound))
 ]
@@ -67,19 +67,19 @@ damaged-by blank which f h p damaged is = refl
 damaged-by blank which f h p (data_at c x) is = absurd (cc is)
 damaged-by blank which f h p (zeroes c x) is = absurd (cc is)
 damaged-by blank which f h p (packed o n) is = absurd (cc is)
-damaged-by blank which f h p words.unmapped is = elim which [
+damaged-by blank which f h p raw_entries.unmapped is = elim which [
   | inl none ↦ absurd (cc (sym none ∙ is))
   | inr zero ↦ absurd (cc (sym zero ∙ is))
 ]
 
 -- so that no place of a safe one is.
-pub safe-undamaged : {S : Type 0} (g : Ghosts S) (d : Qcow2 S g) → IsSafe g d → (p : ℕ) → p < (layer_of g d).size → (layer_of g d).cell p ≢ own damaged_place
-safe-undamaged g d safe p inside is =
+pub safe-undamaged : {S : Type 0} (g : Ghosts S) (d : Qcow2 S g) → IsWellFormed g d → (p : ℕ) → p < (layer_of g d).size → (layer_of g d).cell p ≢ own damaged_place
+safe-undamaged g d well_formed p inside is =
     let h = d.tables.file.header.fields in
     let here : cell_by (blank_of d.mode.backing) (file_of g d.tables) h p (entry (file_of g d.tables) h (p / cluster_size h)) ≡ own damaged_place =
     subst (λ m. cell_by (blank_of d.mode.backing) (file_of g d.tables) h p (entry m h (p / cluster_size h)) ≡ own damaged_place) (memory_is g d.tables)
     (rw (lt-ltb p h.size inside) at is) in
-    never-damaged (file_of g d.tables) d.tables.file.header safe.consistent (p / cluster_size h)
+    never-damaged (file_of g d.tables) d.tables.file.header well_formed.consistent (p / cluster_size h)
     (damaged-by (blank_of d.mode.backing) (blanks d.mode.backing) (file_of g d.tables) h p _ here)
 
 -- A run of whole clusters cuts none that the range covers.
@@ -101,10 +101,10 @@ uncut-run h mapped offset asked n low inside is u unit = elim is.ends [
 ]
 
 -- Where a place has no home, it has none by its word; and it had none before, where each that there was is there.
-pub words-none : (hold : Option Holding) (home : ℕ → Option (ℕ × ℕ)) (p : ℕ) → homes_with hold home p ≡ None → home p ≡ None
+pub words-none : (hold : Option PreparedMappingRun) (home : ℕ → Option (ℕ × ℕ)) (p : ℕ) → writable_locations_with hold home p ≡ None → home p ≡ None
 words-none None home p is = is
 words-none (Some hold) home p is = from (home p) refl is where
-  from : (a : Option (ℕ × ℕ)) → home p ≡ a → home_or a (held_home hold p) ≡ None → home p ≡ None
+  from : (a : Option (ℕ × ℕ)) → home p ≡ a → writable_location_or a (held_writable_location hold p) ≡ None → home p ≡ None
   from None same none = same
   from (Some at) same none = absurd (cc none)
 
@@ -113,97 +113,97 @@ none-before None now keeps none = refl
 none-before (Some at) now keeps none = absurd (cc (sym none ∙ keeps at refl))
 
 module _ (R : RattleType) (st : Ghosts R.Denot) (sd : mir.Syntax.Dict) (dd : mir.Syntax.Dict) (old new : Qcow2 R.Denot st) where
-  abbrev sees : SeenGhosts (Qcow2 R.Denot st) PreparedMappingState
-  sees = ghosts R st sd dd
+  abbrev coherent : SeenGhosts (Qcow2 R.Denot st) PreparedMappingState
+  coherent = ghosts R st sd dd
 
-  pub went-kept : {T : Type 0} (r : Result T Fault) → KeepsImage st old r new → (ok whole : Type 0) → (ok → WasNotCutOff r) → (whole → WasNotCutOff r)
-      → Went sees ok whole old new
+  pub went-kept : {T : Type 0} (r : Result T Fault) → KeepsImage st old r new → (ok whole : Type 0) → (ok → HadNoResourceError r) → (whole → HadNoResourceError r)
+      → MutatingCall coherent ok whole old new
   went-kept {T} r k ok whole from-ok from-whole =
       let looked = looked-kept R st sd dd {T = T} old new r k in record {
-        fixed = looked.like.fixed;
-        failed = looked.like.failed;
-        later = looked.later;
+        fixed = looked.keeps_layer_state.fixed;
+        failed = looked.keeps_layer_state.failed;
+        counts_not_fallen = looked.counts_not_fallen;
         faults = λ w. looked.faults (from-ok w);
         safely = λ w. looked.safely (from-whole w);
-        lasting = looked.lasting;
-        surplus = λ w. looked.surplus (from-whole w);
+        stays_stable = looked.stays_stable;
+        excess_refcount = λ w. looked.excess_refcount (from-whole w);
       }
 
   module _ {B : Type 0} (u : GhostsBelow B) (x : B) (asked : Asked) where
     -- why it is refused, in the words of the driver, where it was in those of a lookup,
-    pub part-why : (e : Fault) → old.failed ≡ false → LookCause (layer_of st old) asked.offset asked.length (files sees old) (files sees new) e → IsSafe st old → (d : Qcow2 R.Denot st) (call : Call)
-        → PartCause (u.under x) (layer_of st old) asked.offset asked.length (sees.own_cause d (u.under x) call) (files sees old ++ u.files_under x) (files sees new ++ u.files_under x) e
-    part-why DamagedTable runs why safe d call = absurd (safe-undamaged st old safe (asked.offset + why.0) why.2 why.3)
-    part-why Failed runs why safe d call = inl why
-    part-why MissingData runs why safe d call = inl why
-    part-why Memory runs why safe d call = tt
-    part-why Storage runs why safe d call = elim why [
+    pub part-why : (e : Fault) → old.failed ≡ false → LookCause (layer_of st old) asked.offset asked.length (files coherent old) (files coherent new) e → IsWellFormed st old → (d : Qcow2 R.Denot st) (call : Call)
+        → PartCause (u.layers_below x) (layer_of st old) asked.offset asked.length (coherent.own_cause d (u.layers_below x) call) (files coherent old ++ u.files_of_layers_below x) (files coherent new ++ u.files_of_layers_below x) e
+    part-why DamagedTable runs why well_formed d call = absurd (safe-undamaged st old well_formed (asked.offset + why.0) why.2 why.3)
+    part-why Failed runs why well_formed d call = inl why
+    part-why MissingData runs why well_formed d call = inl why
+    part-why Memory runs why well_formed d call = tt
+    part-why Storage runs why well_formed d call = elim why [
       | inl rose ↦ inl rose
       | inr none ↦ absurd none
     ]
-    part-why e runs why safe d call = absurd why
+    part-why e runs why well_formed d call = absurd why
 
     -- and where the first place can't be written.
-    pub part-nowhere : (number : ℕ) → (layer_of st old).home asked.offset ≡ None → 0 < asked.length → (d : Qcow2 R.Denot st) (call : Call) → sees.began d call old → IsUncutPart (layer_of st old) call asked.offset asked.length
-        → (IsSafe st d → HadNoPlace st d asked.offset number)
-        → PartCause (u.under x) (layer_of st old) asked.offset asked.length (sees.own_cause d (u.under x) call) (files sees old ++ u.files_under x) (files sees new ++ u.files_under x) (Limit number)
-    part-nowhere number none some d call begun part had = λ safe. (
+    pub part-nowhere : (number : ℕ) → (layer_of st old).writable_location asked.offset ≡ None → 0 < asked.length → (d : Qcow2 R.Denot st) (call : Call) → coherent.began d call old → IsUncutPart (layer_of st old) call asked.offset asked.length
+        → (IsWellFormed st d → HadNoPlace st d asked.offset number)
+        → PartCause (u.layers_below x) (layer_of st old) asked.offset asked.length (coherent.own_cause d (u.layers_below x) call) (files coherent old ++ u.files_of_layers_below x) (files coherent new ++ u.files_of_layers_below x) (Limit number)
+    part-nowhere number none some d call begun part had = λ well_formed. (
       asked.offset,
       (part.part.start, omega (arith, some, part.part.end)),
-      none-before (homes_of st d asked.offset) (homes_of st old asked.offset) ((begun safe).1.homes asked.offset) (words-none (holding_in st old.unspent) (homes_of st old) asked.offset none),
-      had safe,
+      none-before (writable_locations_of st d asked.offset) (writable_locations_of st old asked.offset) ((begun well_formed).1.writable_locations asked.offset) (words-none (holding_in st old.unspent) (writable_locations_of st old) asked.offset none),
+      had well_formed,
     )
 
-    pub prepares-refused : (e : Fault) → KeepsImage {T = Option (ℕ × ℕ)} st old (Err e) new → ImageCause (files sees old) (files sees new) e
-        → (IsSafe st old → u.sees_under x → (d : Qcow2 R.Denot st) (call : Call) → sees.began d call old
+    pub prepares-refused : (e : Fault) → KeepsImage {T = Option (ℕ × ℕ)} st old (Err e) new → ImageCause (files coherent old) (files coherent new) e
+        → (IsWellFormed st old → u.coherent_below x → (d : Qcow2 R.Denot st) (call : Call) → coherent.began d call old
         → IsUncutPart (layer_of st old) call asked.offset asked.length → Some asked.overwrite ≡ announces call
-        → PartCause (u.under x) (layer_of st old) asked.offset asked.length (sees.own_cause d (u.under x) call) (files sees old ++ u.files_under x) (files sees new ++ u.files_under x) e)
-        → Prepares sees u asked (Err e) (old, x) (new, x)
+        → PartCause (u.layers_below x) (layer_of st old) asked.offset asked.length (coherent.own_cause d (u.layers_below x) call) (files coherent old ++ u.files_of_layers_below x) (files coherent new ++ u.files_of_layers_below x) e)
+        → Prepares coherent u asked (Err e) (old, x) (new, x)
     prepares-refused e k failed why =
         let looked = looked-kept R st sd dd {T = Option (ℕ × ℕ)} old new (Err e) k in record {
-          ok = λ safe under. tt;
-          err = λ safe under mild.
-              let same = (looked.stays mild (record { seen = safe.seen; sure = inr (was_safe st old safe) })).0 in record { like = looked.like; cell = ap (λ (l : Layer). l.cell) same; held = ap (λ (l : Layer). l.held) same };
-          uncut = λ safe under. tt;
-          near = λ safe under. tt;
-          room = λ safe under whole. takes-kept R st sd dd {T = Option (ℕ × ℕ)} old new (Err e) k;
-          stops = λ safe under. looked.stops safe (u.under x);
-          went = went-kept {T = Option (ℕ × ℕ)} (Err e) k (IsMild e) (IsMild e × u.sees_under x) (λ w. w) (λ w. w.0);
-          began = λ d call begun part whole. began-kept R st sd dd {T = Option (ℕ × ℕ)} old new (Err e) k whole d call begun;
+          ok = λ well_formed under. tt;
+          err = λ well_formed under not_resource_error.
+              let same = (looked.stays not_resource_error (record { seen = well_formed.seen; sure = inr (was_well_formed st old well_formed) })).0 in record { keeps_layer_state = looked.keeps_layer_state; cell = ap (λ (l : Layer). l.cell) same; held = ap (λ (l : Layer). l.held) same };
+          uncut = λ well_formed under. tt;
+          no_range_overflow = λ well_formed under. tt;
+          room = λ well_formed under whole. takes-kept R st sd dd {T = Option (ℕ × ℕ)} old new (Err e) k;
+          crash_images = λ well_formed under. looked.crash_images well_formed (u.layers_below x);
+          mutating_call = went-kept {T = Option (ℕ × ℕ)} (Err e) k (IsNotResourceError e) (IsNotResourceError e × u.coherent_below x) (λ w. w) (λ w. w.0);
+          stays_begun = λ d call begun part whole. began-kept R st sd dd {T = Option (ℕ × ℕ)} old new (Err e) k whole d call begun;
           refused = record {
-            failed = failed_left (files sees old) (files sees new) (u.files_under x) (u.files_under x) e failed;
-            marks = over_plain sees old new e (marks-kept R st sd dd {T = Option (ℕ × ℕ)} old new (Err e) k);
+            failed = failed_left (files coherent old) (files coherent new) (u.files_of_layers_below x) (u.files_of_layers_below x) e failed;
+            marks_failed = over_plain coherent old new e (marks-kept R st sd dd {T = Option (ℕ × ℕ)} old new (Err e) k);
             cause = why;
           };
         }
 
     pub prepares-mapped : (place n : ℕ) → KeepsImage {T = Option (ℕ × ℕ)} st old (Ok (Some (place, n))) new → IsFree (layer_of st old)
         → asked.offset + asked.length ≤ (layer_of st old).size → 0 < asked.length
-        → IsMappedRun (layer_of st old) asked.offset asked.length n → (IsSeen st old.tables → IsHomeAt (layer_of st old) asked.offset place n)
-        → (IsSeen st old.tables → IsWholeRunIn st old.tables asked.offset asked.length n)
-        → Prepares sees u asked (Ok (record { storage = 0; offset = place; length = n; state = None })) (old, x) (new, x)
+        → IsMappedRun (layer_of st old) asked.offset asked.length n → (IsCacheCoherent st old.tables → IsWritableAt (layer_of st old) asked.offset place n)
+        → (IsCacheCoherent st old.tables → IsWholeRunIn st old.tables asked.offset asked.length n)
+        → Prepares coherent u asked (Ok (record { storage = 0; offset = place; length = n; state = None })) (old, x) (new, x)
     prepares-mapped place n k free inside some run home whole =
         let looked = looked-kept R st sd dd {T = Option (ℕ × ℕ)} old new (Ok (Some (place, n))) k in
-        let now-free : claim_held (holding_in st new.unspent) ≡ None = ap (λ v. claim_held (holding_in st v)) k.unspent ∙ free in
+        let now-free : mapping_id_held (holding_in st new.unspent) ≡ None = ap (λ v. mapping_id_held (holding_in st v)) k.unspent ∙ free in
         let empty : (p : ℕ) → (layer_of st new).held p ≡ loose = λ p. free_loose new.tables.file.header.fields (file_of st new.tables) (holding_in st new.unspent) p now-free in
         record {
-          ok = λ safe under.
-              let same = (looked.stays tt (record { seen = safe.seen; sure = inr (was_safe st old safe) })).0 in record {
+          ok = λ well_formed under.
+              let same = (looked.stays tt (record { seen = well_formed.seen; sure = inr (was_well_formed st old well_formed) })).0 in record {
                 fixed = ap (λ (l : Layer). l.fixed) same;
                 size = ap (λ (l : Layer). l.size) same;
                 cell = ap (λ (l : Layer). l.cell) same;
-                home = λ i lt. ap (λ (l : Layer). l.home (asked.offset + i)) same ∙ home safe.seen i lt;
+                writable_location = λ i lt. ap (λ (l : Layer). l.writable_location (asked.offset + i)) same ∙ home well_formed.seen i lt;
                 unspent = now-free;
-                holds = λ p. subst (IsHolding (at (u.under x)) (layer_of st new) asked.offset n asked.overwrite p) (sym (empty p)) tt;
+                holds = λ p. subst (IsHolding (at (u.layers_below x)) (layer_of st new) asked.offset n asked.overwrite p) (sym (empty p)) tt;
                 some_held = λ c is. absurd (cc is);
               };
-          err = λ safe under. tt;
-          uncut = λ safe under. uncut-run old.tables.file.header.fields (entry (file_of st old.tables) old.tables.file.header.fields) asked.offset asked.length n
-              (omega (arith, inside, some)) (run.2 some) (whole safe.seen);
-          near = λ safe under p apart. empty p;
-          room = λ safe under done. takes-kept R st sd dd {T = Option (ℕ × ℕ)} old new (Ok (Some (place, n))) k;
-          stops = λ safe under. looked.stops safe (u.under x);
-          went = went-kept {T = Option (ℕ × ℕ)} (Ok (Some (place, n))) k ⊤ (⊤ × u.sees_under x) (λ w. w) (λ w. w.0);
-          began = λ d call begun part done. began-kept R st sd dd {T = Option (ℕ × ℕ)} old new (Ok (Some (place, n))) k tt d call begun;
-          refused = record { failed = tt; marks = tt; cause = λ safe under d call begun part same. tt };
+          err = λ well_formed under. tt;
+          uncut = λ well_formed under. uncut-run old.tables.file.header.fields (entry (file_of st old.tables) old.tables.file.header.fields) asked.offset asked.length n
+              (omega (arith, inside, some)) (run.2 some) (whole well_formed.seen);
+          no_range_overflow = λ well_formed under p apart. empty p;
+          room = λ well_formed under done. takes-kept R st sd dd {T = Option (ℕ × ℕ)} old new (Ok (Some (place, n))) k;
+          crash_images = λ well_formed under. looked.crash_images well_formed (u.layers_below x);
+          mutating_call = went-kept {T = Option (ℕ × ℕ)} (Ok (Some (place, n))) k ⊤ (⊤ × u.coherent_below x) (λ w. w) (λ w. w.0);
+          stays_begun = λ d call begun part done. began-kept R st sd dd {T = Option (ℕ × ℕ)} old new (Ok (Some (place, n))) k tt d call begun;
+          refused = record { failed = tt; marks_failed = tt; cause = λ well_formed under d call begun part same. tt };
         }

@@ -2,7 +2,7 @@
 ghost use Rattle.std.specs.Prelude.{◌≡◌, ◌≤◌, length, Ok, IfOk, IfErr, OnOk};
 ghost use Rattle.std.specs.Result.{result_err};
 ghost use Rattle.std.specs.Option.{option_copied};
-ghost use Rattle.imago_storage.specs.Calls.{CountsFaults, Kept, Reads};
+ghost use Rattle.imago_storage.specs.Calls.{CountsFaults, UnchangedButFaults, Reads};
 ghost use Rattle.qcow2_types.specs.Bytes.{bytes_of};
 ghost use Rattle.qcow2_types.specs.Header.{fields_of, header_of, texts_of, text_read, backing_name_read, extensions_read, first_fault, rules_of_writing, cluster_size, extensions_end as end_of_extensions};
 ghost use Rattle.qcow2_metadata.specs.Loading.{file, fields_fault, RefusedBy, NotLoaded};
@@ -55,7 +55,7 @@ impl Header {
         ensures ok { IfOk result (λ header. header_of writable (file (S.state image.old)) ≡ Ok header) }
         ensures err { IfErr result (NotLoaded (header_of writable (file (S.state image.old))) (S.state image.old) (S.state image.new)) }
         ensures faults { OnOk result ((S.state image.new).faults ≡ (S.state image.old).faults) }
-        ensures kept { Kept (S.state image.old) (S.state image.new) }
+        ensures unchanged_but_faults { UnchangedButFaults (S.state image.old) (S.state image.new) }
     {
         let mut start = [0u8; 104];
         read_at(alloc, image, &mut start, 0)?;
@@ -70,7 +70,7 @@ impl Header {
     fn read_first_cluster<S: Storage>(&self, alloc: Global, image: &mut S) -> Result<Vec<u8>, Fault>
         ensures read { IfOk result (λ cluster. Reads (S.state image.old).bytes 0 cluster.items) }
         ensures size { IfOk result (λ cluster. length cluster.items ≡ cluster_size self.now.fields) }
-        ensures kept { Kept (S.state image.old) (S.state image.new) }
+        ensures unchanged_but_faults { UnchangedButFaults (S.state image.old) (S.state image.new) }
         ensures faults { CountsFaults (S.state image.old).faults (S.state image.new).faults result }
     {
         let mut cluster = vec![in alloc; 0u8; self.cluster_size()]?;

@@ -2,7 +2,7 @@
 ghost use Rattle.std.specs.Prelude.{◌≡◌, ◌+◌, ◌-◌, ◌*◌, ◌/◌, ◌%◌, ◌^◌, length, None};
 ghost use Rattle.qcow2_types.specs.Header.{first_fault, refcount_table_entries, rules_of_size};
 ghost use Rattle.qcow2_types.specs.HeaderSwitch.{FirstFieldsFit};
-ghost use Rattle.qcow2_metadata.specs.Tables.{IsPlacedTable, IsTable, block_words, table_place};
+ghost use Rattle.qcow2_metadata.specs.Tables.{IsPlacedTable, IsTable, refcount_table_kind, table_start};
 
 use super::Header;
 use crate::l1_table::L1Table;
@@ -12,9 +12,9 @@ use qcow2_types::PendingClusters;
 
 // The clusters that the words of a refcount table take: few, since it has at most 2^20 words.
 fn clusters_taken(reftable: &RefTable) -> u32
-    ensures value { result ≡ (8 * length reftable.now.words + (2 ^ reftable.now.layout.cluster_bits - 1)) / 2
+    ensures value { result ≡ (8 * length reftable.now.raw_entries + (2 ^ reftable.now.layout.cluster_bits - 1)) / 2
         ^ reftable.now.layout.cluster_bits }
-    ensures table { IsTable block_words reftable.now }
+    ensures table { IsTable refcount_table_kind reftable.now }
 {
     let _words = reftable.entries();
     reftable.cluster_count().0 as u32
@@ -29,7 +29,7 @@ impl Header {
         requires placed { IsPlacedTable l1_table.now }
         ensures fields { self.new ≡ record self.old {
           fields = record self.old.fields
-              { l1_entries = length l1_table.now.words; l1_offset = table_place l1_table.now };
+              { l1_entries = length l1_table.now.raw_entries; l1_offset = table_start l1_table.now };
         } }
         ensures sizes { first_fault (rules_of_size self.old.fields) ≡ None → first_fault (rules_of_size self.new.fields) ≡ None }
     {
@@ -47,13 +47,13 @@ impl Header {
         requires placed { IsPlacedTable reftable.now }
         ensures fields { self.new ≡ record self.old {
           fields = record self.old.fields {
-            refcount_table_offset = table_place reftable.now;
-            refcount_table_clusters = (8 * length reftable.now.words + (2 ^ self.old.fields.cluster_bits - 1)) / 2
+            refcount_table_offset = table_start reftable.now;
+            refcount_table_clusters = (8 * length reftable.now.raw_entries + (2 ^ self.old.fields.cluster_bits - 1)) / 2
                 ^ self.old.fields.cluster_bits;
           };
         } }
-        ensures whole { 8 * length reftable.now.words % 2 ^ self.old.fields.cluster_bits ≡ 0
-            → refcount_table_entries self.new.fields ≡ length reftable.now.words }
+        ensures whole { 8 * length reftable.now.raw_entries % 2 ^ self.old.fields.cluster_bits ≡ 0
+            → refcount_table_entries self.new.fields ≡ length reftable.now.raw_entries }
         ensures sizes { first_fault (rules_of_size self.old.fields) ≡ None → first_fault (rules_of_size self.new.fields) ≡ None }
         // So they can be written.
         ensures fit { FirstFieldsFit self.new.fields }

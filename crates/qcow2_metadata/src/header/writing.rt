@@ -2,7 +2,7 @@
 ghost use Rattle.std.specs.Prelude.{◌≡◌, ◌+◌, ◌≤◌, ◌++◌, length, drop, replicate, Some, None, OnOk, OnErr, IfOk, IfErr, IsTrue, IsFalse, if◌then◌else◌};
 ghost use Rattle.std.specs.Result.{result_err};
 ghost use Rattle.imago_storage.specs.State.{unit_of};
-ghost use Rattle.imago_storage.specs.Through.{IsAtOnce, Put, PutAtOnce};
+ghost use Rattle.imago_storage.specs.Through.{FitsOneRequest, WriteOutcome, AtomicWriteOutcome};
 ghost use Rattle.qcow2_types.specs.HeaderBytes.{first_bytes, fields_bytes, fields_length, extensions_bytes, name_bytes, written_fields, written, header_bytes, fits_first_cluster};
 ghost use Rattle.qcow2_metadata.specs.FieldsView.{seen_fields, IsHeader};
 ghost use Rattle.qcow2_metadata.specs.Writing.{IsUnfit, NotAsked};
@@ -70,7 +70,7 @@ impl Header {
     }
 
     // The extensions, behind zeroes in place of the fields.
-    fn behind_fields(&self, alloc: Global) -> Result<Vec<u8>, AllocError>
+    fn after_fields(&self, alloc: Global) -> Result<Vec<u8>, AllocError>
         ensures { IfOk result (λ bytes. bytes.items ≡ replicate (fields_length self.now.fields) 0 ++ extensions_bytes self.now) }
     {
         let mut bytes = vec![in alloc; 0u8; self.fields_length()]?;
@@ -94,7 +94,7 @@ impl Header {
         requires at { name_at ≡ fields_length self.now.fields + length (extensions_bytes self.now) }
         requires short { length (name_bytes self.now.backing_name) ≤ 1023 }
         ensures fields { seen_fields result.0 result.1 ≡ written_fields self.now }
-        ensures kept { IsHeader result.0 result.1 }
+        ensures is_header { IsHeader result.0 result.1 }
     {
         let place = if self.backing_filename.is_some() {
             name_at as u64
@@ -117,11 +117,11 @@ impl Header {
     fn prepared(&self, alloc: Global) -> Result<(Vec<u8>, V2Header, V3HeaderBase), Fault>
         ensures bytes { IfOk result (λ made. made.0.items ≡ header_bytes self.now) }
         ensures fields { IfOk result (λ made. seen_fields made.1 made.2 ≡ written_fields self.now) }
-        ensures kept { IfOk result (λ made. IsHeader made.1 made.2) }
+        ensures is_header { IfOk result (λ made. IsHeader made.1 made.2) }
         ensures fits { OnOk result (IsTrue (fits_first_cluster self.now)) }
         ensures err { IfErr result (IsUnfit self.now) }
     {
-        let mut bytes = self.behind_fields(alloc)?;
+        let mut bytes = self.after_fields(alloc)?;
         let name_at = bytes.len();
         bytes.extend_from_slice(self.name_bytes())?;
         self.check_length(bytes.len())?;
@@ -140,11 +140,11 @@ impl Header {
     /// file's name has more than 1,023 bytes, before it asks anything of the image; else with `Fault::Memory` and
     /// `Fault::Storage`, which leave each of these bytes of the file old or new. A refusal leaves the header as it was.
     pub fn write<S: Storage>(&mut self, alloc: Global, image: &mut S) -> Result<(), Fault>
-        ensures put { IsTrue (fits_first_cluster self.old) → Put (S.state image.old) (S.state image.new) 0 (header_bytes self.old) result }
+        ensures put { IsTrue (fits_first_cluster self.old) → WriteOutcome (S.state image.old) (S.state image.new) 0 (header_bytes self.old) result }
         // Where the storage's unit allows it, it is one request.
-        ensures at_once { IsTrue (fits_first_cluster self.old)
-            → IsAtOnce (unit_of (S.state image.old).shape) 0 (length (header_bytes self.old))
-            → PutAtOnce (S.state image.old) (S.state image.new) 0 (header_bytes self.old) result }
+        ensures in_one_request { IsTrue (fits_first_cluster self.old)
+            → FitsOneRequest (unit_of (S.state image.old).shape) 0 (length (header_bytes self.old))
+            → AtomicWriteOutcome (S.state image.old) (S.state image.new) 0 (header_bytes self.old) result }
         ensures limit { IsFalse (fits_first_cluster self.old) → NotAsked self.old (S.state image.old) (S.state image.new) result }
         ensures ok { OnOk result (self.new ≡ written self.old) }
         ensures err { OnErr result (self.new ≡ self.old) }
@@ -158,7 +158,7 @@ impl Header {
 
     // Writes the fields up to the number of snapshots.
     fn write_first_fields<S: Storage>(&self, alloc: Global, image: &mut S) -> Result<(), Fault>
-        ensures { PutAtOnce (S.state image.old) (S.state image.new) 0 (first_bytes self.now.fields) result }
+        ensures { AtomicWriteOutcome (S.state image.old) (S.state image.new) 0 (first_bytes self.now.fields) result }
     {
         let mut bytes = [0; OLDER_LENGTH];
         self.v2.to_bytes(&mut bytes);
@@ -169,7 +169,7 @@ impl Header {
     ///
     /// It refuses with `Fault::Memory` and `Fault::Storage`, which leave each of these bytes of the file old or new.
     pub fn write_size<S: Storage>(&self, alloc: Global, image: &mut S) -> Result<(), Fault>
-        ensures { PutAtOnce (S.state image.old) (S.state image.new) 0 (first_bytes self.now.fields) result }
+        ensures { AtomicWriteOutcome (S.state image.old) (S.state image.new) 0 (first_bytes self.now.fields) result }
     {
         self.write_first_fields(alloc, image)
     }
@@ -183,7 +183,7 @@ impl Header {
         alloc: Global,
         image: &mut S,
     ) -> Result<(), Fault>
-        ensures { PutAtOnce (S.state image.old) (S.state image.new) 0 (first_bytes self.now.fields) result }
+        ensures { AtomicWriteOutcome (S.state image.old) (S.state image.new) 0 (first_bytes self.now.fields) result }
     {
         self.write_first_fields(alloc, image)
     }
@@ -197,7 +197,7 @@ impl Header {
         alloc: Global,
         image: &mut S,
     ) -> Result<(), Fault>
-        ensures { PutAtOnce (S.state image.old) (S.state image.new) 0 (first_bytes self.now.fields) result }
+        ensures { AtomicWriteOutcome (S.state image.old) (S.state image.new) 0 (first_bytes self.now.fields) result }
     {
         self.write_first_fields(alloc, image)
     }

@@ -5,12 +5,12 @@ use Rattle.std.proofs.lemmas.Bool.{cases_eq, cases_lt, lt-ltb}
 use Rattle.std.proofs.lemmas.Bool.Decides.{nat_tests}
 use Rattle.std.proofs.lemmas.Nat.{mod_below, pow_pos}
 use Rattle.std.proofs.Math.Nat.{div-mul-le_self, mul-le-mul_right, div-add-mod}
-use Rattle.qcow2_types.specs.Bytes.{Bytes, be, word, splice, bytes_of}
-use Rattle.qcow2_types.specs.Words.{block_word_sound, is_place}
+use Rattle.qcow2_types.specs.Bytes.{Bytes, be, raw_entry, splice, bytes_of}
+use Rattle.qcow2_types.specs.Words.{reftable_entry_valid, is_cluster_offset}
 use Rattle.qcow2_types.specs.Header.{Fields, Header, Shaped, cluster_size, refcount_table_entries}
 use Rattle.qcow2_types.specs.Counts.{block_at, count, counter, counter_of, counter_bits, counters_of_block, wide_counter}
-use Rattle.qcow2_types.specs.Slots.{SoundWords}
-use Rattle.qcow2_types.specs.Frames.{Outside, touches, Kept, Skipped, block}
+use Rattle.qcow2_types.specs.Slots.{ValidEntries}
+use Rattle.qcow2_types.specs.Frames.{Outside, touches, SameStructureOutside, Skipped, block}
 use Rattle.qcow2_types.specs.References.{structure, meets, refs}
 use Rattle.qcow2_types.specs.Consistency.{IsConsistent}
 use Rattle.qcow2_types.specs.Steps.{BlockWritten, CounterWritten}
@@ -24,10 +24,10 @@ use Rattle.qcow2_types.proofs.Numbers.Splices.{be-splice-same, be-splice-apart, 
 use Rattle.qcow2_types.proofs.Changes.WriteBack.{place-whole}
 
 -- the place of a block is one that a cluster can begin at
-pub block-place : (f : Bytes) (h : Fields) (b : ℕ) → SoundWords f h → b < refcount_table_entries h → IsTrue (is_place h.cluster_bits (block_at f h b))
+pub block-place : (f : Bytes) (h : Fields) (b : ℕ) → ValidEntries f h → b < refcount_table_entries h → IsTrue (is_cluster_offset h.cluster_bits (block_at f h b))
 block-place f h b sound lt =
     let within : nat_lt b (refcount_table_entries h) ≡ true = lt-ltb _ _ lt in
-    let here : block_word_sound h.cluster_bits (word f h.refcount_table_offset b) ≡ true = sound.blocks b lt in
+    let here : reftable_entry_valid h.cluster_bits (raw_entry f h.refcount_table_offset b) ≡ true = sound.blocks b lt in
     rw within (grind (arith, nat_tests))
 
 module _ (f : Bytes) (H : Header) (was : IsConsistent f H) (b : ℕ) (there : block_at f H.fields b ≢ 0) where
@@ -48,7 +48,7 @@ module _ (f : Bytes) (H : Header) (was : IsConsistent f H) (b : ℕ) (there : bl
 
   module _ (g : Bytes) where
     -- a write into it leaves the rest of the structure
-    pub block-kept : (at n : ℕ) → 0 < n → Outside f g at n → block_at f H.fields b ≤ at → at + n ≤ block_at f H.fields b + cluster_size H.fields → Kept f g H.fields (block b)
+    pub block-kept : (at n : ℕ) → 0 < n → Outside f g at n → block_at f H.fields b ≤ at → at + n ≤ block_at f H.fields b + cluster_size H.fields → SameStructureOutside f g H.fields (block b)
     block-kept at n some out low high =
         let begin : block_at f H.fields b / cluster_size H.fields * cluster_size H.fields ≡ block_at f H.fields b = block-begin in
         let once : structure f H.fields (touches at n) ≤ 1 = touches-once f H.fields (block_at f H.fields b / cluster_size H.fields) at n (was.structure_apart _) (omega arith) (omega arith) in
@@ -59,13 +59,13 @@ module _ (f : Bytes) (H : Header) (was : IsConsistent f H) (b : ℕ) (there : bl
         → ((c : ℕ) → c / counters_of_block H.fields ≡ b → refs f H.fields c ≤ count g H.fields c) → BlockWritten f g H b
     some-written at n some out low high covered =
         let begin : block_at f H.fields b / cluster_size H.fields * cluster_size H.fields ≡ block_at f H.fields b = block-begin in
-        let kept : Kept f g H.fields (block b) = block-kept at n some out low high in
+        let kept : SameStructureOutside f g H.fields (block b) = block-kept at n some out low high in
         let counts : (c : ℕ) → c / counters_of_block H.fields ≢ b → count g H.fields c ≡ count f H.fields c =
         (λ c apart. count-kept f g H.fields (block b) kept c (consistent-shaped f H was) (λ e. cc) (λ e. apart (sym (ap number e)))) in
         let after : IsConsistent g H = kept-consistent f g H was (block b) kept (λ i e. cc) (λ i e. cc) (λ i e. cc) (λ e. cc) (all counts) in
         record {
           consistent = after;
-          kept = kept;
+          same_structure_outside = kept;
           keeps = kept-keeps f g H was (block b) kept (λ i e. cc) (λ i e. cc) (λ i e. cc);
           references = kept-references f g H was (block b) kept (λ i e. cc) (λ i e. cc) (λ i e. cc);
           counts = counts;
@@ -150,7 +150,7 @@ block-counts f H was b there bytes long c e =
     let size : 0 < cluster_size H.fields = pow_pos H.fields.cluster_bits in
     let shaped : Shaped H.fields = consistent-shaped f H was in
     let out : Outside f g (block_at f H.fields b) (length bytes) = splice-is-outside f (block_at f H.fields b) bytes in
-    let kept : Kept f g H.fields (block b) = block-kept f H was b there g (block_at f H.fields b) (length bytes) (omega arith) out (omega arith) (omega arith) in
+    let kept : SameStructureOutside f g H.fields (block b) = block-kept f H was b there g (block_at f H.fields b) (length bytes) (omega arith) out (omega arith) (omega arith) in
     let at : block_at g H.fields (c / counters_of_block H.fields) ≡ block_at f H.fields b = ap (block_at g H.fields) e ∙ block_at-kept f g H.fields (block b) kept b (λ e. cc) in
     let is : block_at g H.fields (c / counters_of_block H.fields) ≢ 0 = λ z. there (sym at ∙ z) in
     count-there g H.fields c is
@@ -183,7 +183,7 @@ module _ (f : Bytes) (H : Header) (was : IsConsistent f H) (c : ℕ) (there : bl
       omega arith
 
   -- the rest of the structure is kept
-  set-kept : Kept f set H.fields (block (c / counters_of_block H.fields))
+  set-kept : SameStructureOutside f set H.fields (block (c / counters_of_block H.fields))
   set-kept = block-kept f H was (c / counters_of_block H.fields) there set _ (length bytes) (omega arith) (splice-is-outside f _ bytes) (omega arith) (omega (arith, inside))
 
   -- and so are the places of all blocks

@@ -6,13 +6,13 @@ use Rattle.std.proofs.lemmas.Bool.{cases_eq, lt-ltb}
 use Rattle.std.proofs.lemmas.Bool.Decides.{nat_tests}
 use Rattle.std.proofs.lemmas.Nat.{mod_below}
 use Rattle.std.proofs.Math.Nat.{div-mul-le_self, pow-le-pow_right}
-use Rattle.qcow2_types.specs.Bytes.{Bytes, word, splice, sum_below}
-use Rattle.qcow2_types.specs.Words.{Mapping, is_damaged, l1_word_sound, block_word_sound, is_place, block_offset}
-use Rattle.qcow2_types.specs.Header.{Header, Shaped, cluster_size, words_of_cluster, refcount_table_entries}
+use Rattle.qcow2_types.specs.Bytes.{Bytes, raw_entry, splice, sum_below}
+use Rattle.qcow2_types.specs.Words.{Mapping, is_damaged, l1_entry_valid, reftable_entry_valid, is_cluster_offset, block_offset}
+use Rattle.qcow2_types.specs.Header.{Header, Shaped, cluster_size, entries_of_cluster, refcount_table_entries}
 use Rattle.qcow2_types.specs.Entries.{l2_table}
 use Rattle.qcow2_types.specs.Counts.{block_at, count, counter, counters_of_block}
-use Rattle.qcow2_types.specs.Slots.{slot, Live, SoundWords}
-use Rattle.qcow2_types.specs.Frames.{Outside, touches, Kept, Skipped, block_word}
+use Rattle.qcow2_types.specs.Slots.{slot, Live, ValidEntries}
+use Rattle.qcow2_types.specs.Frames.{Outside, touches, SameStructureOutside, Skipped, block_word}
 use Rattle.qcow2_types.specs.References.{Weight, structure, of_cluster, contents, of_mapping, of_copied, meets, refs}
 use Rattle.qcow2_types.specs.Consistency.{IsConsistent}
 use Rattle.qcow2_types.specs.Steps.{BlockEntered}
@@ -32,8 +32,8 @@ use Rattle.qcow2_types.proofs.Numbers.Sums.{sum-same, sum-change}
 use Rattle.qcow2_types.proofs.Counting.TableSizes.{word-in-cluster}
 
 module _ (f g : Bytes) (H : Header) (was : IsConsistent f H) (i : ℕ) (lt : i < refcount_table_entries H.fields) (empty : block_at f H.fields i ≡ 0) (out : Outside f g (H.fields.refcount_table_offset + 8 * i) 8) (w : ℕ)
-    (written : word g H.fields.refcount_table_offset i ≡ w) (sane : IsTrue (block_word_sound H.fields.cluster_bits w)) (c t : ℕ) (names : block_offset w ≡ t) (there : t ≢ 0) (begins : t ≡ c * cluster_size H.fields)
-    (unnamed : refs f H.fields c ≡ 0) (counted : c / counters_of_block H.fields ≢ i → 1 ≤ count f H.fields c) (counted_here : c / counters_of_block H.fields ≡ i → 1 ≤ counter f H.fields t (c % counters_of_block H.fields)) where
+    (written : raw_entry g H.fields.refcount_table_offset i ≡ w) (sane : IsTrue (reftable_entry_valid H.fields.cluster_bits w)) (c t : ℕ) (names : block_offset w ≡ t) (there : t ≢ 0) (begins : t ≡ c * cluster_size H.fields)
+    (not_referenced : refs f H.fields c ≡ 0) (counted : c / counters_of_block H.fields ≢ i → 1 ≤ count f H.fields c) (counted_here : c / counters_of_block H.fields ≡ i → 1 ≤ counter f H.fields t (c % counters_of_block H.fields)) where
   -- the cluster in which the word lies begins before it
   low : (H.fields.refcount_table_offset + 8 * i) / cluster_size H.fields * cluster_size H.fields ≤ H.fields.refcount_table_offset + 8 * i
   low = div-mul-le_self (H.fields.refcount_table_offset + 8 * i) (cluster_size H.fields)
@@ -43,17 +43,17 @@ module _ (f g : Bytes) (H : Header) (was : IsConsistent f H) (i : ℕ) (lt : i <
   high =
       let shaped : Shaped H.fields = consistent-shaped f H was in
       let size : 2 ^ 9 ≤ 2 ^ H.fields.cluster_bits = pow-le-pow_right (omega arith) shaped.low in
-      let begin : is_place H.fields.cluster_bits H.fields.refcount_table_offset ≡ true = (header-limited true f H was.readable.loads).refcount_place in
+      let begin : is_cluster_offset H.fields.cluster_bits H.fields.refcount_table_offset ≡ true = (header-limited true f H was.readable.loads).refcount_place in
       let multiple : H.fields.refcount_table_offset % 2 ^ H.fields.cluster_bits ≡ 0 = grind (arith, nat_tests) in
-      word-in-cluster H.fields.refcount_table_offset (cluster_size H.fields) (words_of_cluster H.fields) i (omega arith) (whole H.fields.cluster_bits (omega arith)) multiple
+      word-in-cluster H.fields.refcount_table_offset (cluster_size H.fields) (entries_of_cluster H.fields) i (omega arith) (whole H.fields.cluster_bits (omega arith)) multiple
 
   -- the bytes of the refcount table, by its words
   table-bytes : H.fields.refcount_table_clusters * cluster_size H.fields ≡ refcount_table_entries H.fields * 8
   table-bytes =
       let shaped : Shaped H.fields = consistent-shaped f H was in
       let size : 2 ^ 9 ≤ 2 ^ H.fields.cluster_bits = pow-le-pow_right (omega arith) shaped.low in
-      let words : words_of_cluster H.fields * 8 ≡ cluster_size H.fields = whole H.fields.cluster_bits (omega arith) in
-      let a : H.fields.refcount_table_clusters * (words_of_cluster H.fields * 8) ≡ H.fields.refcount_table_clusters * cluster_size H.fields = ap (λ x. H.fields.refcount_table_clusters * x) words in
+      let raw_entries : entries_of_cluster H.fields * 8 ≡ cluster_size H.fields = whole H.fields.cluster_bits (omega arith) in
+      let a : H.fields.refcount_table_clusters * (entries_of_cluster H.fields * 8) ≡ H.fields.refcount_table_clusters * cluster_size H.fields = ap (λ x. H.fields.refcount_table_clusters * x) raw_entries in
       omega arith
 
   -- the structure is in that cluster
@@ -75,7 +75,7 @@ module _ (f g : Bytes) (H : Header) (was : IsConsistent f H) (i : ℕ) (lt : i <
   number _ = i + 1
 
   -- the rest of the structure is kept
-  pub entered-kept : Kept f g H.fields (block_word i)
+  pub entered-kept : SameStructureOutside f g H.fields (block_word i)
   entered-kept = kept-block_word f g H.fields i out (touches-once f H.fields _ (H.fields.refcount_table_offset + 8 * i) 8 (was.structure_apart _) low high) lt
 
   -- the word names the new block
@@ -104,7 +104,7 @@ module _ (f g : Bytes) (H : Header) (was : IsConsistent f H) (i : ℕ) (lt : i <
   apart-from-word : touches (H.fields.refcount_table_offset + 8 * i) 8 t (cluster_size H.fields) ≡ 0
   unfolding refs touches
   apart-from-word =
-      let none : structure f H.fields (meets H.fields c) + contents f H.fields (of_mapping H.fields (meets H.fields c)) ≡ 0 = unnamed in
+      let none : structure f H.fields (meets H.fields c) + contents f H.fields (of_mapping H.fields (meets H.fields c)) ≡ 0 = not_referenced in
       let bytes : H.fields.refcount_table_clusters * cluster_size H.fields ≡ refcount_table_entries H.fields * 8 = table-bytes in
       let part : meets H.fields c H.fields.refcount_table_offset (H.fields.refcount_table_clusters * cluster_size H.fields) ≤ structure f H.fields (meets H.fields c) = refcount_table-part f H.fields (meets H.fields c) in
       let off : meets H.fields c H.fields.refcount_table_offset (H.fields.refcount_table_clusters * cluster_size H.fields) ≡ 0 = omega arith in
@@ -144,11 +144,11 @@ module _ (f g : Bytes) (H : Header) (was : IsConsistent f H) (i : ℕ) (lt : i <
   unfolding over_slots
   entered-contents of = contents-slots g H.fields of ∙ (sum-same _ _ _ (λ k less. row k) ∙ sym (contents-slots f H.fields of))
     where
-      row : (k : ℕ) → or_none (l2_table g H.fields k) (sum_below (words_of_cluster H.fields) (λ j. of (slot g H.fields k j))) ≡ or_none (l2_table f H.fields k) (sum_below (words_of_cluster H.fields) (λ j. of (slot f H.fields k j)))
+      row : (k : ℕ) → or_none (l2_table g H.fields k) (sum_below (entries_of_cluster H.fields) (λ j. of (slot g H.fields k j))) ≡ or_none (l2_table f H.fields k) (sum_below (entries_of_cluster H.fields) (λ j. of (slot f H.fields k j)))
       row k = elim (cases_eq (l2_table f H.fields k) 0) [
         | inl e ↦ rw (entered-tables k, e) refl
         | inr is ↦
-            ap (λ p. or_none p (sum_below (words_of_cluster H.fields) (λ j. of (slot g H.fields k j)))) (entered-tables k)
+            ap (λ p. or_none p (sum_below (entries_of_cluster H.fields) (λ j. of (slot g H.fields k j)))) (entered-tables k)
             ∙ ap (or_none (l2_table f H.fields k)) (sum-same _ _ _ (λ j less. ap of (entered-slots k j record { in_l1 = table-inside f H.fields k is; is_there = is; in_table = less })))
       ]
 
@@ -178,15 +178,15 @@ module _ (f g : Bytes) (H : Header) (was : IsConsistent f H) (i : ℕ) (lt : i <
       omega arith
 
   -- the tables stay sound
-  entered-sound : SoundWords g H.fields
+  entered-sound : ValidEntries g H.fields
   unfolding number
   entered-sound =
-      let sound : SoundWords f H.fields = sound-words f H.fields was.readable.tables in
+      let sound : ValidEntries f H.fields = sound-words f H.fields was.readable.tables in
       record {
-        l1 = λ k less. ap (l1_word_sound H.fields.cluster_bits) (entered-kept.l1 k less (λ e. cc)) ∙ sound.l1 k less;
+        l1 = λ k less. ap (l1_entry_valid H.fields.cluster_bits) (entered-kept.l1 k less (λ e. cc)) ∙ sound.l1 k less;
         blocks = λ k less. elim (cases_eq k i) [
-          | inl e ↦ ap (λ r. block_word_sound H.fields.cluster_bits (word g H.fields.refcount_table_offset r)) e ∙ (ap (block_word_sound H.fields.cluster_bits) written ∙ sane)
-          | inr apart ↦ ap (block_word_sound H.fields.cluster_bits) (entered-kept.blocks k less (λ e. apart (sym (ap number e)))) ∙ sound.blocks k less
+          | inl e ↦ ap (λ r. reftable_entry_valid H.fields.cluster_bits (raw_entry g H.fields.refcount_table_offset r)) e ∙ (ap (reftable_entry_valid H.fields.cluster_bits) written ∙ sane)
+          | inr apart ↦ ap (reftable_entry_valid H.fields.cluster_bits) (entered-kept.blocks k less (λ e. apart (sym (ap number e)))) ∙ sound.blocks k less
         ];
         slots = λ k m live.
             let old : Live (l2_table f H.fields) H.fields k m = record { in_l1 = live.in_l1; is_there = (λ e. live.is_there (entered-tables k ∙ e)); in_table = live.in_table } in
@@ -248,21 +248,21 @@ module _ (f g : Bytes) (H : Header) (was : IsConsistent f H) (i : ℕ) (lt : i <
       ]
 
   -- each guest cluster has the same mapping
-  entered-guest : 0 < words_of_cluster H.fields → (guest : ℕ) → guest_slot g H.fields guest ≡ guest_slot f H.fields guest
-  entered-guest words guest = elim (cases_eq (l2_table f H.fields (guest / words_of_cluster H.fields)) 0) [
-    | inl z ↦ guest-slot-none g H.fields guest (entered-tables (guest / words_of_cluster H.fields) ∙ z) ∙ sym (guest-slot-none f H.fields guest z)
+  entered-guest : 0 < entries_of_cluster H.fields → (guest : ℕ) → guest_slot g H.fields guest ≡ guest_slot f H.fields guest
+  entered-guest raw_entries guest = elim (cases_eq (l2_table f H.fields (guest / entries_of_cluster H.fields)) 0) [
+    | inl z ↦ guest-slot-none g H.fields guest (entered-tables (guest / entries_of_cluster H.fields) ∙ z) ∙ sym (guest-slot-none f H.fields guest z)
     | inr is ↦
-        guest-slot-there g H.fields guest (λ z. is (sym (entered-tables (guest / words_of_cluster H.fields)) ∙ z))
-        ∙ (entered-slots (guest / words_of_cluster H.fields) (guest % words_of_cluster H.fields) (guest-live f H.fields guest words is) ∙ sym (guest-slot-there f H.fields guest is))
+        guest-slot-there g H.fields guest (λ z. is (sym (entered-tables (guest / entries_of_cluster H.fields)) ∙ z))
+        ∙ (entered-slots (guest / entries_of_cluster H.fields) (guest % entries_of_cluster H.fields) (guest-live f H.fields guest raw_entries is) ∙ sym (guest-slot-there f H.fields guest is))
   ]
 
   -- The image stays consistent, with the new block, and shows the same.
   pub block-entered : BlockEntered f g H i c t
   block-entered =
-      let words : 0 < words_of_cluster H.fields = some-words H.fields (consistent-shaped f H was) in
+      let raw_entries : 0 < entries_of_cluster H.fields = some-words H.fields (consistent-shaped f H was) in
       record {
         consistent = entered-consistent;
-        kept = entered-kept;
+        same_structure_outside = entered-kept;
         here = entered-here;
         blocks = entered-blocks;
         tables = entered-tables;
@@ -273,15 +273,15 @@ module _ (f g : Bytes) (H : Header) (was : IsConsistent f H) (i : ℕ) (lt : i <
         structure = entered-structure;
         contents = entered-contents;
         references = entered-references;
-        shows = λ guest. shows-outside f g H.fields was.readable.tables entered-consistent.readable.tables words guest (entered-guest words guest) _ (H.fields.refcount_table_offset + 8 * i) 8 out low high (structure-unmapped f H was _ table-weighs);
+        shows = λ guest. shows-outside f g H.fields was.readable.tables entered-consistent.readable.tables raw_entries guest (entered-guest raw_entries guest) _ (H.fields.refcount_table_offset + 8 * i) 8 out low high (structure-unmapped f H was _ table-weighs);
         free = free-stays f g H _ (H.fields.refcount_table_offset + 8 * i) 8 out low high table-weighs;
         mapped = data-stays f g H was _ (H.fields.refcount_table_offset + 8 * i) 8 out low high table-weighs;
       }
 
 -- By the bytes of the word.
-pub block-entered-spliced : (f : Bytes) (H : Header) → IsConsistent f H → (i : ℕ) → i < refcount_table_entries H.fields → block_at f H.fields i ≡ 0 → (w : ℕ) → w < 2 ^ 64 → IsTrue (block_word_sound H.fields.cluster_bits w)
+pub block-entered-spliced : (f : Bytes) (H : Header) → IsConsistent f H → (i : ℕ) → i < refcount_table_entries H.fields → block_at f H.fields i ≡ 0 → (w : ℕ) → w < 2 ^ 64 → IsTrue (reftable_entry_valid H.fields.cluster_bits w)
     → (c t : ℕ) → block_offset w ≡ t → t ≢ 0 → t ≡ c * cluster_size H.fields → refs f H.fields c ≡ 0 → (c / counters_of_block H.fields ≢ i → 1 ≤ count f H.fields c)
     → (c / counters_of_block H.fields ≡ i → 1 ≤ counter f H.fields t (c % counters_of_block H.fields)) → BlockEntered f (splice f (H.fields.refcount_table_offset + 8 * i) (to_be_bytes w64 w)) H i c t
-block-entered-spliced f H was i lt empty w fits sane c t names there begins unnamed counted here =
+block-entered-spliced f H was i lt empty w fits sane c t names there begins not_referenced counted here =
     block-entered f (splice f (H.fields.refcount_table_offset + 8 * i) (to_be_bytes w64 w)) H was i lt empty (splice-is-outside f (H.fields.refcount_table_offset + 8 * i) (to_be_bytes w64 w)) w
-    (word-written f H.fields.refcount_table_offset i w fits) sane c t names there begins unnamed counted here
+    (word-written f H.fields.refcount_table_offset i w fits) sane c t names there begins not_referenced counted here

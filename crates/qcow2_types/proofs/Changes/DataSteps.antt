@@ -3,13 +3,13 @@ use Rattle.std.proofs.Common.{◌≡◌, ◌≢◌, ℕ, ◌+◌, ◌*◌, ◌<�
 use Rattle.std.specs.Prelude.{◌/◌, ◌%◌, Bool, true, Some, ◌⊎◌}
 use Rattle.std.proofs.lemmas.Bool.{cases_eq, cases_lt}
 use Rattle.qcow2_types.specs.Bytes.{Bytes}
-use Rattle.qcow2_types.specs.Words.{Mapping, data_at, zeroes, unmapped, is_damaged, l1_word_sound, block_word_sound}
-use Rattle.qcow2_types.specs.Header.{Fields, Header, cluster_size, words_of_cluster}
+use Rattle.qcow2_types.specs.Words.{Mapping, data_at, zeroes, unmapped, is_damaged, l1_entry_valid, reftable_entry_valid}
+use Rattle.qcow2_types.specs.Header.{Fields, Header, cluster_size, entries_of_cluster}
 use Rattle.qcow2_types.specs.Entries.{entry, l2_table}
 use Rattle.qcow2_types.specs.Counts.{count}
-use Rattle.qcow2_types.specs.Slots.{slot, Live, over_slots, SoundWords}
-use Rattle.qcow2_types.specs.Frames.{Same, Outside, touches, Kept, Skipped, nothing, first_cluster, l1_word, block_word, table, ShowsAs}
-use Rattle.qcow2_types.specs.Versions.{KeepsSlots, named}
+use Rattle.qcow2_types.specs.Slots.{slot, Live, over_slots, ValidEntries}
+use Rattle.qcow2_types.specs.Frames.{Same, Outside, touches, SameStructureOutside, Skipped, nothing, first_cluster, l1_word, block_word, table, ShowsAs}
+use Rattle.qcow2_types.specs.Versions.{KeepsSlots, references_in_either}
 use Rattle.qcow2_types.specs.References.{structure, contents, of_mapping, of_copied, meets, refs}
 use Rattle.qcow2_types.specs.Consistency.{IsConsistent}
 use Rattle.qcow2_types.specs.Steps.{DataWritten, FreeWritten, RunWritten}
@@ -35,7 +35,7 @@ contents-kept f x h of keeps =
     ∙ (slots-same (l2_table f h) h _ _ (λ i j live. ap of (keeps.slots i j live)) ∙ sym (contents-slots f h of)))
 
 -- Where the words of the tables, all mappings and the header are kept, and what is named is counted, the image stays consistent.
-module _ (f g : Bytes) (H : Header) (was : IsConsistent f H) (skip : Skipped) (kept : Kept f g H.fields skip) (no_l1 : (i : ℕ) → skip ≢ l1_word i) (no_block : (i : ℕ) → skip ≢ block_word i)
+module _ (f g : Bytes) (H : Header) (was : IsConsistent f H) (skip : Skipped) (kept : SameStructureOutside f g H.fields skip) (no_l1 : (i : ℕ) → skip ≢ l1_word i) (no_block : (i : ℕ) → skip ≢ block_word i)
     (no_table : (i : ℕ) → skip ≢ table i) where
   -- all mappings are kept
   pub kept-keeps : KeepsSlots f g H.fields
@@ -46,12 +46,12 @@ module _ (f g : Bytes) (H : Header) (was : IsConsistent f H) (skip : Skipped) (k
   kept-references c = refs-kept f g H.fields c kept-keeps
 
   -- the tables stay sound
-  pub kept-sound : SoundWords g H.fields
+  pub kept-sound : ValidEntries g H.fields
   kept-sound =
-      let sound : SoundWords f H.fields = sound-words f H.fields was.readable.tables in
+      let sound : ValidEntries f H.fields = sound-words f H.fields was.readable.tables in
       record {
-        l1 = λ i lt. ap (l1_word_sound H.fields.cluster_bits) (kept.l1 i lt (no_l1 i)) ∙ sound.l1 i lt;
-        blocks = λ i lt. ap (block_word_sound H.fields.cluster_bits) (kept.blocks i lt (no_block i)) ∙ sound.blocks i lt;
+        l1 = λ i lt. ap (l1_entry_valid H.fields.cluster_bits) (kept.l1 i lt (no_l1 i)) ∙ sound.l1 i lt;
+        blocks = λ i lt. ap (reftable_entry_valid H.fields.cluster_bits) (kept.blocks i lt (no_block i)) ∙ sound.blocks i lt;
         slots = λ i j live.
             let live' : Live (l2_table f H.fields) H.fields i j = record { in_l1 = live.in_l1; is_there = (λ e. live.is_there (kept-keeps.places.l1 i ∙ e)); in_table = live.in_table } in
             ap is_damaged (kept-keeps.slots i j live') ∙ sound.slots i j live';
@@ -79,11 +79,11 @@ module _ (f g : Bytes) (H : Header) (was : IsConsistent f H) (skip : Skipped) (k
   pub kept-shows : IsConsistent g H → (c at n : ℕ) → Outside f g at n → c * cluster_size H.fields ≤ at → at + n ≤ (c + 1) * cluster_size H.fields
       → contents f H.fields (of_mapping H.fields (meets H.fields c)) ≡ 0 → (guest : ℕ) → ShowsAs g f H.fields guest
   kept-shows after c at n out low high none guest =
-      let some : 0 < words_of_cluster H.fields = some-words H.fields (consistent-shaped f H was) in
+      let some : 0 < entries_of_cluster H.fields = some-words H.fields (consistent-shaped f H was) in
       shows-outside f g H.fields was.readable.tables after.readable.tables some guest (guest-kept f g H.fields kept-keeps some guest) c at n out low high none
 
 -- Where no part of the structure is touched.
-module _ (f g : Bytes) (H : Header) (was : IsConsistent f H) (kept : Kept f g H.fields nothing) where
+module _ (f g : Bytes) (H : Header) (was : IsConsistent f H) (kept : SameStructureOutside f g H.fields nothing) where
   -- all mappings are kept
   pub untouched-keeps : KeepsSlots f g H.fields
   untouched-keeps = kept-keeps f g H was nothing kept (λ i e. cc) (λ i e. cc) (λ i e. cc)
@@ -133,16 +133,16 @@ module _ (f : Bytes) (H : Header) (was : IsConsistent f H) (c i j : ℕ) (live :
   -- A write into it.
   pub marked-written : (g : Bytes) (at n : ℕ) → Outside f g at n → c * cluster_size H.fields ≤ at → at + n ≤ (c + 1) * cluster_size H.fields → DataWritten f g H i j
   marked-written g at n out low high =
-      let kept : Kept f g H.fields nothing = kept-all f g H.fields at n out (touches-none f H.fields c at n marked-apart-from-structure low high) in
+      let kept : SameStructureOutside f g H.fields nothing = kept-all f g H.fields at n out (touches-none f H.fields c at n marked-apart-from-structure low high) in
       let keeps : KeepsSlots f g H.fields = untouched-keeps f g H was kept in
       let after : IsConsistent g H = untouched-consistent f g H was kept in
-      let some : 0 < words_of_cluster H.fields = some-words H.fields (consistent-shaped f H was) in
-      let clean : named f f H.fields c ≡ refs f H.fields c = named-clean f f H.fields c (λ k m live'. refl) in
+      let some : 0 < entries_of_cluster H.fields = some-words H.fields (consistent-shaped f H was) in
+      let clean : references_in_either f f H.fields c ≡ refs f H.fields c = named-clean f f H.fields c (λ k m live'. refl) in
       let once : refs f H.fields c ≡ 1 = marked-named-once in
       let weighs : 1 ≤ of_mapping H.fields (meets H.fields c) (slot f H.fields i j) = marked-weighs in
       record {
         consistent = after;
-        kept = kept;
+        same_structure_outside = kept;
         keeps = keeps;
         references = untouched-references f g H was kept;
         counts = untouched-counts f g H was kept;
@@ -162,43 +162,43 @@ kept-zero-written f H was c i j live names g at n out low high =
     let all : DataWritten f g H i j = marked-written f H was c i j live (ap (of_copied H.fields (meets H.fields c)) names ∙ meets-own H.fields c) g at n out low high in
     record {
       consistent = all.consistent;
-      kept = all.kept;
+      same_structure_outside = all.same_structure_outside;
       keeps = all.keeps;
       references = all.references;
       counts = all.counts;
-      shows = λ guest. by all guest (cases_eq (guest / words_of_cluster H.fields) i) (cases_eq (guest % words_of_cluster H.fields) j);
+      shows = λ guest. by all guest (cases_eq (guest / entries_of_cluster H.fields) i) (cases_eq (guest % entries_of_cluster H.fields) j);
     }
   where
-    by : DataWritten f g H i j → (guest : ℕ) → (guest / words_of_cluster H.fields ≡ i) ⊎ (guest / words_of_cluster H.fields ≢ i) → (guest % words_of_cluster H.fields ≡ j) ⊎ (guest % words_of_cluster H.fields ≢ j) → ShowsAs g f H.fields guest
+    by : DataWritten f g H i j → (guest : ℕ) → (guest / entries_of_cluster H.fields ≡ i) ⊎ (guest / entries_of_cluster H.fields ≢ i) → (guest % entries_of_cluster H.fields ≡ j) ⊎ (guest % entries_of_cluster H.fields ≢ j) → ShowsAs g f H.fields guest
     by all guest (inr row) which = all.elsewhere guest (inl row)
     by all guest (inl row) (inr column) = all.elsewhere guest (inr column)
     by all guest (inl row) (inl column) =
-        let some : 0 < words_of_cluster H.fields = some-words H.fields (consistent-shaped f H was) in
+        let some : 0 < entries_of_cluster H.fields = some-words H.fields (consistent-shaped f H was) in
         shows-by f g H.fields was.readable.tables all.consistent.readable.tables some guest (guest-kept f g H.fields all.keeps some guest)
         (λ here d copied is.
-        let bad : zeroes (Some c) true ≡ data_at d copied = sym names ∙ (sym (ap (λ k. slot f H.fields k j) row) ∙ (sym (ap (slot f H.fields (guest / words_of_cluster H.fields)) column) ∙ is)) in
+        let bad : zeroes (Some c) true ≡ data_at d copied = sym names ∙ (sym (ap (λ k. slot f H.fields k j) row) ∙ (sym (ap (slot f H.fields (guest / entries_of_cluster H.fields)) column) ∙ is)) in
         absurd cc)
 
 -- A cluster that nothing names.
-module _ (f : Bytes) (H : Header) (was : IsConsistent f H) (c : ℕ) (unnamed : refs f H.fields c ≡ 0) where
+module _ (f : Bytes) (H : Header) (was : IsConsistent f H) (c : ℕ) (not_referenced : refs f H.fields c ≡ 0) where
   -- no table, block or header is in it
   pub free-apart-from-structure : structure f H.fields (meets H.fields c) ≡ 0
   unfolding refs
-  free-apart-from-structure = let none : structure f H.fields (meets H.fields c) + contents f H.fields (of_mapping H.fields (meets H.fields c)) ≡ 0 = unnamed in omega arith
+  free-apart-from-structure = let none : structure f H.fields (meets H.fields c) + contents f H.fields (of_mapping H.fields (meets H.fields c)) ≡ 0 = not_referenced in omega arith
 
   -- and no mapping names it
   pub free-unmapped : contents f H.fields (of_mapping H.fields (meets H.fields c)) ≡ 0
   unfolding refs
-  free-unmapped = let none : structure f H.fields (meets H.fields c) + contents f H.fields (of_mapping H.fields (meets H.fields c)) ≡ 0 = unnamed in omega arith
+  free-unmapped = let none : structure f H.fields (meets H.fields c) + contents f H.fields (of_mapping H.fields (meets H.fields c)) ≡ 0 = not_referenced in omega arith
 
   -- A write into it.
   pub free-written : (g : Bytes) (at n : ℕ) → Outside f g at n → c * cluster_size H.fields ≤ at → at + n ≤ (c + 1) * cluster_size H.fields → FreeWritten f g H
   free-written g at n out low high =
-      let kept : Kept f g H.fields nothing = kept-all f g H.fields at n out (touches-none f H.fields c at n free-apart-from-structure low high) in
+      let kept : SameStructureOutside f g H.fields nothing = kept-all f g H.fields at n out (touches-none f H.fields c at n free-apart-from-structure low high) in
       let after : IsConsistent g H = untouched-consistent f g H was kept in
       record {
         consistent = after;
-        kept = kept;
+        same_structure_outside = kept;
         keeps = untouched-keeps f g H was kept;
         references = untouched-references f g H was kept;
         counts = untouched-counts f g H was kept;
@@ -218,18 +218,18 @@ other-stays f g h d at n out low high c apart = untouched f g at n (c * cluster_
 -- A write into a cluster of the structure leaves the bytes of each cluster that nothing names.
 pub free-stays : (f g : Bytes) (H : Header) (d at n : ℕ) → Outside f g at n → d * cluster_size H.fields ≤ at → at + n ≤ (d + 1) * cluster_size H.fields → 1 ≤ structure f H.fields (meets H.fields d)
     → (c : ℕ) → refs f H.fields c ≡ 0 → Same f g (c * cluster_size H.fields) (cluster_size H.fields)
-free-stays f g H d at n out low high weighs c unnamed = other-stays f g H.fields d at n out low high c apart
+free-stays f g H d at n out low high weighs c not_referenced = other-stays f g H.fields d at n out low high c apart
   where
     apart : c ≢ d
     apart e =
-        let none : refs f H.fields d ≡ 0 = sym (ap (refs f H.fields) e) ∙ unnamed in
+        let none : refs f H.fields d ≡ 0 = sym (ap (refs f H.fields) e) ∙ not_referenced in
         let le : structure f H.fields (meets H.fields d) ≤ refs f H.fields d = structure-le-refs f H.fields d in
         absurd (omega arith)
 
 -- and of each that a mapping names
 pub data-stays : (f g : Bytes) (H : Header) → IsConsistent f H → (d at n : ℕ) → Outside f g at n → d * cluster_size H.fields ≤ at → at + n ≤ (d + 1) * cluster_size H.fields → 1 ≤ structure f H.fields (meets H.fields d)
     → (c : ℕ) → 0 < contents f H.fields (of_mapping H.fields (meets H.fields c)) → Same f g (c * cluster_size H.fields) (cluster_size H.fields)
-data-stays f g H was d at n out low high weighs c named = other-stays f g H.fields d at n out low high c apart
+data-stays f g H was d at n out low high weighs c references_in_either = other-stays f g H.fields d at n out low high c apart
   where
     apart : c ≢ d
     apart e =
@@ -246,7 +246,7 @@ module _ (f : Bytes) (H : Header) (was : IsConsistent f H) (c k : ℕ) (apart : 
   run-out p (inr behind) = out p (inr (omega arith))
 
   -- no part of the structure is touched
-  run-kept : Kept f g H.fields nothing
+  run-kept : SameStructureOutside f g H.fields nothing
   run-kept = kept-all f g H.fields (c * cluster_size H.fields) ((k + 1) * cluster_size H.fields) run-out (run-untouched f H.fields c k apart)
 
   -- a cluster out of the run keeps its bytes
@@ -265,10 +265,10 @@ module _ (f : Bytes) (H : Header) (was : IsConsistent f H) (c k : ℕ) (apart : 
   run-written =
       let after : IsConsistent g H = untouched-consistent f g H was run-kept in
       let keeps : KeepsSlots f g H.fields = untouched-keeps f g H was run-kept in
-      let some : 0 < words_of_cluster H.fields = some-words H.fields (consistent-shaped f H was) in
+      let some : 0 < entries_of_cluster H.fields = some-words H.fields (consistent-shaped f H was) in
       record {
         consistent = after;
-        kept = run-kept;
+        same_structure_outside = run-kept;
         keeps = keeps;
         references = untouched-references f g H was run-kept;
         counts = untouched-counts f g H was run-kept;
@@ -280,26 +280,26 @@ module _ (f : Bytes) (H : Header) (was : IsConsistent f H) (c k : ℕ) (apart : 
 
 -- A cluster that a guest cluster's mapping names is named by the words.
 pub data-named : (f : Bytes) (H : Header) → IsConsistent f H → (guest d : ℕ) (copied : Bool) → entry f H.fields guest ≡ data_at d copied → 1 ≤ contents f H.fields (of_mapping H.fields (meets H.fields d))
-data-named f H was guest d copied is = elim (cases_eq (l2_table f H.fields (guest / words_of_cluster H.fields)) 0) [
+data-named f H was guest d copied is = elim (cases_eq (l2_table f H.fields (guest / entries_of_cluster H.fields)) 0) [
   | inl none ↦ let bad : unmapped ≡ data_at d copied = sym (guest-slot-none f H.fields guest none) ∙ (sym (entry-slot f H.fields guest was.readable.tables) ∙ is) in absurd cc
   | inr there ↦
-      let live : Live (l2_table f H.fields) H.fields (guest / words_of_cluster H.fields) (guest % words_of_cluster H.fields) = guest-live f H.fields guest (some-words H.fields (consistent-shaped f H was)) there in
-      let names : slot f H.fields (guest / words_of_cluster H.fields) (guest % words_of_cluster H.fields) ≡ data_at d copied = sym (guest-slot-there f H.fields guest there) ∙ (sym (entry-slot f H.fields guest was.readable.tables) ∙ is) in
+      let live : Live (l2_table f H.fields) H.fields (guest / entries_of_cluster H.fields) (guest % entries_of_cluster H.fields) = guest-live f H.fields guest (some-words H.fields (consistent-shaped f H was)) there in
+      let names : slot f H.fields (guest / entries_of_cluster H.fields) (guest % entries_of_cluster H.fields) ≡ data_at d copied = sym (guest-slot-there f H.fields guest there) ∙ (sym (entry-slot f H.fields guest was.readable.tables) ∙ is) in
       let all : contents f H.fields (of_mapping H.fields (meets H.fields d)) ≡ over_slots (l2_table f H.fields) H.fields (λ r m. of_mapping H.fields (meets H.fields d) (slot f H.fields r m)) = contents-slots f H.fields (of_mapping H.fields (meets H.fields d)) in
-      let one : of_mapping H.fields (meets H.fields d) (slot f H.fields (guest / words_of_cluster H.fields) (guest % words_of_cluster H.fields)) ≤ over_slots (l2_table f H.fields) H.fields (λ r m. of_mapping H.fields (meets H.fields d) (slot f H.fields r m)) =
-      slot-le (l2_table f H.fields) H.fields (λ r m. of_mapping H.fields (meets H.fields d) (slot f H.fields r m)) (guest / words_of_cluster H.fields) (guest % words_of_cluster H.fields) live in
-      let here : of_mapping H.fields (meets H.fields d) (slot f H.fields (guest / words_of_cluster H.fields) (guest % words_of_cluster H.fields)) ≡ 1 = ap (of_mapping H.fields (meets H.fields d)) names ∙ meets-own H.fields d in
+      let one : of_mapping H.fields (meets H.fields d) (slot f H.fields (guest / entries_of_cluster H.fields) (guest % entries_of_cluster H.fields)) ≤ over_slots (l2_table f H.fields) H.fields (λ r m. of_mapping H.fields (meets H.fields d) (slot f H.fields r m)) =
+      slot-le (l2_table f H.fields) H.fields (λ r m. of_mapping H.fields (meets H.fields d) (slot f H.fields r m)) (guest / entries_of_cluster H.fields) (guest % entries_of_cluster H.fields) live in
+      let here : of_mapping H.fields (meets H.fields d) (slot f H.fields (guest / entries_of_cluster H.fields) (guest % entries_of_cluster H.fields)) ≡ 1 = ap (of_mapping H.fields (meets H.fields d)) names ∙ meets-own H.fields d in
       omega arith
 ]
 
 -- A write into a run of clusters c to c + k that nothing names.
 pub free-run-written : (f : Bytes) (H : Header) → IsConsistent f H → (c k : ℕ) → ((d : ℕ) → c ≤ d → d ≤ c + k → refs f H.fields d ≡ 0) → (g : Bytes) (at n : ℕ) → Outside f g at n
     → c * cluster_size H.fields ≤ at → at + n ≤ (c + k + 1) * cluster_size H.fields → FreeWritten f g H
-free-run-written f H was c k unnamed g at n out low high =
-    let all : RunWritten f g H c k = run-written f H was c k (λ d from upto. free-apart-from-structure f H was d (unnamed d from upto)) g at n out low high in
+free-run-written f H was c k not_referenced g at n out low high =
+    let all : RunWritten f g H c k = run-written f H was c k (λ d from upto. free-apart-from-structure f H was d (not_referenced d from upto)) g at n out low high in
     record {
       consistent = all.consistent;
-      kept = all.kept;
+      same_structure_outside = all.same_structure_outside;
       keeps = all.keeps;
       references = all.references;
       counts = all.counts;
@@ -308,8 +308,8 @@ free-run-written f H was c k unnamed g at n out low high =
         | inr from ↦ elim (cases_lt (c + k) d) [
           | inl lt ↦ inr lt
           | inr upto ↦
-              let none : contents f H.fields (of_mapping H.fields (meets H.fields d)) ≡ 0 = free-unmapped f H was d (unnamed d from upto) in
-              let named : 1 ≤ contents f H.fields (of_mapping H.fields (meets H.fields d)) = data-named f H was guest d copied is in
+              let none : contents f H.fields (of_mapping H.fields (meets H.fields d)) ≡ 0 = free-unmapped f H was d (not_referenced d from upto) in
+              let references_in_either : 1 ≤ contents f H.fields (of_mapping H.fields (meets H.fields d)) = data-named f H was guest d copied is in
               absurd (omega arith)
         ]
       ]);

@@ -4,9 +4,9 @@ use Rattle.std.specs.Prelude.{false, cond, nat_lt}
 use Rattle.std.proofs.lemmas.Bool.{cases_lt, le-ltb}
 use Rattle.std.proofs.lemmas.Bool.Decides.{nat_tests}
 use Rattle.std.proofs.Math.Nat.{div-mul-le_self, mul-le-mul_right}
-use Rattle.qcow2_types.specs.Bytes.{Bytes, word, splice, sum_below}
+use Rattle.qcow2_types.specs.Bytes.{Bytes, raw_entry, splice, sum_below}
 use Rattle.qcow2_types.specs.Words.{table_offset, block_offset}
-use Rattle.qcow2_types.specs.Header.{Fields, cluster_size, words_of_cluster, refcount_table_entries}
+use Rattle.qcow2_types.specs.Header.{Fields, cluster_size, entries_of_cluster, refcount_table_entries}
 use Rattle.qcow2_types.specs.Entries.{l2_table}
 use Rattle.qcow2_types.specs.Counts.{block_at}
 use Rattle.qcow2_types.specs.References.{Weight, structure, of_cluster, meets}
@@ -70,8 +70,8 @@ l2-part f h w i lt there =
     omega arith
 
 -- words of a range that is the same
-pub word-same : (f g : Bytes) (table size i : ℕ) → Same f g table size → 8 * i + 8 ≤ size → word g table i ≡ word f table i
-unfolding word
+pub word-same : (f g : Bytes) (table size i : ℕ) → Same f g table size → 8 * i + 8 ≤ size → raw_entry g table i ≡ raw_entry f table i
+unfolding raw_entry
 word-same f g table size i same fits = be-same g f (table + 8 * i) (table + 8 * i) 8 (λ k lt. let place : table + (8 * i + k) ≡ table + 8 * i + k = omega arith in rw place at (same (8 * i + k) (omega arith)))
 
 -- the same L1 table names the same L2 tables
@@ -84,8 +84,8 @@ l2_table-same f g h same i = elim (cases_lt i h.l1_entries) [
 -- a word of the refcount table lies in it
 pub entries-fit : (h : Fields) (i : ℕ) → i < refcount_table_entries h → 8 * i + 8 ≤ h.refcount_table_clusters * cluster_size h
 entries-fit h i lt =
-    let whole : words_of_cluster h * 8 ≤ cluster_size h = div-mul-le_self (cluster_size h) 8 in
-    let all : words_of_cluster h * 8 * h.refcount_table_clusters ≤ cluster_size h * h.refcount_table_clusters = mul-le-mul_right h.refcount_table_clusters whole in
+    let whole : entries_of_cluster h * 8 ≤ cluster_size h = div-mul-le_self (cluster_size h) 8 in
+    let all : entries_of_cluster h * 8 * h.refcount_table_clusters ≤ cluster_size h * h.refcount_table_clusters = mul-le-mul_right h.refcount_table_clusters whole in
     omega arith
 
 -- the same refcount table names the same blocks

@@ -7,7 +7,7 @@ use Rattle.std.proofs.lemmas.Bool.{cases_lt}
 use Rattle.std.proofs.lemmas.List.{get_or_append_left, get_or-append_right}
 use Rattle.std.proofs.lemmas.Nat.{from_be_bytes-to_be_bytes_8}
 use Rattle.std.proofs.Math.Path.{fun_ext}
-use Rattle.qcow2_types.specs.Bytes.{Bytes, be, word, splice, bytes_of, Patch, over}
+use Rattle.qcow2_types.specs.Bytes.{Bytes, be, raw_entry, splice, bytes_of, Patch, over}
 use Rattle.qcow2_types.specs.TableBytes.{AreFit, table_bytes}
 use Rattle.qcow2_types.proofs.Numbers.Splices.{be-same, splice-outside, splice-inside, be-of-bytes}
 
@@ -142,8 +142,8 @@ words-length [] = refl
 words-length (w ∷ ws) = let more : length (table_bytes ws) ≡ 8 * length ws = words-length ws in omega (arith, length-append (to_be_bytes w64 w) (table_bytes ws))
 
 -- A cached table over the file shows its words.
-pub table-over : (f : Bytes) (t : ℕ) (ws : List ℕ) (j : ℕ) → AreFit ws → j < length ws → word (splice f t (table_bytes ws)) t j ≡ get_or ws j 0
-unfolding word
+pub table-over : (f : Bytes) (t : ℕ) (ws : List ℕ) (j : ℕ) → AreFit ws → j < length ws → raw_entry (splice f t (table_bytes ws)) t j ≡ get_or ws j 0
+unfolding raw_entry
 table-over f t ws j fit lt =
     let size : length (table_bytes ws) ≡ 8 * length ws = words-length ws in
     be-same (splice f t (table_bytes ws)) (bytes_of (table_bytes ws)) (t + 8 * j) (8 * j) 8

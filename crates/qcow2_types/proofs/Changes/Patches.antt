@@ -7,7 +7,7 @@ use Rattle.std.proofs.lemmas.List.{length-replicate}
 use Rattle.std.proofs.lemmas.Bool.{cases_lt}
 use Rattle.std.proofs.lemmas.Bool.Decides.{nat_tests}
 use Rattle.qcow2_types.specs.Bytes.{Bytes, Patch, over}
-use Rattle.qcow2_types.specs.Words.{is_place}
+use Rattle.qcow2_types.specs.Words.{is_cluster_offset}
 use Rattle.qcow2_types.specs.Header.{Fields, Header, cluster_size}
 use Rattle.qcow2_types.specs.Entries.{l2_table}
 use Rattle.qcow2_types.specs.Counts.{block_at}
@@ -37,7 +37,7 @@ pub record IsPatch (f : Bytes) (h : Fields) (e : Patch) : Type 0 where
   pub long : length e.1 ≡ cluster_size h
 
 module _ (f : Bytes) (H : Header) (was : IsConsistent f H) where
-  place-of-part : (part : Part) → IsPart H.fields part → part_place f H.fields part ≢ 0 → IsTrue (is_place H.fields.cluster_bits (part_place f H.fields part))
+  place-of-part : (part : Part) → IsPart H.fields part → part_place f H.fields part ≢ 0 → IsTrue (is_cluster_offset H.fields.cluster_bits (part_place f H.fields part))
   place-of-part header inside there = absurd (there refl)
   place-of-part l1_table inside there = absurd (there refl)
   place-of-part refcount_table inside there = absurd (there refl)

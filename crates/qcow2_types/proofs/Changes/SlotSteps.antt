@@ -4,13 +4,13 @@ use Rattle.std.specs.Prelude.{true, ◌⊎◌, IsFalse}
 use Rattle.std.specs.Int.{w64, to_be_bytes}
 use Rattle.std.proofs.lemmas.Bool.{cases_eq}
 use Rattle.std.proofs.Math.Nat.{div-mul-le_self}
-use Rattle.qcow2_types.specs.Bytes.{Bytes, word, splice}
-use Rattle.qcow2_types.specs.Words.{Mapping, data_at, unmapped, is_damaged, mapping_of, l1_word_sound, block_word_sound}
-use Rattle.qcow2_types.specs.Header.{Header, cluster_size, words_of_cluster, layout_of}
+use Rattle.qcow2_types.specs.Bytes.{Bytes, raw_entry, splice}
+use Rattle.qcow2_types.specs.Words.{Mapping, data_at, unmapped, is_damaged, mapping_of, l1_entry_valid, reftable_entry_valid}
+use Rattle.qcow2_types.specs.Header.{Header, cluster_size, entries_of_cluster, layout_of}
 use Rattle.qcow2_types.specs.Entries.{l2_table, l2_mapping}
 use Rattle.qcow2_types.specs.Counts.{count}
-use Rattle.qcow2_types.specs.Slots.{slot, Live, over_slots, guest_slot, SoundWords}
-use Rattle.qcow2_types.specs.Frames.{Outside, touches, Kept, Skipped, table}
+use Rattle.qcow2_types.specs.Slots.{slot, Live, over_slots, guest_slot, ValidEntries}
+use Rattle.qcow2_types.specs.Frames.{Outside, touches, SameStructureOutside, Skipped, table}
 use Rattle.qcow2_types.specs.Versions.{SamePlaces, ChangesSlot}
 use Rattle.qcow2_types.specs.References.{structure, contents, of_mapping, of_copied, meets, refs}
 use Rattle.qcow2_types.specs.Consistency.{IsConsistent}
@@ -46,12 +46,12 @@ module _ (f : Bytes) (H : Header) (was : IsConsistent f H) (i : ℕ) (there : l2
 
 -- g is f but for word j of L2 table i, which is w there.
 module _ (f g : Bytes) (H : Header) (was : IsConsistent f H) (i j : ℕ) (live : Live (l2_table f H.fields) H.fields i j) (out : Outside f g (l2_table f H.fields i + 8 * j) 8) (w : ℕ)
-    (written : word g (l2_table f H.fields i) j ≡ w) where
+    (written : raw_entry g (l2_table f H.fields i) j ≡ w) where
   -- the word lies in the table
   word-inside : 8 * j + 8 ≤ cluster_size H.fields
   word-inside =
-      let lt : j < words_of_cluster H.fields = live.in_table in
-      let whole : words_of_cluster H.fields * 8 ≤ cluster_size H.fields = div-mul-le_self (cluster_size H.fields) 8 in
+      let lt : j < entries_of_cluster H.fields = live.in_table in
+      let whole : entries_of_cluster H.fields * 8 ≤ cluster_size H.fields = div-mul-le_self (cluster_size H.fields) 8 in
       omega arith
 
   -- the write touches one part of the structure
@@ -61,7 +61,7 @@ module _ (f g : Bytes) (H : Header) (was : IsConsistent f H) (i j : ℕ) (live :
       touches-once f H.fields (l2_table f H.fields i / cluster_size H.fields) (l2_table f H.fields i + 8 * j) 8 (was.structure_apart _) (omega arith) (omega (arith, word-inside))
 
   -- the rest of it is kept
-  pub slot-table-kept : Kept f g H.fields (table i)
+  pub slot-table-kept : SameStructureOutside f g H.fields (table i)
   slot-table-kept = kept-table f g H.fields (l2_table f H.fields i + 8 * j) 8 out (omega arith) slot-once i live.in_l1 live.is_there (omega arith) (omega (arith, word-inside))
 
   -- all tables and blocks stay in place
@@ -117,12 +117,12 @@ module _ (f g : Bytes) (H : Header) (was : IsConsistent f H) (i j : ℕ) (live :
       omega arith
 
   -- the tables stay sound
-  slot-sound : IsFalse (is_damaged (mapping_of (layout_of H.fields) w)) → SoundWords g H.fields
+  slot-sound : IsFalse (is_damaged (mapping_of (layout_of H.fields) w)) → ValidEntries g H.fields
   slot-sound sane =
-      let sound : SoundWords f H.fields = sound-words f H.fields was.readable.tables in
+      let sound : ValidEntries f H.fields = sound-words f H.fields was.readable.tables in
       record {
-        l1 = λ k lt. ap (l1_word_sound H.fields.cluster_bits) (slot-table-kept.l1 k lt (λ e. cc)) ∙ sound.l1 k lt;
-        blocks = λ k lt. ap (block_word_sound H.fields.cluster_bits) (slot-table-kept.blocks k lt (λ e. cc)) ∙ sound.blocks k lt;
+        l1 = λ k lt. ap (l1_entry_valid H.fields.cluster_bits) (slot-table-kept.l1 k lt (λ e. cc)) ∙ sound.l1 k lt;
+        blocks = λ k lt. ap (reftable_entry_valid H.fields.cluster_bits) (slot-table-kept.blocks k lt (λ e. cc)) ∙ sound.blocks k lt;
         slots = λ k m live'.
             let old : Live (l2_table f H.fields) H.fields k m = record { in_l1 = live'.in_l1; is_there = (λ e. live'.is_there (slot-places.l1 k ∙ e)); in_table = live'.in_table } in
             elim (cases_eq k i) [
@@ -147,10 +147,10 @@ module _ (f g : Bytes) (H : Header) (was : IsConsistent f H) (i j : ℕ) (live :
       (λ c some. let e : structure g H.fields (meets H.fields c) ≡ structure f H.fields (meets H.fields c) = same c in apart c (omega arith))
       (λ c some. apart c (omega arith))
       (λ c. let e : count g H.fields c ≡ count f H.fields c = slot-counts c in let le : refs g H.fields c ≤ count f H.fields c = counted c in omega arith) in
-      let words : 0 < words_of_cluster H.fields = some-words H.fields (consistent-shaped f H was) in
+      let raw_entries : 0 < entries_of_cluster H.fields = some-words H.fields (consistent-shaped f H was) in
       record {
         consistent = after;
-        kept = slot-table-kept;
+        same_structure_outside = slot-table-kept;
         places = slot-places;
         here = slot-here;
         row = λ m apart. other-word f g (l2_table f H.fields i) j m out (λ e. apart (sym e));
@@ -159,20 +159,20 @@ module _ (f g : Bytes) (H : Header) (was : IsConsistent f H) (i j : ℕ) (live :
         entries = λ guest row column.
             entry-slot g H.fields guest after.readable.tables
             ∙ (guest-slot-there g H.fields guest (λ e. live.is_there (sym (slot-places.l1 i) ∙ (sym (ap (l2_table g H.fields) row) ∙ e)))
-            ∙ (ap (λ k. slot g H.fields k (guest % words_of_cluster H.fields)) row ∙ (ap (slot g H.fields i) column ∙ slot-here)));
+            ∙ (ap (λ k. slot g H.fields k (guest % entries_of_cluster H.fields)) row ∙ (ap (slot g H.fields i) column ∙ slot-here)));
         elsewhere = λ guest off.
-            shows-outside f g H.fields was.readable.tables after.readable.tables words guest (guest-same words guest off) (l2_table f H.fields i / cluster_size H.fields) (l2_table f H.fields i + 8 * j) 8 out (omega arith) (omega (arith, word-inside))
+            shows-outside f g H.fields was.readable.tables after.readable.tables raw_entries guest (guest-same raw_entries guest off) (l2_table f H.fields i / cluster_size H.fields) (l2_table f H.fields i + 8 * j) 8 out (omega arith) (omega (arith, word-inside))
             (structure-unmapped f H was _ (table-weighs f H was i live.is_there));
         free = free-stays f g H (l2_table f H.fields i / cluster_size H.fields) (l2_table f H.fields i + 8 * j) 8 out (omega arith) (omega (arith, word-inside)) (table-weighs f H was i live.is_there);
         mapped = data-stays f g H was (l2_table f H.fields i / cluster_size H.fields) (l2_table f H.fields i + 8 * j) 8 out (omega arith) (omega (arith, word-inside)) (table-weighs f H was i live.is_there);
       }
     where
-      guest-same : 0 < words_of_cluster H.fields → (guest : ℕ) → (guest / words_of_cluster H.fields ≢ i) ⊎ (guest % words_of_cluster H.fields ≢ j) → guest_slot g H.fields guest ≡ guest_slot f H.fields guest
-      guest-same words guest off = elim (cases_eq (l2_table f H.fields (guest / words_of_cluster H.fields)) 0) [
-        | inl e ↦ guest-slot-none g H.fields guest (slot-places.l1 (guest / words_of_cluster H.fields) ∙ e) ∙ sym (guest-slot-none f H.fields guest e)
+      guest-same : 0 < entries_of_cluster H.fields → (guest : ℕ) → (guest / entries_of_cluster H.fields ≢ i) ⊎ (guest % entries_of_cluster H.fields ≢ j) → guest_slot g H.fields guest ≡ guest_slot f H.fields guest
+      guest-same raw_entries guest off = elim (cases_eq (l2_table f H.fields (guest / entries_of_cluster H.fields)) 0) [
+        | inl e ↦ guest-slot-none g H.fields guest (slot-places.l1 (guest / entries_of_cluster H.fields) ∙ e) ∙ sym (guest-slot-none f H.fields guest e)
         | inr there ↦
-            guest-slot-there g H.fields guest (λ e. there (sym (slot-places.l1 (guest / words_of_cluster H.fields)) ∙ e))
-            ∙ (slot-others (guest / words_of_cluster H.fields) (guest % words_of_cluster H.fields) (guest-live f H.fields guest words there) off ∙ sym (guest-slot-there f H.fields guest there))
+            guest-slot-there g H.fields guest (λ e. there (sym (slot-places.l1 (guest / entries_of_cluster H.fields)) ∙ e))
+            ∙ (slot-others (guest / entries_of_cluster H.fields) (guest % entries_of_cluster H.fields) (guest-live f H.fields guest raw_entries there) off ∙ sym (guest-slot-there f H.fields guest there))
       ]
 
   -- The same by what f names and counts: with the new word in place of the old one, each cluster that is named is counted, and
@@ -196,8 +196,8 @@ module _ (f g : Bytes) (H : Header) (was : IsConsistent f H) (i j : ℕ) (live :
 
 -- A free, counted cluster c is named as copied data by a word that named none.
 module _ (f g : Bytes) (H : Header) (was : IsConsistent f H) (i j : ℕ) (live : Live (l2_table f H.fields) H.fields i j) (out : Outside f g (l2_table f H.fields i + 8 * j) 8) (w : ℕ)
-    (written : word g (l2_table f H.fields i) j ≡ w) (c : ℕ) (means : mapping_of (layout_of H.fields) w ≡ data_at c true) (old : slot f H.fields i j ≡ unmapped)
-    (unnamed : refs f H.fields c ≡ 0) (counted : 1 ≤ count f H.fields c) where
+    (written : raw_entry g (l2_table f H.fields i) j ≡ w) (c : ℕ) (means : mapping_of (layout_of H.fields) w ≡ data_at c true) (old : slot f H.fields i j ≡ unmapped)
+    (not_referenced : refs f H.fields c ≡ 0) (counted : 1 ≤ count f H.fields c) where
   -- the references, with the new word's
   mapped-sum : (d : ℕ) → refs g H.fields d ≡ refs f H.fields d + meets H.fields d (c * cluster_size H.fields) (cluster_size H.fields)
   mapped-sum d =
@@ -256,9 +256,9 @@ module _ (f g : Bytes) (H : Header) (was : IsConsistent f H) (i j : ℕ) (live :
 -- By the bytes of the word.
 pub cluster-mapped-spliced : (f : Bytes) (H : Header) → IsConsistent f H → (i j : ℕ) → Live (l2_table f H.fields) H.fields i j → (w : ℕ) → w < 2 ^ 64 → (c : ℕ) → mapping_of (layout_of H.fields) w ≡ data_at c true
     → slot f H.fields i j ≡ unmapped → refs f H.fields c ≡ 0 → 1 ≤ count f H.fields c → ClusterMapped f (splice f (l2_table f H.fields i + 8 * j) (to_be_bytes w64 w)) H i j c
-cluster-mapped-spliced f H was i j live w fits c means old unnamed counted =
+cluster-mapped-spliced f H was i j live w fits c means old not_referenced counted =
     cluster-mapped f (splice f (l2_table f H.fields i + 8 * j) (to_be_bytes w64 w)) H was i j live (splice-is-outside f (l2_table f H.fields i + 8 * j) (to_be_bytes w64 w)) w
-    (word-written f (l2_table f H.fields i) j w fits) c means old unnamed counted
+    (word-written f (l2_table f H.fields i) j w fits) c means old not_referenced counted
 
 -- Any word that has a meaning, by its bytes.
 module _ (f : Bytes) (H : Header) (was : IsConsistent f H) (i j : ℕ) (live : Live (l2_table f H.fields) H.fields i j) (w : ℕ) (fits : w < 2 ^ 64) where

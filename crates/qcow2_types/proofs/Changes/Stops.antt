@@ -5,9 +5,9 @@ use Rattle.std.proofs.lemmas.Bool.{cases_eq, le-ltb}
 use Rattle.std.proofs.lemmas.Bool.Decides.{nat_tests}
 use Rattle.std.proofs.lemmas.Nat.{pow_pos}
 use Rattle.std.proofs.Math.Nat.{le-max_left, le-max_right, max-le, div-mul-le_self}
-use Rattle.qcow2_types.specs.Bytes.{Bytes, word, splice}
+use Rattle.qcow2_types.specs.Bytes.{Bytes, raw_entry, splice}
 use Rattle.qcow2_types.specs.Words.{Mapping, mapping_of}
-use Rattle.qcow2_types.specs.Header.{Fields, cluster_size, words_of_cluster, layout_of, Shaped}
+use Rattle.qcow2_types.specs.Header.{Fields, cluster_size, entries_of_cluster, layout_of, Shaped}
 use Rattle.qcow2_types.specs.Entries.{l2_table}
 use Rattle.qcow2_types.specs.Counts.{count}
 use Rattle.qcow2_types.specs.References.{Weight, structure, contents, of_copied, meets, refs}
@@ -15,23 +15,23 @@ use Rattle.qcow2_types.specs.Consistency.{shares_structure, is_false_copied, is_
 use Rattle.qcow2_types.proofs.Counting.Named.{structure-le-refs, copied-le-refs}
 use Rattle.qcow2_types.proofs.Numbers.Splices.{be-same, splice-inside}
 use Rattle.qcow2_types.proofs.Changes.Frames.{splice-is-outside}
-use Rattle.qcow2_types.specs.Frames.{touches, Skipped, table, Kept}
+use Rattle.qcow2_types.specs.Frames.{touches, Skipped, table, SameStructureOutside}
 use Rattle.qcow2_types.proofs.Counting.Slots.{contents-slots, slots-mono}
 use Rattle.qcow2_types.specs.Slots.{slot, over_slots}
 use Rattle.qcow2_types.proofs.Counting.Parts.{kept-table, l2_table-kept, block_at-kept, count-kept, slot-kept}
 use Rattle.qcow2_types.proofs.Counting.Either.{refs-between, named-falls, structure-same, table-after-blocks, table-before-blocks, tables-same}
-use Rattle.qcow2_types.specs.Versions.{SamePlaces, IsBetween, named, BlocksFirst, TablesFirst, copied, NamedApart}
+use Rattle.qcow2_types.specs.Versions.{SamePlaces, IsBetween, references_in_either, BlocksFirst, TablesFirst, copied, ReferencedOnce}
 
 -- a word of a table lies in its cluster
-words-fit : (h : Fields) (j : ℕ) → j < words_of_cluster h → 8 * j + 8 ≤ cluster_size h
-words-fit h j lt = let whole : words_of_cluster h * 8 ≤ cluster_size h = div-mul-le_self (cluster_size h) 8 in omega arith
+words-fit : (h : Fields) (j : ℕ) → j < entries_of_cluster h → 8 * j + 8 ≤ cluster_size h
+words-fit h j lt = let whole : entries_of_cluster h * 8 ≤ cluster_size h = div-mul-le_self (cluster_size h) 8 in omega arith
 
 -- One table is written: t is its place, and the bytes are those that g has there.
 module _ (f g : Bytes) (h : Fields) (i : ℕ) (bytes : List ℕ) (shaped : Shaped h) (lt : i < h.l1_entries) (there : l2_table f h i ≢ 0)
     (all : length bytes ≡ cluster_size h) (cached : (k : ℕ) → k < cluster_size h → slice_index bytes k ≡ g (l2_table f h i + k))
     (once : structure f h (touches (l2_table f h i) (length bytes)) ≤ 1) (places : SamePlaces f g h) where
   -- the rest of the structure is kept
-  pub write-keeps : Kept f (splice f (l2_table f h i) bytes) h (table i)
+  pub write-keeps : SameStructureOutside f (splice f (l2_table f h i) bytes) h (table i)
   write-keeps =
       let some : 0 < cluster_size h = pow_pos h.cluster_bits in
       kept-table f (splice f (l2_table f h i) bytes) h (l2_table f h i) (length bytes) (splice-is-outside f (l2_table f h i) bytes) (omega arith) once i lt there (omega arith) (omega arith)
@@ -48,8 +48,8 @@ module _ (f g : Bytes) (h : Fields) (i : ℕ) (bytes : List ℕ) (shaped : Shape
   write-counts c = count-kept f _ h (table i) write-keeps c shaped (λ e. cc) (λ e. cc)
 
   -- the words are those to be written
-  write-word : (j : ℕ) → j < words_of_cluster h → word (splice f (l2_table f h i) bytes) (l2_table f h i) j ≡ word g (l2_table f h i) j
-  unfolding word
+  write-word : (j : ℕ) → j < entries_of_cluster h → raw_entry (splice f (l2_table f h i) bytes) (l2_table f h i) j ≡ raw_entry g (l2_table f h i) j
+  unfolding raw_entry
   write-word j less =
       let fits : 8 * j + 8 ≤ cluster_size h = words-fit h j less in
       be-same _ g (l2_table f h i + 8 * j) (l2_table f h i + 8 * j) 8 (λ k below.
@@ -59,10 +59,10 @@ module _ (f g : Bytes) (h : Fields) (i : ℕ) (bytes : List ℕ) (shaped : Shape
       rw place at (here ∙ there'))
 
   -- and so their mappings
-  write-slot : (j : ℕ) → j < words_of_cluster h → slot (splice f (l2_table f h i) bytes) h i j ≡ slot g h i j
+  write-slot : (j : ℕ) → j < entries_of_cluster h → slot (splice f (l2_table f h i) bytes) h i j ≡ slot g h i j
   write-slot j less =
-      ap (λ t. mapping_of (layout_of h) (word (splice f (l2_table f h i) bytes) t j)) (write-places.l1 i)
-      ∙ (ap (mapping_of (layout_of h)) (write-word j less) ∙ sym (ap (λ t. mapping_of (layout_of h) (word g t j)) (places.l1 i)))
+      ap (λ t. mapping_of (layout_of h) (raw_entry (splice f (l2_table f h i) bytes) t j)) (write-places.l1 i)
+      ∙ (ap (mapping_of (layout_of h)) (write-word j less) ∙ sym (ap (λ t. mapping_of (layout_of h) (raw_entry g t j)) (places.l1 i)))
 
   -- the file lies between the two versions
   pub write-between : IsBetween f (splice f (l2_table f h i) bytes) g h
@@ -80,7 +80,7 @@ module _ (f g : Bytes) (h : Fields) (i : ℕ) (bytes : List ℕ) (shaped : Shape
 
   -- so both orders stay
   pub write-after-blocks : BlocksFirst f g h → ((c : ℕ) → count g h c ≡ count f h c) → BlocksFirst (splice f (l2_table f h i) bytes) g h
-  write-after-blocks safe clean = table-after-blocks f _ g h safe clean write-between write-counts
+  write-after-blocks well_formed clean = table-after-blocks f _ g h well_formed clean write-between write-counts
 
 -- what is named as copied in one version is among both
 one-copied : (h : Fields) (w : Weight) (m n x : Mapping) → (x ≡ m) ⊎ (x ≡ n) → of_copied h w x ≤ max (of_copied h w m) (of_copied h w n)
@@ -109,39 +109,39 @@ module _ (f x g : Bytes) (h : Fields) (between : IsBetween f x g h) where
       omega arith
 
   -- what was named once stays so
-  pub apart-falls : NamedApart f g h → NamedApart x g h
+  pub apart-falls : ReferencedOnce f g h → ReferencedOnce x g h
   apart-falls apart c some =
       let base : structure x h (meets h c) ≡ structure f h (meets h c) = structure-same f x h between.places (meets h c) in
       let less : copied x g h c ≤ copied f g h c = copied-falls c in
-      let n : named x g h c ≤ named f g h c = named-falls f x g h c between in
-      let one : named f g h c ≤ 1 = apart c (omega arith) in
+      let n : references_in_either x g h c ≤ references_in_either f g h c = named-falls f x g h c between in
+      let one : references_in_either f g h c ≤ 1 = apart c (omega arith) in
       omega arith
 
   -- a file that a stop leaves is consistent, tables and header aside
-  pub stop-structure : NamedApart f g h → (c : ℕ) → shares_structure x h c ≡ false
+  pub stop-structure : ReferencedOnce f g h → (c : ℕ) → shares_structure x h c ≡ false
   unfolding shares_structure
   stop-structure apart c = elim (cases_eq (structure x h (meets h c)) 0) [
     | inl e ↦ let none : nat_lt 0 (structure x h (meets h c)) ≡ false = le-ltb _ _ (omega arith) in rw none refl
     | inr some ↦
         let base : structure x h (meets h c) ≡ structure f h (meets h c) = structure-same f x h between.places (meets h c) in
         let there : structure x h (meets h c) ≢ 0 = some in
-        let one : named f g h c ≤ 1 = apart c (omega arith) in
-        let r : refs x h c ≤ named f g h c = refs-between f x g h c between in
+        let one : references_in_either f g h c ≤ 1 = apart c (omega arith) in
+        let r : refs x h c ≤ references_in_either f g h c = refs-between f x g h c between in
         let s : structure x h (meets h c) ≤ refs x h c = structure-le-refs x h c in
         let e : refs x h c ≡ 1 = omega arith in
         grind (arith, nat_tests)
   ]
 
   -- no cluster is wrongly marked as copied
-  pub stop-copied : NamedApart f g h → (c : ℕ) → is_false_copied x h c ≡ false
+  pub stop-copied : ReferencedOnce f g h → (c : ℕ) → is_false_copied x h c ≡ false
   unfolding is_false_copied
   stop-copied apart c = elim (cases_eq (contents x h (of_copied h (meets h c))) 0) [
     | inl e ↦ let none : nat_lt 0 (contents x h (of_copied h (meets h c))) ≡ false = le-ltb _ _ (omega arith) in rw none refl
     | inr some ↦
         let there : contents x h (of_copied h (meets h c)) ≢ 0 = some in
         let less : contents x h (of_copied h (meets h c)) ≤ copied f g h c = copied-between c in
-        let one : named f g h c ≤ 1 = apart c (omega arith) in
-        let r : refs x h c ≤ named f g h c = refs-between f x g h c between in
+        let one : references_in_either f g h c ≤ 1 = apart c (omega arith) in
+        let r : refs x h c ≤ references_in_either f g h c = refs-between f x g h c between in
         let s : contents x h (of_copied h (meets h c)) ≤ refs x h c = copied-le-refs x h c in
         let e : refs x h c ≡ 1 = omega arith in
         grind (arith, nat_tests)
@@ -150,4 +150,4 @@ module _ (f x g : Bytes) (h : Fields) (between : IsBetween f x g h) where
 -- no cluster is counted too rarely
 pub stop-counted : (x g : Bytes) (h : Fields) → ((c : ℕ) → refs x h c ≤ count x h c) → (c : ℕ) → is_under_counted x h c ≡ false
 unfolding is_under_counted
-stop-counted x g h safe c = le-ltb _ _ (safe c)
+stop-counted x g h well_formed c = le-ltb _ _ (well_formed c)

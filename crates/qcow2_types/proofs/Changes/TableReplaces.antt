@@ -6,13 +6,13 @@ use Rattle.std.proofs.lemmas.Bool.{cases_eq, lt-ltb}
 use Rattle.std.proofs.lemmas.Bool.Decides.{nat_tests}
 use Rattle.std.proofs.lemmas.Nat.{mod_below}
 use Rattle.std.proofs.Math.Nat.{div-mul-le_self, pow-le-pow_right}
-use Rattle.qcow2_types.specs.Bytes.{Bytes, word, splice, sum_below}
-use Rattle.qcow2_types.specs.Words.{Mapping, is_damaged, mapping_of, l1_word_sound, block_word_sound, is_place, table_offset}
-use Rattle.qcow2_types.specs.Header.{Header, Shaped, header_of, cluster_size, words_of_cluster, refcount_table_entries, layout_of}
+use Rattle.qcow2_types.specs.Bytes.{Bytes, raw_entry, splice, sum_below}
+use Rattle.qcow2_types.specs.Words.{Mapping, is_damaged, mapping_of, l1_entry_valid, reftable_entry_valid, is_cluster_offset, table_offset}
+use Rattle.qcow2_types.specs.Header.{Header, Shaped, header_of, cluster_size, entries_of_cluster, refcount_table_entries, layout_of}
 use Rattle.qcow2_types.specs.Entries.{entry, l2_table, l2_mapping}
 use Rattle.qcow2_types.specs.Counts.{block_at, count}
-use Rattle.qcow2_types.specs.Slots.{slot, Live, over_slots, or_none, guest_slot, SoundWords}
-use Rattle.qcow2_types.specs.Frames.{Outside, Same, Kept, Skipped, l1_word}
+use Rattle.qcow2_types.specs.Slots.{slot, Live, over_slots, or_none, guest_slot, ValidEntries}
+use Rattle.qcow2_types.specs.Frames.{Outside, Same, SameStructureOutside, Skipped, l1_word}
 use Rattle.qcow2_types.specs.References.{Weight, structure, of_cluster, of_table, of_table_or_none, contents, of_mapping, of_copied, meets, refs}
 use Rattle.qcow2_types.specs.Consistency.{IsConsistent}
 use Rattle.qcow2_types.specs.Steps.{TableReplaced, TableSwapped}
@@ -37,8 +37,8 @@ l1_number i _ = i
 
 -- g is f but for word i of the L1 table, which names the table at t there, in a cluster that nothing named.
 module _ (f g : Bytes) (H : Header) (was : IsConsistent f H) (i : ℕ) (lt : i < H.fields.l1_entries) (out : Outside f g (H.fields.l1_offset + 8 * i) 8) (w : ℕ)
-    (written : word g H.fields.l1_offset i ≡ w) (sane : IsTrue (l1_word_sound H.fields.cluster_bits w)) (c t : ℕ) (names : table_offset w ≡ t) (there : t ≢ 0) (begins : t ≡ c * cluster_size H.fields)
-    (unnamed : refs f H.fields c ≡ 0) where
+    (written : raw_entry g H.fields.l1_offset i ≡ w) (sane : IsTrue (l1_entry_valid H.fields.cluster_bits w)) (c t : ℕ) (names : table_offset w ≡ t) (there : t ≢ 0) (begins : t ≡ c * cluster_size H.fields)
+    (not_referenced : refs f H.fields c ≡ 0) where
   -- the cluster in which the word lies begins before it
   pub low : (H.fields.l1_offset + 8 * i) / cluster_size H.fields * cluster_size H.fields ≤ H.fields.l1_offset + 8 * i
   low = div-mul-le_self (H.fields.l1_offset + 8 * i) (cluster_size H.fields)
@@ -48,9 +48,9 @@ module _ (f g : Bytes) (H : Header) (was : IsConsistent f H) (i : ℕ) (lt : i <
   high =
       let shaped : Shaped H.fields = consistent-shaped f H was in
       let size : 2 ^ 9 ≤ 2 ^ H.fields.cluster_bits = pow-le-pow_right (omega arith) shaped.low in
-      let begin : is_place H.fields.cluster_bits H.fields.l1_offset ≡ true = (header-limited true f H was.readable.loads).l1_place in
+      let begin : is_cluster_offset H.fields.cluster_bits H.fields.l1_offset ≡ true = (header-limited true f H was.readable.loads).l1_place in
       let multiple : H.fields.l1_offset % 2 ^ H.fields.cluster_bits ≡ 0 = grind (arith, nat_tests) in
-      word-in-cluster H.fields.l1_offset (cluster_size H.fields) (words_of_cluster H.fields) i (omega arith) (whole H.fields.cluster_bits (omega arith)) multiple
+      word-in-cluster H.fields.l1_offset (cluster_size H.fields) (entries_of_cluster H.fields) i (omega arith) (whole H.fields.cluster_bits (omega arith)) multiple
 
   -- the structure is in that cluster
   pub l1-weighs : 1 ≤ structure f H.fields (meets H.fields ((H.fields.l1_offset + 8 * i) / cluster_size H.fields))
@@ -66,7 +66,7 @@ module _ (f g : Bytes) (H : Header) (was : IsConsistent f H) (i : ℕ) (lt : i <
       omega arith
 
   -- the rest of the structure is kept
-  kept : Kept f g H.fields (l1_word i)
+  kept : SameStructureOutside f g H.fields (l1_word i)
   kept = kept-l1 f g H.fields i out (touches-once f H.fields _ (H.fields.l1_offset + 8 * i) 8 (was.structure_apart _) low high) lt
 
   -- the word names the new table
@@ -90,8 +90,8 @@ module _ (f g : Bytes) (H : Header) (was : IsConsistent f H) (i : ℕ) (lt : i <
   free = free-stays f g H _ (H.fields.l1_offset + 8 * i) 8 out low high l1-weighs
 
   -- among them the new table
-  new-words : (j : ℕ) → j < words_of_cluster H.fields → word g t j ≡ word f t j
-  new-words j less = word-same f g t (cluster_size H.fields) j (subst (λ p. Same f g p (cluster_size H.fields)) (sym begins) (free c unnamed)) (words-fit H.fields j less)
+  new-words : (j : ℕ) → j < entries_of_cluster H.fields → raw_entry g t j ≡ raw_entry f t j
+  new-words j less = word-same f g t (cluster_size H.fields) j (subst (λ p. Same f g p (cluster_size H.fields)) (sym begins) (free c not_referenced)) (words-fit H.fields j less)
 
   -- every word of another table means what it did
   others : (k m : ℕ) → Live (l2_table f H.fields) H.fields k m → k ≢ i → slot g H.fields k m ≡ slot f H.fields k m
@@ -119,17 +119,17 @@ module _ (f g : Bytes) (H : Header) (was : IsConsistent f H) (i : ℕ) (lt : i <
       let after : contents g H.fields of ≡ sum_below H.fields.l1_entries new_row = contents-slots g H.fields of in
       let all : sum_below H.fields.l1_entries new_row + old_row i ≡ sum_below H.fields.l1_entries old_row + new_row i =
       sum-change H.fields.l1_entries i new_row old_row lt (λ k less apart. same k less apart (cases_eq (l2_table f H.fields k) 0)) in
-      let one : new_row i ≡ of_table f H.fields of t = ap (λ p. or_none p (sum_below (words_of_cluster H.fields) (λ j. of (l2_mapping g H.fields p j)))) here ∙ (some-table t there _ ∙ sum-same _ _ _ (λ j less. ap (λ x. of (mapping x)) (new-words j less))) in
+      let one : new_row i ≡ of_table f H.fields of t = ap (λ p. or_none p (sum_below (entries_of_cluster H.fields) (λ j. of (l2_mapping g H.fields p j)))) here ∙ (some-table t there _ ∙ sum-same _ _ _ (λ j less. ap (λ x. of (mapping x)) (new-words j less))) in
       omega arith
     where
       mapping : ℕ → Mapping
       mapping x = mapping_of (layout_of H.fields) x
 
       old_row : ℕ → ℕ
-      old_row k = or_none (l2_table f H.fields k) (sum_below (words_of_cluster H.fields) (λ j. of (slot f H.fields k j)))
+      old_row k = or_none (l2_table f H.fields k) (sum_below (entries_of_cluster H.fields) (λ j. of (slot f H.fields k j)))
 
       new_row : ℕ → ℕ
-      new_row k = or_none (l2_table g H.fields k) (sum_below (words_of_cluster H.fields) (λ j. of (slot g H.fields k j)))
+      new_row k = or_none (l2_table g H.fields k) (sum_below (entries_of_cluster H.fields) (λ j. of (slot g H.fields k j)))
 
       some-table : (p : ℕ) → p ≢ 0 → (x : ℕ) → or_none p x ≡ x
       some-table p is x = grind (arith, nat_tests)
@@ -137,7 +137,7 @@ module _ (f g : Bytes) (H : Header) (was : IsConsistent f H) (i : ℕ) (lt : i <
       same : (k : ℕ) → k < H.fields.l1_entries → k ≢ i → (l2_table f H.fields k ≡ 0) ⊎ (l2_table f H.fields k ≢ 0) → new_row k ≡ old_row k
       same k less apart (inl e) = rw (tables k apart, e) refl
       same k less apart (inr is) =
-          ap (λ p. or_none p (sum_below (words_of_cluster H.fields) (λ j. of (slot g H.fields k j)))) (tables k apart)
+          ap (λ p. or_none p (sum_below (entries_of_cluster H.fields) (λ j. of (slot g H.fields k j)))) (tables k apart)
           ∙ ap (or_none (l2_table f H.fields k)) (sum-same _ _ _ (λ j within. ap of (others k j record { in_l1 = less; is_there = is; in_table = within } apart)))
 
   -- and so how often a cluster is named
@@ -158,11 +158,11 @@ module _ (f g : Bytes) (H : Header) (was : IsConsistent f H) (i : ℕ) (lt : i <
   pub table-replaced : TableReplaced f g H i t
   table-replaced = record {
     header = loads;
-    kept = kept;
+    same_structure_outside = kept;
     here = here;
     tables = tables;
     blocks = blocks;
-    words = new-words;
+    raw_entries = new-words;
     others = others;
     counts = counts;
     structure = weighs;
@@ -173,15 +173,15 @@ module _ (f g : Bytes) (H : Header) (was : IsConsistent f H) (i : ℕ) (lt : i <
   }
 
   -- the tables stay sound
-  sound : ((j : ℕ) → j < words_of_cluster H.fields → IsFalse (is_damaged (l2_mapping f H.fields t j))) → SoundWords g H.fields
+  sound : ((j : ℕ) → j < entries_of_cluster H.fields → IsFalse (is_damaged (l2_mapping f H.fields t j))) → ValidEntries g H.fields
   sound plain =
-      let old : SoundWords f H.fields = sound-words f H.fields was.readable.tables in
+      let old : ValidEntries f H.fields = sound-words f H.fields was.readable.tables in
       record {
         l1 = λ k less. elim (cases_eq k i) [
-          | inl e ↦ ap (λ r. l1_word_sound H.fields.cluster_bits (word g H.fields.l1_offset r)) e ∙ (ap (l1_word_sound H.fields.cluster_bits) written ∙ sane)
-          | inr apart ↦ ap (l1_word_sound H.fields.cluster_bits) (kept.l1 k less (λ e. apart (sym (ap (l1_number i) e)))) ∙ old.l1 k less
+          | inl e ↦ ap (λ r. l1_entry_valid H.fields.cluster_bits (raw_entry g H.fields.l1_offset r)) e ∙ (ap (l1_entry_valid H.fields.cluster_bits) written ∙ sane)
+          | inr apart ↦ ap (l1_entry_valid H.fields.cluster_bits) (kept.l1 k less (λ e. apart (sym (ap (l1_number i) e)))) ∙ old.l1 k less
         ];
-        blocks = λ k less. ap (block_word_sound H.fields.cluster_bits) (kept.blocks k less (λ e. cc)) ∙ old.blocks k less;
+        blocks = λ k less. ap (reftable_entry_valid H.fields.cluster_bits) (kept.blocks k less (λ e. cc)) ∙ old.blocks k less;
         slots = λ k m live. elim (cases_eq k i) [
           | inl e ↦ ap is_damaged (ap (λ r. slot g H.fields r m) e ∙ (ap (λ p. l2_mapping g H.fields p m) here ∙ ap (mapping_of (layout_of H.fields)) (new-words m live.in_table))) ∙ plain m live.in_table
           | inr apart ↦
@@ -192,7 +192,7 @@ module _ (f g : Bytes) (H : Header) (was : IsConsistent f H) (i : ℕ) (lt : i <
 
   -- The image stays consistent where the new table's words have a meaning, each cluster that is named is counted, and each of the
   -- structure, or named as copied, is named once.
-  pub table-swapped : ((j : ℕ) → j < words_of_cluster H.fields → IsFalse (is_damaged (l2_mapping f H.fields t j)))
+  pub table-swapped : ((j : ℕ) → j < entries_of_cluster H.fields → IsFalse (is_damaged (l2_mapping f H.fields t j)))
       → ((d : ℕ) → refs g H.fields d ≤ count f H.fields d)
       → ((d : ℕ) → 0 < structure g H.fields (meets H.fields d) + contents g H.fields (of_copied H.fields (meets H.fields d)) → refs g H.fields d ≤ 1)
       → TableSwapped f g H i t
@@ -201,55 +201,55 @@ module _ (f g : Bytes) (H : Header) (was : IsConsistent f H) (i : ℕ) (lt : i <
       (λ d more. apart d (omega arith))
       (λ d more. apart d (omega arith))
       (λ d. let e : count g H.fields d ≡ count f H.fields d = counts d in let le : refs g H.fields d ≤ count f H.fields d = counted d in omega arith) in
-      let words : 0 < words_of_cluster H.fields = some-words H.fields (consistent-shaped f H was) in
+      let raw_entries : 0 < entries_of_cluster H.fields = some-words H.fields (consistent-shaped f H was) in
       record {
         replaced = table-replaced;
         consistent = after;
         entries = λ guest row.
-            let place : l2_table g H.fields (guest / words_of_cluster H.fields) ≡ t = ap (l2_table g H.fields) row ∙ here in
+            let place : l2_table g H.fields (guest / entries_of_cluster H.fields) ≡ t = ap (l2_table g H.fields) row ∙ here in
             entry-slot g H.fields guest after.readable.tables
             ∙ (guest-slot-there g H.fields guest (λ e. there (sym place ∙ e))
-            ∙ (ap (λ p. l2_mapping g H.fields p (guest % words_of_cluster H.fields)) place ∙ ap (mapping_of (layout_of H.fields)) (new-words (guest % words_of_cluster H.fields) (mod_below guest (words_of_cluster H.fields) words))));
-        values = values-kept f g H.fields was.readable.tables words _ (H.fields.l1_offset + 8 * i) 8 out low high (structure-unmapped f H was _ l1-weighs);
-        elsewhere = λ guest off. shows-outside f g H.fields was.readable.tables after.readable.tables words guest (guest-same words guest off) _ (H.fields.l1_offset + 8 * i) 8 out low high (structure-unmapped f H was _ l1-weighs);
+            ∙ (ap (λ p. l2_mapping g H.fields p (guest % entries_of_cluster H.fields)) place ∙ ap (mapping_of (layout_of H.fields)) (new-words (guest % entries_of_cluster H.fields) (mod_below guest (entries_of_cluster H.fields) raw_entries))));
+        values = values-kept f g H.fields was.readable.tables raw_entries _ (H.fields.l1_offset + 8 * i) 8 out low high (structure-unmapped f H was _ l1-weighs);
+        elsewhere = λ guest off. shows-outside f g H.fields was.readable.tables after.readable.tables raw_entries guest (guest-same raw_entries guest off) _ (H.fields.l1_offset + 8 * i) 8 out low high (structure-unmapped f H was _ l1-weighs);
       }
     where
-      guest-same : 0 < words_of_cluster H.fields → (guest : ℕ) → (guest / words_of_cluster H.fields ≢ i) ⊎ (l2_mapping f H.fields t (guest % words_of_cluster H.fields) ≡ entry f H.fields guest)
+      guest-same : 0 < entries_of_cluster H.fields → (guest : ℕ) → (guest / entries_of_cluster H.fields ≢ i) ⊎ (l2_mapping f H.fields t (guest % entries_of_cluster H.fields) ≡ entry f H.fields guest)
           → guest_slot g H.fields guest ≡ guest_slot f H.fields guest
-      guest-same words guest off = by off (cases_eq (guest / words_of_cluster H.fields) i)
+      guest-same raw_entries guest off = by off (cases_eq (guest / entries_of_cluster H.fields) i)
         where
-          apart-same : guest / words_of_cluster H.fields ≢ i → guest_slot g H.fields guest ≡ guest_slot f H.fields guest
-          apart-same off = elim (cases_eq (l2_table f H.fields (guest / words_of_cluster H.fields)) 0) [
-            | inl e ↦ guest-slot-none g H.fields guest (tables (guest / words_of_cluster H.fields) off ∙ e) ∙ sym (guest-slot-none f H.fields guest e)
+          apart-same : guest / entries_of_cluster H.fields ≢ i → guest_slot g H.fields guest ≡ guest_slot f H.fields guest
+          apart-same off = elim (cases_eq (l2_table f H.fields (guest / entries_of_cluster H.fields)) 0) [
+            | inl e ↦ guest-slot-none g H.fields guest (tables (guest / entries_of_cluster H.fields) off ∙ e) ∙ sym (guest-slot-none f H.fields guest e)
             | inr is ↦
-                guest-slot-there g H.fields guest (λ e. is (sym (tables (guest / words_of_cluster H.fields) off) ∙ e))
-                ∙ (others (guest / words_of_cluster H.fields) (guest % words_of_cluster H.fields) (guest-live f H.fields guest words is) off ∙ sym (guest-slot-there f H.fields guest is))
+                guest-slot-there g H.fields guest (λ e. is (sym (tables (guest / entries_of_cluster H.fields) off) ∙ e))
+                ∙ (others (guest / entries_of_cluster H.fields) (guest % entries_of_cluster H.fields) (guest-live f H.fields guest raw_entries is) off ∙ sym (guest-slot-there f H.fields guest is))
           ]
 
-          by : (guest / words_of_cluster H.fields ≢ i) ⊎ (l2_mapping f H.fields t (guest % words_of_cluster H.fields) ≡ entry f H.fields guest)
-              → (guest / words_of_cluster H.fields ≡ i) ⊎ (guest / words_of_cluster H.fields ≢ i) → guest_slot g H.fields guest ≡ guest_slot f H.fields guest
+          by : (guest / entries_of_cluster H.fields ≢ i) ⊎ (l2_mapping f H.fields t (guest % entries_of_cluster H.fields) ≡ entry f H.fields guest)
+              → (guest / entries_of_cluster H.fields ≡ i) ⊎ (guest / entries_of_cluster H.fields ≢ i) → guest_slot g H.fields guest ≡ guest_slot f H.fields guest
           by (inl apart) case = apart-same apart
           by (inr same) (inr apart) = apart-same apart
           by (inr same) (inl at) =
-              let place : l2_table g H.fields (guest / words_of_cluster H.fields) ≡ t = ap (l2_table g H.fields) at ∙ here in
+              let place : l2_table g H.fields (guest / entries_of_cluster H.fields) ≡ t = ap (l2_table g H.fields) at ∙ here in
               guest-slot-there g H.fields guest (λ e. there (sym place ∙ e))
-              ∙ (ap (λ p. l2_mapping g H.fields p (guest % words_of_cluster H.fields)) place
-              ∙ (ap (mapping_of (layout_of H.fields)) (new-words (guest % words_of_cluster H.fields) (mod_below guest (words_of_cluster H.fields) words)) ∙ (same ∙ entry-slot f H.fields guest was.readable.tables)))
+              ∙ (ap (λ p. l2_mapping g H.fields p (guest % entries_of_cluster H.fields)) place
+              ∙ (ap (mapping_of (layout_of H.fields)) (new-words (guest % entries_of_cluster H.fields) (mod_below guest (entries_of_cluster H.fields) raw_entries)) ∙ (same ∙ entry-slot f H.fields guest was.readable.tables)))
 
 -- By the bytes of the word.
-module _ (f : Bytes) (H : Header) (was : IsConsistent f H) (i : ℕ) (lt : i < H.fields.l1_entries) (w : ℕ) (fits : w < 2 ^ 64) (sane : IsTrue (l1_word_sound H.fields.cluster_bits w))
-    (c t : ℕ) (names : table_offset w ≡ t) (there : t ≢ 0) (begins : t ≡ c * cluster_size H.fields) (unnamed : refs f H.fields c ≡ 0) where
+module _ (f : Bytes) (H : Header) (was : IsConsistent f H) (i : ℕ) (lt : i < H.fields.l1_entries) (w : ℕ) (fits : w < 2 ^ 64) (sane : IsTrue (l1_entry_valid H.fields.cluster_bits w))
+    (c t : ℕ) (names : table_offset w ≡ t) (there : t ≢ 0) (begins : t ≡ c * cluster_size H.fields) (not_referenced : refs f H.fields c ≡ 0) where
   abbrev spliced : Bytes
   spliced = splice f (H.fields.l1_offset + 8 * i) (to_be_bytes w64 w)
 
   -- what the write leaves
   pub table-replaced-spliced : TableReplaced f (splice f (H.fields.l1_offset + 8 * i) (to_be_bytes w64 w)) H i t
-  table-replaced-spliced = table-replaced f spliced H was i lt (splice-is-outside f (H.fields.l1_offset + 8 * i) (to_be_bytes w64 w)) w (word-written f H.fields.l1_offset i w fits) sane c t names there begins unnamed
+  table-replaced-spliced = table-replaced f spliced H was i lt (splice-is-outside f (H.fields.l1_offset + 8 * i) (to_be_bytes w64 w)) w (word-written f H.fields.l1_offset i w fits) sane c t names there begins not_referenced
 
   -- where the image stays consistent
-  pub table-swapped-spliced : ((j : ℕ) → j < words_of_cluster H.fields → IsFalse (is_damaged (l2_mapping f H.fields t j)))
+  pub table-swapped-spliced : ((j : ℕ) → j < entries_of_cluster H.fields → IsFalse (is_damaged (l2_mapping f H.fields t j)))
       → ((d : ℕ) → refs (splice f (H.fields.l1_offset + 8 * i) (to_be_bytes w64 w)) H.fields d ≤ count f H.fields d)
       → ((d : ℕ) → 0 < structure (splice f (H.fields.l1_offset + 8 * i) (to_be_bytes w64 w)) H.fields (meets H.fields d) + contents (splice f (H.fields.l1_offset + 8 * i) (to_be_bytes w64 w)) H.fields (of_copied H.fields (meets H.fields d))
       → refs (splice f (H.fields.l1_offset + 8 * i) (to_be_bytes w64 w)) H.fields d ≤ 1)
       → TableSwapped f (splice f (H.fields.l1_offset + 8 * i) (to_be_bytes w64 w)) H i t
-  table-swapped-spliced = table-swapped f spliced H was i lt (splice-is-outside f (H.fields.l1_offset + 8 * i) (to_be_bytes w64 w)) w (word-written f H.fields.l1_offset i w fits) sane c t names there begins unnamed
+  table-swapped-spliced = table-swapped f spliced H was i lt (splice-is-outside f (H.fields.l1_offset + 8 * i) (to_be_bytes w64 w)) w (word-written f H.fields.l1_offset i w fits) sane c t names there begins not_referenced

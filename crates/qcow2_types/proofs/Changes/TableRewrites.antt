@@ -3,13 +3,13 @@ use Rattle.std.proofs.Common.{◌≡◌, ◌≢◌, ℕ, ◌+◌, ◌*◌, ◌/�
 use Rattle.std.specs.Prelude.{true, ◌⊎◌, IsFalse}
 use Rattle.std.proofs.lemmas.Bool.{cases_eq, cases_lt}
 use Rattle.std.proofs.lemmas.Bool.Decides.{nat_tests}
-use Rattle.qcow2_types.specs.Bytes.{Bytes, word}
-use Rattle.qcow2_types.specs.Words.{Mapping, is_damaged, mapping_of, l1_word_sound, block_word_sound}
-use Rattle.qcow2_types.specs.Header.{Header, header_of, cluster_size, words_of_cluster, layout_of}
+use Rattle.qcow2_types.specs.Bytes.{Bytes, raw_entry}
+use Rattle.qcow2_types.specs.Words.{Mapping, is_damaged, mapping_of, l1_entry_valid, reftable_entry_valid}
+use Rattle.qcow2_types.specs.Header.{Header, header_of, cluster_size, entries_of_cluster, layout_of}
 use Rattle.qcow2_types.specs.Entries.{l2_table, l2_mapping}
 use Rattle.qcow2_types.specs.Counts.{count}
-use Rattle.qcow2_types.specs.Slots.{slot, Live, or_none, over_slots, guest_slot, SoundWords}
-use Rattle.qcow2_types.specs.Frames.{Outside, touches, Kept, Skipped, table}
+use Rattle.qcow2_types.specs.Slots.{slot, Live, or_none, over_slots, guest_slot, ValidEntries}
+use Rattle.qcow2_types.specs.Frames.{Outside, touches, SameStructureOutside, Skipped, table}
 use Rattle.qcow2_types.specs.Versions.{SamePlaces}
 use Rattle.qcow2_types.specs.References.{structure, contents, of_mapping, of_copied, meets, refs}
 use Rattle.qcow2_types.specs.Consistency.{IsConsistent}
@@ -45,7 +45,7 @@ module _ (f g : Bytes) (H : Header) (was : IsConsistent f H) (i : ℕ) (there : 
   once = touches-once f H.fields (l2_table f H.fields i / cluster_size H.fields) at n (was.structure_apart _) begins ends
 
   -- the rest of it is kept
-  kept : Kept f g H.fields (table i)
+  kept : SameStructureOutside f g H.fields (table i)
   kept = elim (cases_eq n 0) [
     | inr is ↦ let some : n ≢ 0 = is in kept-table f g H.fields at n out (omega arith) once i (table-inside f H.fields i there) there low high
     | inl none ↦
@@ -112,7 +112,7 @@ module _ (f g : Bytes) (H : Header) (was : IsConsistent f H) (i : ℕ) (there : 
   pub table-written : TableWritten f g H i
   table-written = record {
     header = loads;
-    kept = kept;
+    same_structure_outside = kept;
     places = places;
     others = others;
     counts = counts;
@@ -124,12 +124,12 @@ module _ (f g : Bytes) (H : Header) (was : IsConsistent f H) (i : ℕ) (there : 
   }
 
   -- the tables stay sound
-  sound : ((j : ℕ) → j < words_of_cluster H.fields → IsFalse (is_damaged (mapping_of (layout_of H.fields) (word g (l2_table f H.fields i) j)))) → SoundWords g H.fields
+  sound : ((j : ℕ) → j < entries_of_cluster H.fields → IsFalse (is_damaged (mapping_of (layout_of H.fields) (raw_entry g (l2_table f H.fields i) j)))) → ValidEntries g H.fields
   sound sane =
-      let old : SoundWords f H.fields = sound-words f H.fields was.readable.tables in
+      let old : ValidEntries f H.fields = sound-words f H.fields was.readable.tables in
       record {
-        l1 = λ k lt. ap (l1_word_sound H.fields.cluster_bits) (kept.l1 k lt (λ e. cc)) ∙ old.l1 k lt;
-        blocks = λ k lt. ap (block_word_sound H.fields.cluster_bits) (kept.blocks k lt (λ e. cc)) ∙ old.blocks k lt;
+        l1 = λ k lt. ap (l1_entry_valid H.fields.cluster_bits) (kept.l1 k lt (λ e. cc)) ∙ old.l1 k lt;
+        blocks = λ k lt. ap (reftable_entry_valid H.fields.cluster_bits) (kept.blocks k lt (λ e. cc)) ∙ old.blocks k lt;
         slots = λ k m live. elim (cases_eq k i) [
           | inl e ↦ ap is_damaged (ap (λ r. slot g H.fields r m) e ∙ ap (λ t. l2_mapping g H.fields t m) (places.l1 i)) ∙ sane m live.in_table
           | inr apart ↦
@@ -140,7 +140,7 @@ module _ (f g : Bytes) (H : Header) (was : IsConsistent f H) (i : ℕ) (there : 
 
   -- The image stays consistent where the new words have a meaning, each cluster that is named is counted, and each of the
   -- structure, or named as copied, is named once.
-  pub table-rewritten : ((j : ℕ) → j < words_of_cluster H.fields → IsFalse (is_damaged (mapping_of (layout_of H.fields) (word g (l2_table f H.fields i) j))))
+  pub table-rewritten : ((j : ℕ) → j < entries_of_cluster H.fields → IsFalse (is_damaged (mapping_of (layout_of H.fields) (raw_entry g (l2_table f H.fields i) j))))
       → ((c : ℕ) → refs g H.fields c ≤ count f H.fields c)
       → ((c : ℕ) → 0 < structure f H.fields (meets H.fields c) + contents g H.fields (of_copied H.fields (meets H.fields c)) → refs g H.fields c ≤ 1)
       → TableRewritten f g H i
@@ -150,32 +150,32 @@ module _ (f g : Bytes) (H : Header) (was : IsConsistent f H) (i : ℕ) (there : 
       (λ c more. let e : structure g H.fields (meets H.fields c) ≡ structure f H.fields (meets H.fields c) = same c in apart c (omega arith))
       (λ c more. apart c (omega arith))
       (λ c. let e : count g H.fields c ≡ count f H.fields c = counts c in let le : refs g H.fields c ≤ count f H.fields c = counted c in omega arith) in
-      let words : 0 < words_of_cluster H.fields = some-words H.fields (consistent-shaped f H was) in
+      let raw_entries : 0 < entries_of_cluster H.fields = some-words H.fields (consistent-shaped f H was) in
       record {
         written = table-written;
         consistent = after;
         entries = λ guest row.
             entry-slot g H.fields guest after.readable.tables
-            ∙ (guest-slot-there g H.fields guest (λ e. there (sym (places.l1 i) ∙ (sym (ap (l2_table g H.fields) row) ∙ e))) ∙ ap (λ k. slot g H.fields k (guest % words_of_cluster H.fields)) row);
-        values = values-kept f g H.fields was.readable.tables words (l2_table f H.fields i / cluster_size H.fields) at n out begins ends (structure-unmapped f H was _ (table-weighs f H was i there));
+            ∙ (guest-slot-there g H.fields guest (λ e. there (sym (places.l1 i) ∙ (sym (ap (l2_table g H.fields) row) ∙ e))) ∙ ap (λ k. slot g H.fields k (guest % entries_of_cluster H.fields)) row);
+        values = values-kept f g H.fields was.readable.tables raw_entries (l2_table f H.fields i / cluster_size H.fields) at n out begins ends (structure-unmapped f H was _ (table-weighs f H was i there));
         elsewhere = λ guest off.
-            shows-outside f g H.fields was.readable.tables after.readable.tables words guest (guest-same words guest off) (l2_table f H.fields i / cluster_size H.fields) at n out begins ends
+            shows-outside f g H.fields was.readable.tables after.readable.tables raw_entries guest (guest-same raw_entries guest off) (l2_table f H.fields i / cluster_size H.fields) at n out begins ends
             (structure-unmapped f H was _ (table-weighs f H was i there));
       }
     where
-      guest-same : 0 < words_of_cluster H.fields → (guest : ℕ) → (guest / words_of_cluster H.fields ≢ i) ⊎ (slot g H.fields i (guest % words_of_cluster H.fields) ≡ slot f H.fields i (guest % words_of_cluster H.fields))
+      guest-same : 0 < entries_of_cluster H.fields → (guest : ℕ) → (guest / entries_of_cluster H.fields ≢ i) ⊎ (slot g H.fields i (guest % entries_of_cluster H.fields) ≡ slot f H.fields i (guest % entries_of_cluster H.fields))
           → guest_slot g H.fields guest ≡ guest_slot f H.fields guest
-      guest-same words guest off = elim (cases_eq (l2_table f H.fields (guest / words_of_cluster H.fields)) 0) [
-        | inl e ↦ guest-slot-none g H.fields guest (places.l1 (guest / words_of_cluster H.fields) ∙ e) ∙ sym (guest-slot-none f H.fields guest e)
+      guest-same raw_entries guest off = elim (cases_eq (l2_table f H.fields (guest / entries_of_cluster H.fields)) 0) [
+        | inl e ↦ guest-slot-none g H.fields guest (places.l1 (guest / entries_of_cluster H.fields) ∙ e) ∙ sym (guest-slot-none f H.fields guest e)
         | inr is ↦
-            guest-slot-there g H.fields guest (λ e. is (sym (places.l1 (guest / words_of_cluster H.fields)) ∙ e))
-            ∙ (slot-same (guest-live f H.fields guest words is) off (cases_eq (guest / words_of_cluster H.fields) i) ∙ sym (guest-slot-there f H.fields guest is))
+            guest-slot-there g H.fields guest (λ e. is (sym (places.l1 (guest / entries_of_cluster H.fields)) ∙ e))
+            ∙ (slot-same (guest-live f H.fields guest raw_entries is) off (cases_eq (guest / entries_of_cluster H.fields) i) ∙ sym (guest-slot-there f H.fields guest is))
       ]
         where
-          slot-same : Live (l2_table f H.fields) H.fields (guest / words_of_cluster H.fields) (guest % words_of_cluster H.fields)
-              → (guest / words_of_cluster H.fields ≢ i) ⊎ (slot g H.fields i (guest % words_of_cluster H.fields) ≡ slot f H.fields i (guest % words_of_cluster H.fields))
-              → (guest / words_of_cluster H.fields ≡ i) ⊎ (guest / words_of_cluster H.fields ≢ i)
-              → slot g H.fields (guest / words_of_cluster H.fields) (guest % words_of_cluster H.fields) ≡ slot f H.fields (guest / words_of_cluster H.fields) (guest % words_of_cluster H.fields)
-          slot-same live (inl apart) case = others (guest / words_of_cluster H.fields) (guest % words_of_cluster H.fields) live apart
-          slot-same live (inr same) (inr apart) = others (guest / words_of_cluster H.fields) (guest % words_of_cluster H.fields) live apart
-          slot-same live (inr same) (inl at) = ap (λ k. slot g H.fields k (guest % words_of_cluster H.fields)) at ∙ (same ∙ sym (ap (λ k. slot f H.fields k (guest % words_of_cluster H.fields)) at))
+          slot-same : Live (l2_table f H.fields) H.fields (guest / entries_of_cluster H.fields) (guest % entries_of_cluster H.fields)
+              → (guest / entries_of_cluster H.fields ≢ i) ⊎ (slot g H.fields i (guest % entries_of_cluster H.fields) ≡ slot f H.fields i (guest % entries_of_cluster H.fields))
+              → (guest / entries_of_cluster H.fields ≡ i) ⊎ (guest / entries_of_cluster H.fields ≢ i)
+              → slot g H.fields (guest / entries_of_cluster H.fields) (guest % entries_of_cluster H.fields) ≡ slot f H.fields (guest / entries_of_cluster H.fields) (guest % entries_of_cluster H.fields)
+          slot-same live (inl apart) case = others (guest / entries_of_cluster H.fields) (guest % entries_of_cluster H.fields) live apart
+          slot-same live (inr same) (inr apart) = others (guest / entries_of_cluster H.fields) (guest % entries_of_cluster H.fields) live apart
+          slot-same live (inr same) (inl at) = ap (λ k. slot g H.fields k (guest % entries_of_cluster H.fields)) at ∙ (same ∙ sym (ap (λ k. slot f H.fields k (guest % entries_of_cluster H.fields)) at))

@@ -4,9 +4,9 @@ use Rattle.std.specs.Prelude.{IsTrue}
 use Rattle.std.specs.Int.{w64, to_be_bytes}
 use Rattle.std.proofs.lemmas.Bool.{cases_eq, cases_lt}
 use Rattle.std.proofs.lemmas.Nat.{mod_below}
-use Rattle.qcow2_types.specs.Bytes.{Bytes, word, splice}
-use Rattle.qcow2_types.specs.Words.{Mapping, unmapped, is_damaged, mapping_of, l1_word_sound, table_offset}
-use Rattle.qcow2_types.specs.Header.{Header, cluster_size, words_of_cluster, layout_of}
+use Rattle.qcow2_types.specs.Bytes.{Bytes, raw_entry, splice}
+use Rattle.qcow2_types.specs.Words.{Mapping, unmapped, is_damaged, mapping_of, l1_entry_valid, table_offset}
+use Rattle.qcow2_types.specs.Header.{Header, cluster_size, entries_of_cluster, layout_of}
 use Rattle.qcow2_types.specs.Entries.{l2_table, l2_mapping}
 use Rattle.qcow2_types.specs.Counts.{count}
 use Rattle.qcow2_types.specs.Slots.{slot, Live, guest_slot}
@@ -23,21 +23,21 @@ use Rattle.qcow2_types.proofs.Changes.TableReplaces.{low, high, l1-weighs, table
 use Rattle.qcow2_types.proofs.Numbers.WordLemmas.{zero-word}
 
 module _ (f g : Bytes) (H : Header) (was : IsConsistent f H) (i : ℕ) (lt : i < H.fields.l1_entries) (empty : l2_table f H.fields i ≡ 0) (out : Outside f g (H.fields.l1_offset + 8 * i) 8) (w : ℕ)
-    (written : word g H.fields.l1_offset i ≡ w) (sane : IsTrue (l1_word_sound H.fields.cluster_bits w)) (c t : ℕ) (names : table_offset w ≡ t) (there : t ≢ 0) (begins : t ≡ c * cluster_size H.fields)
-    (unnamed : refs f H.fields c ≡ 0) (counted : 1 ≤ count f H.fields c) (zeroes : (j : ℕ) → j < words_of_cluster H.fields → word f t j ≡ 0) where
+    (written : raw_entry g H.fields.l1_offset i ≡ w) (sane : IsTrue (l1_entry_valid H.fields.cluster_bits w)) (c t : ℕ) (names : table_offset w ≡ t) (there : t ≢ 0) (begins : t ≡ c * cluster_size H.fields)
+    (not_referenced : refs f H.fields c ≡ 0) (counted : 1 ≤ count f H.fields c) (zeroes : (j : ℕ) → j < entries_of_cluster H.fields → raw_entry f t j ≡ 0) where
   -- the word names another table than it did, which was none
   entered-replaced : TableReplaced f g H i t
-  entered-replaced = table-replaced f g H was i lt out w written sane c t names there begins unnamed
+  entered-replaced = table-replaced f g H was i lt out w written sane c t names there begins not_referenced
 
   -- the words of the new table are 0
-  new-words : (j : ℕ) → j < words_of_cluster H.fields → word g t j ≡ 0
-  new-words j less = entered-replaced.words j less ∙ zeroes j less
+  new-words : (j : ℕ) → j < entries_of_cluster H.fields → raw_entry g t j ≡ 0
+  new-words j less = entered-replaced.raw_entries j less ∙ zeroes j less
 
   -- and so its guest clusters are unmapped
-  new-unmapped : (j : ℕ) → j < words_of_cluster H.fields → l2_mapping f H.fields t j ≡ unmapped
+  new-unmapped : (j : ℕ) → j < entries_of_cluster H.fields → l2_mapping f H.fields t j ≡ unmapped
   new-unmapped j less = ap (mapping_of (layout_of H.fields)) (zeroes j less) ∙ zero-word (layout_of H.fields)
 
-  entered-empty : (j : ℕ) → j < words_of_cluster H.fields → slot g H.fields i j ≡ unmapped
+  entered-empty : (j : ℕ) → j < entries_of_cluster H.fields → slot g H.fields i j ≡ unmapped
   entered-empty j less = ap (λ p. l2_mapping g H.fields p j) entered-replaced.here ∙ (ap (mapping_of (layout_of H.fields)) (new-words j less) ∙ zero-word (layout_of H.fields))
 
   -- every other word means what it did
@@ -88,7 +88,7 @@ module _ (f g : Bytes) (H : Header) (was : IsConsistent f H) (i : ℕ) (lt : i <
   -- and so the image stays consistent
   entered-consistent : IsConsistent g H
   entered-consistent =
-      (table-swapped f g H was i lt out w written sane c t names there begins unnamed (λ j less. ap is_damaged (new-unmapped j less)) covered alone).consistent
+      (table-swapped f g H was i lt out w written sane c t names there begins not_referenced (λ j less. ap is_damaged (new-unmapped j less)) covered alone).consistent
     where
       covered : (d : ℕ) → refs g H.fields d ≤ count f H.fields d
       covered d = elim (cases_eq d c) [
@@ -114,27 +114,27 @@ module _ (f g : Bytes) (H : Header) (was : IsConsistent f H) (i : ℕ) (lt : i <
       ]
 
   -- each guest cluster has the same mapping
-  entered-guest : 0 < words_of_cluster H.fields → (guest : ℕ) → guest_slot g H.fields guest ≡ guest_slot f H.fields guest
-  entered-guest words guest = elim (cases_eq (guest / words_of_cluster H.fields) i) [
+  entered-guest : 0 < entries_of_cluster H.fields → (guest : ℕ) → guest_slot g H.fields guest ≡ guest_slot f H.fields guest
+  entered-guest raw_entries guest = elim (cases_eq (guest / entries_of_cluster H.fields) i) [
     | inl e ↦
         guest-slot-there g H.fields guest (λ z. there (sym (ap (l2_table g H.fields) e ∙ entered-replaced.here) ∙ z))
-        ∙ (ap (λ r. slot g H.fields r (guest % words_of_cluster H.fields)) e ∙ (entered-empty (guest % words_of_cluster H.fields) (mod_below guest (words_of_cluster H.fields) words) ∙ sym (guest-slot-none f H.fields guest (ap (l2_table f H.fields) e ∙ empty))))
-    | inr apart ↦ elim (cases_eq (l2_table f H.fields (guest / words_of_cluster H.fields)) 0) [
-      | inl z ↦ guest-slot-none g H.fields guest (entered-replaced.tables (guest / words_of_cluster H.fields) apart ∙ z) ∙ sym (guest-slot-none f H.fields guest z)
+        ∙ (ap (λ r. slot g H.fields r (guest % entries_of_cluster H.fields)) e ∙ (entered-empty (guest % entries_of_cluster H.fields) (mod_below guest (entries_of_cluster H.fields) raw_entries) ∙ sym (guest-slot-none f H.fields guest (ap (l2_table f H.fields) e ∙ empty))))
+    | inr apart ↦ elim (cases_eq (l2_table f H.fields (guest / entries_of_cluster H.fields)) 0) [
+      | inl z ↦ guest-slot-none g H.fields guest (entered-replaced.tables (guest / entries_of_cluster H.fields) apart ∙ z) ∙ sym (guest-slot-none f H.fields guest z)
       | inr is ↦
-          guest-slot-there g H.fields guest (λ z. is (sym (entered-replaced.tables (guest / words_of_cluster H.fields) apart) ∙ z))
-          ∙ (entered-others (guest / words_of_cluster H.fields) (guest % words_of_cluster H.fields) (guest-live f H.fields guest words is) ∙ sym (guest-slot-there f H.fields guest is))
+          guest-slot-there g H.fields guest (λ z. is (sym (entered-replaced.tables (guest / entries_of_cluster H.fields) apart) ∙ z))
+          ∙ (entered-others (guest / entries_of_cluster H.fields) (guest % entries_of_cluster H.fields) (guest-live f H.fields guest raw_entries is) ∙ sym (guest-slot-there f H.fields guest is))
     ]
   ]
 
   -- The image stays consistent, with the new table, and shows the same.
   pub table-entered : TableEntered f g H i c t
   table-entered =
-      let words : 0 < words_of_cluster H.fields = some-words H.fields (consistent-shaped f H was) in
-      let weighs = l1-weighs f g H was i lt out w written sane c t names there begins unnamed in
+      let raw_entries : 0 < entries_of_cluster H.fields = some-words H.fields (consistent-shaped f H was) in
+      let weighs = l1-weighs f g H was i lt out w written sane c t names there begins not_referenced in
       record {
         consistent = entered-consistent;
-        kept = entered-replaced.kept;
+        same_structure_outside = entered-replaced.same_structure_outside;
         here = entered-replaced.here;
         tables = entered-replaced.tables;
         blocks = entered-replaced.blocks;
@@ -144,16 +144,16 @@ module _ (f g : Bytes) (H : Header) (was : IsConsistent f H) (i : ℕ) (lt : i <
         counts = entered-replaced.counts;
         named_once = entered-once;
         references = entered-references;
-        shows = λ guest. shows-outside f g H.fields was.readable.tables entered-consistent.readable.tables words guest (entered-guest words guest) _ (H.fields.l1_offset + 8 * i) 8 out
-            (low f g H was i lt out w written sane c t names there begins unnamed) (high f g H was i lt out w written sane c t names there begins unnamed) (structure-unmapped f H was _ weighs);
+        shows = λ guest. shows-outside f g H.fields was.readable.tables entered-consistent.readable.tables raw_entries guest (entered-guest raw_entries guest) _ (H.fields.l1_offset + 8 * i) 8 out
+            (low f g H was i lt out w written sane c t names there begins not_referenced) (high f g H was i lt out w written sane c t names there begins not_referenced) (structure-unmapped f H was _ weighs);
         free = entered-replaced.free;
         mapped = entered-replaced.mapped;
       }
 
 -- By the bytes of the word.
-pub table-entered-spliced : (f : Bytes) (H : Header) → IsConsistent f H → (i : ℕ) → i < H.fields.l1_entries → l2_table f H.fields i ≡ 0 → (w : ℕ) → w < 2 ^ 64 → IsTrue (l1_word_sound H.fields.cluster_bits w)
-    → (c t : ℕ) → table_offset w ≡ t → t ≢ 0 → t ≡ c * cluster_size H.fields → refs f H.fields c ≡ 0 → 1 ≤ count f H.fields c → ((j : ℕ) → j < words_of_cluster H.fields → word f t j ≡ 0)
+pub table-entered-spliced : (f : Bytes) (H : Header) → IsConsistent f H → (i : ℕ) → i < H.fields.l1_entries → l2_table f H.fields i ≡ 0 → (w : ℕ) → w < 2 ^ 64 → IsTrue (l1_entry_valid H.fields.cluster_bits w)
+    → (c t : ℕ) → table_offset w ≡ t → t ≢ 0 → t ≡ c * cluster_size H.fields → refs f H.fields c ≡ 0 → 1 ≤ count f H.fields c → ((j : ℕ) → j < entries_of_cluster H.fields → raw_entry f t j ≡ 0)
     → TableEntered f (splice f (H.fields.l1_offset + 8 * i) (to_be_bytes w64 w)) H i c t
-table-entered-spliced f H was i lt empty w fits sane c t names there begins unnamed counted zeroes =
+table-entered-spliced f H was i lt empty w fits sane c t names there begins not_referenced counted zeroes =
     table-entered f (splice f (H.fields.l1_offset + 8 * i) (to_be_bytes w64 w)) H was i lt empty (splice-is-outside f (H.fields.l1_offset + 8 * i) (to_be_bytes w64 w)) w (word-written f H.fields.l1_offset i w fits)
-    sane c t names there begins unnamed counted zeroes
+    sane c t names there begins not_referenced counted zeroes

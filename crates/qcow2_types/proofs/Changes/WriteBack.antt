@@ -4,35 +4,35 @@ use Rattle.std.specs.Prelude.{Bool, true, false, ◌&&◌, ◌==◌, nat_lt, IsT
 use Rattle.std.proofs.lemmas.Bool.{lt-ltb}
 use Rattle.std.proofs.lemmas.Bool.Decides.{nat_tests}
 use Rattle.std.proofs.Math.Nat.{pow-le-pow_right, div-add-mod}
-use Rattle.qcow2_types.specs.Bytes.{Bytes, word, splice}
-use Rattle.qcow2_types.specs.Words.{bits_at, is_damaged, l1_word_sound, is_place, max_offset, table_offset}
+use Rattle.qcow2_types.specs.Bytes.{Bytes, raw_entry, splice}
+use Rattle.qcow2_types.specs.Words.{bits_at, is_damaged, l1_entry_valid, is_cluster_offset, max_offset, table_offset}
 use Rattle.qcow2_types.specs.Header.{Fields, Header, header_of, fields_of, cluster_size, Shaped}
 use Rattle.qcow2_types.specs.Entries.{l2_table}
 use Rattle.qcow2_types.specs.Counts.{count}
 use Rattle.qcow2_types.specs.References.{structure}
 use Rattle.qcow2_types.specs.Consistency.{IsConsistent}
-use Rattle.qcow2_types.specs.Frames.{Same, touches, Skipped, l1_word, block_word, table, Kept}
-use Rattle.qcow2_types.specs.Slots.{Live, slot, SoundWords}
+use Rattle.qcow2_types.specs.Frames.{Same, touches, Skipped, l1_word, block_word, table, SameStructureOutside}
+use Rattle.qcow2_types.specs.Slots.{Live, slot, ValidEntries}
 use Rattle.qcow2_types.proofs.Counting.Parts.{touches-once, l2_table-kept, block_at-kept, slot-kept}
-use Rattle.qcow2_types.specs.Versions.{SamePlaces, KeepsSlots, BlocksFirst, NamedApart}
+use Rattle.qcow2_types.specs.Versions.{SamePlaces, KeepsSlots, BlocksFirst, ReferencedOnce}
 use Rattle.qcow2_types.proofs.Changes.Stops.{write-keeps, write-between, write-after-blocks}
 use Rattle.qcow2_types.proofs.Fields.HeaderFrame.{header-same, header-fields, header-shaped}
 use Rattle.qcow2_types.proofs.Counting.Sound.{sound-words, stop-consistent}
 
 -- a place that a cluster can begin at is the begin of its cluster
-pub place-whole : (bits offset : ℕ) → IsTrue (is_place bits offset) → offset / 2 ^ bits * 2 ^ bits ≡ offset
+pub place-whole : (bits offset : ℕ) → IsTrue (is_cluster_offset bits offset) → offset / 2 ^ bits * 2 ^ bits ≡ offset
 place-whole bits offset sound = let rest : offset % 2 ^ bits ≡ 0 = grind (arith, nat_tests) in omega (arith, div-add-mod offset (2 ^ bits))
 
 -- and one that words can name
-pub place-near : (bits offset : ℕ) → IsTrue (is_place bits offset) → offset ≤ max_offset
+pub place-near : (bits offset : ℕ) → IsTrue (is_cluster_offset bits offset) → offset ≤ max_offset
 place-near bits offset sound = grind (arith, nat_tests)
 
 -- an L2 table begins with a cluster
-pub table-place : (f : Bytes) (h : Fields) (i : ℕ) → SoundWords f h → i < h.l1_entries → IsTrue (is_place h.cluster_bits (l2_table f h i))
+pub table-place : (f : Bytes) (h : Fields) (i : ℕ) → ValidEntries f h → i < h.l1_entries → IsTrue (is_cluster_offset h.cluster_bits (l2_table f h i))
 table-place f h i sound lt =
     let within : nat_lt i h.l1_entries ≡ true = lt-ltb _ _ lt in
-    let here : l1_word_sound h.cluster_bits (word f h.l1_offset i) ≡ true = sound.l1 i lt in
-    rw within (last (bits_at (word f h.l1_offset i) 0 9 == 0) (bits_at (word f h.l1_offset i) 56 7 == 0) (is_place h.cluster_bits (table_offset (word f h.l1_offset i))) here)
+    let here : l1_entry_valid h.cluster_bits (raw_entry f h.l1_offset i) ≡ true = sound.l1 i lt in
+    rw within (last (bits_at (raw_entry f h.l1_offset i) 0 9 == 0) (bits_at (raw_entry f h.l1_offset i) 56 7 == 0) (is_cluster_offset h.cluster_bits (table_offset (raw_entry f h.l1_offset i))) here)
   where
     last : (a b c : Bool) → (a && b && c) ≡ true → c ≡ true
     last true true c e = e
@@ -40,7 +40,7 @@ table-place f h i sound lt =
     last false b c e = absurd cc
 
 -- What skips no table and no word of the L1 table or of the refcount table keeps every mapping.
-pub keeps-slots : (f x : Bytes) (h : Fields) (skip : Skipped) → Kept f x h skip → ((i : ℕ) → skip ≢ l1_word i) → ((i : ℕ) → skip ≢ block_word i) → ((i : ℕ) → skip ≢ table i) → KeepsSlots f x h
+pub keeps-slots : (f x : Bytes) (h : Fields) (skip : Skipped) → SameStructureOutside f x h skip → ((i : ℕ) → skip ≢ l1_word i) → ((i : ℕ) → skip ≢ block_word i) → ((i : ℕ) → skip ≢ table i) → KeepsSlots f x h
 keeps-slots f x h skip kept l1 blocks tables = record {
   places = record { l1 = λ i. l2_table-kept f x h skip kept i (l1 i); blocks = λ i. block_at-kept f x h skip kept i (blocks i) };
   slots = λ i j live. slot-kept f x h skip kept i j live (l1 i) (tables i);
@@ -65,7 +65,7 @@ module _ (f g : Bytes) (H : Header) (i : ℕ) (bytes : List ℕ) (was : IsConsis
       touches-once f H.fields (l2_table f H.fields i / cluster_size H.fields) (l2_table f H.fields i) (length bytes) (was.structure_apart _) (omega arith) (omega arith)
 
   -- the rest of it is kept
-  pub kept : Kept f (splice f (l2_table f H.fields i) bytes) H.fields (table i)
+  pub kept : SameStructureOutside f (splice f (l2_table f H.fields i) bytes) H.fields (table i)
   kept = write-keeps f g H.fields i bytes shaped lt there all cached once places
 
   -- the header loads as it did

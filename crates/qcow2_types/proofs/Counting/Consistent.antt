@@ -6,9 +6,9 @@ use Rattle.std.proofs.lemmas.Bool.Decides.{nat_tests}
 use Rattle.std.proofs.lemmas.Nat.{pow_pos, le-div}
 use Rattle.std.proofs.Math.Nat.{pow-le-pow_right, mul-le-mul_right}
 use Rattle.qcow2_types.specs.Bytes.{Bytes}
-use Rattle.qcow2_types.specs.Header.{Fields, Header, Shaped, header_of, fields_of, texts_of, cluster_size, words_of_cluster, has_external_data, first_fault, rules_of_kind, rules_of_shape, rules_of_size, rules_of_writing}
+use Rattle.qcow2_types.specs.Header.{Fields, Header, Shaped, header_of, fields_of, texts_of, cluster_size, entries_of_cluster, has_external_data, first_fault, rules_of_kind, rules_of_shape, rules_of_size, rules_of_writing}
 use Rattle.qcow2_types.specs.Counts.{count}
-use Rattle.qcow2_types.specs.Slots.{SoundWords}
+use Rattle.qcow2_types.specs.Slots.{ValidEntries}
 use Rattle.qcow2_types.specs.Frames.{Same}
 use Rattle.qcow2_types.specs.References.{structure, contents, of_mapping, of_copied, meets, refs}
 use Rattle.qcow2_types.specs.Consistency.{IsConsistent, shares_structure, is_false_copied, is_under_counted}
@@ -40,7 +40,7 @@ header-kept writing f g H loads same =
     header-same writing f g H loads (subst (λ h. Same f g 0 (cluster_size h)) fields same) (subst (λ h. 104 ≤ cluster_size h) fields (omega arith))
 
 -- a table of one cluster has words
-pub some-words : (h : Fields) → Shaped h → 0 < words_of_cluster h
+pub some-words : (h : Fields) → Shaped h → 0 < entries_of_cluster h
 some-words h shaped =
     let size : 2 ^ 9 ≤ 2 ^ h.cluster_bits = pow-le-pow_right (omega arith) shaped.low in
     le-div 1 (cluster_size h) 8 (omega arith) (omega arith)
@@ -97,7 +97,7 @@ module _ (f : Bytes) (H : Header) (was : IsConsistent f H) where
       grind (arith, nat_tests)
 
 -- An image is consistent where this holds of each cluster.
-pub consistent-from : (g : Bytes) (H : Header) → header_of true g ≡ Ok H → H.fields.snapshots ≡ 0 → IsFalse (has_external_data H.fields) → SoundWords g H.fields
+pub consistent-from : (g : Bytes) (H : Header) → header_of true g ≡ Ok H → H.fields.snapshots ≡ 0 → IsFalse (has_external_data H.fields) → ValidEntries g H.fields
     → ((c : ℕ) → 0 < structure g H.fields (meets H.fields c) → refs g H.fields c ≤ 1)
     → ((c : ℕ) → 0 < contents g H.fields (of_copied H.fields (meets H.fields c)) → refs g H.fields c ≤ 1)
     → ((c : ℕ) → refs g H.fields c ≤ count g H.fields c) → IsConsistent g H

@@ -4,14 +4,14 @@ use Rattle.std.specs.Prelude.{◌⊎◌}
 use Rattle.std.proofs.Math.Nat.{le-max_left, le-max_right, max-le}
 use Rattle.qcow2_types.specs.Bytes.{Bytes, sum_below}
 use Rattle.qcow2_types.specs.Words.{Mapping}
-use Rattle.qcow2_types.specs.Header.{Fields, words_of_cluster, refcount_table_entries}
+use Rattle.qcow2_types.specs.Header.{Fields, entries_of_cluster, refcount_table_entries}
 use Rattle.qcow2_types.specs.Entries.{l2_table}
 use Rattle.qcow2_types.specs.Counts.{block_at, count}
 use Rattle.qcow2_types.specs.References.{Weight, structure, of_cluster, contents, of_mapping, meets, refs}
 use Rattle.qcow2_types.proofs.Numbers.Sums.{sum-same}
 use Rattle.qcow2_types.proofs.Counting.Slots.{contents-slots, slots-mono, slots-same, slots-change}
 use Rattle.qcow2_types.specs.Slots.{slot, Live, over_slots, or_none}
-use Rattle.qcow2_types.specs.Versions.{of_either, named, SamePlaces, IsBetween, BlocksFirst, TablesFirst, KeepsSlots, ChangesSlot}
+use Rattle.qcow2_types.specs.Versions.{of_either, references_in_either, SamePlaces, IsBetween, BlocksFirst, TablesFirst, KeepsSlots, ChangesSlot}
 
 -- the structure weighs the same where tables and blocks are at the same places
 pub structure-same : (f g : Bytes) (h : Fields) → SamePlaces f g h → (w : Weight) → structure g h w ≡ structure f h w
@@ -26,7 +26,7 @@ structure-same f g h places w =
 -- a sum over the words of the same tables
 pub tables-same : (s t : ℕ → ℕ) (h : Fields) (p : ℕ → ℕ → ℕ) → ((i : ℕ) → t i ≡ s i) → over_slots t h p ≡ over_slots s h p
 unfolding over_slots
-tables-same s t h p same = sum-same _ _ _ (λ i lt. ap (λ x. or_none x (sum_below (words_of_cluster h) (λ j. p i j))) (same i))
+tables-same s t h p same = sum-same _ _ _ (λ i lt. ap (λ x. or_none x (sum_below (entries_of_cluster h) (λ j. p i j))) (same i))
 
 -- what a word means in one version weighs no more than what it means in either
 one-of : (h : Fields) (w : Weight) (m n x : Mapping) → (x ≡ m) ⊎ (x ≡ n) → of_mapping h w x ≤ of_either h w m n
@@ -34,8 +34,8 @@ one-of h w m n x (inl e) = rw e (le-max_left (of_mapping h w m) (of_mapping h w 
 one-of h w m n x (inr e) = rw e (le-max_right (of_mapping h w m) (of_mapping h w n))
 
 -- Whichever of the tables are written, no cluster is named more often.
-pub refs-between : (f x g : Bytes) (h : Fields) (c : ℕ) → IsBetween f x g h → refs x h c ≤ named f g h c
-unfolding refs named
+pub refs-between : (f x g : Bytes) (h : Fields) (c : ℕ) → IsBetween f x g h → refs x h c ≤ references_in_either f g h c
+unfolding refs references_in_either
 refs-between f x g h c between =
     let w : Weight = meets h c in
     let base : structure x h (meets h c) ≡ structure f h (meets h c) = structure-same f x h between.places (meets h c) in
@@ -50,16 +50,16 @@ pub places-refl : (f : Bytes) (h : Fields) → SamePlaces f f h
 places-refl f h = record { l1 = λ i. refl; blocks = λ i. refl }
 
 -- the file's references are among the number
-pub refs-file : (f g : Bytes) (h : Fields) (c : ℕ) → refs f h c ≤ named f g h c
+pub refs-file : (f g : Bytes) (h : Fields) (c : ℕ) → refs f h c ≤ references_in_either f g h c
 refs-file f g h c = refs-between f f g h c record { places = places-refl f h; slots = λ i j live. inl refl }
 
 -- and so are those of the words to be written
-pub refs-cached : (f g : Bytes) (h : Fields) (c : ℕ) → SamePlaces f g h → refs g h c ≤ named f g h c
+pub refs-cached : (f g : Bytes) (h : Fields) (c : ℕ) → SamePlaces f g h → refs g h c ≤ references_in_either f g h c
 refs-cached f g h c places = refs-between f g g h c record { places = places; slots = λ i j live. inr refl }
 
 -- and writing tables back lowers the number or leaves it
-pub named-falls : (f x g : Bytes) (h : Fields) (c : ℕ) → IsBetween f x g h → named x g h c ≤ named f g h c
-unfolding named
+pub named-falls : (f x g : Bytes) (h : Fields) (c : ℕ) → IsBetween f x g h → references_in_either x g h c ≤ references_in_either f g h c
+unfolding references_in_either
 named-falls f x g h c between =
     let base : structure x h (meets h c) ≡ structure f h (meets h c) = structure-same f x h between.places (meets h c) in
     let e : over_slots (l2_table x h) h (λ i j. of_either h (meets h c) (slot x h i j) (slot g h i j)) ≡ over_slots (l2_table f h) h (λ i j. of_either h (meets h c) (slot x h i j) (slot g h i j)) =
@@ -70,8 +70,8 @@ named-falls f x g h c between =
 
 -- where one word to be written changes, the number changes by that word
 pub named-change : (f g g' : Bytes) (h : Fields) (i j c : ℕ) → ChangesSlot f g g' h i j
-    → named f g' h c + of_either h (meets h c) (slot f h i j) (slot g h i j) ≡ named f g h c + of_either h (meets h c) (slot f h i j) (slot g' h i j)
-unfolding named
+    → references_in_either f g' h c + of_either h (meets h c) (slot f h i j) (slot g h i j) ≡ references_in_either f g h c + of_either h (meets h c) (slot f h i j) (slot g' h i j)
+unfolding references_in_either
 named-change f g g' h i j c step =
     let all : over_slots (l2_table f h) h (λ k m. of_either h (meets h c) (slot f h k m) (slot g' h k m)) + of_either h (meets h c) (slot f h i j) (slot g h i j)
     ≡ over_slots (l2_table f h) h (λ k m. of_either h (meets h c) (slot f h k m) (slot g h k m)) + of_either h (meets h c) (slot f h i j) (slot g' h i j) =
@@ -96,11 +96,11 @@ refs-change f g g' h i j c places places' step =
 
 -- A table is written: under the first order no block is modified then.
 pub table-after-blocks : (f x g : Bytes) (h : Fields) → BlocksFirst f g h → ((c : ℕ) → count g h c ≡ count f h c) → IsBetween f x g h → ((c : ℕ) → count x h c ≡ count f h c) → BlocksFirst x g h
-table-after-blocks f x g h safe clean between counts = record {
-  cached = λ c. let le : named x g h c ≤ named f g h c = named-falls f x g h c between in let ok : named f g h c ≤ count g h c = safe.cached c in omega arith;
+table-after-blocks f x g h well_formed clean between counts = record {
+  cached = λ c. let le : references_in_either x g h c ≤ references_in_either f g h c = named-falls f x g h c between in let ok : references_in_either f g h c ≤ count g h c = well_formed.cached c in omega arith;
   file = λ c.
-      let le : refs x h c ≤ named f g h c = refs-between f x g h c between in
-      let ok : named f g h c ≤ count g h c = safe.cached c in
+      let le : refs x h c ≤ references_in_either f g h c = refs-between f x g h c between in
+      let ok : references_in_either f g h c ≤ count g h c = well_formed.cached c in
       let e : count g h c ≡ count f h c = clean c in
       let e' : count x h c ≡ count f h c = counts c in
       omega arith;
@@ -108,13 +108,13 @@ table-after-blocks f x g h safe clean between counts = record {
 
 -- A table is written: under the second order the blocks wait.
 pub table-before-blocks : (f x g : Bytes) (h : Fields) → TablesFirst f g h → IsBetween f x g h → ((c : ℕ) → count x h c ≡ count f h c) → TablesFirst x g h
-table-before-blocks f x g h safe between counts = record {
+table-before-blocks f x g h well_formed between counts = record {
   file = λ c.
-      let le : named x g h c ≤ named f g h c = named-falls f x g h c between in
-      let ok : named f g h c ≤ count f h c = safe.file c in
+      let le : references_in_either x g h c ≤ references_in_either f g h c = named-falls f x g h c between in
+      let ok : references_in_either f g h c ≤ count f h c = well_formed.file c in
       let e' : count x h c ≡ count f h c = counts c in
       omega arith;
-  lowered = λ c. let ok : count g h c ≤ count f h c = safe.lowered c in let e' : count x h c ≡ count f h c = counts c in omega arith;
+  lowered = λ c. let ok : count g h c ≤ count f h c = well_formed.lowered c in let e' : count x h c ≡ count f h c = counts c in omega arith;
 }
 
 -- a file with the same mappings lies between
@@ -134,13 +134,13 @@ refs-kept f x h c keeps =
 
 -- A block is written: under the first order the tables wait.
 pub block-before-tables : (f x g : Bytes) (h : Fields) → BlocksFirst f g h → KeepsSlots f x h → ((c : ℕ) → (count x h c ≡ count f h c) ⊎ (count x h c ≡ count g h c)) → BlocksFirst x g h
-block-before-tables f x g h safe keeps counts = record {
-  cached = λ c. let le : named x g h c ≤ named f g h c = named-falls f x g h c (between-kept f x g h keeps) in let ok : named f g h c ≤ count g h c = safe.cached c in omega arith;
+block-before-tables f x g h well_formed keeps counts = record {
+  cached = λ c. let le : references_in_either x g h c ≤ references_in_either f g h c = named-falls f x g h c (between-kept f x g h keeps) in let ok : references_in_either f g h c ≤ count g h c = well_formed.cached c in omega arith;
   file = λ c.
       let same : refs x h c ≡ refs f h c = refs-kept f x h c keeps in
-      let le : refs f h c ≤ named f g h c = refs-file f g h c in
-      let ok : named f g h c ≤ count g h c = safe.cached c in
-      let ok' : refs f h c ≤ count f h c = safe.file c in
+      let le : refs f h c ≤ references_in_either f g h c = refs-file f g h c in
+      let ok : references_in_either f g h c ≤ count g h c = well_formed.cached c in
+      let ok' : refs f h c ≤ count f h c = well_formed.file c in
       elim (counts c) [
         | inl e ↦ omega arith
         | inr e ↦ omega arith
@@ -148,8 +148,8 @@ block-before-tables f x g h safe keeps counts = record {
 }
 
 -- where no table is modified the number is that of the references
-pub named-clean : (f g : Bytes) (h : Fields) (c : ℕ) → ((i j : ℕ) → Live (l2_table f h) h i j → slot g h i j ≡ slot f h i j) → named f g h c ≡ refs f h c
-unfolding named refs
+pub named-clean : (f g : Bytes) (h : Fields) (c : ℕ) → ((i j : ℕ) → Live (l2_table f h) h i j → slot g h i j ≡ slot f h i j) → references_in_either f g h c ≡ refs f h c
+unfolding references_in_either refs
 named-clean f g h c clean =
     let e : contents f h (of_mapping h (meets h c)) ≡ over_slots (l2_table f h) h (λ k m. of_mapping h (meets h c) (slot f h k m)) = contents-slots f h (of_mapping h (meets h c)) in
     let e' : over_slots (l2_table f h) h (λ i j. of_either h (meets h c) (slot f h i j) (slot g h i j)) ≡ over_slots (l2_table f h) h (λ k m. of_mapping h (meets h c) (slot f h k m)) =
@@ -159,11 +159,11 @@ named-clean f g h c clean =
 -- A block is written: under the second order no table is modified then.
 pub block-after-tables : (f x g : Bytes) (h : Fields) → TablesFirst f g h → KeepsSlots f g h → ((c : ℕ) → refs g h c ≤ count g h c) → KeepsSlots f x h
     → ((c : ℕ) → (count x h c ≡ count f h c) ⊎ (count x h c ≡ count g h c)) → TablesFirst x g h
-block-after-tables f x g h safe clean law keeps counts = record {
+block-after-tables f x g h well_formed clean law keeps counts = record {
   file = λ c.
-      let le : named x g h c ≤ named f g h c = named-falls f x g h c (between-kept f x g h keeps) in
-      let ok : named f g h c ≤ count f h c = safe.file c in
-      let n : named f g h c ≡ refs f h c = named-clean f g h c clean.slots in
+      let le : references_in_either x g h c ≤ references_in_either f g h c = named-falls f x g h c (between-kept f x g h keeps) in
+      let ok : references_in_either f g h c ≤ count f h c = well_formed.file c in
+      let n : references_in_either f g h c ≡ refs f h c = named-clean f g h c clean.slots in
       let r : refs g h c ≡ refs f h c = refs-kept f g h c clean in
       let ok' : refs g h c ≤ count g h c = law c in
       elim (counts c) [
@@ -171,7 +171,7 @@ block-after-tables f x g h safe clean law keeps counts = record {
         | inr e ↦ omega arith
       ];
   lowered = λ c.
-      let ok : count g h c ≤ count f h c = safe.lowered c in
+      let ok : count g h c ≤ count f h c = well_formed.lowered c in
       elim (counts c) [
         | inl e ↦ omega arith
         | inr e ↦ omega arith
@@ -181,10 +181,10 @@ block-after-tables f x g h safe clean law keeps counts = record {
 -- While no order is set both hold. A table is written then,
 pub table-without-order : (f x g : Bytes) (h : Fields) → BlocksFirst f g h → TablesFirst f g h → IsBetween f x g h → ((c : ℕ) → count x h c ≡ count f h c) → BlocksFirst x g h
 table-without-order f x g h blocks tables between counts = record {
-  cached = λ c. let le : named x g h c ≤ named f g h c = named-falls f x g h c between in let ok : named f g h c ≤ count g h c = blocks.cached c in omega arith;
+  cached = λ c. let le : references_in_either x g h c ≤ references_in_either f g h c = named-falls f x g h c between in let ok : references_in_either f g h c ≤ count g h c = blocks.cached c in omega arith;
   file = λ c.
-      let le : refs x h c ≤ named f g h c = refs-between f x g h c between in
-      let ok : named f g h c ≤ count f h c = tables.file c in
+      let le : refs x h c ≤ references_in_either f g h c = refs-between f x g h c between in
+      let ok : references_in_either f g h c ≤ count f h c = tables.file c in
       let e : count x h c ≡ count f h c = counts c in
       omega arith;
 }
@@ -193,9 +193,9 @@ table-without-order f x g h blocks tables between counts = record {
 pub block-without-order : (f x g : Bytes) (h : Fields) → BlocksFirst f g h → TablesFirst f g h → KeepsSlots f x h → ((c : ℕ) → (count x h c ≡ count f h c) ⊎ (count x h c ≡ count g h c)) → TablesFirst x g h
 block-without-order f x g h blocks tables keeps counts = record {
   file = λ c.
-      let le : named x g h c ≤ named f g h c = named-falls f x g h c (between-kept f x g h keeps) in
-      let ok : named f g h c ≤ count g h c = blocks.cached c in
-      let ok' : named f g h c ≤ count f h c = tables.file c in
+      let le : references_in_either x g h c ≤ references_in_either f g h c = named-falls f x g h c (between-kept f x g h keeps) in
+      let ok : references_in_either f g h c ≤ count g h c = blocks.cached c in
+      let ok' : references_in_either f g h c ≤ count f h c = tables.file c in
       elim (counts c) [
         | inl e ↦ omega arith
         | inr e ↦ omega arith
@@ -210,18 +210,18 @@ block-without-order f x g h blocks tables keeps counts = record {
 
 -- The first order gives way to the second where no block is modified,
 pub blocks-are-written : (f g : Bytes) (h : Fields) → BlocksFirst f g h → ((c : ℕ) → count g h c ≡ count f h c) → TablesFirst f g h
-blocks-are-written f g h safe clean = record {
-  file = λ c. let ok : named f g h c ≤ count g h c = safe.cached c in let e : count g h c ≡ count f h c = clean c in omega arith;
+blocks-are-written f g h well_formed clean = record {
+  file = λ c. let ok : references_in_either f g h c ≤ count g h c = well_formed.cached c in let e : count g h c ≡ count f h c = clean c in omega arith;
   lowered = λ c. let e : count g h c ≡ count f h c = clean c in omega arith;
 }
 
 -- and the second to the first where no table is.
 pub tables-are-written : (f g : Bytes) (h : Fields) → TablesFirst f g h → KeepsSlots f g h → ((c : ℕ) → refs g h c ≤ count g h c) → BlocksFirst f g h
-tables-are-written f g h safe clean law = record {
+tables-are-written f g h well_formed clean law = record {
   cached = λ c.
-      let n : named f g h c ≡ refs f h c = named-clean f g h c clean.slots in
+      let n : references_in_either f g h c ≡ refs f h c = named-clean f g h c clean.slots in
       let r : refs g h c ≡ refs f h c = refs-kept f g h c clean in
       let ok : refs g h c ≤ count g h c = law c in
       omega arith;
-  file = λ c. let le : refs f h c ≤ named f g h c = refs-file f g h c in let ok : named f g h c ≤ count f h c = safe.file c in omega arith;
+  file = λ c. let le : refs f h c ≤ references_in_either f g h c = refs-file f g h c in let ok : references_in_either f g h c ≤ count f h c = well_formed.file c in omega arith;
 }

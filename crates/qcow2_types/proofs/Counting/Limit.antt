@@ -5,8 +5,8 @@ use Rattle.std.proofs.Math.Nat.{div-mul-le_self, pow-le-pow_right}
 use Rattle.std.proofs.lemmas.Nat.{mod_below, pow_pos}
 use Rattle.std.proofs.lemmas.Bool.{le-ltb, lt-ltb}
 use Rattle.std.proofs.lemmas.Bool.Decides.{nat_tests}
-use Rattle.qcow2_types.specs.Bytes.{Bytes, word, sum_below}
-use Rattle.qcow2_types.specs.Words.{Layout, Mapping, data_at, zeroes, packed, unmapped, damaged, mapping_of, has_bit, table_offset, block_word_sound, max_offset, packed_place, packed_sectors, packed_end, names_cluster, standard_word_sound, is_place}
+use Rattle.qcow2_types.specs.Bytes.{Bytes, raw_entry, sum_below}
+use Rattle.qcow2_types.specs.Words.{Layout, Mapping, data_at, zeroes, packed, unmapped, damaged, mapping_of, has_bit, table_offset, reftable_entry_valid, max_offset, compressed_offset, compressed_sectors, compressed_end, names_cluster, standard_entry_valid, is_cluster_offset}
 use Rattle.qcow2_types.specs.Header.{Header, Shaped, Limited, header_of, Fields, cluster_size, refcount_table_entries, layout_of}
 use Rattle.qcow2_types.specs.Entries.{l2_table, l2_mapping}
 use Rattle.qcow2_types.specs.Counts.{block_at, refcount_table_sound}
@@ -61,9 +61,9 @@ zeroes-within w k true copied few = standard-within w k few
 zeroes-within w k false copied few = tt
 
 -- the range of a compressed word
-packed-within : (w k : ℕ) → k ≤ 21 → packed_place k w < 2 ^ 56 → packed_place k w + (packed_end k w - packed_place k w) ≤ 2 ^ 57
+packed-within : (w k : ℕ) → k ≤ 21 → compressed_offset k w < 2 ^ 56 → compressed_offset k w + (compressed_end k w - compressed_offset k w) ≤ 2 ^ 57
 packed-within w k few low =
-    let sectors : packed_sectors k w < 2 ^ 13 = sectors_fit w (70 - k) k few in
+    let sectors : compressed_sectors k w < 2 ^ 13 = sectors_fit w (70 - k) k few in
     omega arith
 
 -- what a word names ends by 2 ^ 57
@@ -72,9 +72,9 @@ unfolding mapping_of
 mapping-within layout w few =
     let P : Mapping → Type 0 = Within layout.cluster_bits in
     choose P (has_bit w 62) _ _
-    (λ _. choose P (has_bit w 63 || nat_le (2 ^ 56) (packed_place layout.cluster_bits w)) _ _ (λ _. tt)
+    (λ _. choose P (has_bit w 63 || nat_le (2 ^ 56) (compressed_offset layout.cluster_bits w)) _ _ (λ _. tt)
     (λ sound. packed-within w layout.cluster_bits few (grind (arith, nat_tests))))
-    (λ _. choose P (not (standard_word_sound layout w)) _ _ (λ _. tt)
+    (λ _. choose P (not (standard_entry_valid layout w)) _ _ (λ _. tt)
     (λ _. choose P (has_bit w 0) _ _ (λ _. zeroes-within w layout.cluster_bits (names_cluster layout w) _ few)
     (λ _. choose P (names_cluster layout w) _ _ (λ _. standard-within w layout.cluster_bits few) (λ _. tt))))
 
@@ -100,7 +100,7 @@ module _ (f : Bytes) (h : Fields) (c : ℕ) (few : h.cluster_bits ≤ 21) (far :
   -- no mapping names c
   pub contents-apart : contents f h (of_mapping h (meets h c)) ≡ 0
   unfolding contents of_table
-  contents-apart = sum-zero _ _ (λ i lt. or-zero (l2_table f h i == 0) _ (sum-zero _ _ (λ j less. mapping-apart (l2_mapping f h (l2_table f h i) j) (mapping-within (layout_of h) (word f (l2_table f h i) j) few))))
+  contents-apart = sum-zero _ _ (λ i lt. or-zero (l2_table f h i == 0) _ (sum-zero _ _ (λ j less. mapping-apart (l2_mapping f h (l2_table f h i) j) (mapping-within (layout_of h) (raw_entry f (l2_table f h i) j) few))))
 
   -- no cluster at a place that a word can name meets c
   cluster-apart : (offset : ℕ) → offset ≤ max_offset → of_cluster h (meets h c) offset ≡ 0
@@ -109,8 +109,8 @@ module _ (f : Bytes) (h : Fields) (c : ℕ) (few : h.cluster_bits ≤ 21) (far :
   -- L2 tables are at places that a word can name
   l2-near : (i : ℕ) → l2_table f h i ≤ max_offset
   l2-near i =
-      let few' : word f h.l1_offset i / 2 ^ 9 % 2 ^ 47 < 2 ^ 47 = mod_below _ (2 ^ 47) (pow_pos 47) in
-      pick (nat_lt i h.l1_entries) (table_offset (word f h.l1_offset i)) (omega arith)
+      let few' : raw_entry f h.l1_offset i / 2 ^ 9 % 2 ^ 47 < 2 ^ 47 = mod_below _ (2 ^ 47) (pow_pos 47) in
+      pick (nat_lt i h.l1_entries) (table_offset (raw_entry f h.l1_offset i)) (omega arith)
     where
       pick : (b : Bool) (x : ℕ) → x ≤ max_offset → cond b x 0 ≤ max_offset
       pick true x le = le
@@ -133,7 +133,7 @@ module _ (f : Bytes) (h : Fields) (c : ℕ) (few : h.cluster_bits ≤ 21) (far :
 pub blocks-near : (f : Bytes) (h : Fields) → refcount_table_sound f h ≡ true → (i : ℕ) → i < refcount_table_entries h → block_at f h i ≤ max_offset
 unfolding refcount_table_sound
 blocks-near f h sound i lt =
-    let here : block_word_sound h.cluster_bits (word f h.refcount_table_offset i) ≡ true = all-below (refcount_table_entries h) (λ j. block_word_sound h.cluster_bits (word f h.refcount_table_offset j)) sound i lt in
+    let here : reftable_entry_valid h.cluster_bits (raw_entry f h.refcount_table_offset i) ≡ true = all-below (refcount_table_entries h) (λ j. reftable_entry_valid h.cluster_bits (raw_entry f h.refcount_table_offset j)) sound i lt in
     let within : nat_lt i (refcount_table_entries h) ≡ true = lt-ltb _ _ lt in
     rw within (grind (arith, nat_tests))
 

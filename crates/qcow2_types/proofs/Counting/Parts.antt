@@ -4,9 +4,9 @@ use Rattle.std.specs.Prelude.{false, cond, nat_lt, ◌⊎◌, ⊤, IsFalse}
 use Rattle.std.proofs.lemmas.Bool.{cases_lt, cases_eq, le-ltb}
 use Rattle.std.proofs.lemmas.Bool.Decides.{nat_tests}
 use Rattle.std.proofs.Math.Nat.{div-mul-le_self}
-use Rattle.qcow2_types.specs.Bytes.{Bytes, word, sum_below}
+use Rattle.qcow2_types.specs.Bytes.{Bytes, raw_entry, sum_below}
 use Rattle.qcow2_types.specs.Words.{table_offset, block_offset, mapping_of}
-use Rattle.qcow2_types.specs.Header.{Fields, cluster_size, words_of_cluster, refcount_table_entries, layout_of, Shaped}
+use Rattle.qcow2_types.specs.Header.{Fields, cluster_size, entries_of_cluster, refcount_table_entries, layout_of, Shaped}
 use Rattle.qcow2_types.specs.Entries.{l2_table}
 use Rattle.qcow2_types.specs.Counts.{block_at, count, counters_of_block}
 use Rattle.qcow2_types.specs.References.{Weight, structure, of_cluster, meets, refs}
@@ -15,7 +15,7 @@ use Rattle.qcow2_types.proofs.Numbers.Sums.{term-le-sum}
 use Rattle.qcow2_types.proofs.Counting.Named.{structure-le-refs, structure-mono}
 use Rattle.qcow2_types.proofs.Numbers.Splices.{be-same}
 use Rattle.qcow2_types.proofs.Changes.Frames.{untouched, touches-cluster, word-same, entries-fit}
-use Rattle.qcow2_types.specs.Frames.{Same, Outside, touches, Skipped, nothing, first_cluster, l1_word, block_word, block, table, Kept}
+use Rattle.qcow2_types.specs.Frames.{Same, Outside, touches, Skipped, nothing, first_cluster, l1_word, block_word, block, table, SameStructureOutside}
 use Rattle.qcow2_types.proofs.Counting.Counters.{count-same}
 use Rattle.qcow2_types.specs.Slots.{Live, slot}
 
@@ -146,8 +146,8 @@ of_there : (h : Fields) (w : Weight) (offset : ℕ) → offset ≢ 0 → of_clus
 of_there h w offset there = grind (arith, nat_tests)
 
 -- a word of a table lies in its cluster
-pub words-fit : (h : Fields) (j : ℕ) → j < words_of_cluster h → 8 * j + 8 ≤ cluster_size h
-words-fit h j lt = let whole : words_of_cluster h * 8 ≤ cluster_size h = div-mul-le_self (cluster_size h) 8 in omega arith
+pub words-fit : (h : Fields) (j : ℕ) → j < entries_of_cluster h → 8 * j + 8 ≤ cluster_size h
+words-fit h j lt = let whole : entries_of_cluster h * 8 ≤ cluster_size h = div-mul-le_self (cluster_size h) 8 in omega arith
 
 module _ (f g : Bytes) (h : Fields) (at n : ℕ) (out : Outside f g at n) where
   -- the parts that aren't touched
@@ -155,11 +155,11 @@ module _ (f g : Bytes) (h : Fields) (at n : ℕ) (out : Outside f g at n) where
   start-same none = untouched f g at n 0 (cluster_size h) out none
 
   -- the words of the L1 table are kept
-  l1-same : part_weight f h (touches at n) l1_table ≡ 0 → (i : ℕ) → i < h.l1_entries → word g h.l1_offset i ≡ word f h.l1_offset i
+  l1-same : part_weight f h (touches at n) l1_table ≡ 0 → (i : ℕ) → i < h.l1_entries → raw_entry g h.l1_offset i ≡ raw_entry f h.l1_offset i
   l1-same none i lt = word-same f g h.l1_offset (h.l1_entries * 8) i (untouched f g at n _ _ out none) (omega arith)
 
   -- the words of the refcount table are kept
-  blocks-same : part_weight f h (touches at n) refcount_table ≡ 0 → (i : ℕ) → i < refcount_table_entries h → word g h.refcount_table_offset i ≡ word f h.refcount_table_offset i
+  blocks-same : part_weight f h (touches at n) refcount_table ≡ 0 → (i : ℕ) → i < refcount_table_entries h → raw_entry g h.refcount_table_offset i ≡ raw_entry f h.refcount_table_offset i
   blocks-same none i lt = word-same f g h.refcount_table_offset (h.refcount_table_clusters * cluster_size h) i (untouched f g at n _ _ out none) (entries-fit h i lt)
 
   -- the bytes of a block are kept
@@ -167,18 +167,18 @@ module _ (f g : Bytes) (h : Fields) (at n : ℕ) (out : Outside f g at n) where
   counters-same i there none = untouched f g at n _ _ out (sym (of_there h (touches at n) (block_at f h i) there) ∙ none)
 
   -- the words of an L2 table are kept
-  words-same : (i j : ℕ) → Live (l2_table f h) h i j → part_weight f h (touches at n) (table_of i) ≡ 0 → word g (l2_table f h i) j ≡ word f (l2_table f h i) j
+  words-same : (i j : ℕ) → Live (l2_table f h) h i j → part_weight f h (touches at n) (table_of i) ≡ 0 → raw_entry g (l2_table f h i) j ≡ raw_entry f (l2_table f h i) j
   words-same i j live none =
       word-same f g (l2_table f h i) (cluster_size h) j (untouched f g at n _ _ out (sym (of_there h (touches at n) (l2_table f h i) live.is_there) ∙ none)) (words-fit h j live.in_table)
 
   -- a change that touches no part
-  pub kept-all : structure f h (touches at n) ≡ 0 → Kept f g h nothing
+  pub kept-all : structure f h (touches at n) ≡ 0 → SameStructureOutside f g h nothing
   kept-all none = record {
     start = λ _. start-same (zero-part header tt);
     l1 = λ i lt _. l1-same (zero-part l1_table tt) i lt;
     blocks = λ i lt _. blocks-same (zero-part refcount_table tt) i lt;
     counters = λ i lt there _. counters-same i there (zero-part (block_of i) lt);
-    words = λ i j live _. words-same i j live (zero-part (table_of i) live.in_l1);
+    raw_entries = λ i j live _. words-same i j live (zero-part (table_of i) live.in_l1);
   }
     where
       zero-part : (p : Part) → IsPart h p → part_weight f h (touches at n) p ≡ 0
@@ -186,7 +186,7 @@ module _ (f g : Bytes) (h : Fields) (at n : ℕ) (out : Outside f g at n) where
 
   module _ (some : 0 < n) (once : structure f h (touches at n) ≤ 1) where
     -- inside one L2 table
-    pub kept-table : (i : ℕ) → i < h.l1_entries → l2_table f h i ≢ 0 → l2_table f h i ≤ at → at + n ≤ l2_table f h i + cluster_size h → Kept f g h (table i)
+    pub kept-table : (i : ℕ) → i < h.l1_entries → l2_table f h i ≢ 0 → l2_table f h i ≤ at → at + n ≤ l2_table f h i + cluster_size h → SameStructureOutside f g h (table i)
     kept-table i lt there low high =
         let here : touches at n (l2_table f h i) (cluster_size h) ≡ 1 = touches-inside at n _ _ some low high in
         let weighed : part_weight f h (touches at n) (table_of i) ≡ 1 = of_there h (touches at n) (l2_table f h i) there ∙ here in
@@ -196,11 +196,11 @@ module _ (f g : Bytes) (h : Fields) (at n : ℕ) (out : Outside f g at n) where
           l1 = λ k less _. l1-same (other l1_table tt (λ e. cc)) k less;
           blocks = λ k less _. blocks-same (other refcount_table tt (λ e. cc)) k less;
           counters = λ k less is _. counters-same k is (other (block_of k) less (λ e. cc));
-          words = λ k m live apart. words-same k m live (other (table_of k) live.in_l1 (λ e. apart (ap skip_of e)));
+          raw_entries = λ k m live apart. words-same k m live (other (table_of k) live.in_l1 (λ e. apart (ap skip_of e)));
         }
 
     -- inside one block
-    pub kept-block : (i : ℕ) → i < refcount_table_entries h → block_at f h i ≢ 0 → block_at f h i ≤ at → at + n ≤ block_at f h i + cluster_size h → Kept f g h (block i)
+    pub kept-block : (i : ℕ) → i < refcount_table_entries h → block_at f h i ≢ 0 → block_at f h i ≤ at → at + n ≤ block_at f h i + cluster_size h → SameStructureOutside f g h (block i)
     kept-block i lt there low high =
         let here : touches at n (block_at f h i) (cluster_size h) ≡ 1 = touches-inside at n _ _ some low high in
         let weighed : part_weight f h (touches at n) (block_of i) ≡ 1 = of_there h (touches at n) (block_at f h i) there ∙ here in
@@ -210,11 +210,11 @@ module _ (f g : Bytes) (h : Fields) (at n : ℕ) (out : Outside f g at n) where
           l1 = λ k less _. l1-same (other l1_table tt (λ e. cc)) k less;
           blocks = λ k less _. blocks-same (other refcount_table tt (λ e. cc)) k less;
           counters = λ k less is apart. counters-same k is (other (block_of k) less (λ e. apart (ap skip_of e)));
-          words = λ k m live _. words-same k m live (other (table_of k) live.in_l1 (λ e. cc));
+          raw_entries = λ k m live _. words-same k m live (other (table_of k) live.in_l1 (λ e. cc));
         }
 
     -- inside the first cluster
-    pub kept-start : at + n ≤ cluster_size h → Kept f g h first_cluster
+    pub kept-start : at + n ≤ cluster_size h → SameStructureOutside f g h first_cluster
     kept-start high =
         let weighed : part_weight f h (touches at n) header ≡ 1 = touches-inside at n 0 (cluster_size h) some (omega arith) (omega arith) in
         let other : (q : Part) → IsPart h q → header ≢ q → part_weight f h (touches at n) q ≡ 0 = (λ q inside apart. other-part f h (touches at n) header q tt inside apart once (omega arith)) in
@@ -223,12 +223,12 @@ module _ (f g : Bytes) (h : Fields) (at n : ℕ) (out : Outside f g at n) where
           l1 = λ k less _. l1-same (other l1_table tt (λ e. cc)) k less;
           blocks = λ k less _. blocks-same (other refcount_table tt (λ e. cc)) k less;
           counters = λ k less is _. counters-same k is (other (block_of k) less (λ e. cc));
-          words = λ k m live _. words-same k m live (other (table_of k) live.in_l1 (λ e. cc));
+          raw_entries = λ k m live _. words-same k m live (other (table_of k) live.in_l1 (λ e. cc));
         }
 
 -- another word of the same table
-pub other-word : (f g : Bytes) (t i k : ℕ) → Outside f g (t + 8 * i) 8 → i ≢ k → word g t k ≡ word f t k
-unfolding word
+pub other-word : (f g : Bytes) (t i k : ℕ) → Outside f g (t + 8 * i) 8 → i ≢ k → raw_entry g t k ≡ raw_entry f t k
+unfolding raw_entry
 other-word f g t i k out apart = be-same g f (t + 8 * k) (t + 8 * k) 8 (λ m lt. out (t + 8 * k + m) (beside m lt (cases_lt k i)))
   where
     beside : (m : ℕ) → m < 8 → (k < i) ⊎ (i ≤ k) → (t + 8 * k + m < t + 8 * i) ⊎ (t + 8 * i + 8 ≤ t + 8 * k + m)
@@ -236,7 +236,7 @@ other-word f g t i k out apart = be-same g f (t + 8 * k) (t + 8 * k) 8 (λ m lt.
     beside m lt (inr le) = inr (omega arith)
 
 -- one word of the L1 table, and one of the refcount table
-pub kept-l1 : (f g : Bytes) (h : Fields) (i : ℕ) → Outside f g (h.l1_offset + 8 * i) 8 → structure f h (touches (h.l1_offset + 8 * i) 8) ≤ 1 → i < h.l1_entries → Kept f g h (l1_word i)
+pub kept-l1 : (f g : Bytes) (h : Fields) (i : ℕ) → Outside f g (h.l1_offset + 8 * i) 8 → structure f h (touches (h.l1_offset + 8 * i) 8) ≤ 1 → i < h.l1_entries → SameStructureOutside f g h (l1_word i)
 kept-l1 f g h i out once lt =
     let at : ℕ = h.l1_offset + 8 * i in
     let here : part_weight f h (touches at 8) l1_table ≡ 1 = touches-inside at 8 _ _ (omega arith) (omega arith) (omega arith) in
@@ -246,11 +246,11 @@ kept-l1 f g h i out once lt =
       l1 = λ k less apart. other-word f g h.l1_offset i k out (λ e. apart (ap l1_word e));
       blocks = λ k less _. blocks-same f g h at 8 out (other refcount_table tt (λ e. cc)) k less;
       counters = λ k less is _. counters-same f g h at 8 out k is (other (block_of k) less (λ e. cc));
-      words = λ k m live _. words-same f g h at 8 out k m live (other (table_of k) live.in_l1 (λ e. cc));
+      raw_entries = λ k m live _. words-same f g h at 8 out k m live (other (table_of k) live.in_l1 (λ e. cc));
     }
 
 -- A change of one word of the refcount table.
-pub kept-block_word : (f g : Bytes) (h : Fields) (i : ℕ) → Outside f g (h.refcount_table_offset + 8 * i) 8 → structure f h (touches (h.refcount_table_offset + 8 * i) 8) ≤ 1 → i < refcount_table_entries h → Kept f g h (block_word i)
+pub kept-block_word : (f g : Bytes) (h : Fields) (i : ℕ) → Outside f g (h.refcount_table_offset + 8 * i) 8 → structure f h (touches (h.refcount_table_offset + 8 * i) 8) ≤ 1 → i < refcount_table_entries h → SameStructureOutside f g h (block_word i)
 kept-block_word f g h i out once lt =
     let at : ℕ = h.refcount_table_offset + 8 * i in
     let fits : 8 * i + 8 ≤ h.refcount_table_clusters * cluster_size h = entries-fit h i lt in
@@ -261,7 +261,7 @@ kept-block_word f g h i out once lt =
       l1 = λ k less _. l1-same f g h at 8 out (other l1_table tt (λ e. cc)) k less;
       blocks = λ k less apart. other-word f g h.refcount_table_offset i k out (λ e. apart (ap block_word e));
       counters = λ k less is _. counters-same f g h at 8 out k is (other (block_of k) less (λ e. cc));
-      words = λ k m live _. words-same f g h at 8 out k m live (other (table_of k) live.in_l1 (λ e. cc));
+      raw_entries = λ k m live _. words-same f g h at 8 out k m live (other (table_of k) live.in_l1 (λ e. cc));
     }
 
 -- a block is named by a word within the refcount table
@@ -272,7 +272,7 @@ block-inside f h b there = elim (cases_lt b (refcount_table_entries h)) [
 ]
 
 -- What follows for the tables, the counters and the mappings.
-module _ (f g : Bytes) (h : Fields) (skip : Skipped) (kept : Kept f g h skip) where
+module _ (f g : Bytes) (h : Fields) (skip : Skipped) (kept : SameStructureOutside f g h skip) where
   -- the places of L2 tables
   pub l2_table-kept : (i : ℕ) → skip ≢ l1_word i → l2_table g h i ≡ l2_table f h i
   l2_table-kept i apart = elim (cases_lt i h.l1_entries) [
@@ -295,4 +295,4 @@ module _ (f g : Bytes) (h : Fields) (skip : Skipped) (kept : Kept f g h skip) wh
   -- the mappings in other tables
   pub slot-kept : (i j : ℕ) → Live (l2_table f h) h i j → skip ≢ l1_word i → skip ≢ table i → slot g h i j ≡ slot f h i j
   slot-kept i j live word-apart apart =
-      ap (λ t. mapping_of (layout_of h) (word g t j)) (l2_table-kept i word-apart) ∙ ap (mapping_of (layout_of h)) (kept.words i j live apart)
+      ap (λ t. mapping_of (layout_of h) (raw_entry g t j)) (l2_table-kept i word-apart) ∙ ap (mapping_of (layout_of h)) (kept.raw_entries i j live apart)

@@ -5,7 +5,7 @@ use Rattle.std.proofs.lemmas.Bool.{cases_eq}
 use Rattle.std.proofs.lemmas.Bool.Decides.{nat_tests}
 use Rattle.qcow2_types.specs.Bytes.{Bytes, sum_below}
 use Rattle.qcow2_types.specs.Words.{Mapping}
-use Rattle.qcow2_types.specs.Header.{Fields, words_of_cluster}
+use Rattle.qcow2_types.specs.Header.{Fields, entries_of_cluster}
 use Rattle.qcow2_types.specs.Entries.{l2_table}
 use Rattle.qcow2_types.specs.References.{contents, of_table}
 use Rattle.qcow2_types.proofs.Numbers.Sums.{sum-same, sum-mono, sum-change, term-le-sum}
@@ -27,8 +27,8 @@ module _ (table : ℕ → ℕ) (h : Fields) (p q : ℕ → ℕ → ℕ) where
   slots-mono le = sum-mono _ _ _ (λ i lt. elim (cases_eq (table i) 0) [
     | inl e ↦ rw e (omega arith)
     | inr there ↦
-        let row : sum_below (words_of_cluster h) (p i) ≤ sum_below (words_of_cluster h) (q i) = sum-mono _ _ _ (λ j less. le i j record { in_l1 = lt; is_there = there; in_table = less }) in
-        rw (or_none-there (table i) (sum_below (words_of_cluster h) (p i)) there, or_none-there (table i) (sum_below (words_of_cluster h) (q i)) there) row
+        let row : sum_below (entries_of_cluster h) (p i) ≤ sum_below (entries_of_cluster h) (q i) = sum-mono _ _ _ (λ j less. le i j record { in_l1 = lt; is_there = there; in_table = less }) in
+        rw (or_none-there (table i) (sum_below (entries_of_cluster h) (p i)) there, or_none-there (table i) (sum_below (entries_of_cluster h) (q i)) there) row
   ])
 
   -- the same terms give the same sum
@@ -43,13 +43,13 @@ module _ (table : ℕ → ℕ) (h : Fields) (p q : ℕ → ℕ → ℕ) where
   pub slots-change : (i j : ℕ) → Live table h i j → ((k m : ℕ) → Live table h k m → (k ≢ i) ⊎ (m ≢ j) → p k m ≡ q k m) → over_slots table h p + q i j ≡ over_slots table h q + p i j
   unfolding over_slots
   slots-change i j live same =
-      let row : sum_below (words_of_cluster h) (p i) + q i j ≡ sum_below (words_of_cluster h) (q i) + p i j =
+      let row : sum_below (entries_of_cluster h) (p i) + q i j ≡ sum_below (entries_of_cluster h) (q i) + p i j =
       sum-change _ j (p i) (q i) live.in_table (λ m less apart. same i m record { in_l1 = live.in_l1; is_there = live.is_there; in_table = less } (inr apart)) in
-      let pt : or_none (table i) (sum_below (words_of_cluster h) (p i)) ≡ sum_below (words_of_cluster h) (p i) = or_none-there (table i) (sum_below (words_of_cluster h) (p i)) live.is_there in
-      let qt : or_none (table i) (sum_below (words_of_cluster h) (q i)) ≡ sum_below (words_of_cluster h) (q i) = or_none-there (table i) (sum_below (words_of_cluster h) (q i)) live.is_there in
-      let all : sum_below h.l1_entries (λ k. or_none (table k) (sum_below (words_of_cluster h) (p k))) + or_none (table i) (sum_below (words_of_cluster h) (q i))
-      ≡ sum_below h.l1_entries (λ k. or_none (table k) (sum_below (words_of_cluster h) (q k))) + or_none (table i) (sum_below (words_of_cluster h) (p i)) =
-      sum-change _ i (λ k. or_none (table k) (sum_below (words_of_cluster h) (p k))) (λ k. or_none (table k) (sum_below (words_of_cluster h) (q k))) live.in_l1
+      let pt : or_none (table i) (sum_below (entries_of_cluster h) (p i)) ≡ sum_below (entries_of_cluster h) (p i) = or_none-there (table i) (sum_below (entries_of_cluster h) (p i)) live.is_there in
+      let qt : or_none (table i) (sum_below (entries_of_cluster h) (q i)) ≡ sum_below (entries_of_cluster h) (q i) = or_none-there (table i) (sum_below (entries_of_cluster h) (q i)) live.is_there in
+      let all : sum_below h.l1_entries (λ k. or_none (table k) (sum_below (entries_of_cluster h) (p k))) + or_none (table i) (sum_below (entries_of_cluster h) (q i))
+      ≡ sum_below h.l1_entries (λ k. or_none (table k) (sum_below (entries_of_cluster h) (q k))) + or_none (table i) (sum_below (entries_of_cluster h) (p i)) =
+      sum-change _ i (λ k. or_none (table k) (sum_below (entries_of_cluster h) (p k))) (λ k. or_none (table k) (sum_below (entries_of_cluster h) (q k))) live.in_l1
       (λ k lt apart. elim (cases_eq (table k) 0) [
         | inl e ↦ rw e refl
         | inr there ↦ ap (or_none (table k)) (sum-same _ _ _ (λ m less. same k m record { in_l1 = lt; is_there = there; in_table = less } (inl apart)))
@@ -60,8 +60,8 @@ module _ (table : ℕ → ℕ) (h : Fields) (p q : ℕ → ℕ → ℕ) where
 pub slot-le : (table : ℕ → ℕ) (h : Fields) (p : ℕ → ℕ → ℕ) (i j : ℕ) → Live table h i j → p i j ≤ over_slots table h p
 unfolding over_slots
 slot-le table h p i j live =
-    let row : p i j ≤ sum_below (words_of_cluster h) (p i) = term-le-sum _ j (p i) live.in_table in
-    let pt : or_none (table i) (sum_below (words_of_cluster h) (p i)) ≡ sum_below (words_of_cluster h) (p i) = or_none-there (table i) (sum_below (words_of_cluster h) (p i)) live.is_there in
-    let all : or_none (table i) (sum_below (words_of_cluster h) (p i)) ≤ sum_below h.l1_entries (λ k. or_none (table k) (sum_below (words_of_cluster h) (p k))) =
-    term-le-sum _ i (λ k. or_none (table k) (sum_below (words_of_cluster h) (p k))) live.in_l1 in
+    let row : p i j ≤ sum_below (entries_of_cluster h) (p i) = term-le-sum _ j (p i) live.in_table in
+    let pt : or_none (table i) (sum_below (entries_of_cluster h) (p i)) ≡ sum_below (entries_of_cluster h) (p i) = or_none-there (table i) (sum_below (entries_of_cluster h) (p i)) live.is_there in
+    let all : or_none (table i) (sum_below (entries_of_cluster h) (p i)) ≤ sum_below h.l1_entries (λ k. or_none (table k) (sum_below (entries_of_cluster h) (p k))) =
+    term-le-sum _ i (λ k. or_none (table k) (sum_below (entries_of_cluster h) (p k))) live.in_l1 in
     omega arith

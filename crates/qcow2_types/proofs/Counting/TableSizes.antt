@@ -25,12 +25,12 @@ next_below n k j w e h r =
     in rw (← e) (omega (arith, place, shr_split n k, pow-add 2 j k))
 
 -- a word of a table that begins with a cluster lies in one cluster
-pub word-in-cluster : (offset size words i : ℕ) → 0 < size → words * 8 ≡ size → offset % size ≡ 0 → offset + 8 * i + 8 ≤ ((offset + 8 * i) / size + 1) * size
-word-in-cluster offset size words i pos whole-words begins =
+pub word-in-cluster : (offset size raw_entries i : ℕ) → 0 < size → raw_entries * 8 ≡ size → offset % size ≡ 0 → offset + 8 * i + 8 ≤ ((offset + 8 * i) / size + 1) * size
+word-in-cluster offset size raw_entries i pos whole-words begins =
     let q : ℕ = (offset + 8 * i) / size in
     let rest : (offset + 8 * i) % size < size = mod_below (offset + 8 * i) size pos in
     let split : size * ((offset + 8 * i) / size) + (offset + 8 * i) % size ≡ offset + 8 * i = div-add-mod (offset + 8 * i) size in
     let begin : size * (offset / size) + offset % size ≡ offset = div-add-mod offset size in
-    let a : ((offset + 8 * i) / size) * (words * 8) ≡ ((offset + 8 * i) / size) * size = ap (λ x. (offset + 8 * i) / size * x) whole-words in
-    let b : offset / size * (words * 8) ≡ offset / size * size = ap (λ x. offset / size * x) whole-words in
+    let a : ((offset + 8 * i) / size) * (raw_entries * 8) ≡ ((offset + 8 * i) / size) * size = ap (λ x. (offset + 8 * i) / size * x) whole-words in
+    let b : offset / size * (raw_entries * 8) ≡ offset / size * size = ap (λ x. offset / size * x) whole-words in
     omega arith

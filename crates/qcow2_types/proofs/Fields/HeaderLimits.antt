@@ -8,7 +8,7 @@ use Rattle.std.proofs.Math.Nat.{pow-le-pow_right}
 use Rattle.imago_storage.specs.declared.fault.Fault.{Fault}
 use Rattle.imago_storage.specs.declared.fault.Fault.TheVariants.{DamagedHeader, Unsupported, Limit}
 use Rattle.qcow2_types.specs.Bytes.{Bytes, be}
-use Rattle.qcow2_types.specs.Words.{table_offset, is_place}
+use Rattle.qcow2_types.specs.Words.{table_offset, is_cluster_offset}
 use Rattle.qcow2_types.specs.Header.{Fields, Header, Shaped, Limited, Rule, header_of, fields_of, cluster_size, refcount_table_entries, first_fault, rules_of_kind, rules_of_shape, rules_of_size}
 use Rattle.qcow2_types.specs.Counts.{counter_bits}
 use Rattle.qcow2_types.proofs.Fields.HeaderFrame.{header-fields, header-shaped, and-then-ok, and-then-none, two-passed}
@@ -66,15 +66,15 @@ fields-limited h passed =
     let a = passed-first (nat_lt (2 ^ 63 - 1) h.size) (Limit h.size) (drop 1 (rules_of_size h)) passed in
     let b = passed-first (nat_lt (2 ^ 22) h.l1_entries) (Limit h.l1_entries) (drop 2 (rules_of_size h)) a.1 in
     let c = passed-first (nat_lt (2 ^ 20) (refcount_table_entries h)) (Limit (refcount_table_entries h)) (drop 3 (rules_of_size h)) b.1 in
-    let d = passed-first (not (is_place h.cluster_bits h.l1_offset)) DamagedHeader (drop 4 (rules_of_size h)) c.1 in
-    let e = passed-first (not (is_place h.cluster_bits h.refcount_table_offset)) DamagedHeader (drop 5 (rules_of_size h)) d.1 in
+    let d = passed-first (not (is_cluster_offset h.cluster_bits h.l1_offset)) DamagedHeader (drop 4 (rules_of_size h)) c.1 in
+    let e = passed-first (not (is_cluster_offset h.cluster_bits h.refcount_table_offset)) DamagedHeader (drop 5 (rules_of_size h)) d.1 in
     let size : h.size ≤ 2 ^ 63 - 1 = at-most (2 ^ 63 - 1) h.size a.0 in
     record {
       size = omega arith;
       l1_entries = at-most (2 ^ 22) h.l1_entries b.0;
       refcount_entries = at-most (2 ^ 20) (refcount_table_entries h) c.0;
-      l1_place = not-not (is_place h.cluster_bits h.l1_offset) d.0;
-      refcount_place = not-not (is_place h.cluster_bits h.refcount_table_offset) e.0;
+      l1_place = not-not (is_cluster_offset h.cluster_bits h.l1_offset) d.0;
+      refcount_place = not-not (is_cluster_offset h.cluster_bits h.refcount_table_offset) e.0;
     }
   where
     not-not : (b : Bool) → not b ≡ false → b ≡ true

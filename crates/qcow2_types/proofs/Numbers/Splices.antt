@@ -4,7 +4,7 @@ use Rattle.std.specs.Prelude.{slice_index, ◌⊎◌}
 use Rattle.std.specs.Int.{w64, to_be_bytes, from_be_bytes}
 use Rattle.std.proofs.lemmas.Bool.Decides.{nat_tests}
 use Rattle.std.proofs.lemmas.Nat.{from_be_bytes-to_be_bytes_8}
-use Rattle.qcow2_types.specs.Bytes.{Bytes, be, word, splice, bytes_of}
+use Rattle.qcow2_types.specs.Bytes.{Bytes, be, raw_entry, splice, bytes_of}
 
 -- numbers of the same bytes are the same
 pub be-same : (f g : Bytes) (i j n : ℕ) → ((k : ℕ) → k < n → f (i + k) ≡ g (j + k)) → be f i n ≡ be g j n
@@ -46,8 +46,8 @@ pub be-written : (f : Bytes) (i n : ℕ) → n < 2 ^ 64 → be (splice f i (to_b
 be-written f i n fits = be-splice-same f i (to_be_bytes w64 n) ∙ (be-of-bytes (to_be_bytes w64 n) ∙ from_be_bytes-to_be_bytes_8 n fits)
 
 -- one word of a table written
-pub word-written : (f : Bytes) (table i n : ℕ) → n < 2 ^ 64 → word (splice f (table + 8 * i) (to_be_bytes w64 n)) table i ≡ n
-unfolding word
+pub word-written : (f : Bytes) (table i n : ℕ) → n < 2 ^ 64 → raw_entry (splice f (table + 8 * i) (to_be_bytes w64 n)) table i ≡ n
+unfolding raw_entry
 word-written f table i n fits = be-written f (table + 8 * i) n fits
 
 -- the number that zeroes spell

@@ -4,11 +4,11 @@ use Rattle.std.specs.Prelude.{Bool, true, false, cond, ◌&&◌, ◌==◌, nat_l
 use Rattle.std.proofs.lemmas.Bool.Decides.{nat_tests}
 use Rattle.std.proofs.lemmas.Nat.{pow_pos, pow-add}
 use Rattle.std.proofs.Math.Nat.{mul-mod_left, mul-div_cancel, mul-pos}
-use Rattle.qcow2_types.specs.Words.{Layout, Mapping, unmapped, data_at, mapping_of, is_place, is_copied, max_offset, l1_word_sound, table_offset}
+use Rattle.qcow2_types.specs.Words.{Layout, Mapping, unmapped, data_at, mapping_of, is_cluster_offset, is_copied, max_offset, l1_entry_valid, table_offset}
 use Rattle.qcow2_types.specs.Header.{Fields, cluster_size, layout_of}
 
 -- 0 is a place that a cluster can begin at
-pub zero-place : (bits : ℕ) → is_place bits 0 ≡ true
+pub zero-place : (bits : ℕ) → is_cluster_offset bits 0 ≡ true
 zero-place bits = let pos : 0 < 2 ^ bits = pow_pos bits in let none : 0 % 2 ^ bits ≡ 0 = omega arith in rw none refl
 
 -- A word of 0 in an L2 table leaves its guest cluster unmapped, and one in the L1 table names no table.
@@ -21,7 +21,7 @@ zero-word layout = rw (zero-place layout.cluster_bits) (names layout.external_da
     names false m = refl
 
 -- A word of 0 in the L1 table is sound, and names no table.
-pub zero-l1-word : (bits : ℕ) → IsTrue (l1_word_sound bits 0)
+pub zero-l1-word : (bits : ℕ) → IsTrue (l1_entry_valid bits 0)
 zero-l1-word bits = zero-place bits
 
 -- A word with bit 63 set and a place of sectors below it.
@@ -39,14 +39,14 @@ module _ (p : ℕ) (sectors : p % 512 ≡ 0) (near : p ≤ max_offset) where
   copied-marked = let one : (2 ^ 63 + p) / 2 ^ 63 % 2 ≡ 1 = omega arith in rw one refl
 
   -- it is a sound word of the L1 table
-  pub copied-l1-word : (bits : ℕ) → is_place bits p ≡ true → IsTrue (l1_word_sound bits (2 ^ 63 + p))
+  pub copied-l1-word : (bits : ℕ) → is_cluster_offset bits p ≡ true → IsTrue (l1_entry_valid bits (2 ^ 63 + p))
   copied-l1-word bits place =
       let a : (2 ^ 63 + p) / 2 ^ 0 % 2 ^ 9 ≡ 0 = omega arith in
       let b : (2 ^ 63 + p) / 2 ^ 56 % 2 ^ 7 ≡ 0 = omega arith in
       rw (a, b, copied-offset, place) refl
 
   -- in an L2 table it names the place's cluster as copied data
-  pub copied-l2-word : (layout : Layout) → is_place layout.cluster_bits p ≡ true → p ≢ 0 → mapping_of layout (2 ^ 63 + p) ≡ data_at (p / 2 ^ layout.cluster_bits) true
+  pub copied-l2-word : (layout : Layout) → is_cluster_offset layout.cluster_bits p ≡ true → p ≢ 0 → mapping_of layout (2 ^ 63 + p) ≡ data_at (p / 2 ^ layout.cluster_bits) true
   unfolding mapping_of
   copied-l2-word layout place some =
       let a : (2 ^ 63 + p) / 2 ^ 62 % 2 ≡ 0 = omega arith in
@@ -67,7 +67,7 @@ module _ (bits c : ℕ) (low : 9 ≤ bits) (few : c * 2 ^ bits ≤ max_offset) w
       omega arith
 
   -- and where a cluster can begin
-  place-of : is_place bits (c * 2 ^ bits) ≡ true
+  place-of : is_cluster_offset bits (c * 2 ^ bits) ≡ true
   place-of =
       let begin : c * 2 ^ bits % 2 ^ bits ≡ 0 = mul-mod_left c (2 ^ bits) in
       let near : nat_le (c * 2 ^ bits) max_offset ≡ true = grind (arith, nat_tests) in
@@ -78,7 +78,7 @@ module _ (bits c : ℕ) (low : 9 ≤ bits) (few : c * 2 ^ bits ≤ max_offset) w
   fresh-below = copied-below (c * 2 ^ bits) sectors-of few
 
   -- it is a sound word of the L1 table
-  pub fresh-l1-word : IsTrue (l1_word_sound bits (2 ^ 63 + c * 2 ^ bits))
+  pub fresh-l1-word : IsTrue (l1_entry_valid bits (2 ^ 63 + c * 2 ^ bits))
   fresh-l1-word = copied-l1-word (c * 2 ^ bits) sectors-of few bits place-of
 
   -- it points to the cluster

@@ -4,7 +4,7 @@ use Rattle.std.specs.Prelude.{Bool, true, false, cond, nat_lt, IsFalse, if◌the
 use Rattle.imago_storage.specs.Disk.{byte}
 use Rattle.qcow2_types.specs.Bytes.{Bytes}
 use Rattle.qcow2_types.specs.Words.{data_at}
-use Rattle.qcow2_types.specs.Header.{Header, header_of, cluster_size, words_of_cluster, has_external_data}
+use Rattle.qcow2_types.specs.Header.{Header, header_of, cluster_size, entries_of_cluster, has_external_data}
 use Rattle.qcow2_types.specs.Entries.{l2_table}
 use Rattle.qcow2_types.specs.Slots.{slot, guest_slot}
 use Rattle.qcow2_types.specs.Disk.{at, qcow2, shown, shown_by, host_byte, in_qcow2}
@@ -45,7 +45,7 @@ module _ (f external : Bytes) (H : Header) (was : IsConsistent f H) where
   data-value p d copied is = guest-value p ∙ (ap (λ m. shown_by m (host_byte f external H.fields p) (byte 0)) is ∙ inside-byte p d)
 
   -- by the numbers of the table and of the word
-  pub slot-value : (p i j d : ℕ) (copied : Bool) → p / cluster_size H.fields / words_of_cluster H.fields ≡ i → p / cluster_size H.fields % words_of_cluster H.fields ≡ j → l2_table f H.fields i ≢ 0 → slot f H.fields i j ≡ data_at d copied
+  pub slot-value : (p i j d : ℕ) (copied : Bool) → p / cluster_size H.fields / entries_of_cluster H.fields ≡ i → p / cluster_size H.fields % entries_of_cluster H.fields ≡ j → l2_table f H.fields i ≢ 0 → slot f H.fields i j ≡ data_at d copied
       → at (qcow2 f external ∷ []) p ≡ byte (f (d * cluster_size H.fields + p % cluster_size H.fields))
   slot-value p i j d copied row column there is =
-      data-value p d copied (guest-slot-there f H.fields (p / cluster_size H.fields) (λ e. there (sym (ap (l2_table f H.fields) row) ∙ e)) ∙ (ap (λ r. slot f H.fields r (p / cluster_size H.fields % words_of_cluster H.fields)) row ∙ (ap (slot f H.fields i) column ∙ is)))
+      data-value p d copied (guest-slot-there f H.fields (p / cluster_size H.fields) (λ e. there (sym (ap (l2_table f H.fields) row) ∙ e)) ∙ (ap (λ r. slot f H.fields r (p / cluster_size H.fields % entries_of_cluster H.fields)) row ∙ (ap (slot f H.fields i) column ∙ is)))

@@ -5,8 +5,8 @@ use Rattle.std.proofs.lemmas.Bool.{cases_eq, cases_lt, le-ltb}
 use Rattle.std.proofs.lemmas.Bool.Decides.{nat_tests}
 use Rattle.std.proofs.lemmas.Nat.{mod_below}
 use Rattle.qcow2_types.specs.Bytes.{Bytes}
-use Rattle.qcow2_types.specs.Words.{Mapping, data_at, unmapped, unmarked_mapping}
-use Rattle.qcow2_types.specs.Header.{Fields, cluster_size, words_of_cluster}
+use Rattle.qcow2_types.specs.Words.{Mapping, data_at, unmapped, mapping_without_copied}
+use Rattle.qcow2_types.specs.Header.{Fields, cluster_size, entries_of_cluster}
 use Rattle.qcow2_types.specs.Entries.{entry, l2_table}
 use Rattle.imago_storage.specs.Disk.{Value}
 use Rattle.qcow2_types.specs.Disk.{shown, shown_by, host_byte}
@@ -31,61 +31,61 @@ choose-there : (t : ℕ) (a b : Mapping) → t ≢ 0 → (if t == 0 then a else 
 choose-there t a b there = grind (arith, nat_tests)
 
 -- the word of a guest cluster, in a table that there is
-pub guest-slot-there : (f : Bytes) (h : Fields) (guest : ℕ) → l2_table f h (guest / words_of_cluster h) ≢ 0 → guest_slot f h guest ≡ slot f h (guest / words_of_cluster h) (guest % words_of_cluster h)
-guest-slot-there f h guest there = choose-there (l2_table f h (guest / words_of_cluster h)) unmapped _ there
+pub guest-slot-there : (f : Bytes) (h : Fields) (guest : ℕ) → l2_table f h (guest / entries_of_cluster h) ≢ 0 → guest_slot f h guest ≡ slot f h (guest / entries_of_cluster h) (guest % entries_of_cluster h)
+guest-slot-there f h guest there = choose-there (l2_table f h (guest / entries_of_cluster h)) unmapped _ there
 
 -- and where there is none
-pub guest-slot-none : (f : Bytes) (h : Fields) (guest : ℕ) → l2_table f h (guest / words_of_cluster h) ≡ 0 → guest_slot f h guest ≡ unmapped
+pub guest-slot-none : (f : Bytes) (h : Fields) (guest : ℕ) → l2_table f h (guest / entries_of_cluster h) ≡ 0 → guest_slot f h guest ≡ unmapped
 guest-slot-none f h guest none = rw none refl
 
 -- the word of a guest cluster is one of a table that there is
-pub guest-live : (f : Bytes) (h : Fields) (guest : ℕ) → 0 < words_of_cluster h → l2_table f h (guest / words_of_cluster h) ≢ 0 → Live (l2_table f h) h (guest / words_of_cluster h) (guest % words_of_cluster h)
-guest-live f h guest some there = record { in_l1 = table-inside f h (guest / words_of_cluster h) there; is_there = there; in_table = mod_below guest (words_of_cluster h) some }
+pub guest-live : (f : Bytes) (h : Fields) (guest : ℕ) → 0 < entries_of_cluster h → l2_table f h (guest / entries_of_cluster h) ≢ 0 → Live (l2_table f h) h (guest / entries_of_cluster h) (guest % entries_of_cluster h)
+guest-live f h guest some there = record { in_l1 = table-inside f h (guest / entries_of_cluster h) there; is_there = there; in_table = mod_below guest (entries_of_cluster h) some }
 
 -- where all words are kept, so are the mappings of guest clusters
-pub guest-kept : (f x : Bytes) (h : Fields) → KeepsSlots f x h → 0 < words_of_cluster h → (guest : ℕ) → guest_slot x h guest ≡ guest_slot f h guest
-guest-kept f x h keeps some guest = elim (cases_eq (l2_table f h (guest / words_of_cluster h)) 0) [
-  | inl e ↦ guest-slot-none x h guest (keeps.places.l1 (guest / words_of_cluster h) ∙ e) ∙ sym (guest-slot-none f h guest e)
+pub guest-kept : (f x : Bytes) (h : Fields) → KeepsSlots f x h → 0 < entries_of_cluster h → (guest : ℕ) → guest_slot x h guest ≡ guest_slot f h guest
+guest-kept f x h keeps some guest = elim (cases_eq (l2_table f h (guest / entries_of_cluster h)) 0) [
+  | inl e ↦ guest-slot-none x h guest (keeps.places.l1 (guest / entries_of_cluster h) ∙ e) ∙ sym (guest-slot-none f h guest e)
   | inr there ↦
-      guest-slot-there x h guest (λ e. there (sym (keeps.places.l1 (guest / words_of_cluster h)) ∙ e))
-      ∙ (keeps.slots (guest / words_of_cluster h) (guest % words_of_cluster h) (guest-live f h guest some there) ∙ sym (guest-slot-there f h guest there))
+      guest-slot-there x h guest (λ e. there (sym (keeps.places.l1 (guest / entries_of_cluster h)) ∙ e))
+      ∙ (keeps.slots (guest / entries_of_cluster h) (guest % entries_of_cluster h) (guest-live f h guest some there) ∙ sym (guest-slot-there f h guest there))
 ]
 
 -- The write lies in a cluster that no mapping names.
-module _ (f x : Bytes) (h : Fields) (sound : IsTrue (tables_sound f h)) (some : 0 < words_of_cluster h) (c at n : ℕ) (out : Outside f x at n) (low : c * cluster_size h ≤ at) (high : at + n ≤ (c + 1) * cluster_size h)
+module _ (f x : Bytes) (h : Fields) (sound : IsTrue (tables_sound f h)) (some : 0 < entries_of_cluster h) (c at n : ℕ) (out : Outside f x at n) (low : c * cluster_size h ≤ at) (high : at + n ≤ (c + 1) * cluster_size h)
     (none : contents f h (of_mapping h (meets h c)) ≡ 0) where
   -- the cluster that a guest cluster's mapping names keeps its bytes
   data-kept : (guest d : ℕ) (copied : Bool) → entry f h guest ≡ data_at d copied → Same f x (d * cluster_size h) (cluster_size h)
-  data-kept guest d copied is = elim (cases_eq (l2_table f h (guest / words_of_cluster h)) 0) [
+  data-kept guest d copied is = elim (cases_eq (l2_table f h (guest / entries_of_cluster h)) 0) [
     | inl empty ↦ let bad : unmapped ≡ data_at d copied = sym (guest-slot-none f h guest empty) ∙ (sym (entry-slot f h guest sound) ∙ is) in absurd cc
     | inr there ↦
-        let live : Live (l2_table f h) h (guest / words_of_cluster h) (guest % words_of_cluster h) = guest-live f h guest some there in
+        let live : Live (l2_table f h) h (guest / entries_of_cluster h) (guest % entries_of_cluster h) = guest-live f h guest some there in
         let all : over_slots (l2_table f h) h (λ i j. of_mapping h (meets h c) (slot f h i j)) ≡ 0 = sym (contents-slots f h (of_mapping h (meets h c))) ∙ none in
-        let one : of_mapping h (meets h c) (slot f h (guest / words_of_cluster h) (guest % words_of_cluster h)) ≤ over_slots (l2_table f h) h (λ i j. of_mapping h (meets h c) (slot f h i j)) =
-        slot-le (l2_table f h) h (λ i j. of_mapping h (meets h c) (slot f h i j)) (guest / words_of_cluster h) (guest % words_of_cluster h) live in
-        data-apart f x h c at n out low high (slot f h (guest / words_of_cluster h) (guest % words_of_cluster h)) (omega arith) d copied (sym (guest-slot-there f h guest there) ∙ (sym (entry-slot f h guest sound) ∙ is))
+        let one : of_mapping h (meets h c) (slot f h (guest / entries_of_cluster h) (guest % entries_of_cluster h)) ≤ over_slots (l2_table f h) h (λ i j. of_mapping h (meets h c) (slot f h i j)) =
+        slot-le (l2_table f h) h (λ i j. of_mapping h (meets h c) (slot f h i j)) (guest / entries_of_cluster h) (guest % entries_of_cluster h) live in
+        data-apart f x h c at n out low high (slot f h (guest / entries_of_cluster h) (guest % entries_of_cluster h)) (omega arith) d copied (sym (guest-slot-there f h guest there) ∙ (sym (entry-slot f h guest sound) ∙ is))
   ]
 
   -- So a place whose mapping is the same, but perhaps for the mark, shows the same.
-  pub values-kept : (external : Bytes) (p : ℕ) (below : Value) → unmarked_mapping (entry x h (p / cluster_size h)) ≡ unmarked_mapping (entry f h (p / cluster_size h)) → shown x external h p below ≡ shown f external h p below
+  pub values-kept : (external : Bytes) (p : ℕ) (below : Value) → mapping_without_copied (entry x h (p / cluster_size h)) ≡ mapping_without_copied (entry f h (p / cluster_size h)) → shown x external h p below ≡ shown f external h p below
   values-kept external p below same =
       unmarked-value (entry x h (p / cluster_size h)) (host_byte x external h p) below
       ∙ (ap (λ m. shown_by m (host_byte x external h p) below) same
       ∙ (sym (unmarked-value (entry f h (p / cluster_size h)) (host_byte x external h p) below)
       ∙ same-value x f external h p below (entry f h (p / cluster_size h)) (data-kept (p / cluster_size h))))
 
-module _ (f x : Bytes) (h : Fields) (sound : IsTrue (tables_sound f h)) (sound' : IsTrue (tables_sound x h)) (some : 0 < words_of_cluster h)
+module _ (f x : Bytes) (h : Fields) (sound : IsTrue (tables_sound f h)) (sound' : IsTrue (tables_sound x h)) (some : 0 < entries_of_cluster h)
     (guest : ℕ) (same : guest_slot x h guest ≡ guest_slot f h guest) where
   -- the entries are the same where the words are
   pub entries-same : entry x h guest ≡ entry f h guest
   entries-same = entry-slot x h guest sound' ∙ (same ∙ sym (entry-slot f h guest sound))
 
   -- a guest cluster shows the same where the cluster that its word names keeps its bytes
-  pub shows-by : (Live (l2_table f h) h (guest / words_of_cluster h) (guest % words_of_cluster h) → (d : ℕ) (copied : Bool) → slot f h (guest / words_of_cluster h) (guest % words_of_cluster h) ≡ data_at d copied → Same f x (d * cluster_size h) (cluster_size h))
+  pub shows-by : (Live (l2_table f h) h (guest / entries_of_cluster h) (guest % entries_of_cluster h) → (d : ℕ) (copied : Bool) → slot f h (guest / entries_of_cluster h) (guest % entries_of_cluster h) ≡ data_at d copied → Same f x (d * cluster_size h) (cluster_size h))
       → ShowsAs x f h guest
   shows-by bytes = record {
     mapping = entries-same;
-    bytes = λ d copied e. elim (cases_eq (l2_table f h (guest / words_of_cluster h)) 0) [
+    bytes = λ d copied e. elim (cases_eq (l2_table f h (guest / entries_of_cluster h)) 0) [
       | inl none ↦ let bad : unmapped ≡ data_at d copied = sym (guest-slot-none f h guest none) ∙ (sym (entry-slot f h guest sound) ∙ (sym entries-same ∙ e)) in absurd cc
       | inr there ↦ bytes (guest-live f h guest some there) d copied (sym (guest-slot-there f h guest there) ∙ (sym (entry-slot f h guest sound) ∙ (sym entries-same ∙ e)))
     ];

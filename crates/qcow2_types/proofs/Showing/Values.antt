@@ -5,8 +5,8 @@ use Rattle.std.proofs.lemmas.Bool.{cases_lt, le-ltb}
 use Rattle.std.proofs.lemmas.Bool.Decides.{nat_tests}
 use Rattle.std.proofs.lemmas.Nat.{mod_below, pow_pos}
 use Rattle.qcow2_types.specs.Bytes.{Bytes, all_below}
-use Rattle.qcow2_types.specs.Words.{Mapping, data_at, zeroes, packed, unmapped, damaged, unmarked_mapping}
-use Rattle.qcow2_types.specs.Header.{Fields, cluster_size, words_of_cluster, has_external_data}
+use Rattle.qcow2_types.specs.Words.{Mapping, data_at, zeroes, packed, unmapped, damaged, mapping_without_copied}
+use Rattle.qcow2_types.specs.Header.{Fields, cluster_size, entries_of_cluster, has_external_data}
 use Rattle.qcow2_types.specs.Entries.{entry, l2_table, l2_table_sound, l1_table_sound}
 use Rattle.qcow2_types.specs.Disk.{shown_by, host_byte, shown}
 use Rattle.imago_storage.specs.Disk.{Value, byte}
@@ -16,7 +16,7 @@ use Rattle.qcow2_types.specs.Frames.{Same, ShowsAs}
 use Rattle.qcow2_types.specs.Slots.{guest_slot}
 
 -- the mark of a cluster says nothing of its value
-pub unmarked-value : (m : Mapping) (host : ℕ → Value) (below : Value) → shown_by m host below ≡ shown_by (unmarked_mapping m) host below
+pub unmarked-value : (m : Mapping) (host : ℕ → Value) (below : Value) → shown_by m host below ≡ shown_by (mapping_without_copied m) host below
 unmarked-value (data_at n copied) host below = refl
 unmarked-value (zeroes n copied) host below = refl
 unmarked-value (packed offset length) host below = refl
@@ -57,7 +57,7 @@ value-either x f g external h like p below = elim (like (p / cluster_size h)) [
 pub entry-slot : (f : Bytes) (h : Fields) (guest : ℕ) → IsTrue (tables_sound f h) → entry f h guest ≡ guest_slot f h guest
 unfolding entry tables_sound
 entry-slot f h guest sound =
-    let i : ℕ = guest / words_of_cluster h in
+    let i : ℕ = guest / entries_of_cluster h in
     let l1 : l1_table_sound f h ≡ true = grind (arith, nat_tests) in
     let all : all_below h.l1_entries (λ k. (l2_table f h k == 0) || l2_table_sound f h (l2_table f h k)) ≡ true = grind (arith, nat_tests) in
     elim (cases_lt i h.l1_entries) [

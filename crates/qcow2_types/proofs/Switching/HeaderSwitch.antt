@@ -8,16 +8,16 @@ use Rattle.std.proofs.Math.Path.{fun_ext}
 use Rattle.imago_storage.specs.declared.fault.Fault.{Fault}
 use Rattle.imago_storage.specs.declared.fault.Fault.TheVariants.{DamagedHeader, Unsupported}
 use Rattle.qcow2_types.specs.Bytes.{Bytes, be, run, splice}
-use Rattle.qcow2_types.specs.Header.{Fields, Header, Shaped, Limited, Extension, words_of_cluster, fields_of, header_of, texts_of, cluster_size, rules_of_kind, rules_of_shape, rules_of_size, rules_of_writing, first_fault, ◌and-then◌, backing_name_read, has_backing_name, extensions_read, extensions_end, extensions_at, extension_at, and_more, after, is_version_3, ◌>>=◌, text_read, last_of}
+use Rattle.qcow2_types.specs.Header.{Fields, Header, Shaped, Limited, Extension, entries_of_cluster, fields_of, header_of, texts_of, cluster_size, rules_of_kind, rules_of_shape, rules_of_size, rules_of_writing, first_fault, ◌and-then◌, backing_name_read, has_backing_name, extensions_read, extensions_end, extensions_at, extension_at, and_more, after, is_version_3, ◌>>=◌, text_read, last_of}
 use Rattle.qcow2_types.specs.OnDisk.{Holds}
 use Rattle.qcow2_types.specs.HeaderBytes.{first_bytes}
-use Rattle.qcow2_types.specs.HeaderSwitch.{with_tables_of, with_places, OnlyPlaces, FirstFieldsFit, IsNameBehind}
+use Rattle.qcow2_types.specs.HeaderSwitch.{with_tables_of, with_places, OnlyPlaces, FirstFieldsFit, IsNameAfterFields}
 use Rattle.qcow2_types.proofs.Numbers.Digits.{be-below}
 use Rattle.qcow2_types.proofs.Numbers.Splices.{be-splice-apart, splice-outside, splice-inside}
 use Rattle.qcow2_types.proofs.Fields.HeaderFields.{number-there_4, number-there_8}
 use Rattle.qcow2_types.proofs.Fields.HeaderFrame.{header-fields, header-shaped, two-passed}
 use Rattle.qcow2_types.proofs.Fields.HeaderLimits.{fields-limited}
-use Rattle.qcow2_types.specs.Words.{has_bit, is_place, max_offset}
+use Rattle.qcow2_types.specs.Words.{has_bit, is_cluster_offset, max_offset}
 use Rattle.std.proofs.lemmas.Nat.{mul-le, le-div}
 use Rattle.std.proofs.Math.Nat.{pow-le-pow_right}
 
@@ -154,7 +154,7 @@ module _ (f : Bytes) (bytes : List ℕ) (size : length bytes ≡ 64) where
       ∙ ap (λ (more : Extension → Result (List Extension) Fault). extension_at f end at >>= and_more more) (fun_ext (λ x. extensions-behind k end (after at x) (omega arith)))
 
   -- the texts
-  texts-behind : (h : Fields) → IsNameBehind h → (is_version_3 h ≡ true → 64 ≤ h.header_length) → texts_of (splice f 0 bytes) h ≡ texts_of f h
+  texts-behind : (h : Fields) → IsNameAfterFields h → (is_version_3 h ≡ true → 64 ≤ h.header_length) → texts_of (splice f 0 bytes) h ≡ texts_of f h
   unfolding texts_of
   texts-behind h name rest =
       let named : backing_name_read (splice f 0 bytes) h ≡ backing_name_read f h =
@@ -278,7 +278,7 @@ unfolding fields_of
 version-there f h is = ap (λ (x : Fields). x.version) is
 
 -- The header of a file is the old one with the size and the places that were written.
-pub switch-header : (writing : Bool) (f : Bytes) (H H' : Header) → header_of writing f ≡ Ok H → OnlyPlaces H H' → FirstFieldsFit H'.fields → first_fault (rules_of_size H'.fields) ≡ None → IsNameBehind H.fields
+pub switch-header : (writing : Bool) (f : Bytes) (H H' : Header) → header_of writing f ≡ Ok H → OnlyPlaces H H' → FirstFieldsFit H'.fields → first_fault (rules_of_size H'.fields) ≡ None → IsNameAfterFields H.fields
     → header_of writing (splice f 0 (first_bytes H'.fields)) ≡ Ok H'
 switch-header writing f H H' loads only fit sizes name =
     let fields : H'.fields ≡ with_tables_of H'.fields H.fields = ap (λ (r : Header). r.fields) only.same in
@@ -308,7 +308,7 @@ switch-header writing f H H' loads only fit sizes name =
         header-made writing g w (with_places other H) (kind-kept g (first-magic g w held fit) known) (switch-fields f other H.fields is fit) shape sizes read last
 
 -- a place of a cluster is at most the greatest
-place-low : (bits offset : ℕ) → is_place bits offset ≡ true → offset ≤ max_offset
+place-low : (bits offset : ℕ) → is_cluster_offset bits offset ≡ true → offset ≤ max_offset
 place-low bits offset is = split (offset % 2 ^ bits == 0) is
   where
     split : (a : Bool) → (a && nat_le offset max_offset) ≡ true → offset ≤ max_offset
@@ -316,8 +316,8 @@ place-low bits offset is = split (offset % 2 ^ bits == 0) is
     split false e = absurd cc
 
 -- a table has as many words as clusters, at least
-clusters-below : (clusters words most : ℕ) → 1 ≤ words → clusters * words ≤ most → clusters ≤ most
-clusters-below clusters words most some le = let more : clusters * 1 ≤ clusters * words = mul-le clusters 1 clusters words (omega arith) some in omega arith
+clusters-below : (clusters raw_entries most : ℕ) → 1 ≤ raw_entries → clusters * raw_entries ≤ most → clusters ≤ most
+clusters-below clusters raw_entries most some le = let more : clusters * 1 ≤ clusters * raw_entries = mul-le clusters 1 clusters raw_entries (omega arith) some in omega arith
 
 -- Where a file's bytes are bytes, the numbers in the new header fit their fields.
 pub first-fields-fit : (writing : Bool) (f : Bytes) (H H' : Header) → ((p : ℕ) → f p < 256) → header_of writing f ≡ Ok H → OnlyPlaces H H' → first_fault (rules_of_size H'.fields) ≡ None → FirstFieldsFit H'.fields
@@ -330,10 +330,10 @@ first-fields-fit writing f H H' bytes loads only sizes =
     let bits : H'.fields.cluster_bits ≡ H.fields.cluster_bits = ap (λ (h : Fields). h.cluster_bits) fields in
     let low : 9 ≤ H'.fields.cluster_bits = omega (arith, old.low) in
     let size : 2 ^ 9 ≤ 2 ^ H'.fields.cluster_bits = pow-le-pow_right (omega arith) low in
-    let words : 1 ≤ words_of_cluster H'.fields = le-div 1 (cluster_size H'.fields) 8 (omega arith) (omega arith) in
+    let raw_entries : 1 ≤ entries_of_cluster H'.fields = le-div 1 (cluster_size H'.fields) 8 (omega arith) (omega arith) in
     let l1 = place-low H'.fields.cluster_bits H'.fields.l1_offset limited.l1_place in
     let table = place-low H'.fields.cluster_bits H'.fields.refcount_table_offset limited.refcount_place in
-    let clusters = clusters-below H'.fields.refcount_table_clusters (words_of_cluster H'.fields) (2 ^ 20) words limited.refcount_entries in
+    let clusters = clusters-below H'.fields.refcount_table_clusters (entries_of_cluster H'.fields) (2 ^ 20) raw_entries limited.refcount_entries in
     record {
       version = stays _ _ _ _ (ap (λ (h : Fields). h.version) fields) (ap (λ (h : Fields). h.version) is) (be-below f bytes 4 4);
       backing_offset = stays _ _ _ _ (ap (λ (h : Fields). h.backing_offset) fields) (ap (λ (h : Fields). h.backing_offset) is) (be-below f bytes 8 8);
@@ -352,8 +352,8 @@ first-fields-fit writing f H H' bytes loads only sizes =
     stays now was there n a b fits = omega arith
 
 -- A header that loads for writing has its backing file's name, if there is one, behind the bytes that a pointer write writes.
-pub name-behind : (f : Bytes) (H : Header) → header_of true f ≡ Ok H → IsNameBehind H.fields
-name-behind f H loads = subst IsNameBehind (sym (header-fields true f H loads)) (λ named. behind (fields_of f) named (loaded-parts true f H loads).writing_allowed)
+pub name-behind : (f : Bytes) (H : Header) → header_of true f ≡ Ok H → IsNameAfterFields H.fields
+name-behind f H loads = subst IsNameAfterFields (sym (header-fields true f H loads)) (λ named. behind (fields_of f) named (loaded-parts true f H loads).writing_allowed)
   where
     behind : (h : Fields) → has_backing_name h ≡ true → first_fault (rules_of_writing true h) ≡ None → 64 ≤ h.backing_offset
     behind h named passed =

@@ -3,15 +3,15 @@ use Rattle.std.proofs.Common.{◌≡◌, ◌≢◌, ℕ, ◌+◌, ◌*◌, ◌/�
 use Rattle.std.specs.Prelude.{true, false, ◌⊎◌, nat_lt, IsTrue, Ok}
 use Rattle.std.proofs.lemmas.Bool.{cases_eq, cases_lt, lt-ltb, le-ltb}
 use Rattle.std.proofs.lemmas.Bool.Decides.{nat_tests}
-use Rattle.qcow2_types.specs.Bytes.{Bytes, word, sum_below}
-use Rattle.qcow2_types.specs.Words.{Mapping, is_damaged, l1_word_sound, block_word_sound, table_offset, mapping_of}
+use Rattle.qcow2_types.specs.Bytes.{Bytes, raw_entry, sum_below}
+use Rattle.qcow2_types.specs.Words.{Mapping, is_damaged, l1_entry_valid, reftable_entry_valid, table_offset, mapping_of}
 use Rattle.qcow2_types.proofs.Showing.Values.{entry-slot}
 use Rattle.qcow2_types.proofs.Showing.Shows.{guest-live, guest-slot-there, guest-slot-none}
-use Rattle.qcow2_types.specs.Header.{Fields, Header, header_of, cluster_size, words_of_cluster, refcount_table_entries, layout_of}
+use Rattle.qcow2_types.specs.Header.{Fields, Header, header_of, cluster_size, entries_of_cluster, refcount_table_entries, layout_of}
 use Rattle.qcow2_types.specs.Entries.{l2_table, entry}
 use Rattle.qcow2_types.specs.Counts.{block_at, count, counter}
-use Rattle.qcow2_types.specs.Slots.{slot, Live, over_slots, or_none, guest_slot, SoundWords}
-use Rattle.qcow2_types.specs.Frames.{Outside, Kept, first_cluster}
+use Rattle.qcow2_types.specs.Slots.{slot, Live, over_slots, or_none, guest_slot, ValidEntries}
+use Rattle.qcow2_types.specs.Frames.{Outside, SameStructureOutside, first_cluster}
 use Rattle.qcow2_types.specs.References.{Weight, structure, of_cluster, contents, of_mapping, of_copied, meets, refs}
 use Rattle.qcow2_types.specs.Consistency.{IsConsistent}
 use Rattle.qcow2_types.proofs.Counting.Consistent.{some-words, consistent-shaped, structure-named-once, copied-named-once, named-counted, consistent-from}
@@ -24,7 +24,7 @@ use Rattle.qcow2_types.specs.Switched.{with_l1, with_l1_table, L1Switched}
 use Rattle.qcow2_types.proofs.Switching.Switches.{sum-longer, cluster-long, first-named, start-kept, start-free, start-mapped, start-values}
 
 module _ (f g : Bytes) (H : Header) (was : IsConsistent f H) (o more : ℕ) (loads : header_of true g ≡ Ok (with_l1_table H o (H.fields.l1_entries + more))) (out : Outside f g 0 64)
-    (old_words : (i : ℕ) → i < H.fields.l1_entries → word f o i ≡ word f H.fields.l1_offset i) (new_words : (i : ℕ) → H.fields.l1_entries ≤ i → i < H.fields.l1_entries + more → word f o i ≡ 0)
+    (old_words : (i : ℕ) → i < H.fields.l1_entries → raw_entry f o i ≡ raw_entry f H.fields.l1_offset i) (new_words : (i : ℕ) → H.fields.l1_entries ≤ i → i < H.fields.l1_entries + more → raw_entry f o i ≡ 0)
     (free : (d : ℕ) → 0 < meets H.fields d o ((H.fields.l1_entries + more) * 8) → (refs f H.fields d ≡ 0) × (1 ≤ count f H.fields d)) where
   h : Fields
   h = H.fields
@@ -40,7 +40,7 @@ module _ (f g : Bytes) (H : Header) (was : IsConsistent f H) (o more : ℕ) (loa
   size = cluster-long f H was
 
   -- the structure beside the header is kept
-  kept : Kept f g H.fields first_cluster
+  kept : SameStructureOutside f g H.fields first_cluster
   kept = start-kept f g H was out
 
   -- so a new table with words stands behind it
@@ -56,8 +56,8 @@ module _ (f g : Bytes) (H : Header) (was : IsConsistent f H) (o more : ℕ) (loa
   ]
 
   -- and keeps its words
-  words-there : (i : ℕ) → i < H.fields.l1_entries + more → word g o i ≡ word f o i
-  unfolding word
+  words-there : (i : ℕ) → i < H.fields.l1_entries + more → raw_entry g o i ≡ raw_entry f o i
+  unfolding raw_entry
   words-there i lt =
       let s : 512 ≤ cluster_size H.fields = size in
       let far : cluster_size H.fields ≤ o = behind (omega arith) in
@@ -69,13 +69,13 @@ module _ (f g : Bytes) (H : Header) (was : IsConsistent f H) (o more : ℕ) (loa
     | inl lt ↦
         let now : nat_lt i (H.fields.l1_entries + more) ≡ true = lt-ltb _ _ (omega arith) in
         let then : nat_lt i H.fields.l1_entries ≡ true = lt-ltb _ _ lt in
-        let w : word g o i ≡ word f H.fields.l1_offset i = words-there i (omega arith) ∙ old_words i lt in
+        let w : raw_entry g o i ≡ raw_entry f H.fields.l1_offset i = words-there i (omega arith) ∙ old_words i lt in
         rw (now, then) (ap table_offset w)
     | inr le ↦ elim (cases_lt i (H.fields.l1_entries + more)) [
       | inl lt ↦
           let now : nat_lt i (H.fields.l1_entries + more) ≡ true = lt-ltb _ _ lt in
           let then : nat_lt i H.fields.l1_entries ≡ false = le-ltb _ _ le in
-          let w : word g o i ≡ 0 = words-there i lt ∙ new_words i le lt in
+          let w : raw_entry g o i ≡ 0 = words-there i lt ∙ new_words i le lt in
           rw (now, then) (ap table_offset w)
       | inr past ↦
           let now : nat_lt i (H.fields.l1_entries + more) ≡ false = le-ltb _ _ past in
@@ -90,7 +90,7 @@ module _ (f g : Bytes) (H : Header) (was : IsConsistent f H) (o more : ℕ) (loa
 
   -- the words of the L2 tables,
   pub switched-slots : (i j : ℕ) → Live (l2_table f H.fields) H.fields i j → slot g (with_l1 H.fields o (H.fields.l1_entries + more)) i j ≡ slot f H.fields i j
-  switched-slots i j live = ap (λ t. mapping_of (layout_of H.fields) (word g t j)) (switched-tables i) ∙ ap (mapping_of (layout_of H.fields)) (kept.words i j live (λ e. cc))
+  switched-slots i j live = ap (λ t. mapping_of (layout_of H.fields) (raw_entry g t j)) (switched-tables i) ∙ ap (mapping_of (layout_of H.fields)) (kept.raw_entries i j live (λ e. cc))
 
   -- and the counts.
   pub switched-counts : (d : ℕ) → count g (with_l1 H.fields o (H.fields.l1_entries + more)) d ≡ count f H.fields d
@@ -122,12 +122,12 @@ module _ (f g : Bytes) (H : Header) (was : IsConsistent f H) (o more : ℕ) (loa
       ∙ (sum-longer H.fields.l1_entries more _ (λ i le. rw (none-past' i le) refl)
       ∙ (sum-same _ _ _ (λ k less. row k less) ∙ sym (contents-slots f H.fields of)))
     where
-      row : (k : ℕ) → k < H.fields.l1_entries → or_none (l2_table g (with_l1 H.fields o (H.fields.l1_entries + more)) k) (sum_below (words_of_cluster H.fields) (λ j. of (slot g (with_l1 H.fields o (H.fields.l1_entries + more)) k j)))
-          ≡ or_none (l2_table f H.fields k) (sum_below (words_of_cluster H.fields) (λ j. of (slot f H.fields k j)))
+      row : (k : ℕ) → k < H.fields.l1_entries → or_none (l2_table g (with_l1 H.fields o (H.fields.l1_entries + more)) k) (sum_below (entries_of_cluster H.fields) (λ j. of (slot g (with_l1 H.fields o (H.fields.l1_entries + more)) k j)))
+          ≡ or_none (l2_table f H.fields k) (sum_below (entries_of_cluster H.fields) (λ j. of (slot f H.fields k j)))
       row k less = elim (cases_eq (l2_table f H.fields k) 0) [
         | inl e ↦ rw (switched-tables k, e) refl
         | inr is ↦
-            ap (λ p. or_none p (sum_below (words_of_cluster H.fields) (λ j. of (slot g (with_l1 H.fields o (H.fields.l1_entries + more)) k j)))) (switched-tables k)
+            ap (λ p. or_none p (sum_below (entries_of_cluster H.fields) (λ j. of (slot g (with_l1 H.fields o (H.fields.l1_entries + more)) k j)))) (switched-tables k)
             ∙ ap (or_none (l2_table f H.fields k)) (sum-same _ _ _ (λ j few. ap of (switched-slots k j record { in_l1 = less; is_there = is; in_table = few })))
       ]
 
@@ -144,15 +144,15 @@ module _ (f g : Bytes) (H : Header) (was : IsConsistent f H) (o more : ℕ) (loa
   meets-most d first length = grind (arith, nat_tests)
 
   -- the tables stay sound
-  switched-sound : SoundWords g (with_l1 H.fields o (H.fields.l1_entries + more))
+  switched-sound : ValidEntries g (with_l1 H.fields o (H.fields.l1_entries + more))
   switched-sound =
-      let sound : SoundWords f H.fields = sound-words f H.fields was.readable.tables in
+      let sound : ValidEntries f H.fields = sound-words f H.fields was.readable.tables in
       record {
         l1 = λ i lt. elim (cases_lt i H.fields.l1_entries) [
-          | inl less ↦ ap (l1_word_sound H.fields.cluster_bits) (words-there i lt ∙ old_words i less) ∙ sound.l1 i less
-          | inr le ↦ ap (l1_word_sound H.fields.cluster_bits) (words-there i lt ∙ new_words i le lt) ∙ zero-sound
+          | inl less ↦ ap (l1_entry_valid H.fields.cluster_bits) (words-there i lt ∙ old_words i less) ∙ sound.l1 i less
+          | inr le ↦ ap (l1_entry_valid H.fields.cluster_bits) (words-there i lt ∙ new_words i le lt) ∙ zero-sound
         ];
-        blocks = λ i lt. subst (λ w. IsTrue (block_word_sound H.fields.cluster_bits w)) (sym (kept.blocks i lt (λ e. cc))) (sound.blocks i lt);
+        blocks = λ i lt. subst (λ w. IsTrue (reftable_entry_valid H.fields.cluster_bits w)) (sym (kept.blocks i lt (λ e. cc))) (sound.blocks i lt);
         slots = λ i j live.
             let is : l2_table f H.fields i ≢ 0 = λ e. live.is_there (switched-tables i ∙ e) in
             let old : Live (l2_table f H.fields) H.fields i j = record { in_l1 = in-old i is; is_there = is; in_table = live.in_table } in
@@ -162,7 +162,7 @@ module _ (f g : Bytes) (H : Header) (was : IsConsistent f H) (o more : ℕ) (loa
       in-old : (i : ℕ) → l2_table f H.fields i ≢ 0 → i < H.fields.l1_entries
       in-old i is = elim (cases_lt i H.fields.l1_entries) [ inl lt ↦ lt | inr le ↦ absurd (is (none-past i le)) ]
 
-      zero-sound : l1_word_sound H.fields.cluster_bits 0 ≡ true
+      zero-sound : l1_entry_valid H.fields.cluster_bits 0 ≡ true
       zero-sound = grind (arith, nat_tests)
 
   -- The image is consistent under the new header.
@@ -220,23 +220,23 @@ module _ (f g : Bytes) (H : Header) (was : IsConsistent f H) (o more : ℕ) (loa
   -- Each guest cluster has the mapping that it had.
   pub switched-entry : (guest : ℕ) → entry g (with_l1 H.fields o (H.fields.l1_entries + more)) guest ≡ entry f H.fields guest
   switched-entry guest =
-      let words : 0 < words_of_cluster H.fields = some-words H.fields (consistent-shaped f H was) in
+      let raw_entries : 0 < entries_of_cluster H.fields = some-words H.fields (consistent-shaped f H was) in
       entry-slot g (with_l1 H.fields o (H.fields.l1_entries + more)) guest switched-consistent.readable.tables
-      ∙ (same words ∙ sym (entry-slot f H.fields guest was.readable.tables))
+      ∙ (same raw_entries ∙ sym (entry-slot f H.fields guest was.readable.tables))
     where
-      same : 0 < words_of_cluster H.fields → guest_slot g (with_l1 H.fields o (H.fields.l1_entries + more)) guest ≡ guest_slot f H.fields guest
-      same words = elim (cases_eq (l2_table f H.fields (guest / words_of_cluster H.fields)) 0) [
-        | inl z ↦ guest-slot-none g (with_l1 H.fields o (H.fields.l1_entries + more)) guest (switched-tables (guest / words_of_cluster H.fields) ∙ z) ∙ sym (guest-slot-none f H.fields guest z)
+      same : 0 < entries_of_cluster H.fields → guest_slot g (with_l1 H.fields o (H.fields.l1_entries + more)) guest ≡ guest_slot f H.fields guest
+      same raw_entries = elim (cases_eq (l2_table f H.fields (guest / entries_of_cluster H.fields)) 0) [
+        | inl z ↦ guest-slot-none g (with_l1 H.fields o (H.fields.l1_entries + more)) guest (switched-tables (guest / entries_of_cluster H.fields) ∙ z) ∙ sym (guest-slot-none f H.fields guest z)
         | inr is ↦
-            guest-slot-there g (with_l1 H.fields o (H.fields.l1_entries + more)) guest (λ z. is (sym (switched-tables (guest / words_of_cluster H.fields)) ∙ z))
-            ∙ (switched-slots (guest / words_of_cluster H.fields) (guest % words_of_cluster H.fields) (guest-live f H.fields guest words is) ∙ sym (guest-slot-there f H.fields guest is))
+            guest-slot-there g (with_l1 H.fields o (H.fields.l1_entries + more)) guest (λ z. is (sym (switched-tables (guest / entries_of_cluster H.fields)) ∙ z))
+            ∙ (switched-slots (guest / entries_of_cluster H.fields) (guest % entries_of_cluster H.fields) (guest-live f H.fields guest raw_entries is) ∙ sym (guest-slot-there f H.fields guest is))
       ]
 
   pub l1-table-switched : L1Switched f g H o more
   l1-table-switched = record {
     consistent = switched-consistent;
-    kept = kept;
-    words = words-there;
+    same_structure_outside = kept;
+    raw_entries = words-there;
     tables = switched-tables;
     slots = switched-slots;
     blocks = switched-blocks;

@@ -8,8 +8,8 @@ use Rattle.qcow2_types.specs.Entries.{entry, l1_table_sound, l2_table_sound}
 use Rattle.qcow2_types.specs.Counts.{count, counter, counters_of_block}
 use Rattle.qcow2_types.specs.References.{Weight, structure, contents, of_table, of_copied, meets, refs}
 use Rattle.qcow2_types.specs.Consistency.{IsConsistent, tables_sound, leaks_below, leak_at}
-use Rattle.qcow2_types.specs.Slots.{SoundWords}
-use Rattle.qcow2_types.specs.Frames.{Outside, Kept, first_cluster}
+use Rattle.qcow2_types.specs.Slots.{ValidEntries}
+use Rattle.qcow2_types.specs.Frames.{Outside, SameStructureOutside, first_cluster}
 use Rattle.qcow2_types.specs.Versions.{KeepsSlots}
 use Rattle.qcow2_types.specs.Switched.{sized, with_size, SizeSwitched}
 use Rattle.qcow2_types.proofs.Counting.Consistent.{some-words, consistent-shaped, structure-named-once, copied-named-once, named-counted, consistent-from}
@@ -48,7 +48,7 @@ sized-entry f h n guest = refl
 
 module _ (f g : Bytes) (H : Header) (was : IsConsistent f H) (n : ℕ) (loads : header_of true g ≡ Ok (with_size H n)) (out : Outside f g 0 64) where
   -- the structure beside the header is kept
-  kept : Kept f g H.fields first_cluster
+  kept : SameStructureOutside f g H.fields first_cluster
   kept = start-kept f g H was out
 
   -- and so are all mappings,
@@ -56,7 +56,7 @@ module _ (f g : Bytes) (H : Header) (was : IsConsistent f H) (n : ℕ) (loads : 
   keeps = kept-keeps f g H was first_cluster kept (λ i e. cc) (λ i e. cc) (λ i e. cc)
 
   -- the words of the tables stay sound,
-  sound : SoundWords g H.fields
+  sound : ValidEntries g H.fields
   sound = kept-sound f g H was first_cluster kept (λ i e. cc) (λ i e. cc) (λ i e. cc)
 
   -- each cluster is counted as often,
@@ -115,7 +115,7 @@ module _ (f g : Bytes) (H : Header) (was : IsConsistent f H) (n : ℕ) (loads : 
   pub size-switched : SizeSwitched f g H n
   size-switched = record {
     consistent = consistent;
-    kept = kept;
+    same_structure_outside = kept;
     tables = keeps.places.l1;
     slots = keeps.slots;
     blocks = keeps.places.blocks;

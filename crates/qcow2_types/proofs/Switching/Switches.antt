@@ -3,16 +3,16 @@ use Rattle.std.proofs.Common.{◌≡◌, ◌≢◌, ℕ, zero, suc, ◌+◌, ◌
 use Rattle.std.specs.Prelude.{◌/◌, false, nat_lt, IsTrue}
 use Rattle.imago_storage.specs.Disk.{Value}
 use Rattle.std.proofs.lemmas.Bool.{cases_eq, le-ltb}
-use Rattle.qcow2_types.specs.Bytes.{Bytes, word, sum_below}
+use Rattle.qcow2_types.specs.Bytes.{Bytes, raw_entry, sum_below}
 use Rattle.qcow2_types.specs.Words.{Mapping, mapping_of}
 use Rattle.std.proofs.Math.Nat.{pow-le-pow_right}
-use Rattle.qcow2_types.specs.Header.{Fields, Header, Shaped, cluster_size, words_of_cluster, refcount_table_entries, layout_of}
+use Rattle.qcow2_types.specs.Header.{Fields, Header, Shaped, cluster_size, entries_of_cluster, refcount_table_entries, layout_of}
 use Rattle.qcow2_types.specs.Entries.{entry, l2_table, l2_mapping}
 use Rattle.qcow2_types.specs.Disk.{shown, shown_by, host_byte}
 use Rattle.qcow2_types.specs.Counts.{block_at}
 use Rattle.qcow2_types.specs.References.{Weight, structure, contents, of_cluster, of_mapping, meets, refs}
 use Rattle.qcow2_types.specs.Consistency.{IsConsistent, tables_sound}
-use Rattle.qcow2_types.specs.Frames.{Same, Outside, touches, Kept, ShowsAs, first_cluster}
+use Rattle.qcow2_types.specs.Frames.{Same, Outside, touches, SameStructureOutside, ShowsAs, first_cluster}
 use Rattle.qcow2_types.proofs.Counting.Consistent.{some-words, consistent-shaped, structure-unmapped, meets-own}
 use Rattle.qcow2_types.proofs.Changes.DataSteps.{free-stays, data-stays, kept-keeps, kept-sound}
 use Rattle.qcow2_types.proofs.Changes.Frames.{header-part}
@@ -23,7 +23,7 @@ use Rattle.qcow2_types.proofs.Counting.Sound.{words-sound}
 use Rattle.qcow2_types.proofs.Showing.Values.{value-same}
 use Rattle.qcow2_types.proofs.Numbers.Sums.{sum-same, sum-change}
 use Rattle.qcow2_types.specs.Slots.{slot, Live, over_slots, or_none, guest_slot}
-use Rattle.qcow2_types.specs.Versions.{named, of_either}
+use Rattle.qcow2_types.specs.Versions.{references_in_either, of_either}
 use Rattle.qcow2_types.specs.Switched.{with_l1}
 
 module _ (f : Bytes) (H : Header) (was : IsConsistent f H) where
@@ -48,7 +48,7 @@ module _ (f : Bytes) (H : Header) (was : IsConsistent f H) where
       omega arith
 
 -- Where a header's first 64 bytes change, the structure beside the header is kept.
-pub start-kept : (f g : Bytes) (H : Header) → IsConsistent f H → Outside f g 0 64 → Kept f g H.fields first_cluster
+pub start-kept : (f g : Bytes) (H : Header) → IsConsistent f H → Outside f g 0 64 → SameStructureOutside f g H.fields first_cluster
 start-kept f g H was out =
     let s : 512 ≤ cluster_size H.fields = cluster-long f H was in
     let once : structure f H.fields (touches 0 64) ≤ 1 = touches-once f H.fields 0 0 64 (was.structure_apart 0) (omega arith) (omega arith) in
@@ -69,9 +69,9 @@ start-mapped f g H was out =
 -- So each guest cluster shows what it did, by the old fields.
 pub start-shows : (f g : Bytes) (H : Header) → IsConsistent f H → Outside f g 0 64 → (guest : ℕ) → ShowsAs g f H.fields guest
 start-shows f g H was out guest =
-    let kept : Kept f g H.fields first_cluster = start-kept f g H was out in
+    let kept : SameStructureOutside f g H.fields first_cluster = start-kept f g H was out in
     let s : 512 ≤ cluster_size H.fields = cluster-long f H was in
-    let some : 0 < words_of_cluster H.fields = some-words H.fields (consistent-shaped f H was) in
+    let some : 0 < entries_of_cluster H.fields = some-words H.fields (consistent-shaped f H was) in
     let sound : IsTrue (tables_sound g H.fields) = words-sound g H.fields (kept-sound f g H was first_cluster kept (λ i e. cc) (λ i e. cc) (λ i e. cc)) in
     let same : guest_slot g H.fields guest ≡ guest_slot f H.fields guest = guest-kept f g H.fields (kept-keeps f g H was first_cluster kept (λ i e. cc) (λ i e. cc) (λ i e. cc)) some guest in
     shows-outside f g H.fields was.readable.tables sound some guest same 0 0 64 out (omega arith) (omega arith) (structure-unmapped f H was 0 (first-weighs f H was))
@@ -89,27 +89,27 @@ start-values f g H new was out size features entries external p below =
 
 -- what row i of the tables weighs
 row : Bytes → Bytes → Fields → ℕ → ℕ → ℕ
-row f g h c i = or_none (l2_table f h i) (sum_below (words_of_cluster h) (λ j. of_either h (meets h c) (slot f h i j) (slot g h i j)))
+row f g h c i = or_none (l2_table f h i) (sum_below (entries_of_cluster h) (λ j. of_either h (meets h c) (slot f h i j) (slot g h i j)))
 
 -- L1 word i is switched to another table, whose words name what the old table's did; all else stays.
 pub record SwitchesTable (f g f' g' : Bytes) (h : Fields) (i c : ℕ) : Type 0 where
   pub in_l1 : i < h.l1_entries
   pub blocks : (k : ℕ) → block_at f' h k ≡ block_at f h k
   pub l1 : (k : ℕ) → k < h.l1_entries → k ≢ i → l2_table f' h k ≡ l2_table f h k
-  pub rows : (k : ℕ) → k < h.l1_entries → or_none (l2_table f' h k) (sum_below (words_of_cluster h) (λ j. of_either h (meets h c) (slot f' h k j) (slot g' h k j))) ≡ or_none (l2_table f h k) (sum_below (words_of_cluster h) (λ j. of_either h (meets h c) (slot f h k j) (slot g h k j)))
+  pub rows : (k : ℕ) → k < h.l1_entries → or_none (l2_table f' h k) (sum_below (entries_of_cluster h) (λ j. of_either h (meets h c) (slot f' h k j) (slot g' h k j))) ≡ or_none (l2_table f h k) (sum_below (entries_of_cluster h) (λ j. of_either h (meets h c) (slot f h k j) (slot g h k j)))
 
 -- the number changes by the old table and the new one
 pub table-switched : (f g f' g' : Bytes) (h : Fields) (i c : ℕ) → SwitchesTable f g f' g' h i c
-    → named f' g' h c + of_cluster h (meets h c) (l2_table f h i) ≡ named f g h c + of_cluster h (meets h c) (l2_table f' h i)
-unfolding named structure over_slots
+    → references_in_either f' g' h c + of_cluster h (meets h c) (l2_table f h i) ≡ references_in_either f g h c + of_cluster h (meets h c) (l2_table f' h i)
+unfolding references_in_either structure over_slots
 table-switched f g f' g' h i c step =
     let w : Weight = meets h c in
     let blocks : sum_below (refcount_table_entries h) (λ k. of_cluster h (meets h c) (block_at f' h k)) ≡ sum_below (refcount_table_entries h) (λ k. of_cluster h (meets h c) (block_at f h k)) =
     sum-same _ _ _ (λ k lt. ap (of_cluster h (meets h c)) (step.blocks k)) in
     let tables : sum_below h.l1_entries (λ k. of_cluster h (meets h c) (l2_table f' h k)) + of_cluster h (meets h c) (l2_table f h i) ≡ sum_below h.l1_entries (λ k. of_cluster h (meets h c) (l2_table f h k)) + of_cluster h (meets h c) (l2_table f' h i) =
     sum-change _ i (λ k. of_cluster h (meets h c) (l2_table f' h k)) (λ k. of_cluster h (meets h c) (l2_table f h k)) step.in_l1 (λ k lt apart. ap (of_cluster h (meets h c)) (step.l1 k lt apart)) in
-    let rows : sum_below h.l1_entries (λ k. or_none (l2_table f' h k) (sum_below (words_of_cluster h) (λ j. of_either h (meets h c) (slot f' h k j) (slot g' h k j))))
-    ≡ sum_below h.l1_entries (λ k. or_none (l2_table f h k) (sum_below (words_of_cluster h) (λ j. of_either h (meets h c) (slot f h k j) (slot g h k j)))) =
+    let rows : sum_below h.l1_entries (λ k. or_none (l2_table f' h k) (sum_below (entries_of_cluster h) (λ j. of_either h (meets h c) (slot f' h k j) (slot g' h k j))))
+    ≡ sum_below h.l1_entries (λ k. or_none (l2_table f h k) (sum_below (entries_of_cluster h) (λ j. of_either h (meets h c) (slot f h k j) (slot g h k j)))) =
     sum-same _ _ _ step.rows in
     omega arith
 
@@ -128,9 +128,9 @@ sum-longer n (suc k) f none =
 pub l1-switched : (f g f' g' : Bytes) (h : Fields) (offset more c : ℕ)
     → ((i : ℕ) → block_at f' h i ≡ block_at f h i)
     → ((i : ℕ) → l2_table f' (with_l1 h offset (h.l1_entries + more)) i ≡ l2_table f h i)
-    → ((i j : ℕ) → Live (l2_table f h) h i j → (word f' (l2_table f h i) j ≡ word f (l2_table f h i) j) × (slot g' (with_l1 h offset (h.l1_entries + more)) i j ≡ slot g h i j))
-    → named f' g' (with_l1 h offset (h.l1_entries + more)) c + meets h c h.l1_offset (h.l1_entries * 8) ≡ named f g h c + meets h c offset ((h.l1_entries + more) * 8)
-unfolding named structure over_slots
+    → ((i j : ℕ) → Live (l2_table f h) h i j → (raw_entry f' (l2_table f h i) j ≡ raw_entry f (l2_table f h i) j) × (slot g' (with_l1 h offset (h.l1_entries + more)) i j ≡ slot g h i j))
+    → references_in_either f' g' (with_l1 h offset (h.l1_entries + more)) c + meets h c h.l1_offset (h.l1_entries * 8) ≡ references_in_either f g h c + meets h c offset ((h.l1_entries + more) * 8)
+unfolding references_in_either structure over_slots
 l1-switched f g f' g' h offset more c blocks l1 slots =
     let blocks' : sum_below (refcount_table_entries h) (λ k. of_cluster h (meets h c) (block_at f' h k)) ≡ sum_below (refcount_table_entries h) (λ k. of_cluster h (meets h c) (block_at f h k)) =
     sum-same _ _ _ (λ k lt. ap (of_cluster h (meets h c)) (blocks k)) in
@@ -139,13 +139,13 @@ l1-switched f g f' g' h offset more c blocks l1 slots =
     let none' : (i : ℕ) → h.l1_entries ≤ i → l2_table f' (with_l1 h offset (h.l1_entries + more)) i ≡ 0 = (λ i le. l1 i ∙ none i le) in
     let tables : sum_below (h.l1_entries + more) (λ k. of_cluster h (meets h c) (l2_table f' (with_l1 h offset (h.l1_entries + more)) k)) ≡ sum_below h.l1_entries (λ k. of_cluster h (meets h c) (l2_table f h k)) =
     sum-longer h.l1_entries more _ (λ i le. rw (none' i le) refl) ∙ sum-same _ _ _ (λ k lt. ap (of_cluster h (meets h c)) (l1 k)) in
-    let rows : sum_below (h.l1_entries + more) (λ k. or_none (l2_table f' (with_l1 h offset (h.l1_entries + more)) k) (sum_below (words_of_cluster h) (λ j. of_either h (meets h c) (slot f' (with_l1 h offset (h.l1_entries + more)) k j) (slot g' (with_l1 h offset (h.l1_entries + more)) k j))))
-    ≡ sum_below h.l1_entries (λ k. or_none (l2_table f h k) (sum_below (words_of_cluster h) (λ j. of_either h (meets h c) (slot f h k j) (slot g h k j)))) =
+    let rows : sum_below (h.l1_entries + more) (λ k. or_none (l2_table f' (with_l1 h offset (h.l1_entries + more)) k) (sum_below (entries_of_cluster h) (λ j. of_either h (meets h c) (slot f' (with_l1 h offset (h.l1_entries + more)) k j) (slot g' (with_l1 h offset (h.l1_entries + more)) k j))))
+    ≡ sum_below h.l1_entries (λ k. or_none (l2_table f h k) (sum_below (entries_of_cluster h) (λ j. of_either h (meets h c) (slot f h k j) (slot g h k j)))) =
     sum-longer h.l1_entries more _ (λ i le. rw (none' i le) refl)
     ∙ sum-same _ _ _ (λ k lt. elim (cases_eq (l2_table f h k) 0) [
       | inl e ↦ rw (l1 k, e) refl
       | inr there ↦
-          ap (λ z. or_none z (sum_below (words_of_cluster h) (λ j. of_either h (meets h c) (slot f' (with_l1 h offset (h.l1_entries + more)) k j) (slot g' (with_l1 h offset (h.l1_entries + more)) k j)))) (l1 k)
+          ap (λ z. or_none z (sum_below (entries_of_cluster h) (λ j. of_either h (meets h c) (slot f' (with_l1 h offset (h.l1_entries + more)) k j) (slot g' (with_l1 h offset (h.l1_entries + more)) k j)))) (l1 k)
           ∙ ap (or_none (l2_table f h k)) (sum-same _ _ _ (λ j less.
           let live : Live (l2_table f h) h k j = record { in_l1 = lt; is_there = there; in_table = less } in
           let same : slot f' (with_l1 h offset (h.l1_entries + more)) k j ≡ slot f h k j =

@@ -3,7 +3,7 @@ use Rattle.std.proofs.Common.{◌≡◌, refl, sym, []}
 use Rattle.std.specs.Prelude.{true, ◌==◌, ◌||◌, not, Ok}
 use Rattle.std.specs.Str.{is_utf8, chars}
 use Rattle.std.specs.Char.{encode_utf8}
-use Rattle.qcow2_types.specs.Bytes.{be, word, run, sum_below, all_below}
+use Rattle.qcow2_types.specs.Bytes.{be, raw_entry, run, sum_below, all_below}
 use Rattle.qcow2_types.specs.Words.{mapping_of}
 use Rattle.qcow2_types.specs.WorkedImage.{of_pieces, image, image_fields, image_header}
 use Rattle.qcow2_types.specs.Header.{fields_of, header_of, texts_of, extensions_at, extension_at}
@@ -16,28 +16,28 @@ use Rattle.qcow2_types.proofs.Worked.Whole.{consistent-within, leaks-within}
 
 -- it is readable
 readable : IsReadable (of_pieces image) image_header
-unfolding header_of texts_of extensions_at extension_at fields_of be run word of_pieces image image_header image_fields is_utf8 chars encode_utf8
+unfolding header_of texts_of extensions_at extension_at fields_of be run raw_entry of_pieces image image_header image_fields is_utf8 chars encode_utf8
     tables_sound l1_table_sound l2_table_sound refcount_table_sound all_below mapping_of
 readable = record { loads = refl; no_snapshots = refl; data_inside = refl; tables = refl }
 
 -- nothing is named past cluster 6
 within : reaching (of_pieces image) image_fields 7 ≡ 0
-unfolding reaching past structure contents of_table sum_below mapping_of word be of_pieces image image_fields
+unfolding reaching past structure contents of_table sum_below mapping_of raw_entry be of_pieces image image_fields
 within = refl
 
 -- no cluster before 7 is shared
 shared : all_below 7 (λ c. not (shares_structure (of_pieces image) image_fields c)) ≡ true
-unfolding shares_structure refs structure contents of_table sum_below all_below mapping_of word be of_pieces image image_fields
+unfolding shares_structure refs structure contents of_table sum_below all_below mapping_of raw_entry be of_pieces image image_fields
 shared = refl
 
 -- none is wrongly marked as copied
 copied : all_below 7 (λ c. not (is_false_copied (of_pieces image) image_fields c)) ≡ true
-unfolding is_false_copied refs structure contents of_table sum_below all_below mapping_of word be of_pieces image image_fields
+unfolding is_false_copied refs structure contents of_table sum_below all_below mapping_of raw_entry be of_pieces image image_fields
 copied = refl
 
 -- none is counted too rarely
 counted : all_below 7 (λ c. not (is_under_counted (of_pieces image) image_fields c)) ≡ true
-unfolding is_under_counted count counter refs structure contents of_table sum_below all_below mapping_of word be of_pieces image image_fields
+unfolding is_under_counted count counter refs structure contents of_table sum_below all_below mapping_of raw_entry be of_pieces image image_fields
 counted = refl
 
 -- so it is consistent
@@ -46,12 +46,12 @@ consistent = consistent-within (of_pieces image) readable within shared copied c
 
 -- only the first block is there
 one_block : all_below 64 (λ i. (i == 0) || (block_at (of_pieces image) image_fields i == 0)) ≡ true
-unfolding all_below word be of_pieces image image_fields
+unfolding all_below raw_entry be of_pieces image image_fields
 one_block = refl
 
 -- the leaks among the clusters of the first block
 few_leaks : leaks_below (of_pieces image) image_fields 256 ≡ []
-unfolding leaks_below count counter refs structure contents of_table sum_below mapping_of word be of_pieces image image_fields
+unfolding leaks_below count counter refs structure contents of_table sum_below mapping_of raw_entry be of_pieces image image_fields
 few_leaks = refl
 
 -- so these are all leaks

@@ -3,7 +3,7 @@ use Rattle.std.proofs.Common.{◌≡◌, refl, [], ◌∷◌}
 use Rattle.std.specs.Prelude.{true, not, Ok, Err}
 use Rattle.std.specs.Str.{is_utf8, chars}
 use Rattle.std.specs.Char.{encode_utf8}
-use Rattle.qcow2_types.specs.Bytes.{be, word, run, sum_below, all_below, Bytes}
+use Rattle.qcow2_types.specs.Bytes.{be, raw_entry, run, sum_below, all_below, Bytes}
 use Rattle.qcow2_types.specs.Words.{mapping_of}
 use Rattle.qcow2_types.specs.WorkedImage.{of_pieces, image, image_fields, image_header}
 use Rattle.qcow2_types.specs.Header.{fields_of, header_of, texts_of, extensions_at, extension_at}
@@ -26,27 +26,27 @@ loads = refl
 
 -- no table is damaged
 tables : tables_sound changed image_fields ≡ true
-unfolding changed tables_sound l1_table_sound l2_table_sound refcount_table_sound all_below mapping_of word be of_pieces image image_fields
+unfolding changed tables_sound l1_table_sound l2_table_sound refcount_table_sound all_below mapping_of raw_entry be of_pieces image image_fields
 tables = refl
 
 -- nothing is named past cluster 6
 within : reaching changed image_fields 7 ≡ 0
-unfolding changed reaching past structure contents of_table sum_below mapping_of word be of_pieces image image_fields
+unfolding changed reaching past structure contents of_table sum_below mapping_of raw_entry be of_pieces image image_fields
 within = refl
 
 -- no cluster before 7 is shared
 shared : all_below 7 (λ c. not (shares_structure changed image_fields c)) ≡ true
-unfolding changed shares_structure refs structure contents of_table sum_below all_below mapping_of word be of_pieces image image_fields
+unfolding changed shares_structure refs structure contents of_table sum_below all_below mapping_of raw_entry be of_pieces image image_fields
 shared = refl
 
 -- none is wrongly marked as copied
 copied : is_false_copied changed image_fields 5 ≡ true
-unfolding changed is_false_copied refs structure contents of_table sum_below all_below mapping_of word be of_pieces image image_fields
+unfolding changed is_false_copied refs structure contents of_table sum_below all_below mapping_of raw_entry be of_pieces image image_fields
 copied = refl
 
 -- and none before it
 least : all_below 5 (λ c. not (is_false_copied changed image_fields c)) ≡ true
-unfolding changed is_false_copied refs structure contents of_table sum_below all_below mapping_of word be of_pieces image image_fields
+unfolding changed is_false_copied refs structure contents of_table sum_below all_below mapping_of raw_entry be of_pieces image image_fields
 least = refl
 
 -- what a checker answers

@@ -5,14 +5,14 @@ use Rattle.std.specs.Str.{is_utf8, chars}
 use Rattle.std.specs.Char.{encode_utf8}
 use Rattle.std.proofs.lemmas.Bool.{cases_eq}
 use Rattle.std.proofs.lemmas.Bool.Decides.{nat_tests}
-use Rattle.qcow2_types.specs.Bytes.{be, word, run, splice, sum_below, all_below}
-use Rattle.qcow2_types.specs.Words.{mapping_of, block_word_sound}
-use Rattle.qcow2_types.specs.Header.{header_of, texts_of, fields_of, extensions_at, extension_at, words_of_cluster}
+use Rattle.qcow2_types.specs.Bytes.{be, raw_entry, run, splice, sum_below, all_below}
+use Rattle.qcow2_types.specs.Words.{mapping_of, reftable_entry_valid}
+use Rattle.qcow2_types.specs.Header.{header_of, texts_of, fields_of, extensions_at, extension_at, entries_of_cluster}
 use Rattle.qcow2_types.specs.Counts.{block_at, count, counter}
 use Rattle.qcow2_types.specs.References.{Weight, of_cluster, structure, contents, of_table, meets, refs}
 use Rattle.qcow2_types.specs.Frames.{Outside}
 use Rattle.qcow2_types.specs.Steps.{FreeWritten}
-use Rattle.qcow2_types.specs.Switched.{with_reftable, with_refcount_table, newly_named, RefcountTableSwitched}
+use Rattle.qcow2_types.specs.Switched.{with_reftable, with_refcount_table, newly_referenced, RefcountTableSwitched}
 use Rattle.qcow2_types.specs.WorkedImage.{of_pieces, image, image_fields, image_header, block_written, table_written, grown}
 use Rattle.qcow2_types.proofs.Counting.Bounded.{all-below}
 use Rattle.qcow2_types.proofs.Changes.DataSteps.{free-written}
@@ -25,15 +25,15 @@ use Rattle.qcow2_types.proofs.Worked.Consistent.{consistent}
 
 -- nothing names clusters 256 to 258
 refs_256 : refs (of_pieces image) image_fields 256 ≡ 0
-unfolding refs structure contents of_table sum_below mapping_of word be of_pieces image image_fields
+unfolding refs structure contents of_table sum_below mapping_of raw_entry be of_pieces image image_fields
 refs_256 = refl
 
 refs_257 : refs (of_pieces image) image_fields 257 ≡ 0
-unfolding refs structure contents of_table sum_below mapping_of word be of_pieces image image_fields
+unfolding refs structure contents of_table sum_below mapping_of raw_entry be of_pieces image image_fields
 refs_257 = refl
 
 refs_258 : refs (of_pieces image) image_fields 258 ≡ 0
-unfolding refs structure contents of_table sum_below mapping_of word be of_pieces image image_fields
+unfolding refs structure contents of_table sum_below mapping_of raw_entry be of_pieces image image_fields
 refs_258 = refl
 
 -- the block is written, and shows nowhere
@@ -47,37 +47,37 @@ unfolding image_header image_fields table_written
 second = free-written block_written image_header first.consistent 257 (first.references 257 ∙ refs_257) (splice block_written 131584 (0 ∷ 0 ∷ 0 ∷ 0 ∷ 0 ∷ 0 ∷ 4 ∷ 0 ∷ 0 ∷ 0 ∷ 0 ∷ 0 ∷ 0 ∷ 2 ∷ 0 ∷ 0 ∷ [])) 131584 16 (splice-is-outside block_written 131584 (0 ∷ 0 ∷ 0 ∷ 0 ∷ 0 ∷ 0 ∷ 4 ∷ 0 ∷ 0 ∷ 0 ∷ 0 ∷ 0 ∷ 0 ∷ 2 ∷ 0 ∷ 0 ∷ [])) (lit≤ tt) (lit≤ tt)
 
 -- so they are still not named
-unnamed : (d : ℕ) → refs (of_pieces image) image_fields d ≡ 0 → refs table_written image_fields d ≡ 0
+not_referenced : (d : ℕ) → refs (of_pieces image) image_fields d ≡ 0 → refs table_written image_fields d ≡ 0
 unfolding image_header
-unnamed d none = second.references d ∙ (first.references d ∙ none)
+not_referenced d none = second.references d ∙ (first.references d ∙ none)
 
 -- the header names the new table
 loads : header_of true grown ≡ Ok (with_refcount_table image_header 131584 2)
-unfolding header_of texts_of extensions_at extension_at fields_of be run word splice grown table_written block_written of_pieces image image_header image_fields is_utf8 chars encode_utf8
+unfolding header_of texts_of extensions_at extension_at fields_of be run raw_entry splice grown table_written block_written of_pieces image image_header image_fields is_utf8 chars encode_utf8
 loads = refl
 
 -- its words are sound
-words_sound : all_below 128 (λ i. block_word_sound 9 (word table_written 131584 i)) ≡ true
-unfolding all_below word be splice table_written block_written of_pieces image
+words_sound : all_below 128 (λ i. reftable_entry_valid 9 (raw_entry table_written 131584 i)) ≡ true
+unfolding all_below raw_entry be splice table_written block_written of_pieces image
 words_sound = refl
 
 -- the old table names one block, and so does the new one there
 blocks_kept : all_below 64 (λ i. (block_at table_written image_fields i == 0) || (block_at table_written (with_reftable image_fields 131584 2) i == block_at table_written image_fields i)) ≡ true
-unfolding all_below word be splice table_written block_written of_pieces image image_fields
+unfolding all_below raw_entry be splice table_written block_written of_pieces image image_fields
 blocks_kept = refl
 
 -- word 1 alone of the new table names a block where the old one names none
 one_new : all_below 128 (λ i. (i == 1) || not (block_at table_written image_fields i == 0) || (block_at table_written (with_reftable image_fields 131584 2) i == 0)) ≡ true
-unfolding all_below word be splice table_written block_written of_pieces image image_fields
+unfolding all_below raw_entry be splice table_written block_written of_pieces image image_fields
 one_new = refl
 
 -- what it names
 new_1 : (v : Weight) → (if block_at table_written image_fields 1 == 0 then of_cluster image_fields v (block_at table_written (with_reftable image_fields 131584 2) 1) else 0) ≡ v 131072 512
-unfolding word be splice table_written block_written of_pieces image image_fields
+unfolding raw_entry be splice table_written block_written of_pieces image image_fields
 new_1 v = refl
 
 -- so the new table's clusters and that block's are newly named
-named_there : (v : Weight) → newly_named table_written image_fields 131584 2 v ≡ v 131584 1024 + v 131072 512
+named_there : (v : Weight) → newly_referenced table_written image_fields 131584 2 v ≡ v 131584 1024 + v 131072 512
 unfolding image_fields
 named_there v =
     let term : ℕ → ℕ = λ i. if block_at table_written image_fields i == 0 then of_cluster image_fields v (block_at table_written (with_reftable image_fields 131584 2) i) else 0 in
@@ -96,9 +96,9 @@ named_there v =
         by i a b apart test = grind (arith, nat_tests)
 
 -- each word of the new table is sound
-sound : (i : ℕ) → i < 2 * words_of_cluster image_fields → IsTrue (block_word_sound image_fields.cluster_bits (word table_written 131584 i))
+sound : (i : ℕ) → i < 2 * entries_of_cluster image_fields → IsTrue (reftable_entry_valid image_fields.cluster_bits (raw_entry table_written 131584 i))
 unfolding image_fields
-sound i lt = all-below 128 (λ j. block_word_sound 9 (word table_written 131584 j)) words_sound i lt
+sound i lt = all-below 128 (λ j. reftable_entry_valid 9 (raw_entry table_written 131584 j)) words_sound i lt
 
 -- and names the old block where there was one
 kept : (i : ℕ) → block_at table_written image_fields i ≢ 0 → block_at table_written (with_reftable image_fields 131584 2) i ≡ block_at table_written image_fields i
@@ -110,17 +110,17 @@ kept i there =
     grind (arith, nat_tests)
 
 -- each cluster is newly named once at most
-once : (d : ℕ) → newly_named table_written image_fields 131584 2 (meets image_fields d) ≤ 1
+once : (d : ℕ) → newly_referenced table_written image_fields 131584 2 (meets image_fields d) ≤ 1
 unfolding image_fields
-once d = let sum : newly_named table_written image_fields 131584 2 (meets image_fields d) ≡ meets image_fields d 131584 1024 + meets image_fields d 131072 512 = named_there (meets image_fields d) in
+once d = let sum : newly_referenced table_written image_fields 131584 2 (meets image_fields d) ≡ meets image_fields d 131584 1024 + meets image_fields d 131072 512 = named_there (meets image_fields d) in
     let most : meets image_fields d 131584 1024 + meets image_fields d 131072 512 ≤ 1 = grind (arith, nat_tests) in
     omega arith
 
 -- it is one of three then
-which : (d : ℕ) → 0 < newly_named table_written image_fields 131584 2 (meets image_fields d) → (d ≡ 256) ⊎ (d ≡ 257) ⊎ (d ≡ 258)
+which : (d : ℕ) → 0 < newly_referenced table_written image_fields 131584 2 (meets image_fields d) → (d ≡ 256) ⊎ (d ≡ 257) ⊎ (d ≡ 258)
 unfolding image_fields
 which d some =
-    let sum : newly_named table_written image_fields 131584 2 (meets image_fields d) ≡ meets image_fields d 131584 1024 + meets image_fields d 131072 512 = named_there (meets image_fields d) in
+    let sum : newly_referenced table_written image_fields 131584 2 (meets image_fields d) ≡ meets image_fields d 131584 1024 + meets image_fields d 131072 512 = named_there (meets image_fields d) in
     let low : 256 ≤ d = grind (arith, nat_tests) in
     let high : d < 259 = grind (arith, nat_tests) in
     elim (cases_eq d 256) [
@@ -133,15 +133,15 @@ which d some =
 
 -- the new table counts these in the file as it stands before the header is written
 counted_256 : count table_written (with_reftable image_fields 131584 2) 256 ≡ 1
-unfolding count counter word be splice table_written block_written of_pieces image image_fields
+unfolding count counter raw_entry be splice table_written block_written of_pieces image image_fields
 counted_256 = refl
 
 counted_257 : count table_written (with_reftable image_fields 131584 2) 257 ≡ 1
-unfolding count counter word be splice table_written block_written of_pieces image image_fields
+unfolding count counter raw_entry be splice table_written block_written of_pieces image image_fields
 counted_257 = refl
 
 counted_258 : count table_written (with_reftable image_fields 131584 2) 258 ≡ 1
-unfolding count counter word be splice table_written block_written of_pieces image image_fields
+unfolding count counter raw_entry be splice table_written block_written of_pieces image image_fields
 counted_258 = refl
 
 -- the write of the header lies in its first 64 bytes
@@ -155,19 +155,19 @@ pub switched : RefcountTableSwitched table_written grown image_header 131584 2
 unfolding image_header
 switched = refcount-table-switched table_written grown image_header second.consistent 131584 2 loads in_header sound kept once free
   where
-    free : (d : ℕ) → 0 < newly_named table_written image_fields 131584 2 (meets image_fields d) → (refs table_written image_fields d ≡ 0) × (1 ≤ count table_written (with_reftable image_fields 131584 2) d)
+    free : (d : ℕ) → 0 < newly_referenced table_written image_fields 131584 2 (meets image_fields d) → (refs table_written image_fields d ≡ 0) × (1 ≤ count table_written (with_reftable image_fields 131584 2) d)
     free d some = elim (which d some) [
-      | inl e ↦ rw e (unnamed 256 refs_256, omega (arith, counted_256))
-      | inr (inl e) ↦ rw e (unnamed 257 refs_257, omega (arith, counted_257))
-      | inr (inr e) ↦ rw e (unnamed 258 refs_258, omega (arith, counted_258))
+      | inl e ↦ rw e (not_referenced 256 refs_256, omega (arith, counted_256))
+      | inr (inl e) ↦ rw e (not_referenced 257 refs_257, omega (arith, counted_257))
+      | inr (inr e) ↦ rw e (not_referenced 258 refs_258, omega (arith, counted_258))
     ]
 
 -- the counts then
 pub counts : map (count grown (with_reftable image_fields 131584 2)) (0 ∷ 1 ∷ 255 ∷ 256 ∷ 257 ∷ 258 ∷ 259 ∷ []) ≡ 1 ∷ 1 ∷ 0 ∷ 1 ∷ 1 ∷ 1 ∷ 0 ∷ []
-unfolding count counter word be splice grown table_written block_written of_pieces image image_fields
+unfolding count counter raw_entry be splice grown table_written block_written of_pieces image image_fields
 counts = refl
 
 -- and what is named
 pub references : map (refs grown (with_reftable image_fields 131584 2)) (0 ∷ 1 ∷ 255 ∷ 256 ∷ 257 ∷ 258 ∷ 259 ∷ []) ≡ 1 ∷ 0 ∷ 0 ∷ 1 ∷ 1 ∷ 1 ∷ 0 ∷ []
-unfolding refs structure contents of_table sum_below mapping_of word be splice grown table_written block_written of_pieces image image_fields
+unfolding refs structure contents of_table sum_below mapping_of raw_entry be splice grown table_written block_written of_pieces image image_fields
 references = refl

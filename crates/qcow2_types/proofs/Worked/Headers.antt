@@ -4,7 +4,7 @@ use Rattle.std.specs.Prelude.{Ok, Err, true, false, map}
 use Rattle.std.specs.Str.{is_utf8, chars}
 use Rattle.std.specs.Char.{encode_utf8}
 use Rattle.imago_storage.specs.declared.fault.Fault.TheVariants.{DamagedHeader, Unsupported, Limit}
-use Rattle.qcow2_types.specs.Bytes.{be, word, run, all_below}
+use Rattle.qcow2_types.specs.Bytes.{be, raw_entry, run, all_below}
 use Rattle.qcow2_types.specs.Words.{mapping_of, data_at, unmapped}
 use Rattle.qcow2_types.specs.Header.{fields_of, header_of, texts_of, extensions_at, extension_at}
 use Rattle.qcow2_types.specs.Entries.{entry, l1_table_sound, l2_table_sound}
@@ -18,12 +18,12 @@ older = refl
 
 -- with the same entries
 pub older_entries : map (entry (with_bytes 4 (0 ∷ 0 ∷ 0 ∷ 2 ∷ [])) older_fields) (0 ∷ 1 ∷ 2 ∷ 64 ∷ []) ≡ data_at 5 true ∷ data_at 6 true ∷ unmapped ∷ unmapped ∷ []
-unfolding entry l1_table_sound l2_table_sound all_below mapping_of word be of_pieces image image_fields
+unfolding entry l1_table_sound l2_table_sound all_below mapping_of raw_entry be of_pieces image image_fields
 older_entries = refl
 
 -- and the same bytes
 pub older_bytes : map (at (qcow2 (with_bytes 4 (0 ∷ 0 ∷ 0 ∷ 2 ∷ [])) (λ _. 0) ∷ [])) (508 ∷ 509 ∷ 510 ∷ 511 ∷ 512 ∷ 513 ∷ 514 ∷ 515 ∷ []) ≡ written_bytes
-unfolding header_of texts_of extensions_at extension_at fields_of be run of_pieces image image_header image_fields is_utf8 chars encode_utf8 entry l1_table_sound l2_table_sound all_below mapping_of word
+unfolding header_of texts_of extensions_at extension_at fields_of be run of_pieces image image_header image_fields is_utf8 chars encode_utf8 entry l1_table_sound l2_table_sound all_below mapping_of raw_entry
 older_bytes = refl
 
 -- dirty

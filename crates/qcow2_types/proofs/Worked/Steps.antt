@@ -3,7 +3,7 @@ use Rattle.std.proofs.Common.{◌≡◌, ℕ, ◌+◌, ◌*◌, refl, arith, ap,
 use Rattle.std.specs.Prelude.{true}
 use Rattle.std.specs.Int.{w64, to_be_bytes}
 use Rattle.imago_storage.specs.Disk.{byte}
-use Rattle.qcow2_types.specs.Bytes.{Bytes, be, word, splice, sum_below}
+use Rattle.qcow2_types.specs.Bytes.{Bytes, be, raw_entry, splice, sum_below}
 use Rattle.qcow2_types.specs.Words.{data_at, unmapped, mapping_of}
 use Rattle.qcow2_types.specs.Header.{layout_of}
 use Rattle.qcow2_types.specs.Entries.{l2_table}
@@ -36,27 +36,27 @@ named_there = splice written 2064 (to_be_bytes w64 0x8000_0000_0000_0e00)
 
 -- cluster 7 isn't counted
 count_7 : count (of_pieces image) image_fields 7 ≡ 0
-unfolding count counter word be of_pieces image image_fields
+unfolding count counter raw_entry be of_pieces image image_fields
 count_7 = refl
 
 -- nor named
 refs_7 : refs (of_pieces image) image_fields 7 ≡ 0
-unfolding refs structure contents of_table sum_below mapping_of word be of_pieces image image_fields
+unfolding refs structure contents of_table sum_below mapping_of raw_entry be of_pieces image image_fields
 refs_7 = refl
 
 -- the one L2 table
 table_0 : l2_table (of_pieces image) image_fields 0 ≡ 2048
-unfolding word be of_pieces image image_fields
+unfolding raw_entry be of_pieces image image_fields
 table_0 = refl
 
 -- its word 2
 slot_2 : slot (of_pieces image) image_fields 0 2 ≡ unmapped
-unfolding mapping_of word be of_pieces image image_fields
+unfolding mapping_of raw_entry be of_pieces image image_fields
 slot_2 = refl
 
 -- cluster 7 is counted
 pub counted : CounterWritten (of_pieces image) raised image_header 7 1
-unfolding image_header image_fields word be of_pieces image
+unfolding image_header image_fields raw_entry be of_pieces image
 counted = counter-raised (of_pieces image) image_header consistent 7 refl (λ e. cc) count_7
 
 -- the write into it shows nowhere

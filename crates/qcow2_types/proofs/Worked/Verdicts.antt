@@ -3,7 +3,7 @@ use Rattle.std.proofs.Common.{◌≡◌, refl, [], ◌∷◌, lit<}
 use Rattle.std.specs.Prelude.{Ok, Err, true, false, not}
 use Rattle.std.specs.Str.{is_utf8, chars}
 use Rattle.std.specs.Char.{encode_utf8}
-use Rattle.qcow2_types.specs.Bytes.{Bytes, be, word, run, sum_below, all_below}
+use Rattle.qcow2_types.specs.Bytes.{Bytes, be, raw_entry, run, sum_below, all_below}
 use Rattle.qcow2_types.specs.Words.{mapping_of}
 use Rattle.qcow2_types.specs.Header.{fields_of, header_of, texts_of, extensions_at, extension_at}
 use Rattle.qcow2_types.specs.Entries.{l1_table_sound, l2_table_sound}
@@ -46,7 +46,7 @@ table_loads = refl
 
 -- and its table is damaged
 table_unsound : tables_sound (with_bytes 2055 (2 ∷ [])) image_fields ≡ false
-unfolding tables_sound l1_table_sound l2_table_sound refcount_table_sound all_below mapping_of word be of_pieces image image_fields
+unfolding tables_sound l1_table_sound l2_table_sound refcount_table_sound all_below mapping_of raw_entry be of_pieces image image_fields
 table_unsound = refl
 
 -- which is found
@@ -65,17 +65,17 @@ twice_loads = refl
 
 -- no table is damaged
 twice_sound : tables_sound twice image_fields ≡ true
-unfolding twice tables_sound l1_table_sound l2_table_sound refcount_table_sound all_below mapping_of word be of_pieces image image_fields
+unfolding twice tables_sound l1_table_sound l2_table_sound refcount_table_sound all_below mapping_of raw_entry be of_pieces image image_fields
 twice_sound = refl
 
 -- cluster 3 is shared
 shared_3 : shares_structure twice image_fields 3 ≡ true
-unfolding twice shares_structure refs structure contents of_table sum_below all_below mapping_of word be of_pieces image image_fields
+unfolding twice shares_structure refs structure contents of_table sum_below all_below mapping_of raw_entry be of_pieces image image_fields
 shared_3 = refl
 
 -- and none before it
 none_below_3 : all_below 3 (λ c. not (shares_structure twice image_fields c)) ≡ true
-unfolding twice shares_structure refs structure contents of_table sum_below all_below mapping_of word be of_pieces image image_fields
+unfolding twice shares_structure refs structure contents of_table sum_below all_below mapping_of raw_entry be of_pieces image image_fields
 none_below_3 = refl
 
 -- which is found

@@ -19,7 +19,7 @@ pub fn write<D: FormatDriverInstance>(
     bytes: &Vec<u8>,
 ) -> Answer
     requires free { IsFree (D.layer chain.old.0) }
-    ensures { MakesAlone D.Seen (calls.Write offset bytes.now) result chain.old chain.new }
+    ensures { MakesAlone D.DriverModel (calls.Write offset bytes.now) result chain.old chain.new }
 {
     told(chain.write(alloc, bytes, offset))
 }
@@ -32,7 +32,7 @@ pub fn write_zeroes<D: FormatDriverInstance>(
     length: u64,
 ) -> Answer
     requires free { IsFree (D.layer chain.old.0) }
-    ensures { MakesAlone D.Seen (calls.WriteZeroes offset length) result chain.old chain.new }
+    ensures { MakesAlone D.DriverModel (calls.WriteZeroes offset length) result chain.old chain.new }
 {
     told(chain.write_zeroes(alloc, offset, length))
 }
@@ -45,7 +45,7 @@ pub fn discard_to_zero<D: FormatDriverInstance>(
     length: u64,
 ) -> Answer
     requires free { IsFree (D.layer chain.old.0) }
-    ensures { MakesAlone D.Seen (calls.DiscardToZero offset length) result chain.old chain.new }
+    ensures { MakesAlone D.DriverModel (calls.DiscardToZero offset length) result chain.old chain.new }
 {
     told(chain.discard_to_zero(alloc, offset, length))
 }
@@ -58,7 +58,7 @@ pub fn discard_to_any<D: FormatDriverInstance>(
     length: u64,
 ) -> Answer
     requires free { IsFree (D.layer chain.old.0) }
-    ensures { MakesAlone D.Seen (calls.DiscardToAny offset length) result chain.old chain.new }
+    ensures { MakesAlone D.DriverModel (calls.DiscardToAny offset length) result chain.old chain.new }
 {
     told(chain.discard_to_any(alloc, offset, length))
 }
@@ -71,7 +71,7 @@ pub fn discard_to_backing<D: FormatDriverInstance>(
     length: u64,
 ) -> Answer
     requires free { IsFree (D.layer chain.old.0) }
-    ensures { MakesAlone D.Seen (calls.DiscardToBacking offset length) result chain.old chain.new }
+    ensures { MakesAlone D.DriverModel (calls.DiscardToBacking offset length) result chain.old chain.new }
 {
     told(chain.discard_to_backing(alloc, offset, length))
 }
@@ -85,7 +85,7 @@ pub fn ensure_data_mapping<D: FormatDriverInstance>(
     overwrite: bool,
 ) -> Answer
     requires free { IsFree (D.layer chain.old.0) }
-    ensures { MakesAlone D.Seen (calls.EnsureDataMapping offset length overwrite) result chain.old chain.new }
+    ensures { MakesAlone D.DriverModel (calls.EnsureDataMapping offset length overwrite) result chain.old chain.new }
 {
     match chain.ensure_data_mapping(alloc, offset, length, overwrite) {
         Ok((mapping, count)) => Answer::Mapped(mapping, count),
@@ -101,7 +101,7 @@ pub fn resize_grow<D: FormatDriverInstance>(
     mode: PreallocateMode,
 ) -> Answer
     requires free { IsFree (D.layer chain.old.0) }
-    ensures { MakesAlone D.Seen (calls.ResizeGrow size mode) result chain.old chain.new }
+    ensures { MakesAlone D.DriverModel (calls.ResizeGrow size mode) result chain.old chain.new }
 {
     told(chain.resize_grow(alloc, size, mode))
 }
@@ -113,7 +113,7 @@ pub fn resize_shrink<D: FormatDriverInstance>(
     size: u64,
 ) -> Answer
     requires free { IsFree (D.layer chain.old.0) }
-    ensures { MakesAlone D.Seen (calls.ResizeShrink size) result chain.old chain.new }
+    ensures { MakesAlone D.DriverModel (calls.ResizeShrink size) result chain.old chain.new }
 {
     told(chain.resize_shrink(alloc, size))
 }
@@ -126,7 +126,7 @@ pub fn change<D: FormatDriverInstance>(
 ) -> Answer
     requires free { IsFree (D.layer chain.old.0) }
     requires changes { IsTrue (is_lone_change call.now) }
-    ensures { MakesAlone D.Seen call.now result chain.old chain.new }
+    ensures { MakesAlone D.DriverModel call.now result chain.old chain.new }
 {
     match call {
         Call::Write { offset, bytes } => write(alloc, chain, *offset, bytes),

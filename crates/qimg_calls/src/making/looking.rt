@@ -27,7 +27,7 @@ pub fn read<D: FormatDriverInstance>(
     offset: u64,
     length: usize,
 ) -> Result<Answer, AllocError>
-    ensures made { IfOk result (λ answer. MakesBeside D.Seen (calls.Read offset length) answer chain.old chain.new) }
+    ensures made { IfOk result (λ answer. MakesBeside D.DriverModel (calls.Read offset length) answer chain.old chain.new) }
     ensures none { IfErr result (λ _. chain.new ≡ chain.old) }
 {
     let mut buf = vec![in alloc; 0u8; length]?;
@@ -44,7 +44,7 @@ pub fn get_mapping<D: FormatDriverInstance>(
     offset: u64,
     length: u64,
 ) -> Answer
-    ensures { MakesBeside D.Seen (calls.GetMapping offset length) result chain.old chain.new }
+    ensures { MakesBeside D.DriverModel (calls.GetMapping offset length) result chain.old chain.new }
 {
     match chain.get_mapping(alloc, offset, length) {
         Ok((mapping, count)) => Answer::Mapped(mapping, count),
@@ -59,7 +59,7 @@ pub fn get_shallow_mapping<D: FormatDriverInstance>(
     offset: u64,
     length: u64,
 ) -> Answer
-    ensures { MakesBeside D.Seen (calls.GetShallowMapping offset length) result chain.old chain.new }
+    ensures { MakesBeside D.DriverModel (calls.GetShallowMapping offset length) result chain.old chain.new }
 {
     match chain.get_shallow_mapping(alloc, offset, length) {
         Ok((mapping, count)) => Answer::Shallow(mapping, count),
@@ -69,14 +69,14 @@ pub fn get_shallow_mapping<D: FormatDriverInstance>(
 
 /// Writes what is held in memory.
 pub fn flush<D: FormatDriverInstance>(alloc: Global, chain: &mut FormatAccess<D>) -> Answer
-    ensures { MakesBeside D.Seen calls.Flush result chain.old chain.new }
+    ensures { MakesBeside D.DriverModel calls.Flush result chain.old chain.new }
 {
     told(chain.flush(alloc))
 }
 
 /// Asks the storages to make lasting what they were given.
 pub fn sync<D: FormatDriverInstance>(chain: &mut FormatAccess<D>) -> Answer
-    ensures { MakesBeside D.Seen calls.Sync result chain.old chain.new }
+    ensures { MakesBeside D.DriverModel calls.Sync result chain.old chain.new }
 {
     told(chain.sync())
 }

@@ -3,8 +3,8 @@ ghost use Rattle.std.specs.Prelude.{◌≡◌, None, Some, IfOk, IfErr, IsFalse,
 ghost use Rattle.imago_access.specs.Layer.{IsFree};
 ghost use Rattle.imago_access.specs.Spending.{IsMine};
 ghost use Rattle.qimg_calls.specs.Calls.{is_out_of_place, is_look};
-ghost use Rattle.qimg_calls.specs.Held.{holding, IsKept};
-ghost use Rattle.qimg_calls.specs.Making.{Makes, MakesAlone, MakesBeside};
+ghost use Rattle.qimg_calls.specs.Held.{chain_with_mapping, MappingIsPrepared};
+ghost use Rattle.qimg_calls.specs.Making.{CallOutcome, MakesAlone, MakesBeside};
 ghost use Rattle.qimg_calls.specs.declared.call.Call.TheVariants as calls;
 
 use super::changing;
@@ -26,8 +26,8 @@ fn prepare<D: FormatDriverInstance>(
     overwrite: bool,
 ) -> (Answer, Kept<D::State>)
     requires free { IsFree (D.layer chain.old.0) }
-    ensures { Makes D.Seen (calls.PrepareDataMapping offset length overwrite) result.0
-        (holding chain.old None) (holding chain.new result.1) }
+    ensures { CallOutcome D.DriverModel (calls.PrepareDataMapping offset length overwrite) result.0
+        (chain_with_mapping chain.old None) (chain_with_mapping chain.new result.1) }
 {
     match chain.prepare_data_mapping(alloc, offset, length, overwrite) {
         Ok(mapping) => {
@@ -49,8 +49,8 @@ fn commit<D: FormatDriverInstance>(
     chain: &mut FormatAccess<D>,
     mapping: PreparedDataMapping<D::State>,
 ) -> (Answer, Kept<D::State>)
-    requires kept { IsKept D.Seen (holding chain.old (Some mapping)) }
-    ensures { Makes D.Seen calls.CommitDataMapping result.0 (holding chain.old (Some mapping)) (holding chain.new result.1) }
+    requires mapping_prepared { MappingIsPrepared D.DriverModel (chain_with_mapping chain.old (Some mapping)) }
+    ensures { CallOutcome D.DriverModel calls.CommitDataMapping result.0 (chain_with_mapping chain.old (Some mapping)) (chain_with_mapping chain.new result.1) }
 {
     match chain.commit_data_mapping(alloc, mapping) {
         Ok(()) => (Answer::Done, None),
@@ -63,8 +63,8 @@ pub(crate) fn cancel<D: FormatDriverInstance>(
     chain: &mut FormatAccess<D>,
     mapping: PreparedDataMapping<D::State>,
 )
-    requires kept { IsKept D.Seen (holding chain.old (Some mapping)) }
-    ensures made { Makes D.Seen calls.Cancel Answer.Done (holding chain.old (Some mapping)) (holding chain.new None) }
+    requires mapping_prepared { MappingIsPrepared D.DriverModel (chain_with_mapping chain.old (Some mapping)) }
+    ensures made { CallOutcome D.DriverModel calls.Cancel Answer.Done (chain_with_mapping chain.old (Some mapping)) (chain_with_mapping chain.new None) }
     ensures unasked { D.image chain.new.0 ≡ D.image chain.old.0 }
 {
     match chain.cancel(mapping) {
@@ -81,7 +81,7 @@ fn write_mapped<D: FormatDriverInstance>(
     place: u64,
     bytes: &Vec<u8>,
 ) -> Answer
-    ensures { MakesBeside D.Seen (calls.WriteMapped guest place bytes.now) result chain.old chain.new }
+    ensures { MakesBeside D.DriverModel (calls.WriteMapped guest place bytes.now) result chain.old chain.new }
 {
     told(chain.write_mapped(alloc, guest, place, bytes))
 }
@@ -93,7 +93,7 @@ fn look<D: FormatDriverInstance>(
     call: &Call,
 ) -> Result<Answer, AllocError>
     requires looks { IsTrue (is_look call.now) }
-    ensures made { IfOk result (λ answer. MakesBeside D.Seen call.now answer chain.old chain.new) }
+    ensures made { IfOk result (λ answer. MakesBeside D.DriverModel call.now answer chain.old chain.new) }
     ensures none { IfErr result (λ _. chain.new ≡ chain.old) }
 {
     match call {
@@ -117,10 +117,10 @@ fn spend<D: FormatDriverInstance>(
     mapping: PreparedDataMapping<D::State>,
     call: &Call,
 ) -> (Answer, Kept<D::State>)
-    requires kept { IsKept D.Seen (holding chain.old (Some mapping)) }
+    requires mapping_prepared { MappingIsPrepared D.DriverModel (chain_with_mapping chain.old (Some mapping)) }
     requires place { IsFalse (is_out_of_place true call.now) }
     requires changes { IsFalse (is_look call.now) }
-    ensures { Makes D.Seen call.now result.0 (holding chain.old (Some mapping)) (holding chain.new result.1) }
+    ensures { CallOutcome D.DriverModel call.now result.0 (chain_with_mapping chain.old (Some mapping)) (chain_with_mapping chain.new result.1) }
 {
     match call {
         Call::CommitDataMapping => commit(alloc, chain, mapping),
@@ -151,7 +151,7 @@ fn change<D: FormatDriverInstance>(
     requires free { IsFree (D.layer chain.old.0) }
     requires place { IsFalse (is_out_of_place false call.now) }
     requires changes { IsFalse (is_look call.now) }
-    ensures { Makes D.Seen call.now result.0 (holding chain.old None) (holding chain.new result.1) }
+    ensures { CallOutcome D.DriverModel call.now result.0 (chain_with_mapping chain.old None) (chain_with_mapping chain.new result.1) }
 {
     match call {
         Call::PrepareDataMapping {
@@ -170,10 +170,10 @@ pub(crate) fn make<D: FormatDriverInstance>(
     kept: Kept<D::State>,
     call: &Call,
 ) -> (Result<Answer, AllocError>, Kept<D::State>)
-    requires kept { IsKept D.Seen (holding chain.old kept) }
+    requires mapping_prepared { MappingIsPrepared D.DriverModel (chain_with_mapping chain.old kept) }
     requires place { IsFalse (is_out_of_place (is_some kept) call.now) }
-    ensures made { IfOk result.0 (λ answer. Makes D.Seen call.now answer (holding chain.old kept) (holding chain.new result.1)) }
-    ensures none { IfErr result.0 (λ _. holding chain.new result.1 ≡ holding chain.old kept) }
+    ensures made { IfOk result.0 (λ answer. CallOutcome D.DriverModel call.now answer (chain_with_mapping chain.old kept) (chain_with_mapping chain.new result.1)) }
+    ensures none { IfErr result.0 (λ _. chain_with_mapping chain.new result.1 ≡ chain_with_mapping chain.old kept) }
 {
     if call.is_look() {
         return (look(alloc, chain, call), kept);

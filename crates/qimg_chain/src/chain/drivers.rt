@@ -18,7 +18,7 @@ ghost use Rattle.qimg_chain.specs.declared.chain.image_driver.ImageDriver.TheVar
 use crate::chain::image_driver::ImageDriver;
 use crate::chain::stateless::{cancel_stateless, commit_stateless, stateless};
 use imago_access::{
-    Format, FormatDriverInstance, PreallocateMode, PreparedDataMapping, ReadBelow, Seen,
+    DriverModel, Format, FormatDriverInstance, PreallocateMode, PreparedDataMapping, ReadBelow,
     ShallowMapping,
 };
 use imago_storage::{Fault, Storage};
@@ -28,36 +28,36 @@ use std::alloc::Global;
 impl<S: Storage> FormatDriverInstance for ImageDriver<S> {
     type Storage = S;
 
-    ghost safe_sees = { elim [
-      | variant.Raw d ↦ λ safe. tt
-      | variant.Vmdk d ↦ λ safe. safe.1
-      | variant.Qcow2 d ↦ λ safe. record { seen = safe.seen; sure = inr (qcow2_rooms.was_safe S.Storage.own d safe) }
+    ghost well_formed_is_coherent = { elim [
+      | variant.Raw d ↦ λ well_formed. tt
+      | variant.Vmdk d ↦ λ well_formed. well_formed.1
+      | variant.Qcow2 d ↦ λ well_formed. record { seen = well_formed.seen; sure = inr (qcow2_rooms.was_well_formed S.Storage.own d well_formed) }
     ] };
 
-    ghost safe_runs = { elim [
-      | variant.Raw d ↦ λ safe. refl
-      | variant.Vmdk d ↦ λ safe. refl
-      | variant.Qcow2 d ↦ λ safe. safe.runs
+    ghost well_formed_is_usable = { elim [
+      | variant.Raw d ↦ λ well_formed. refl
+      | variant.Vmdk d ↦ λ well_formed. refl
+      | variant.Qcow2 d ↦ λ well_formed. well_formed.runs
     ] };
 
-    ghost safe_keeps = { elim [
-      | variant.Raw d ↦ λ safe. safe.0
-      | variant.Vmdk d ↦ λ safe. safe.0
-      | variant.Qcow2 d ↦ λ safe. safe.keeps
+    ghost well_formed_keeps_writes = { elim [
+      | variant.Raw d ↦ λ well_formed. well_formed.0
+      | variant.Vmdk d ↦ λ well_formed. well_formed.0
+      | variant.Qcow2 d ↦ λ well_formed. well_formed.keeps
     ] };
 
-    ghost safe_sound = { elim [
-      | variant.Raw d ↦ λ safe. record { is_sound = tt; size = safe.1 }
-      | variant.Vmdk d ↦ λ safe.
-          let cover = vmdk_laws.covered d.disk.extents.items (S.state d.image) (map S.state d.files.items) safe.2 in
+    ghost well_formed_is_sound = { elim [
+      | variant.Raw d ↦ λ well_formed. record { is_sound = tt; size = well_formed.1 }
+      | variant.Vmdk d ↦ λ well_formed.
+          let cover = vmdk_laws.covered d.disk.extents.items (S.state d.image) (map S.state d.files.items) well_formed.2 in
           record { is_sound = tt; size = cover.size }
-      | variant.Qcow2 d ↦ λ safe. qcow2_rooms.covered S.Storage.own d safe
+      | variant.Qcow2 d ↦ λ well_formed. qcow2_rooms.covered S.Storage.own d well_formed
     ] };
 
-    ghost one_home = { elim [
-      | variant.Raw d ↦ λ p q at safe. raw_home.one_home d.size d.writable p q at
-      | variant.Vmdk d ↦ λ p q at safe. vmdk_laws.no_home p q at
-      | variant.Qcow2 d ↦ λ p q at safe. qcow2_homes.one_home S.Storage.own d safe p q at
+    ghost one_writable_location = { elim [
+      | variant.Raw d ↦ λ p q at well_formed. raw_home.one_writable_location d.size d.writable p q at
+      | variant.Vmdk d ↦ λ p q at well_formed. vmdk_laws.no_home p q at
+      | variant.Qcow2 d ↦ λ p q at well_formed. qcow2_homes.one_writable_location S.Storage.own d well_formed p q at
     ] };
 
     ghost blanks = { elim [
@@ -84,7 +84,7 @@ impl<S: Storage> FormatDriverInstance for ImageDriver<S> {
       | variant.Qcow2 d ↦ λ is. refl
     ] };
 
-    ghost says_room = { elim [
+    ghost reports_allocations = { elim [
       | variant.Raw d ↦ λ is. absurd (Prim.cc is)
       | variant.Vmdk d ↦ λ is. absurd (Prim.cc is)
       | variant.Qcow2 d ↦ λ is. refl
@@ -119,7 +119,7 @@ impl<S: Storage> FormatDriverInstance for ImageDriver<S> {
       | variant.Raw d ↦ λ p free states. raw_home.never states
       | variant.Vmdk d ↦ λ p free states. raw_home.never states
       | variant.Qcow2 d ↦ λ p free states.
-          let room = qcow2_homes.says_room S.Storage.own d free p in record { homeless = room.0; housed = room.1 }
+          let room = qcow2_homes.reports_allocations S.Storage.own d free p in record { without_writable_location = room.0; housed = room.1 }
     ] };
 
     fn image_file(&self) -> &S {
@@ -265,8 +265,8 @@ impl<S: Storage> FormatDriverInstance for ImageDriver<S> {
         alloc: Global,
         mapping: PreparedDataMapping<PreparedMappingState>,
     ) -> Result<(), (Fault, Option<PreparedDataMapping<PreparedMappingState>>)>
-        ensures commits { Commits ⟦<ImageDriver<S> as Seen>⟧ mapping.state result self.old self.new }
-        ensures refused { CommitRefused ⟦<ImageDriver<S> as Seen>⟧ mapping result self.old self.new }
+        ensures commits { Commits ⟦<ImageDriver<S> as DriverModel>⟧ mapping.state result self.old self.new }
+        ensures refused { CommitRefused ⟦<ImageDriver<S> as DriverModel>⟧ mapping result self.old self.new }
     {
         match self {
             ImageDriver::Raw(raw) => commit_stateless(mapping, raw.ready(), raw.writable()),
@@ -279,7 +279,7 @@ impl<S: Storage> FormatDriverInstance for ImageDriver<S> {
         &mut self,
         mapping: PreparedDataMapping<PreparedMappingState>,
     ) -> Result<(), (Fault, PreparedDataMapping<PreparedMappingState>)>
-        ensures cancels { Cancels ⟦<ImageDriver<S> as Seen>⟧ mapping result self.old self.new }
+        ensures cancels { Cancels ⟦<ImageDriver<S> as DriverModel>⟧ mapping result self.old self.new }
     {
         match self {
             ImageDriver::Raw(_) => cancel_stateless(mapping),

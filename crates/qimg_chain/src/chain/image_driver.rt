@@ -5,7 +5,7 @@ ghost use Rattle.imago_access.specs.Layer.{IsFree, unmapped};
 ghost use Rattle.qimg_chain.specs.ImageDrivers.{began_as};
 ghost use Rattle.qimg_chain.specs.declared.chain.image_driver.ImageDriver.TheVariants as variant;
 
-use imago_access::Seen;
+use imago_access::DriverModel;
 use imago_formats::{Raw, Vmdk};
 use imago_storage::Storage;
 use qcow2_image::{PreparedMappingState, Qcow2};
@@ -28,7 +28,7 @@ pub enum ImageDriver<S: Storage> {
 impl<S: Storage> ImageDriver<S> {
     /// Whether it shows a layer below: a qcow2 image with a backing file does.
     pub fn shows_below(&self) -> bool
-        ensures { IsTrue result ↔ ((⟦<ImageDriver<S> as Seen>⟧.layer self.now).fixed.blank ≡ unmapped) }
+        ensures { IsTrue result ↔ ((⟦<ImageDriver<S> as DriverModel>⟧.layer self.now).fixed.blank ≡ unmapped) }
     {
         match self {
             ImageDriver::Raw(_) | ImageDriver::Vmdk(_) => false,
@@ -39,8 +39,8 @@ impl<S: Storage> ImageDriver<S> {
     /// Its storage again. Nothing may be prepared. Of a qcow2 image what waits to be freed stays counted; the files of a VMDK image's
     /// extents are dropped.
     pub fn into_image(self) -> S
-        requires free { IsFree (⟦<ImageDriver<S> as Seen>⟧.layer self) }
-        ensures { S.state result ≡ ⟦<ImageDriver<S> as Seen>⟧.image self }
+        requires free { IsFree (⟦<ImageDriver<S> as DriverModel>⟧.layer self) }
+        ensures { S.state result ≡ ⟦<ImageDriver<S> as DriverModel>⟧.image self }
     {
         match self {
             ImageDriver::Raw(raw) => raw.into_image(),
@@ -66,99 +66,99 @@ impl<S: Storage> Display for ImageDriver<S> {
     }
 }
 
-impl<S: Storage> Seen for ImageDriver<S> {
+impl<S: Storage> DriverModel for ImageDriver<S> {
     type State = PreparedMappingState;
 
     ghost layer = { elim [
-      | variant.Raw d ↦ ⟦<Raw<S> as Seen>⟧.layer d
-      | variant.Vmdk d ↦ ⟦<Vmdk<S> as Seen>⟧.layer d
-      | variant.Qcow2 d ↦ ⟦<Qcow2<S> as Seen>⟧.layer d
+      | variant.Raw d ↦ ⟦<Raw<S> as DriverModel>⟧.layer d
+      | variant.Vmdk d ↦ ⟦<Vmdk<S> as DriverModel>⟧.layer d
+      | variant.Qcow2 d ↦ ⟦<Qcow2<S> as DriverModel>⟧.layer d
     ] };
 
     ghost image = { elim [
-      | variant.Raw d ↦ ⟦<Raw<S> as Seen>⟧.image d
-      | variant.Vmdk d ↦ ⟦<Vmdk<S> as Seen>⟧.image d
-      | variant.Qcow2 d ↦ ⟦<Qcow2<S> as Seen>⟧.image d
+      | variant.Raw d ↦ ⟦<Raw<S> as DriverModel>⟧.image d
+      | variant.Vmdk d ↦ ⟦<Vmdk<S> as DriverModel>⟧.image d
+      | variant.Qcow2 d ↦ ⟦<Qcow2<S> as DriverModel>⟧.image d
     ] };
 
     ghost extras = { elim [
-      | variant.Raw d ↦ ⟦<Raw<S> as Seen>⟧.extras d
-      | variant.Vmdk d ↦ ⟦<Vmdk<S> as Seen>⟧.extras d
-      | variant.Qcow2 d ↦ ⟦<Qcow2<S> as Seen>⟧.extras d
+      | variant.Raw d ↦ ⟦<Raw<S> as DriverModel>⟧.extras d
+      | variant.Vmdk d ↦ ⟦<Vmdk<S> as DriverModel>⟧.extras d
+      | variant.Qcow2 d ↦ ⟦<Qcow2<S> as DriverModel>⟧.extras d
     ] };
 
-    ghost sees = { elim [
-      | variant.Raw d ↦ ⟦<Raw<S> as Seen>⟧.sees d
-      | variant.Vmdk d ↦ ⟦<Vmdk<S> as Seen>⟧.sees d
-      | variant.Qcow2 d ↦ ⟦<Qcow2<S> as Seen>⟧.sees d
+    ghost coherent = { elim [
+      | variant.Raw d ↦ ⟦<Raw<S> as DriverModel>⟧.coherent d
+      | variant.Vmdk d ↦ ⟦<Vmdk<S> as DriverModel>⟧.coherent d
+      | variant.Qcow2 d ↦ ⟦<Qcow2<S> as DriverModel>⟧.coherent d
     ] };
 
-    ghost safe = { elim [
-      | variant.Raw d ↦ ⟦<Raw<S> as Seen>⟧.safe d
-      | variant.Vmdk d ↦ ⟦<Vmdk<S> as Seen>⟧.safe d
-      | variant.Qcow2 d ↦ ⟦<Qcow2<S> as Seen>⟧.safe d
+    ghost well_formed = { elim [
+      | variant.Raw d ↦ ⟦<Raw<S> as DriverModel>⟧.well_formed d
+      | variant.Vmdk d ↦ ⟦<Vmdk<S> as DriverModel>⟧.well_formed d
+      | variant.Qcow2 d ↦ ⟦<Qcow2<S> as DriverModel>⟧.well_formed d
     ] };
 
-    ghost still = { elim [
-      | variant.Raw d ↦ ⟦<Raw<S> as Seen>⟧.still d
-      | variant.Vmdk d ↦ ⟦<Vmdk<S> as Seen>⟧.still d
-      | variant.Qcow2 d ↦ ⟦<Qcow2<S> as Seen>⟧.still d
+    ghost has_no_dirty_data = { elim [
+      | variant.Raw d ↦ ⟦<Raw<S> as DriverModel>⟧.has_no_dirty_data d
+      | variant.Vmdk d ↦ ⟦<Vmdk<S> as DriverModel>⟧.has_no_dirty_data d
+      | variant.Qcow2 d ↦ ⟦<Qcow2<S> as DriverModel>⟧.has_no_dirty_data d
     ] };
 
-    ghost lasts = { elim [
-      | variant.Raw d ↦ ⟦<Raw<S> as Seen>⟧.lasts d
-      | variant.Vmdk d ↦ ⟦<Vmdk<S> as Seen>⟧.lasts d
-      | variant.Qcow2 d ↦ ⟦<Qcow2<S> as Seen>⟧.lasts d
+    ghost stable = { elim [
+      | variant.Raw d ↦ ⟦<Raw<S> as DriverModel>⟧.stable d
+      | variant.Vmdk d ↦ ⟦<Vmdk<S> as DriverModel>⟧.stable d
+      | variant.Qcow2 d ↦ ⟦<Qcow2<S> as DriverModel>⟧.stable d
     ] };
 
-    ghost surplus = { elim [
-      | variant.Raw d ↦ ⟦<Raw<S> as Seen>⟧.surplus d
-      | variant.Vmdk d ↦ ⟦<Vmdk<S> as Seen>⟧.surplus d
-      | variant.Qcow2 d ↦ ⟦<Qcow2<S> as Seen>⟧.surplus d
+    ghost excess_refcount = { elim [
+      | variant.Raw d ↦ ⟦<Raw<S> as DriverModel>⟧.excess_refcount d
+      | variant.Vmdk d ↦ ⟦<Vmdk<S> as DriverModel>⟧.excess_refcount d
+      | variant.Qcow2 d ↦ ⟦<Qcow2<S> as DriverModel>⟧.excess_refcount d
     ] };
 
-    ghost vacant = { elim [
-      | variant.Raw d ↦ ⟦<Raw<S> as Seen>⟧.vacant d
-      | variant.Vmdk d ↦ ⟦<Vmdk<S> as Seen>⟧.vacant d
-      | variant.Qcow2 d ↦ ⟦<Qcow2<S> as Seen>⟧.vacant d
+    ghost unallocated = { elim [
+      | variant.Raw d ↦ ⟦<Raw<S> as DriverModel>⟧.unallocated d
+      | variant.Vmdk d ↦ ⟦<Vmdk<S> as DriverModel>⟧.unallocated d
+      | variant.Qcow2 d ↦ ⟦<Qcow2<S> as DriverModel>⟧.unallocated d
     ] };
 
-    ghost has_room = { elim [
-      | variant.Raw d ↦ ⟦<Raw<S> as Seen>⟧.has_room d
-      | variant.Vmdk d ↦ ⟦<Vmdk<S> as Seen>⟧.has_room d
-      | variant.Qcow2 d ↦ ⟦<Qcow2<S> as Seen>⟧.has_room d
+    ghost has_allocation = { elim [
+      | variant.Raw d ↦ ⟦<Raw<S> as DriverModel>⟧.has_allocation d
+      | variant.Vmdk d ↦ ⟦<Vmdk<S> as DriverModel>⟧.has_allocation d
+      | variant.Qcow2 d ↦ ⟦<Qcow2<S> as DriverModel>⟧.has_allocation d
     ] };
 
     ghost zeroed = { elim [
-      | variant.Raw d ↦ ⟦<Raw<S> as Seen>⟧.zeroed d
-      | variant.Vmdk d ↦ ⟦<Vmdk<S> as Seen>⟧.zeroed d
-      | variant.Qcow2 d ↦ ⟦<Qcow2<S> as Seen>⟧.zeroed d
+      | variant.Raw d ↦ ⟦<Raw<S> as DriverModel>⟧.zeroed d
+      | variant.Vmdk d ↦ ⟦<Vmdk<S> as DriverModel>⟧.zeroed d
+      | variant.Qcow2 d ↦ ⟦<Qcow2<S> as DriverModel>⟧.zeroed d
     ] };
 
-    ghost stated = { elim [
-      | variant.Raw d ↦ ⟦<Raw<S> as Seen>⟧.stated d
-      | variant.Vmdk d ↦ ⟦<Vmdk<S> as Seen>⟧.stated d
-      | variant.Qcow2 d ↦ ⟦<Qcow2<S> as Seen>⟧.stated d
+    ghost explicit_zero = { elim [
+      | variant.Raw d ↦ ⟦<Raw<S> as DriverModel>⟧.explicit_zero d
+      | variant.Vmdk d ↦ ⟦<Vmdk<S> as DriverModel>⟧.explicit_zero d
+      | variant.Qcow2 d ↦ ⟦<Qcow2<S> as DriverModel>⟧.explicit_zero d
     ] };
 
-    ghost claim = { ⟦<Qcow2<S> as Seen>⟧.claim };
+    ghost mapping_id = { ⟦<Qcow2<S> as DriverModel>⟧.mapping_id };
 
-    ghost tag = { ⟦<Qcow2<S> as Seen>⟧.tag };
+    ghost tag = { ⟦<Qcow2<S> as DriverModel>⟧.tag };
 
     // Of files, those of qcow2 images can be unsound: they have a kind of their own.
-    ghost sound = { ⟦<Qcow2<S> as Seen>⟧.sound };
+    ghost sound = { ⟦<Qcow2<S> as DriverModel>⟧.sound };
 
-    ghost began = { began_as ⟦<Raw<S> as Seen>⟧.began ⟦<Vmdk<S> as Seen>⟧.began ⟦<Qcow2<S> as Seen>⟧.began };
+    ghost began = { began_as ⟦<Raw<S> as DriverModel>⟧.began ⟦<Vmdk<S> as DriverModel>⟧.began ⟦<Qcow2<S> as DriverModel>⟧.began };
 
     ghost own_cause = { elim [
-      | variant.Raw d ↦ ⟦<Raw<S> as Seen>⟧.own_cause d
-      | variant.Vmdk d ↦ ⟦<Vmdk<S> as Seen>⟧.own_cause d
-      | variant.Qcow2 d ↦ ⟦<Qcow2<S> as Seen>⟧.own_cause d
+      | variant.Raw d ↦ ⟦<Raw<S> as DriverModel>⟧.own_cause d
+      | variant.Vmdk d ↦ ⟦<Vmdk<S> as DriverModel>⟧.own_cause d
+      | variant.Qcow2 d ↦ ⟦<Qcow2<S> as DriverModel>⟧.own_cause d
     ] };
 
     ghost growth_cause = { elim [
-      | variant.Raw d ↦ ⟦<Raw<S> as Seen>⟧.growth_cause d
-      | variant.Vmdk d ↦ ⟦<Vmdk<S> as Seen>⟧.growth_cause d
-      | variant.Qcow2 d ↦ ⟦<Qcow2<S> as Seen>⟧.growth_cause d
+      | variant.Raw d ↦ ⟦<Raw<S> as DriverModel>⟧.growth_cause d
+      | variant.Vmdk d ↦ ⟦<Vmdk<S> as DriverModel>⟧.growth_cause d
+      | variant.Qcow2 d ↦ ⟦<Qcow2<S> as DriverModel>⟧.growth_cause d
     ] };
 }

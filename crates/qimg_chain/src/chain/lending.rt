@@ -18,7 +18,7 @@ pub(crate) fn lend<'a, D: FormatDriverInstance<Storage = MemStorage> + NamesFile
     alloc: Global,
     chain: &'a FormatAccess<D>,
 ) -> Result<Vec<ChainFile<MemoryView<'a>>>, Fault>
-    ensures ok { IfOk result (λ files. files_bytes view_state files.items ≡ map (driver_bytes D.Seen D.names) (chain.now.0 ∷ chain.now.1)) }
+    ensures ok { IfOk result (λ files. files_bytes view_state files.items ≡ map (driver_bytes D.DriverModel D.names) (chain.now.0 ∷ chain.now.1)) }
     ensures err { IsOkUnless result Fault.Memory }
 {
     let mut files = Vec::new(alloc);
@@ -37,7 +37,7 @@ fn lend_layer<'a, D: FormatDriverInstance<Storage = MemStorage> + NamesFiles>(
     alloc: Global,
     driver: &'a D,
 ) -> Result<ChainFile<MemoryView<'a>>, Fault>
-    ensures ok { IfOk result (λ file. file_bytes view_state file ≡ driver_bytes D.Seen D.names driver.now) }
+    ensures ok { IfOk result (λ file. file_bytes view_state file ≡ driver_bytes D.DriverModel D.names driver.now) }
     ensures err { IsOkUnless result Fault.Memory }
 {
     let mut extras = Vec::new(alloc);

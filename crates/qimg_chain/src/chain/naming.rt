@@ -26,7 +26,7 @@ pub trait NamesFiles: FormatDriverInstance {
         ensures { result.now ≡ Self.names self.now index };
 
     /// What the image file of a safe driver means to it is what it means with the further files that are found by these names.
-    ghost named: { (d : Self) → Self.safe d → FindsByNames Self.Seen names d };
+    ghost named: { (d : Self) → Self.well_formed d → FindsByNames Self.DriverModel names d };
 }
 
 impl<S: Storage> NamesFiles for ImageDriver<S> {
@@ -37,9 +37,9 @@ impl<S: Storage> NamesFiles for ImageDriver<S> {
     ] };
 
     ghost named = { elim [
-      | variant.Raw d ↦ λ safe. record { size = refl; cell = λ p below backed. refl }
-      | variant.Vmdk d ↦ λ safe. vmdk_named d.disk.extents.items (S.state d.image) (map S.state d.files.items) safe.2
-      | variant.Qcow2 d ↦ λ safe.
+      | variant.Raw d ↦ λ well_formed. record { size = refl; cell = λ p below backed. refl }
+      | variant.Vmdk d ↦ λ well_formed. vmdk_named d.disk.extents.items (S.state d.image) (map S.state d.files.items) well_formed.2
+      | variant.Qcow2 d ↦ λ well_formed.
           let bytes = (S.state d.tables.file.image).bytes in
           let size = sized d.mode.backing (bytes_of bytes) (header_of false (bytes_of bytes)) in
           record { size = size; cell = qcow2_through d.mode.backing bytes }

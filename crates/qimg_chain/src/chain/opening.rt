@@ -1,6 +1,6 @@
 // Image files are opened as a chain. The chain is qemu's backing chain. The file below is the backing file of qemu and imago.
 ghost use Rattle.std.specs.Prelude.{◌≡◌, ◌⊎◌, ◌<◌, ◌∷◌, length, map, reverse, IfOk, IfErr, IsErrOf};
-ghost use Rattle.imago_storage.specs.State.{InStep};
+ghost use Rattle.imago_storage.specs.State.{CrashImageIsBytes};
 ghost use Rattle.imago_access.specs.Building.{IsOpened};
 ghost use Rattle.imago_access.specs.Chain.{Each};
 ghost use Rattle.imago_access.specs.Layer.{IsFree};
@@ -8,18 +8,18 @@ ghost use Rattle.imago_access.specs.Layers.{chain};
 ghost use Rattle.imago_access.specs.Running.{chain_disk};
 ghost use Rattle.imago_access.specs.declared.format.Format.TheVariants as format;
 ghost use Rattle.qimg_calls.specs.Held.{IsReady};
-ghost use Rattle.qimg_calls.specs.Runs.{StandsSince};
+ghost use Rattle.qimg_calls.specs.Runs.{HoldsSince};
 ghost use Rattle.qimg_calls.specs.Since.{flushed};
 ghost use Rattle.qimg_chain.specs.Chains.{AreInPlace, AreLayers, IsFit, OfTop, number_for};
 ghost use Rattle.qimg_chain.specs.FileMeanings.{FindsByNames, IsDiskOf, ShowsFile, extra_bytes, file_bytes, files_bytes};
 ghost use Rattle.qimg_chain.specs.FileLayers.{IsLayer, IsLayerAs, WhyNotAs, WhyNotLayer, shows_below};
-ghost use Rattle.qimg_chain.specs.Refusals.{FirstCause, FormChain, IsCutOff, WhyNotLayers};
+ghost use Rattle.qimg_chain.specs.Refusals.{FirstCause, FormChain, HadResourceError, WhyNotLayers};
 
 use crate::chain::extras::Extras;
 use crate::chain::image_driver::ImageDriver;
 use crate::chain::naming::NamesFiles;
 use imago_access::{
-    Format, FormatAccess, FormatDriverBuilder, FormatDriverInstance, ImplicitOpenGate, Seen,
+    DriverModel, Format, FormatAccess, FormatDriverBuilder, FormatDriverInstance, ImplicitOpenGate,
 };
 use imago_formats::{Raw, Vmdk};
 use imago_storage::{Fault, Storage};
@@ -50,23 +50,23 @@ pub fn open_chain<S: Storage>(
     writable: bool,
     number: u64,
 ) -> Result<FormatAccess<ImageDriver<S>>, Fault>
-    ensures layers { IfOk result (λ c. AreLayers ⟦<ImageDriver<S> as Seen>⟧ S.state writable number files.items (chain c)) }
-    ensures places { let d = ⟦<ImageDriver<S> as Seen>⟧ in IfOk result (λ c. AreInPlace (map d.layer (chain c))) }
-    ensures means { let d = ⟦<ImageDriver<S> as Seen>⟧ in
+    ensures layers { IfOk result (λ c. AreLayers ⟦<ImageDriver<S> as DriverModel>⟧ S.state writable number files.items (chain c)) }
+    ensures places { let d = ⟦<ImageDriver<S> as DriverModel>⟧ in IfOk result (λ c. AreInPlace (map d.layer (chain c))) }
+    ensures means { let d = ⟦<ImageDriver<S> as DriverModel>⟧ in
         IfOk result (λ c. IsDiskOf (chain_disk d.layer c) (files_bytes S.state files.items)) }
     // To each layer its file means what it means with the further files found by the names that the layer tells.
-    ensures named { let d = ⟦<ImageDriver<S> as Seen>⟧ in
+    ensures named { let d = ⟦<ImageDriver<S> as DriverModel>⟧ in
         IfOk result (λ c. Each (FindsByNames d ⟦<ImageDriver<S> as NamesFiles>⟧.names) (chain c)) }
     // Nothing is prepared in the top, and nothing waits to be written below it.
-    ensures free { let d = ⟦<ImageDriver<S> as Seen>⟧ in IfOk result (λ c. IsFree (d.layer c.0)) }
-    ensures still { let d = ⟦<ImageDriver<S> as Seen>⟧ in IfOk result (λ c. Each d.still c.1) }
+    ensures free { let d = ⟦<ImageDriver<S> as DriverModel>⟧ in IfOk result (λ c. IsFree (d.layer c.0)) }
+    ensures has_no_dirty_data { let d = ⟦<ImageDriver<S> as DriverModel>⟧ in IfOk result (λ c. Each d.has_no_dirty_data c.1) }
     // What calls rest on: the top is sound and its storages keep what is written, or a stop leaves its bytes.
-    ensures ready { IfOk result (λ c. OfTop (IsFit S.state) files.items → IsReady ⟦<ImageDriver<S> as Seen>⟧ c) }
-    ensures stands { let d = ⟦<ImageDriver<S> as Seen>⟧ in
-        IfOk result (λ c. OfTop (λ file. InStep (S.state file.image)) files.items → StandsSince d (flushed (chain_disk d.layer c)) c) }
+    ensures ready { IfOk result (λ c. OfTop (IsFit S.state) files.items → IsReady ⟦<ImageDriver<S> as DriverModel>⟧ c) }
+    ensures stands { let d = ⟦<ImageDriver<S> as DriverModel>⟧ in
+        IfOk result (λ c. OfTop (λ file. CrashImageIsBytes (S.state file.image)) files.items → HoldsSince d (flushed (chain_disk d.layer c)) c) }
     // Files that form a chain have no cause against that: it is refused exactly for the first cause, or cut off.
     ensures formed { IfOk result (λ _. FormChain S.state writable files.items) }
-    ensures err { IfErr result (λ e. IsCutOff S.state e ⊎ FirstCause S.state writable files.items e) }
+    ensures err { IfErr result (λ e. HadResourceError S.state e ⊎ FirstCause S.state writable files.items e) }
     ensures none { length files.items ≡ 0 → IsErrOf result Fault.MissingBelow }
     ensures many { 64 < length files.items → IsErrOf result (Fault.Limit (length files.items)) }
 {
@@ -90,14 +90,14 @@ fn open_over<S: Storage>(
     writable: bool,
     number: u64,
 ) -> Result<FormatAccess<ImageDriver<S>>, Fault>
-    ensures layers { let d = ⟦<ImageDriver<S> as Seen>⟧ in
+    ensures layers { let d = ⟦<ImageDriver<S> as DriverModel>⟧ in
         IfOk result (λ c. AreLayers d S.state writable number (top ∷ reverse below.old.items) (chain c)) }
-    ensures places { let d = ⟦<ImageDriver<S> as Seen>⟧ in IfOk result (λ c. AreInPlace (map d.layer (chain c))) }
-    ensures means { let d = ⟦<ImageDriver<S> as Seen>⟧ in
+    ensures places { let d = ⟦<ImageDriver<S> as DriverModel>⟧ in IfOk result (λ c. AreInPlace (map d.layer (chain c))) }
+    ensures means { let d = ⟦<ImageDriver<S> as DriverModel>⟧ in
         IfOk result (λ c. IsDiskOf (chain_disk d.layer c) (files_bytes S.state (top ∷ reverse below.old.items))) }
-    ensures named { let d = ⟦<ImageDriver<S> as Seen>⟧ in
+    ensures named { let d = ⟦<ImageDriver<S> as DriverModel>⟧ in
         IfOk result (λ c. Each (FindsByNames d ⟦<ImageDriver<S> as NamesFiles>⟧.names) (chain c)) }
-    ensures err { IfErr result (λ e. IsCutOff S.state e ⊎ WhyNotLayers S.state writable (top ∷ reverse below.old.items) e) }
+    ensures err { IfErr result (λ e. HadResourceError S.state e ⊎ WhyNotLayers S.state writable (top ∷ reverse below.old.items) e) }
 {
     let driver = open_layer(alloc, top, writable, number)?;
     let next = match below.pop() {
@@ -126,13 +126,13 @@ fn open_layer<S: Storage>(
     writable: bool,
     number: u64,
 ) -> Result<ImageDriver<S>, Fault>
-    ensures opened { let d = ⟦<ImageDriver<S> as Seen>⟧ in
+    ensures opened { let d = ⟦<ImageDriver<S> as DriverModel>⟧ in
         IfOk result (IsOpened d file.format writable (number_for file.format number) (S.state file.image)) }
-    ensures layer { let d = ⟦<ImageDriver<S> as Seen>⟧ in
+    ensures layer { let d = ⟦<ImageDriver<S> as DriverModel>⟧ in
         IfOk result (λ l. IsLayer S.state writable file (shows_below (d.layer l)) (d.extras l)) }
-    ensures means { let d = ⟦<ImageDriver<S> as Seen>⟧ in IfOk result (λ l. ShowsFile (d.layer l) (file_bytes S.state file)) }
-    ensures named { IfOk result (FindsByNames ⟦<ImageDriver<S> as Seen>⟧ ⟦<ImageDriver<S> as NamesFiles>⟧.names) }
-    ensures err { IfErr result (λ e. IsCutOff S.state e ⊎ WhyNotLayer S.state writable file e) }
+    ensures means { let d = ⟦<ImageDriver<S> as DriverModel>⟧ in IfOk result (λ l. ShowsFile (d.layer l) (file_bytes S.state file)) }
+    ensures named { IfOk result (FindsByNames ⟦<ImageDriver<S> as DriverModel>⟧ ⟦<ImageDriver<S> as NamesFiles>⟧.names) }
+    ensures err { IfErr result (λ e. HadResourceError S.state e ⊎ WhyNotLayer S.state writable file e) }
 {
     let ChainFile {
         format,
@@ -154,12 +154,12 @@ fn open_raw<S: Storage>(
     extras: &mut Extras<S>,
     writable: bool,
 ) -> Result<ImageDriver<S>, Fault>
-    ensures opened { IfOk result (IsOpened ⟦<ImageDriver<S> as Seen>⟧ format.Raw writable 0 (S.state image)) }
-    ensures layer { let d = ⟦<ImageDriver<S> as Seen>⟧ in let handed = extras.old.files.items in
+    ensures opened { IfOk result (IsOpened ⟦<ImageDriver<S> as DriverModel>⟧ format.Raw writable 0 (S.state image)) }
+    ensures layer { let d = ⟦<ImageDriver<S> as DriverModel>⟧ in let handed = extras.old.files.items in
         IfOk result (λ l. IsLayerAs S.state format.Raw writable (S.state image) handed (shows_below (d.layer l)) (d.extras l)) }
-    ensures means { let d = ⟦<ImageDriver<S> as Seen>⟧ in IfOk result (λ l. ShowsFile (d.layer l)
+    ensures means { let d = ⟦<ImageDriver<S> as DriverModel>⟧ in IfOk result (λ l. ShowsFile (d.layer l)
         (record { format = format.Raw; bytes = (S.state image).bytes; extras = map (extra_bytes S.state) extras.old.files.items })) }
-    ensures named { IfOk result (FindsByNames ⟦<ImageDriver<S> as Seen>⟧ ⟦<ImageDriver<S> as NamesFiles>⟧.names) }
+    ensures named { IfOk result (FindsByNames ⟦<ImageDriver<S> as DriverModel>⟧ ⟦<ImageDriver<S> as NamesFiles>⟧.names) }
     ensures err { IfErr result (λ _. ⊥) }
 {
     let builder = Raw::builder(image).write(writable);
@@ -174,13 +174,13 @@ fn open_vmdk<S: Storage>(
     extras: &mut Extras<S>,
     writable: bool,
 ) -> Result<ImageDriver<S>, Fault>
-    ensures opened { IfOk result (IsOpened ⟦<ImageDriver<S> as Seen>⟧ format.Vmdk writable 0 (S.state image)) }
-    ensures layer { let d = ⟦<ImageDriver<S> as Seen>⟧ in let handed = extras.old.files.items in
+    ensures opened { IfOk result (IsOpened ⟦<ImageDriver<S> as DriverModel>⟧ format.Vmdk writable 0 (S.state image)) }
+    ensures layer { let d = ⟦<ImageDriver<S> as DriverModel>⟧ in let handed = extras.old.files.items in
         IfOk result (λ l. IsLayerAs S.state format.Vmdk writable (S.state image) handed (shows_below (d.layer l)) (d.extras l)) }
-    ensures means { let d = ⟦<ImageDriver<S> as Seen>⟧ in IfOk result (λ l. ShowsFile (d.layer l)
+    ensures means { let d = ⟦<ImageDriver<S> as DriverModel>⟧ in IfOk result (λ l. ShowsFile (d.layer l)
         (record { format = format.Vmdk; bytes = (S.state image).bytes; extras = map (extra_bytes S.state) extras.old.files.items })) }
-    ensures named { IfOk result (FindsByNames ⟦<ImageDriver<S> as Seen>⟧ ⟦<ImageDriver<S> as NamesFiles>⟧.names) }
-    ensures err { IfErr result (λ e. IsCutOff S.state e ⊎ WhyNotAs S.state format.Vmdk writable (S.state image) extras.old.files.items e) }
+    ensures named { IfOk result (FindsByNames ⟦<ImageDriver<S> as DriverModel>⟧ ⟦<ImageDriver<S> as NamesFiles>⟧.names) }
+    ensures err { IfErr result (λ e. HadResourceError S.state e ⊎ WhyNotAs S.state format.Vmdk writable (S.state image) extras.old.files.items e) }
 {
     let builder = Vmdk::builder(image).write(writable);
     let vmdk = builder.open(alloc, extras)?;
@@ -195,13 +195,13 @@ fn open_qcow2<S: Storage>(
     writable: bool,
     number: u64,
 ) -> Result<ImageDriver<S>, Fault>
-    ensures opened { IfOk result (IsOpened ⟦<ImageDriver<S> as Seen>⟧ format.Qcow2 writable number (S.state image)) }
-    ensures layer { let d = ⟦<ImageDriver<S> as Seen>⟧ in let handed = extras.old.files.items in
+    ensures opened { IfOk result (IsOpened ⟦<ImageDriver<S> as DriverModel>⟧ format.Qcow2 writable number (S.state image)) }
+    ensures layer { let d = ⟦<ImageDriver<S> as DriverModel>⟧ in let handed = extras.old.files.items in
         IfOk result (λ l. IsLayerAs S.state format.Qcow2 writable (S.state image) handed (shows_below (d.layer l)) (d.extras l)) }
-    ensures means { let d = ⟦<ImageDriver<S> as Seen>⟧ in IfOk result (λ l. ShowsFile (d.layer l)
+    ensures means { let d = ⟦<ImageDriver<S> as DriverModel>⟧ in IfOk result (λ l. ShowsFile (d.layer l)
         (record { format = format.Qcow2; bytes = (S.state image).bytes; extras = map (extra_bytes S.state) extras.old.files.items })) }
-    ensures named { IfOk result (FindsByNames ⟦<ImageDriver<S> as Seen>⟧ ⟦<ImageDriver<S> as NamesFiles>⟧.names) }
-    ensures err { IfErr result (λ e. IsCutOff S.state e ⊎ WhyNotAs S.state format.Qcow2 writable (S.state image) extras.old.files.items e) }
+    ensures named { IfOk result (FindsByNames ⟦<ImageDriver<S> as DriverModel>⟧ ⟦<ImageDriver<S> as NamesFiles>⟧.names) }
+    ensures err { IfErr result (λ e. HadResourceError S.state e ⊎ WhyNotAs S.state format.Qcow2 writable (S.state image) extras.old.files.items e) }
 {
     let builder = Qcow2::builder(image).number(number).write(writable);
     let qcow2 = open_by(alloc, builder, extras)?;
@@ -216,7 +216,7 @@ fn open_by<S: Storage, B: FormatDriverBuilder<S>, G: ImplicitOpenGate<S>>(
 ) -> Result<B::Format, Fault>
     ensures ok { IfOk result (B.opens builder) }
     ensures opened { let before = S.state (B.image_of builder) in
-        IfOk result (IsOpened B.Format.Seen B.FORMAT (B.writable_of builder) (B.number_of builder) before) }
+        IfOk result (IsOpened B.Format.DriverModel B.FORMAT (B.writable_of builder) (B.number_of builder) before) }
     ensures err { IfErr result (B.refuses builder) }
 {
     builder.open(alloc, gate)

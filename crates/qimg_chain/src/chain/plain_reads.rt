@@ -56,10 +56,10 @@ fn read_in_order<D: FormatDriverInstance>(
     buf: &mut [u8],
 ) -> Result<(), Fault>
     requires fits { offset + length buf.old < 2 ^ 64 }
-    requires sees { Each D.sees (chain.old.0 ∷ chain.old.1) }
+    requires coherent { Each D.coherent (chain.old.0 ∷ chain.old.1) }
     requires usable { (f : Fault) → SomeUnusable (map D.layer (chain.old.0 ∷ chain.old.1)) f → ⊥ }
     ensures ok { OnOk result (Shows (at (map D.layer (chain.old.0 ∷ chain.old.1))) offset buf.new) }
-    ensures err { IfErr result (NotReadInOrder D.Seen (at (map D.layer (chain.old.0 ∷ chain.old.1))) offset (length buf.old)) }
+    ensures err { IfErr result (NotReadInOrder D.DriverModel (at (map D.layer (chain.old.0 ∷ chain.old.1))) offset (length buf.old)) }
 {
     match chain.read(alloc, buf, offset) {
         Ok(()) => Ok(()),
@@ -89,10 +89,10 @@ fn first_place_fault<D: FormatDriverInstance>(
     fault: Fault,
 ) -> Fault
     requires fits { offset + length buf.old < 2 ^ 64 }
-    requires sees { Each D.sees (chain.old.0 ∷ chain.old.1) }
+    requires coherent { Each D.coherent (chain.old.0 ∷ chain.old.1) }
     requires usable { (f : Fault) → SomeUnusable (map D.layer (chain.old.0 ∷ chain.old.1)) f → ⊥ }
     requires faulty { HasFault (at (map D.layer (chain.old.0 ∷ chain.old.1))) offset (length buf.old) fault }
-    ensures { NotReadInOrder D.Seen (at (map D.layer (chain.old.0 ∷ chain.old.1))) offset (length buf.old) result }
+    ensures { NotReadInOrder D.DriverModel (at (map D.layer (chain.old.0 ∷ chain.old.1))) offset (length buf.old) result }
 {
     let mut fault = fault;
     let mut good = 0;

@@ -1,8 +1,8 @@
 // The files of a chain as they stand, copied. qemu's snapshots are others: they stand in an image, or are a layer below. imago has none.
 ghost use Rattle.std.specs.Prelude.{◌≡◌, ◌∷◌, map, OnOk, IfOk, IfErr, IsOkUnless};
 ghost use Rattle.imago_access.specs.FileReads.{file_bytes_in, files_at, FilesRead};
-ghost use Rattle.imago_access.specs.Files.{Pairs, WasNotCutOff, files_of};
-ghost use Rattle.imago_access.specs.Going.{Looked};
+ghost use Rattle.imago_access.specs.Files.{Pairs, HadNoResourceError, files_of};
+ghost use Rattle.imago_access.specs.Going.{LookupCall};
 ghost use Rattle.imago_access.specs.Layers.{chain as drivers};
 ghost use Rattle.imago_storage.specs.MemStorage.{mem_state};
 ghost use Rattle.qimg_chain.specs.FileMeanings.{driver_bytes, file_bytes, files_bytes};
@@ -31,14 +31,14 @@ pub fn snapshot<D: NamesFiles + ReadFiles>(
     chain: &mut FormatAccess<D>,
 ) -> Result<Vec<ChainFile<MemStorage>>, Fault>
     // What it answers.
-    ensures ok { IfOk result (λ files. files_bytes mem_state files.items ≡ map (driver_bytes D.Seen D.names) (drivers chain.old)) }
+    ensures ok { IfOk result (λ files. files_bytes mem_state files.items ≡ map (driver_bytes D.DriverModel D.names) (drivers chain.old)) }
 
     // What it keeps.
-    ensures read { Pairs (FilesRead D.Seen (WasNotCutOff result)) (drivers chain.old) (drivers chain.new) }
-    ensures looked { Pairs (Looked D.Seen (WasNotCutOff result)) (drivers chain.old) (drivers chain.new) }
+    ensures read { Pairs (FilesRead D.DriverModel (HadNoResourceError result)) (drivers chain.old) (drivers chain.new) }
+    ensures lookup_call { Pairs (LookupCall D.DriverModel (HadNoResourceError result)) (drivers chain.old) (drivers chain.new) }
 
     // Why it is refused.
-    ensures cause { IfErr result (WhyNotCopied (files_of D.Seen (drivers chain.old)) (files_of D.Seen (drivers chain.new))) }
+    ensures cause { IfErr result (WhyNotCopied (files_of D.DriverModel (drivers chain.old)) (files_of D.DriverModel (drivers chain.new))) }
 {
     let layers = layer_names(alloc, chain)?;
     let mut files = Vec::new(alloc);
@@ -54,7 +54,7 @@ fn layer_names<D: NamesFiles>(
     alloc: Global,
     chain: &FormatAccess<D>,
 ) -> Result<Vec<LayerNames>, Fault>
-    ensures ok { IfOk result (λ layers. map said_names layers.items ≡ map (names_of D.Seen D.names) (drivers chain.now)) }
+    ensures ok { IfOk result (λ layers. map said_names layers.items ≡ map (names_of D.DriverModel D.names) (drivers chain.now)) }
     ensures err { IsOkUnless result Fault.Memory }
 {
     let mut layers = Vec::new(alloc);
@@ -70,7 +70,7 @@ fn layer_names<D: NamesFiles>(
 
 // The names of a layer's files.
 fn names_in<D: NamesFiles>(alloc: Global, driver: &D) -> Result<LayerNames, Fault>
-    ensures ok { IfOk result (λ layer. said_names layer ≡ names_of D.Seen D.names driver.now) }
+    ensures ok { IfOk result (λ layer. said_names layer ≡ names_of D.DriverModel D.names driver.now) }
     ensures err { IsOkUnless result Fault.Memory }
 {
     let mut names = Vec::new(alloc);
@@ -91,9 +91,9 @@ fn copy_layer<D: NamesFiles + ReadFiles>(
     names: &LayerNames,
 ) -> Result<ChainFile<MemStorage>, Fault>
     ensures ok { IfOk result (λ file.
-        file_bytes mem_state file ≡ filled (said_names names.now) (files_at D.Seen (drivers chain.old) layer)) }
-    ensures read { Pairs (FilesRead D.Seen (WasNotCutOff result)) (drivers chain.old) (drivers chain.new) }
-    ensures cause { IfErr result (WhyNotCopied (files_of D.Seen (drivers chain.old)) (files_of D.Seen (drivers chain.new))) }
+        file_bytes mem_state file ≡ filled (said_names names.now) (files_at D.DriverModel (drivers chain.old) layer)) }
+    ensures read { Pairs (FilesRead D.DriverModel (HadNoResourceError result)) (drivers chain.old) (drivers chain.new) }
+    ensures cause { IfErr result (WhyNotCopied (files_of D.DriverModel (drivers chain.old)) (files_of D.DriverModel (drivers chain.new))) }
 {
     let image = copy_file(alloc, chain, layer, 0)?;
     let mut extras = Vec::new(alloc);
@@ -115,9 +115,9 @@ fn copy_file<D: ReadFiles>(
     layer: usize,
     file: usize,
 ) -> Result<MemStorage, Fault>
-    ensures ok { IfOk result (λ copy. (mem_state copy).bytes ≡ file_bytes_in (files_at D.Seen (drivers chain.old) layer) file) }
-    ensures read { Pairs (FilesRead D.Seen (WasNotCutOff result)) (drivers chain.old) (drivers chain.new) }
-    ensures cause { IfErr result (WhyNotCopied (files_of D.Seen (drivers chain.old)) (files_of D.Seen (drivers chain.new))) }
+    ensures ok { IfOk result (λ copy. (mem_state copy).bytes ≡ file_bytes_in (files_at D.DriverModel (drivers chain.old) layer) file) }
+    ensures read { Pairs (FilesRead D.DriverModel (HadNoResourceError result)) (drivers chain.old) (drivers chain.new) }
+    ensures cause { IfErr result (WhyNotCopied (files_of D.DriverModel (drivers chain.old)) (files_of D.DriverModel (drivers chain.new))) }
 {
     let size = chain.file_size(layer, file);
     let mut bytes = vec![in alloc; 0u8; size as usize]?;

@@ -34,7 +34,7 @@ fn answer_call<D: FormatDriverInstance<Storage = MemStorage> + NamesFiles>(
     requires asks { IsTrue (asks_for_call line) }
     requires short { IsShort line }
     ensures free { IsFree (D.layer chain.new.0) }
-    ensures answered { Answered D.Seen D.names line result chain.old chain.new }
+    ensures answered { Answered D.DriverModel D.names line result chain.old chain.new }
 {
     match call_of(line) {
         Some(call) => match make(alloc, chain, call) {
@@ -57,8 +57,8 @@ fn answer_apart<D: FormatDriverInstance<Storage = MemStorage> + NamesFiles>(
     requires asks { IsTrue (asks_for_call line) }
     requires short { IsShort line }
     ensures free { IsFree (D.layer chain.new.0) }
-    ensures answered { Answered D.Seen D.names line result chain.old chain.new }
-    ensures kept { let was = kept_of (D.image chain.old.0).bytes saved.old in
+    ensures answered { Answered D.DriverModel D.names line result chain.old chain.new }
+    ensures keeps_saved { let was = kept_of (D.image chain.old.0).bytes saved.old in
         KeepsSaved line result (D.image chain.new.0).bytes was (kept_of (D.image chain.new.0).bytes saved.new) }
 {
     if let Err(fault) = saved.set_apart(chain) {
@@ -82,8 +82,8 @@ pub fn answer_line<D: FormatDriverInstance<Storage = MemStorage> + NamesFiles>(
 ) -> Answer
     requires free { IsFree (D.layer chain.old.0) }
     ensures free { IsFree (D.layer chain.new.0) }
-    ensures answered { Answered D.Seen D.names line result chain.old chain.new }
-    ensures kept { let was = kept_of (D.image chain.old.0).bytes saved.old in
+    ensures answered { Answered D.DriverModel D.names line result chain.old chain.new }
+    ensures keeps_saved { let was = kept_of (D.image chain.old.0).bytes saved.old in
         KeepsSaved line result (D.image chain.new.0).bytes was (kept_of (D.image chain.new.0).bytes saved.new) }
 {
     match line {

@@ -51,7 +51,7 @@ pub fn make<D: FormatDriverInstance>(
     requires free { IsFree (D.layer chain.old.0) }
     requires other { IsFalse (is_of_mapping call) }
     ensures free { IsFree (D.layer chain.new.0) }
-    ensures made { MadeOne D.Seen call result chain.old chain.new }
+    ensures made { MadeOne D.DriverModel call result chain.old chain.new }
 {
     let calls = [call];
     let mut answers = drive(alloc, chain, &calls)?;

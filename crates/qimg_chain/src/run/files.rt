@@ -55,7 +55,7 @@ pub fn read_plainly<D: FormatDriverInstance<Storage = MemStorage> + NamesFiles>(
     offset: u64,
     count: u64,
 ) -> Result<Bytes, Fault>
-    ensures { ReadsPlainly D.Seen D.names offset count result chain.now }
+    ensures { ReadsPlainly D.DriverModel D.names offset count result chain.now }
 {
     let mut buf = buffer(alloc, count)?;
     let files = lend(alloc, chain)?;

@@ -8,7 +8,7 @@ ghost use Rattle.qimg_chain.specs.ScriptRuns.{items_of, kept_of};
 use super::saved::Saved;
 use super::{RunFault, run_lines};
 use crate::chain::{ImageDriver, NamesFiles, open_chain};
-use imago_access::{FormatAccess, Seen};
+use imago_access::{DriverModel, FormatAccess};
 use imago_storage::{Fault, MemStorage};
 use qimg_core::plain::ChainFile;
 use std::alloc::Global;
@@ -29,8 +29,8 @@ fn take_kept(
     saved: Saved,
     chain: FormatAccess<ImageDriver<MemStorage>>,
 ) -> Result<Option<Vec<u8>>, RunFault>
-    requires free { IsFree (⟦<ImageDriver<MemStorage> as Seen>⟧.layer chain.0) }
-    ensures ok { IfOk result (λ bytes. items_of bytes ≡ kept_of (⟦<ImageDriver<MemStorage> as Seen>⟧.image chain.0).bytes saved) }
+    requires free { IsFree (⟦<ImageDriver<MemStorage> as DriverModel>⟧.layer chain.0) }
+    ensures ok { IfOk result (λ bytes. items_of bytes ≡ kept_of (⟦<ImageDriver<MemStorage> as DriverModel>⟧.image chain.0).bytes saved) }
     ensures err { IsOkUnless result RunFault.Memory }
 {
     match saved {
@@ -61,10 +61,10 @@ pub fn run_files<R: BufRead + Drop, W: Write>(
     writer: &mut W,
 ) -> Result<Option<Vec<u8>>, ScriptFault>
     ensures headline { let what = to_open files.items writable number in let names = ⟦<ImageDriver<MemStorage> as NamesFiles>⟧.names in
-        IfOk result (λ saved. RunFrom ⟦<ImageDriver<MemStorage> as Seen>⟧ names what
+        IfOk result (λ saved. RunFrom ⟦<ImageDriver<MemStorage> as DriverModel>⟧ names what
         (R.remaining reader) (W.contents writer.old) (W.contents writer.new) (Ok (items_of saved))) }
     ensures err { let what = to_open files.items writable number in let names = ⟦<ImageDriver<MemStorage> as NamesFiles>⟧.names in
-        IfErr result (NotRun ⟦<ImageDriver<MemStorage> as Seen>⟧ names what
+        IfErr result (NotRun ⟦<ImageDriver<MemStorage> as DriverModel>⟧ names what
         (R.remaining reader) (W.contents writer.old) (W.contents writer.new)) }
 {
     let mut chain = match open_chain(alloc, files, writable, number) {

@@ -34,7 +34,7 @@ fn stop_of(error: &Error) -> Option<RunFault>
 fn line_part(bytes: &[u8]) -> (usize, bool)
     ensures inside { result.0 ≤ length bytes.now }
     ensures goes_on { IsFalse result.1 → All (λ b. b ≢ 10) (take result.0 bytes.now) }
-    ensures stops { IsTrue result.1 → StopsAt (take result.0 bytes.now) 10 }
+    ensures crash_images { IsTrue result.1 → StopsAt (take result.0 bytes.now) 10 }
     ensures ends { IsTrue result.1 → IsEmptyOrEndsWith (take result.0 bytes.now) 10 }
     ensures none { result.0 ≡ 0 → bytes.now ≡ [] }
 {
@@ -65,7 +65,7 @@ fn read_part<R: BufRead>(input: &mut R, line: &mut Vec<u8>) -> Result<bool, RunF
 /// Reads the next line with its end. Nothing is read behind the last one.
 fn read_line<R: BufRead>(input: &mut R, line: &mut Vec<u8>) -> Result<(), RunFault>
     ensures line { OnOk result (IfSome (R.remaining input.old) (λ bytes. line.new.items ≡ take_through 10 bytes)) }
-    ensures rest { OnOk result (DropsThrough (R.remaining input.old) (R.remaining input.new) 10) }
+    ensures remainder { OnOk result (DropsThrough (R.remaining input.old) (R.remaining input.new) 10) }
     ensures err { IfErr result IsReadingFault }
 {
     line.clear();
@@ -89,7 +89,7 @@ fn next_of(alloc: Global, line: &[u8]) -> Next
 
 /// The same of bytes that are one line with its line feed, or none: they aren't searched for it again.
 fn next_in(alloc: Global, line: &[u8]) -> Next
-    requires stops { StopsAt line.now 10 }
+    requires crash_images { StopsAt line.now 10 }
     requires ends { IsEmptyOrEndsWith line.now 10 }
     ensures { IsNext line.now result }
 {

@@ -10,7 +10,7 @@ use Rattle.qcow2_types.specs.Counts.{block_at}
 use Rattle.qcow2_types.specs.References.{Weight, meets, of_cluster, of_mapping, of_copied, of_table, of_table_or_none, structure, contents}
 use Rattle.qcow2_types.proofs.Numbers.Sums.{sum-same}
 use Rattle.qimg_core.specs.declared.check.names.Tallies.{Tallies}
-use Rattle.qimg_core.specs.Names.{TellsNothing, named_by, structure_part, mapped_part, copied_part}
+use Rattle.qimg_core.specs.Names.{TellsNothing, referenced_by, structure_part, mapped_part, copied_part}
 use Rattle.qimg_core.specs.CheckParts.{Tells, HoldsPlaces, tables_of, sum_over, structure_over}
 use Rattle.qimg_core.specs.Entering.{AddsStructure, AddsTables}
 use Rattle.qimg_core.proofs.Tables.Tests.{not-same}
@@ -30,7 +30,7 @@ module _ (f : Bytes) (H : Header) (tables blocks : List ℕ) (holds : HoldsPlace
   -- and of the blocks
   blocks-listed : (w : Weight) → sum_over (of_cluster H.fields w) blocks ≡ sum_below (refcount_table_entries H.fields) (λ i. of_cluster H.fields w (block_at f H.fields i))
   blocks-listed w =
-      sym (sum-list (of_cluster H.fields w) refl blocks (refcount_table_entries H.fields) holds.are_blocks.few)
+      sym (sum-list (of_cluster H.fields w) refl blocks (refcount_table_entries H.fields) holds.are_blocks.count_bounded)
       ∙ sum-same (refcount_table_entries H.fields) (λ i. of_cluster H.fields w (slice_index blocks i)) (λ i. of_cluster H.fields w (block_at f H.fields i)) (λ i lt. ap (of_cluster H.fields w) (holds.are_blocks.each i))
 
   -- so the structure
@@ -43,27 +43,27 @@ module _ (f : Bytes) (H : Header) (tables blocks : List ℕ) (holds : HoldsPlace
 
   module _ (start between given : Tallies) (none : TellsNothing start) (adds-structure : AddsStructure H.fields start between tables blocks) (adds-contents : AddsTables f H.fields between given tables) where
     -- What is entered then is what the image names.
-    told-structure : (c : ℕ) → named_by structure_part c given ≡ structure f H.fields (meets H.fields c)
+    told-structure : (c : ℕ) → referenced_by structure_part c given ≡ structure f H.fields (meets H.fields c)
     told-structure c =
-        let a : named_by structure_part c start ≡ 0 = ap structure_part (none c) in
-        let b : named_by structure_part c between ≡ named_by structure_part c start + structure_over H.fields tables blocks (meets H.fields c) = adds-structure.structure c in
-        let d : named_by structure_part c given ≡ named_by structure_part c between + 0 = adds-contents.structure c in
+        let a : referenced_by structure_part c start ≡ 0 = ap structure_part (none c) in
+        let b : referenced_by structure_part c between ≡ referenced_by structure_part c start + structure_over H.fields tables blocks (meets H.fields c) = adds-structure.structure c in
+        let d : referenced_by structure_part c given ≡ referenced_by structure_part c between + 0 = adds-contents.structure c in
         let e : structure_over H.fields tables blocks (meets H.fields c) ≡ structure f H.fields (meets H.fields c) = structure-listed (meets H.fields c) in
         omega arith
 
-    told-mapped : (c : ℕ) → named_by mapped_part c given ≡ contents f H.fields (of_mapping H.fields (meets H.fields c))
+    told-mapped : (c : ℕ) → referenced_by mapped_part c given ≡ contents f H.fields (of_mapping H.fields (meets H.fields c))
     told-mapped c =
-        let a : named_by mapped_part c start ≡ 0 = ap mapped_part (none c) in
-        let b : named_by mapped_part c between ≡ named_by mapped_part c start + 0 = adds-structure.mapped c in
-        let d : named_by mapped_part c given ≡ named_by mapped_part c between + sum_over (of_table f H.fields (of_mapping H.fields (meets H.fields c))) tables = adds-contents.mapped c in
+        let a : referenced_by mapped_part c start ≡ 0 = ap mapped_part (none c) in
+        let b : referenced_by mapped_part c between ≡ referenced_by mapped_part c start + 0 = adds-structure.mapped c in
+        let d : referenced_by mapped_part c given ≡ referenced_by mapped_part c between + sum_over (of_table f H.fields (of_mapping H.fields (meets H.fields c))) tables = adds-contents.mapped c in
         let e : sum_over (of_table f H.fields (of_mapping H.fields (meets H.fields c))) tables ≡ contents f H.fields (of_mapping H.fields (meets H.fields c)) = contents-listed (of_mapping H.fields (meets H.fields c)) in
         omega arith
 
-    told-copied : (c : ℕ) → named_by copied_part c given ≡ contents f H.fields (of_copied H.fields (meets H.fields c))
+    told-copied : (c : ℕ) → referenced_by copied_part c given ≡ contents f H.fields (of_copied H.fields (meets H.fields c))
     told-copied c =
-        let a : named_by copied_part c start ≡ 0 = ap copied_part (none c) in
-        let b : named_by copied_part c between ≡ named_by copied_part c start + 0 = adds-structure.copied c in
-        let d : named_by copied_part c given ≡ named_by copied_part c between + sum_over (of_table f H.fields (of_copied H.fields (meets H.fields c))) tables = adds-contents.copied c in
+        let a : referenced_by copied_part c start ≡ 0 = ap copied_part (none c) in
+        let b : referenced_by copied_part c between ≡ referenced_by copied_part c start + 0 = adds-structure.copied c in
+        let d : referenced_by copied_part c given ≡ referenced_by copied_part c between + sum_over (of_table f H.fields (of_copied H.fields (meets H.fields c))) tables = adds-contents.copied c in
         let e : sum_over (of_table f H.fields (of_copied H.fields (meets H.fields c))) tables ≡ contents f H.fields (of_copied H.fields (meets H.fields c)) = contents-listed (of_copied H.fields (meets H.fields c)) in
         omega arith
 

@@ -8,10 +8,10 @@ use Rattle.std.proofs.lemmas.Grind.{get_or_default_zero}
 use Rattle.std.proofs.lemmas.List.{take_all}
 use Rattle.std.proofs.lemmas.List.Elements.{All-get_or, All-from_get_or}
 use Rattle.std.proofs.lemmas.List.Sorted.{IsPermutation-sym, All-permutation, Contains-permutation, sum_by-IsPermutation}
-use Rattle.imago_storage.specs.State.{StorageState, Rose}
-use Rattle.imago_storage.specs.Calls.{Kept}
+use Rattle.imago_storage.specs.State.{StorageState, HasRisen}
+use Rattle.imago_storage.specs.Calls.{UnchangedButFaults}
 use Rattle.qcow2_types.specs.Bytes.{Bytes, bytes_of}
-use Rattle.qcow2_types.specs.Words.{is_place}
+use Rattle.qcow2_types.specs.Words.{is_cluster_offset}
 use Rattle.qcow2_types.specs.Header.{Fields}
 use Rattle.qcow2_types.specs.Entries.{l2_table_sound}
 use Rattle.qcow2_types.specs.References.{meets, of_mapping, of_copied, of_table}
@@ -19,7 +19,7 @@ use Rattle.qimg_core.specs.declared.check.CheckFault.{CheckFault}
 use Rattle.qimg_core.specs.declared.check.CheckFault.TheVariants.{Table, Memory, Storage}
 use Rattle.qimg_core.specs.declared.check.names.Tallies.{Tallies}
 use Rattle.qcow2_metadata.specs.Loading.{file}
-use Rattle.qimg_core.specs.Names.{KeepsCells, SparesLists, named_by, structure_part, mapped_part, copied_part}
+use Rattle.qimg_core.specs.Names.{KeepsCells, ListsOnlyOverflow, referenced_by, structure_part, mapped_part, copied_part}
 use Rattle.qimg_core.specs.Check.{IsDamagedTable, IsOneDamaged, Found}
 use Rattle.qimg_core.specs.CheckParts.{AreTables, sum_over}
 use Rattle.qimg_core.proofs.Contents.Places.{places-step}
@@ -27,15 +27,15 @@ use Rattle.qimg_core.specs.Entering.{AddsTable, AddsTables}
 
 -- What the tables at the first i places name is entered, but for the last of them, so many, which are all at the place that follows.
 pub record NamedTo (old now : StorageState) (h : Fields) (before names : Tallies) (places : List ℕ) (times i : ℕ) : Type 0 where
-  pub kept : Kept old now
+  pub kept : UnchangedButFaults old now
   pub faults : now.faults ≡ old.faults
   pub few : times ≤ i
   pub last : i ≡ length places → times ≡ 0
   pub cells : KeepsCells before names
-  pub spares : SparesLists before → SparesLists names
-  pub structure : (c : ℕ) → named_by structure_part c names ≡ named_by structure_part c before
-  pub mapped : (c : ℕ) → named_by mapped_part c names + times * of_table (file old) h (of_mapping h (meets h c)) (slice_index places i) ≡ named_by mapped_part c before + sum_over (of_table (file old) h (of_mapping h (meets h c))) (take i places)
-  pub copied : (c : ℕ) → named_by copied_part c names + times * of_table (file old) h (of_copied h (meets h c)) (slice_index places i) ≡ named_by copied_part c before + sum_over (of_table (file old) h (of_copied h (meets h c))) (take i places)
+  pub spares : ListsOnlyOverflow before → ListsOnlyOverflow names
+  pub structure : (c : ℕ) → referenced_by structure_part c names ≡ referenced_by structure_part c before
+  pub mapped : (c : ℕ) → referenced_by mapped_part c names + times * of_table (file old) h (of_mapping h (meets h c)) (slice_index places i) ≡ referenced_by mapped_part c before + sum_over (of_table (file old) h (of_mapping h (meets h c))) (take i places)
+  pub copied : (c : ℕ) → referenced_by copied_part c names + times * of_table (file old) h (of_copied h (meets h c)) (slice_index places i) ≡ referenced_by copied_part c before + sum_over (of_table (file old) h (of_copied h (meets h c))) (take i places)
   pub sound : (k : ℕ) → k < i → IsTrue (l2_table_sound (file old) h (slice_index places k)) ⊎ ((0 < times) × (slice_index places k ≡ slice_index places i))
 
 module _ (old now : StorageState) (h : Fields) (before names : Tallies) (places : List ℕ) (times i : ℕ) (so_far : NamedTo old now h before names places times i) where
@@ -71,22 +71,22 @@ module _ (old now : StorageState) (h : Fields) (before names : Tallies) (places 
       one-more of a b sum = ap (λ p. a + (times + 1) * of p) same ∙ step a b _ _ (of (slice_index places i)) times (places-step of places i (omega arith)) sum
 
   -- It is entered with those that wait.
-  pub named-now : (new : StorageState) (names' : Tallies) → i < length places → Kept now new → new.faults ≡ now.faults → AddsTable (file now) h (times + 1) names names' (slice_index places i) → IsTrue (l2_table_sound (file now) h (slice_index places i))
+  pub named-now : (new : StorageState) (names' : Tallies) → i < length places → UnchangedButFaults now new → new.faults ≡ now.faults → AddsTable (file now) h (times + 1) names names' (slice_index places i) → IsTrue (l2_table_sound (file now) h (slice_index places i))
       → NamedTo old new h before names' places 0 (i + 1)
   named-now new names' inside kept faults adds sound = record {
     kept = record {
       shape = kept.shape ∙ so_far.kept.shape;
       bytes = kept.bytes ∙ so_far.kept.bytes;
       refusals = kept.refusals ∙ so_far.kept.refusals;
-      stop = kept.stop ∙ so_far.kept.stop;
-      past = kept.past ∙ so_far.kept.past;
+      crash_image = kept.crash_image ∙ so_far.kept.crash_image;
+      past_crash_images = kept.past_crash_images ∙ so_far.kept.past_crash_images;
     };
     faults = faults ∙ so_far.faults;
     few = omega arith;
     last = λ all. refl;
     cells = own.cells ∙ so_far.cells;
     spares = λ spared. own.spares (so_far.spares spared);
-    structure = λ c. own.structure c ∙ (no-more (named_by structure_part c names) ∙ so_far.structure c);
+    structure = λ c. own.structure c ∙ (no-more (referenced_by structure_part c names) ∙ so_far.structure c);
     mapped = λ c. all-now (of_table (file old) h (of_mapping h (meets h c))) _ _ _ (own.mapped c) (so_far.mapped c);
     copied = λ c. all-now (of_table (file old) h (of_copied h (meets h c))) _ _ _ (own.copied c) (so_far.copied c);
     sound = λ k lt. elim (cases_lt k i) [
@@ -149,10 +149,10 @@ module _ (old now : StorageState) (h : Fields) (before names : Tallies) (places 
   one-damaged new given permuted inside Memory found = found ∙ so_far.faults
   one-damaged new given permuted inside Storage found = rose
     where
-      rose : Rose old.faults new.faults
-      rose = record { kept = omega (arith, found.kept, so_far.faults); rose = λ few. let more = found.rose few in omega (arith, more, so_far.faults) }
+      rose : HasRisen old.faults new.faults
+      rose = record { not_fallen = omega (arith, found.not_fallen, so_far.faults); rose = λ few. let more = found.rose few in omega (arith, more, so_far.faults) }
   one-damaged new given permuted inside fault found = absurd found.0
 
 -- each place is one of a cluster, in any order
-pub placed-at : (bits : ℕ) (given places : List ℕ) (i : ℕ) → IsPermutation given places → i < length places → AreTables bits given → IsTrue (is_place bits (slice_index places i))
-placed-at bits given places i permuted inside are = All-get_or (λ place. IsTrue (is_place bits place)) places i 0 inside (All-permutation (λ place. IsTrue (is_place bits place)) given places permuted are)
+pub placed-at : (bits : ℕ) (given places : List ℕ) (i : ℕ) → IsPermutation given places → i < length places → AreTables bits given → IsTrue (is_cluster_offset bits (slice_index places i))
+placed-at bits given places i permuted inside are = All-get_or (λ place. IsTrue (is_cluster_offset bits place)) places i 0 inside (All-permutation (λ place. IsTrue (is_cluster_offset bits place)) given places permuted are)

@@ -7,10 +7,10 @@ use Rattle.std.proofs.lemmas.Bool.Decides.{nat_tests}
 use Rattle.std.proofs.lemmas.List.Elements.{All-weaker, All-contains, All-contains_itself, Contains-append_left, Contains-push, Contains-push_cases}
 use Rattle.std.proofs.lemmas.List.Sums.{sum_by_push, sum_by_more}
 use Rattle.std.proofs.lemmas.List.{take_all}
-use Rattle.qcow2_types.specs.Bytes.{Bytes, word, sum_below, all_below}
-use Rattle.qcow2_types.specs.Words.{l1_word_sound, is_place, max_offset}
+use Rattle.qcow2_types.specs.Bytes.{Bytes, raw_entry, sum_below, all_below}
+use Rattle.qcow2_types.specs.Words.{l1_entry_valid, is_cluster_offset, max_offset}
 use Rattle.std.proofs.Math.Nat.{pow-le-pow_right}
-use Rattle.qcow2_types.specs.Header.{Fields, Shaped, cluster_size, words_of_cluster, refcount_table_entries}
+use Rattle.qcow2_types.specs.Header.{Fields, Shaped, cluster_size, entries_of_cluster, refcount_table_entries}
 use Rattle.qcow2_types.specs.Entries.{l2_table, l1_table_sound, l2_table_sound}
 use Rattle.qcow2_types.specs.Counts.{refcount_table_sound}
 use Rattle.qcow2_types.specs.Consistency.{tables_sound}
@@ -98,15 +98,15 @@ module _ (f : Bytes) (h : Fields) where
   ])
 
   -- Each table stands at a place where the L1 table is sound.
-  pub table-placed : IsTrue (l1_table_sound f h) → (i : ℕ) → i < h.l1_entries → IsTrue (is_place h.cluster_bits (l2_table f h i))
+  pub table-placed : IsTrue (l1_table_sound f h) → (i : ℕ) → i < h.l1_entries → IsTrue (is_cluster_offset h.cluster_bits (l2_table f h i))
   unfolding l1_table_sound
   table-placed sound i lt =
       let within : nat_lt i h.l1_entries ≡ true = grind (arith, nat_tests) in
-      let here : l1_word_sound h.cluster_bits (word f h.l1_offset i) ≡ true = all-below h.l1_entries (λ i. l1_word_sound h.cluster_bits (word f h.l1_offset i)) sound i lt in
+      let here : l1_entry_valid h.cluster_bits (raw_entry f h.l1_offset i) ≡ true = all-below h.l1_entries (λ i. l1_entry_valid h.cluster_bits (raw_entry f h.l1_offset i)) sound i lt in
       rw within (grind (arith, nat_tests))
 
   pub tables-placed : IsTrue (l1_table_sound f h) → AreTables h.cluster_bits (tables_of f h)
-  tables-placed sound = all-listed (λ place. IsTrue (is_place h.cluster_bits place)) (λ i lt there. table-placed sound i lt)
+  tables-placed sound = all-listed (λ place. IsTrue (is_cluster_offset h.cluster_bits place)) (λ i lt there. table-placed sound i lt)
 
   -- The image's tables are sound where those of the list are,
   pub sound-by-list : IsTrue (l1_table_sound f h) → IsTrue (refcount_table_sound f h) → All (λ place. IsTrue (l2_table_sound f h place)) (tables_of f h) → IsTrue (tables_sound f h)
@@ -166,8 +166,8 @@ places-bounded xs ys bits same placed i = elim (cases_lt i (length xs)) [
 pub table-bytes : (h : Fields) → Shaped h → h.refcount_table_clusters * cluster_size h ≡ refcount_table_entries h * 8
 table-bytes h shaped =
     let size : 2 ^ 9 ≤ 2 ^ h.cluster_bits = pow-le-pow_right (omega arith) shaped.low in
-    let words : words_of_cluster h * 8 ≡ cluster_size h = whole h.cluster_bits (omega arith) in
-    let a : h.refcount_table_clusters * (words_of_cluster h * 8) ≡ h.refcount_table_clusters * cluster_size h = ap (λ x. h.refcount_table_clusters * x) words in
+    let raw_entries : entries_of_cluster h * 8 ≡ cluster_size h = whole h.cluster_bits (omega arith) in
+    let a : h.refcount_table_clusters * (entries_of_cluster h * 8) ≡ h.refcount_table_clusters * cluster_size h = ap (λ x. h.refcount_table_clusters * x) raw_entries in
     omega arith
 
 -- So that is the finding.

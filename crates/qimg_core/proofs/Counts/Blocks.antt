@@ -73,11 +73,11 @@ holds-loaded f h blocks index cluster block are there is loaded = record {
     place : cluster * cluster_size h ≡ slice_index blocks index
     place = ap (λ c. c * cluster_size h) is ∙ place-whole h.cluster_bits (slice_index blocks index) (are.placed index)
 
-    words : block.counters ≡ counters_in f h (slice_index blocks index)
-    words = ap (λ (b : Block). b.counters) loaded ∙ ap (counters_in f h) place
+    raw_entries : block.counters ≡ counters_in f h (slice_index blocks index)
+    raw_entries = ap (λ (b : Block). b.counters) loaded ∙ ap (counters_in f h) place
 
     all : length block.counters ≡ counters_of_block h
-    all = ap (λ (l : List ℕ). length l) words ∙ length-map-range_with_len (counter f h (slice_index blocks index)) 0 (counters_of_block h)
+    all = ap (λ (l : List ℕ). length l) raw_entries ∙ length-map-range_with_len (counter f h (slice_index blocks index)) 0 (counters_of_block h)
 
     counted : (j : ℕ) → j < counters_of_block h → slice_index block.counters j ≡ counter f h (slice_index blocks index) j
-    counted j lt = ap (λ l. slice_index l j) words ∙ get_or-map-range_with_len (counter f h (slice_index blocks index)) 0 (counters_of_block h) j j 0 lt (omega arith)
+    counted j lt = ap (λ l. slice_index l j) raw_entries ∙ get_or-map-range_with_len (counter f h (slice_index blocks index)) 0 (counters_of_block h) j j 0 lt (omega arith)

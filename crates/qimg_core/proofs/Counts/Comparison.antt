@@ -4,8 +4,8 @@ use Rattle.std.specs.Prelude.{nat_lt, if◌then◌else◌, slice_index, IsFalse,
 use Rattle.std.proofs.lemmas.Bool.{cases_lt, lt-ltb, le-ltb, ltb-true, ltb-false}
 use Rattle.std.proofs.lemmas.List.{append-nil}
 use Rattle.std.proofs.lemmas.Nat.{le-div}
-use Rattle.imago_storage.specs.State.{StorageState, Rose}
-use Rattle.imago_storage.specs.Calls.{Kept}
+use Rattle.imago_storage.specs.State.{StorageState, HasRisen}
+use Rattle.imago_storage.specs.Calls.{UnchangedButFaults}
 use Rattle.qcow2_types.specs.Bytes.{Bytes}
 use Rattle.qcow2_types.specs.Header.{Fields, refcount_table_entries}
 use Rattle.qcow2_types.specs.Counts.{count, counters_of_block}
@@ -89,8 +89,8 @@ module _ (f : Bytes) (h : Fields) where
   -- Clusters from this one on that aren't counted, up to a bound.
   module _ (names : Tallies) (told : Tells f h names) (found : List (ℕ × ℕ)) (low : ℕ) (high : Option ℕ) (so_far : AreCompared f h found low) where
     -- this one isn't named
-    unnamed : (d : ℕ) → (low ≤ d → is_such AtAll names d ≡ false) → IsFalse (is_under_counted f h d)
-    unnamed d test = elim (cases_lt d low) [
+    not_referenced : (d : ℕ) → (low ≤ d → is_such AtAll names d ≡ false) → IsFalse (is_under_counted f h d)
+    not_referenced d test = elim (cases_lt d low) [
       | inl less ↦ so_far.enough d less
       | inr ge ↦ let zero : refs f h d ≤ 0 = ltb-false 0 (refs f h d) (sym (named-same f h names told d) ∙ test ge) in not-under d (omega arith)
     ]
@@ -99,7 +99,7 @@ module _ (f : Bytes) (h : Fields) where
     pub first-uncounted : (c : ℕ) → count f h c ≡ 0 → IsFirstWithin (is_such AtAll names) low high c → IsLeast (is_under_counted f h) c
     first-uncounted c none first = (
       is-under c (let some : 0 < refs f h c = ltb-true 0 (refs f h c) (sym (named-same f h names told c) ∙ first.is) in omega arith),
-      λ d lt. unnamed d (λ ge. first.before d ge lt),
+      λ d lt. not_referenced d (λ ge. first.before d ge lt),
     )
 
   module _ (names : Tallies) (told : Tells f h names) (found : List (ℕ × ℕ)) where
@@ -118,7 +118,7 @@ module _ (f : Bytes) (h : Fields) where
 
       pub gap-compared : NoneWithin (is_such AtAll names) low (Some high) → AreCompared f h found ((index + 1) * counters_of_block h)
       gap-compared none = subst (AreCompared f h found) high-is (record {
-        enough = λ d lt. unnamed names told found low (Some high) so_far d (λ ge. none.none d ge lt);
+        enough = λ d lt. not_referenced names told found low (Some high) so_far d (λ ge. none.none d ge lt);
         are_leaks =
             let next : low + counters_of_block h ≡ high = omega arith in
             so_far.are_leaks ∙ (sym (leaks-skip f h low (counters_of_block h) (λ c ge lt. uncounted c ge (omega arith))) ∙ ap (leaks_below f h) next);
@@ -138,11 +138,11 @@ module _ (f : Bytes) (h : Fields) where
       rest-under c first = first-uncounted names told found low None rest-so_far c (past-blocks c first.from) first
 
       pub rest-counted : NoneWithin (is_such AtAll names) low None → Nowhere (is_under_counted f h)
-      rest-counted none d = unnamed names told found low None rest-so_far d (λ ge. none.none d ge tt)
+      rest-counted none d = not_referenced names told found low None rest-so_far d (λ ge. none.none d ge tt)
 
       pub rest-leaks : found ≡ leaks f h
       rest-leaks =
-          let entries : i + (refcount_table_entries h - i) ≡ refcount_table_entries h = omega (arith, are.few) in
+          let entries : i + (refcount_table_entries h - i) ≡ refcount_table_entries h = omega (arith, are.count_bounded) in
           let end = to-end (refcount_table_entries h - i) entries in
           rest-so_far.are_leaks ∙ (sym (leaks-skip f h low ((refcount_table_entries h - i) * counters_of_block h) (λ c ge lt. past-blocks c ge)) ∙ ap (leaks_below f h) end)
         where
@@ -171,10 +171,10 @@ module _ (f : Bytes) (h : Fields) (names : Tallies) (told : Tells f h names) (fo
   counter-equal le ge = subst (AreCompared f h found) next (compared-equal f h found (index * counters_of_block h + place) value (n.structure + n.mapped) so_far counter-is refs-are (omega arith))
 
 -- A finding after a state that is the same.
-pub under-since : (old now new : StorageState) (h : Fields) → Kept old now → now.faults ≡ old.faults → (fault : CheckFault) → Found now new (IsUnder (file now) h) fault → Found old new (IsUnder (file old) h) fault
+pub under-since : (old now new : StorageState) (h : Fields) → UnchangedButFaults old now → now.faults ≡ old.faults → (fault : CheckFault) → Found now new (IsUnder (file now) h) fault → Found old new (IsUnder (file old) h) fault
 under-since old now new h kept same (fault.UnderCounted c) found = (subst (λ f. IsLeast (is_under_counted f h) c) (kept-file old now kept) found.0, found.1 ∙ same)
 under-since old now new h kept same fault.Memory found = found ∙ same
-under-since old now new h kept same fault.Storage found = subst (λ n. Rose n new.faults) same found
+under-since old now new h kept same fault.Storage found = subst (λ n. HasRisen n new.faults) same found
 under-since old now new h kept same fault found = absurd found.0
 
 -- A named cluster that isn't counted is the finding.

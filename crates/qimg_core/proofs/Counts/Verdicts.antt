@@ -1,8 +1,8 @@
 -- From what is counted to the verdict on the file.
 use Rattle.std.proofs.Common.{◌≡◌, ℕ, ◌+◌, arith, ap, sym, subst, ◌∙◌, List, Ok}
 use Rattle.std.specs.Prelude.{Bool, true, false, ◌&&◌, not, ◌==◌, nat_lt, IsTrue}
-use Rattle.imago_storage.specs.State.{StorageState, Rose}
-use Rattle.imago_storage.specs.Calls.{Kept}
+use Rattle.imago_storage.specs.State.{StorageState, HasRisen}
+use Rattle.imago_storage.specs.Calls.{UnchangedButFaults}
 use Rattle.qcow2_types.specs.Bytes.{Bytes}
 use Rattle.qcow2_types.specs.Header.{Fields, Header, header_of, has_external_data}
 use Rattle.qcow2_types.specs.References.{structure, contents, of_mapping, of_copied, meets, refs}
@@ -12,7 +12,7 @@ use Rattle.qimg_core.specs.declared.check.CheckFault.TheVariants as fault
 use Rattle.qimg_core.specs.declared.check.names.Tallies.{Tallies}
 use Rattle.qcow2_metadata.specs.Loading.{file}
 use Rattle.qimg_core.specs.declared.check.search.Question.TheVariants.{Shared, FalselyCopied, AtAll}
-use Rattle.qimg_core.specs.Names.{named_by, structure_part, mapped_part, times_at}
+use Rattle.qimg_core.specs.Names.{referenced_by, structure_part, mapped_part, times_at}
 use Rattle.qimg_core.specs.Searches.{is_such}
 use Rattle.qimg_core.specs.CheckParts.{Tells}
 use Rattle.qimg_core.specs.Check.{IsUnsound, SharesFirst, IsUnder, Found, IsFinding}
@@ -23,8 +23,8 @@ module _ (f : Bytes) (h : Fields) (names : Tallies) (told : Tells f h names) whe
   pub named-refs : (c : ℕ) → (times_at names c).structure + (times_at names c).mapped ≡ refs f h c
   unfolding refs
   named-refs c =
-      let a : named_by structure_part c names ≡ structure f h (meets h c) = told.structure c in
-      let b : named_by mapped_part c names ≡ contents f h (of_mapping h (meets h c)) = told.mapped c in
+      let a : referenced_by structure_part c names ≡ structure f h (meets h c) = told.structure c in
+      let b : referenced_by mapped_part c names ≡ contents f h (of_mapping h (meets h c)) = told.mapped c in
       omega arith
 
   pub shared-same : (c : ℕ) → is_such Shared names c ≡ shares_structure f h c
@@ -47,8 +47,8 @@ least-same : (p q : ℕ → Bool) → ((c : ℕ) → p c ≡ q c) → (c : ℕ) 
 least-same p q same c least = (sym (same c) ∙ least.0, λ d lt. sym (same d) ∙ least.1 d lt)
 
 -- faults counted since a state with the same count
-rose-since : (old now new : StorageState) → now.faults ≡ old.faults → Rose now.faults new.faults → Rose old.faults new.faults
-rose-since old now new same rose = subst (λ n. Rose n new.faults) same rose
+rose-since : (old now new : StorageState) → now.faults ≡ old.faults → HasRisen now.faults new.faults → HasRisen old.faults new.faults
+rose-since old now new same rose = subst (λ n. HasRisen n new.faults) same rose
 
 -- The header loads, and the image is one that can be checked.
 pub record CanCheck (f : Bytes) (H : Header) : Type 0 where
@@ -58,7 +58,7 @@ pub record CanCheck (f : Bytes) (H : Header) : Type 0 where
 
 module _ (old : StorageState) (H : Header) (can : CanCheck (file old) H) where
   -- a table is damaged
-  pub table-verdict : (now new : StorageState) → Kept old now → now.faults ≡ old.faults → (fault : CheckFault) → Found now new (IsUnsound (file now) H.fields) fault → Found old new (IsFinding (file old)) fault
+  pub table-verdict : (now new : StorageState) → UnchangedButFaults old now → now.faults ≡ old.faults → (fault : CheckFault) → Found now new (IsUnsound (file now) H.fields) fault → Found old new (IsFinding (file old)) fault
   table-verdict now new kept same fault.Table found = ((H, can.loads, (can.no_snapshots, can.data_inside, ap (λ f. tables_sound f H.fields) (sym (kept-file old now kept)) ∙ found.0)), found.1 ∙ same)
   table-verdict now new kept same fault.Memory found = found ∙ same
   table-verdict now new kept same fault.Storage found = rose-since old now new same found
@@ -74,7 +74,7 @@ module _ (old : StorageState) (H : Header) (can : CanCheck (file old) H) where
 
     module _ (apart : Nowhere (is_such Shared names)) (true_copies : Nowhere (is_such FalselyCopied names)) where
       -- a cluster is counted too little
-      pub under-verdict : (now new : StorageState) → Kept old now → now.faults ≡ old.faults → (fault : CheckFault) → Found now new (IsUnder (file now) H.fields) fault → Found old new (IsFinding (file old)) fault
+      pub under-verdict : (now new : StorageState) → UnchangedButFaults old now → now.faults ≡ old.faults → (fault : CheckFault) → Found now new (IsUnder (file now) H.fields) fault → Found old new (IsFinding (file old)) fault
       under-verdict now new kept same (fault.UnderCounted c) found = (
         (
           H,
@@ -95,7 +95,7 @@ module _ (old : StorageState) (H : Header) (can : CanCheck (file old) H) where
       under-verdict now new kept same fault found = absurd found.0
 
       -- nothing is wrong
-      pub sound-verdict : (now : StorageState) → Kept old now → Nowhere (is_under_counted (file now) H.fields) → (found : List (ℕ × ℕ)) → found ≡ leaks (file old) H.fields → IsVerdict (file old) (Ok found)
+      pub sound-verdict : (now : StorageState) → UnchangedButFaults old now → Nowhere (is_under_counted (file now) H.fields) → (found : List (ℕ × ℕ)) → found ≡ leaks (file old) H.fields → IsVerdict (file old) (Ok found)
       sound-verdict now kept counted found is = (
         H,
         record {
@@ -110,16 +110,16 @@ module _ (old : StorageState) (H : Header) (can : CanCheck (file old) H) where
 -- What is counted is what the file names, whose tables are sound, and nothing has changed.
 pub record Named (old now : StorageState) (H : Header) (names : Tallies) : Type 0 where
   pub can : CanCheck (file old) H
-  pub kept : Kept old now
+  pub kept : UnchangedButFaults old now
   pub faults : now.faults ≡ old.faults
   pub sound : IsTrue (tables_sound (file old) H.fields)
   pub told : Tells (file old) H.fields names
 
 -- as it is after the stages that enter the names
-pub named-since : (old first second now : StorageState) (H : Header) (names : Tallies) → CanCheck (file old) H → Kept old first → first.faults ≡ old.faults → Kept first second → second.faults ≡ first.faults → Kept second now → now.faults ≡ second.faults
+pub named-since : (old first second now : StorageState) (H : Header) (names : Tallies) → CanCheck (file old) H → UnchangedButFaults old first → first.faults ≡ old.faults → UnchangedButFaults first second → second.faults ≡ first.faults → UnchangedButFaults second now → now.faults ≡ second.faults
     → IsTrue (tables_sound (file second) H.fields) → Tells (file second) H.fields names → Named old now H names
 named-since old first second now H names can kept same kept-2 same-2 kept-3 same-3 sound told =
-    let before : Kept old second = kept-both old first second kept kept-2 in
+    let before : UnchangedButFaults old second = kept-both old first second kept kept-2 in
     let same-file : file second ≡ file old = kept-file old second before in
     record {
       can = can;

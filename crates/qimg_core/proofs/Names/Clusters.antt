@@ -12,14 +12,14 @@ use Rattle.qimg_core.specs.declared.check.names.Times.{Times}
 use Rattle.qimg_core.specs.declared.check.names.FewTimes.{FewTimes}
 use Rattle.qimg_core.specs.declared.check.names.Tallies.{Tallies}
 use Rattle.qimg_core.specs.declared.check.names.Others.{Others}
-use Rattle.qimg_core.specs.Names.{structure_part, mapped_part, copied_part, no_times, no_few_times, cell_at, weight_in, weight_of, other_at, together, times_at, named_by, is_between, FitsCell, SparesLists, HasRoom, HasRoomAt, KeepsCells, IsSum, IsFewSum, IsRising, TellsNothing, Total, Adds, AddsClusters, AddsWeight, AddsEntry}
+use Rattle.qimg_core.specs.Names.{structure_part, mapped_part, copied_part, no_times, no_few_times, cell_at, weight_in, weight_of, other_at, together, times_at, referenced_by, is_between, FitsCell, ListsOnlyOverflow, HasRoom, HasRoomAt, KeepsCells, IsSum, IsFewSum, IsRising, TellsNothing, Total, Adds, AddsClusters, AddsWeight, AddsEntry}
 
 -- a range of no clusters
 pub adds-none : (names : Tallies) (low : ℕ) (times : Times) → AddsClusters names names low low times
 adds-none names low times = record {
-  structure = λ c. none (named_by structure_part c names) times.structure c;
-  mapped = λ c. none (named_by mapped_part c names) times.mapped c;
-  copied = λ c. none (named_by copied_part c names) times.copied c;
+  structure = λ c. none (referenced_by structure_part c names) times.structure c;
+  mapped = λ c. none (referenced_by mapped_part c names) times.mapped c;
+  copied = λ c. none (referenced_by copied_part c names) times.copied c;
   cells = refl;
   spares = λ spared. spared;
 }
@@ -180,12 +180,12 @@ module _ (old new : Tallies) (cells : new.cells.items ≡ old.cells.items) (stru
   unfolding times_at
   sorted-same c = ap (λ l. together (cell_at l c) (other_at new.others c)) cells ∙ ap (together (cell_at old.cells.items c)) (sorted-others c)
 
-  pub sorted-spares : SparesLists old → SparesLists new
+  pub sorted-spares : ListsOnlyOverflow old → ListsOnlyOverflow new
   sorted-spares spared c lt fits =
       let has : c < length old.cells.items = omega (arith, lt, ap (λ (l : List FewTimes). length l) cells) in
       sorted-others c ∙ spared c has (subst FitsCell (sorted-same c) fits)
 
-pub adds-since : (h : Fields) (old now new : Tallies) (s m p : Total) → ((c : ℕ) → times_at new c ≡ times_at now c) → KeepsCells now new → (SparesLists now → SparesLists new) → Adds h old now s m p → Adds h old new s m p
+pub adds-since : (h : Fields) (old now new : Tallies) (s m p : Total) → ((c : ℕ) → times_at new c ≡ times_at now c) → KeepsCells now new → (ListsOnlyOverflow now → ListsOnlyOverflow new) → Adds h old now s m p → Adds h old new s m p
 adds-since h old now new s m p same kept spares adds = record { structure = λ c. ap structure_part (same c) ∙ adds.structure c; mapped = λ c. ap mapped_part (same c) ∙ adds.mapped c; copied = λ c. ap copied_part (same c) ∙ adds.copied c; cells = kept ∙ adds.cells; spares = λ spared. spares (adds.spares spared) }
 
 pub sorted-rising : (list : List ℕ) → IsSorted nat_cmp list → IsRising list

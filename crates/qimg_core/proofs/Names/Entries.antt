@@ -100,13 +100,13 @@ module _ (list : List ℕ) (c start : ℕ) (bound : start ≤ length list) (befo
 pub cut-next : (list : List ℕ) (c index : ℕ) → index < length list → IsRising list → slice_index list index < 2 ^ 64 → IsCut list c (Some c) index
     → IsCut list c (Some (cluster_of (slice_index list index))) index × IsFrom c (Some (cluster_of (slice_index list index)))
 cut-next list c index some rising small cut = (
-  record { bound = cut.bound; before = cut.before; behind = λ i le lt. rising index i 0 le lt },
-  (cut.behind index (omega arith) some, omega (arith, small)),
+  record { bound = cut.bound; before = cut.before; next_not_after = λ i le lt. rising index i 0 le lt },
+  (cut.next_not_after index (omega arith) some, omega (arith, small)),
 )
 
 -- there is none
 pub cut-end : (list : List ℕ) (c index : ℕ) → length list ≤ index → IsCut list c (Some c) index → IsCut list c None index × IsFrom c None
-cut-end list c index past cut = (record { bound = cut.bound; before = cut.before; behind = λ i le lt. absurd (omega arith) }, tt)
+cut-end list c index past cut = (record { bound = cut.bound; before = cut.before; next_not_after = λ i le lt. absurd (omega arith) }, tt)
 
 -- a name of it stands in the list
 pub cut-named : (list : List ℕ) (index : ℕ) → index < length list → IsListed list (cluster_of (slice_index list index))

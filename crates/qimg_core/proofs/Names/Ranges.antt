@@ -9,7 +9,7 @@ use Rattle.qcow2_types.specs.Words.{data_at}
 use Rattle.qcow2_types.specs.References.{Weight, meets, of_copied}
 use Rattle.qimg_core.specs.declared.check.names.Tallies.{Tallies}
 use Rattle.qimg_core.specs.declared.check.names.Times.{Times}
-use Rattle.qimg_core.specs.Names.{named_by, structure_part, mapped_part, copied_part, is_between, AddsClusters}
+use Rattle.qimg_core.specs.Names.{referenced_by, structure_part, mapped_part, copied_part, is_between, AddsClusters}
 use Rattle.qimg_core.specs.Entering.{AddsRange, AddsMapping}
 
 -- a range meets the clusters from that of its first byte to that of its last, with clusters of s bytes
@@ -47,9 +47,9 @@ pub adds-range : (h : Fields) (old new : Tallies) (first length low high : ℕ) 
     → AddsClusters old new low (high + 1) times
     → AddsRange h old new first length times
 adds-range h old new first length low high times long at til adds = record {
-  structure = λ c. adds.structure c ∙ ap (λ n. named_by structure_part c old + times.structure * n) (sym (same c));
-  mapped = λ c. adds.mapped c ∙ ap (λ n. named_by mapped_part c old + times.mapped * n) (sym (same c));
-  copied = λ c. adds.copied c ∙ ap (λ n. named_by copied_part c old + times.copied * n) (sym (same c));
+  structure = λ c. adds.structure c ∙ ap (λ n. referenced_by structure_part c old + times.structure * n) (sym (same c));
+  mapped = λ c. adds.mapped c ∙ ap (λ n. referenced_by mapped_part c old + times.mapped * n) (sym (same c));
+  copied = λ c. adds.copied c ∙ ap (λ n. referenced_by copied_part c old + times.copied * n) (sym (same c));
   cells = adds.cells;
   spares = adds.spares;
 }
@@ -63,7 +63,7 @@ pub adds-data : (old new : Tallies) (cluster times marked : ℕ) (copied : Bool)
 adds-data old new cluster times marked copied marks entered h = record {
   structure = λ c. none _ _ _ (adds.structure c);
   mapped = adds.mapped;
-  copied = λ c. adds.copied c ∙ ap (λ n. named_by copied_part c old + n) (ap (λ n. n * meets h c (cluster * cluster_size h) (cluster_size h)) marks ∙ by-mark copied (meets h c));
+  copied = λ c. adds.copied c ∙ ap (λ n. referenced_by copied_part c old + n) (ap (λ n. n * meets h c (cluster * cluster_size h) (cluster_size h)) marks ∙ by-mark copied (meets h c));
   cells = adds.cells;
   spares = adds.spares;
 }

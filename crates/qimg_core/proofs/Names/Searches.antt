@@ -24,7 +24,7 @@ not-before None (Some e) n below past = absurd (omega (arith, below n tt, past))
 not-before (Some d) (Some e) n below past = elim (cases_lt n d) [ inl lt ↦ absurd (omega (arith, below n lt, past)) | inr ge ↦ ge ]
 
 cut-least : (list : List ℕ) (c index : ℕ) (next one : Option ℕ) → ((d : ℕ) → IsBelow next d → IsBelow one d) → IsCut list c one index → IsCut list c next index
-cut-least list c index next one below cut = record { bound = cut.bound; before = cut.before; behind = λ i le lt. not-before next one (cluster_of (slice_index list i)) below (cut.behind i le lt) }
+cut-least list c index next one below cut = record { bound = cut.bound; before = cut.before; next_not_after = λ i le lt. not-before next one (cluster_of (slice_index list i)) below (cut.next_not_after i le lt) }
 
 -- the way on from where the lists are cut
 pub along-cuts : (others : Others) (c : ℕ) (way : Way) (structure rest mapped copied : Option ℕ) → ((d : ℕ) → IsBelow way.next d → IsBelow structure d × IsBelow rest d) → (way.next ≡ structure) ⊎ (way.next ≡ rest) → ((d : ℕ) → IsBelow rest d → IsBelow mapped d × IsBelow copied d) → (rest ≡ mapped) ⊎ (rest ≡ copied)
@@ -46,7 +46,7 @@ along-cuts others c way structure rest mapped copied below is below-rest is-rest
 cut-none : (list : List ℕ) (c d index : ℕ) (next : Option ℕ) → c ≤ d → IsBelow next d → IsCut list c next index → weight_of list d ≡ 0
 cut-none list c d index next le below cut = weight-none d list (λ k lt is. elim (cases_lt k index) [
   | inl less ↦ absurd (omega (arith, cut.before k less, is, le))
-  | inr ge ↦ past next below (cut.behind k ge lt) is
+  | inr ge ↦ past next below (cut.next_not_after k ge lt) is
 ])
   where
     past : (next : Option ℕ) {n : ℕ} → IsBelow next d → IsSomeAnd next (λ e. e ≤ n) → n ≡ d → ⊥
@@ -62,7 +62,7 @@ pub along-later : (others : Others) (c d : ℕ) (way : Way) → c ≤ d → IsFr
 along-later others c d way le from along = record { structure = later _ _ along.structure; mapped = later _ _ along.mapped; copied = later _ _ along.copied; from = from; named = along.named }
   where
     later : (list : List ℕ) (index : ℕ) → IsCut list c way.next index → IsCut list d way.next index
-    later list index cut = record { bound = cut.bound; before = λ i lt. omega (arith, cut.before i lt, le); behind = cut.behind }
+    later list index cut = record { bound = cut.bound; before = λ i lt. omega (arith, cut.before i lt, le); next_not_after = cut.next_not_after }
 
 pub along-at : (others : Others) (c n : ℕ) (way : Way) → way.next ≡ Some n → IsAlong others c way → IsAlong others n way
 along-at others c n way is along =

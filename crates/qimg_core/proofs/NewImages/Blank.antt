@@ -5,7 +5,7 @@ use Rattle.std.specs.Str.{is_utf8, chars}
 use Rattle.std.specs.Char.{encode_utf8}
 use Rattle.std.proofs.lemmas.Bool.{cases_lt, le-ltb}
 use Rattle.std.proofs.lemmas.Bool.Decides.{nat_tests}
-use Rattle.qcow2_types.specs.Bytes.{be, word, run, splice, sum_below, all_below}
+use Rattle.qcow2_types.specs.Bytes.{be, raw_entry, run, splice, sum_below, all_below}
 use Rattle.qcow2_types.specs.Words.{mapping_of}
 use Rattle.qcow2_types.specs.Header.{fields_of, header_of, texts_of, extensions_at, extension_at}
 use Rattle.qcow2_types.specs.Entries.{l1_table_sound, l2_table_sound, l2_table}
@@ -27,7 +27,7 @@ blank-loads (suc (suc (suc e))) few = absurd (omega arith)
 
 -- none of its tables is damaged
 blank-tables : (e : ℕ) → e ≤ 2 → tables_sound (blank e) (blank_fields e) ≡ true
-unfolding tables_sound l1_table_sound l2_table_sound refcount_table_sound all_below mapping_of word be blank splice nothing_in extension_bytes
+unfolding tables_sound l1_table_sound l2_table_sound refcount_table_sound all_below mapping_of raw_entry be blank splice nothing_in extension_bytes
 blank-tables zero few = refl
 blank-tables (suc zero) few = refl
 blank-tables (suc (suc zero)) few = refl
@@ -35,7 +35,7 @@ blank-tables (suc (suc (suc e))) few = absurd (omega arith)
 
 -- nothing names a cluster past the fourth
 within : (e : ℕ) → e ≤ 2 → reaching (blank e) (blank_fields e) 4 ≡ 0
-unfolding reaching past structure contents of_table sum_below mapping_of word be blank splice nothing_in extension_bytes
+unfolding reaching past structure contents of_table sum_below mapping_of raw_entry be blank splice nothing_in extension_bytes
 within zero few = refl
 within (suc zero) few = refl
 within (suc (suc zero)) few = refl
@@ -43,7 +43,7 @@ within (suc (suc (suc e))) few = absurd (omega arith)
 
 -- no structure is shared, in the first clusters
 shared : (e : ℕ) → e ≤ 2 → all_below 4 (λ c. not (shares_structure (blank e) (blank_fields e) c)) ≡ true
-unfolding shares_structure refs structure contents of_table sum_below all_below mapping_of word be blank splice nothing_in extension_bytes
+unfolding shares_structure refs structure contents of_table sum_below all_below mapping_of raw_entry be blank splice nothing_in extension_bytes
 shared zero few = refl
 shared (suc zero) few = refl
 shared (suc (suc zero)) few = refl
@@ -51,7 +51,7 @@ shared (suc (suc (suc e))) few = absurd (omega arith)
 
 -- no copied cluster is shared there
 copied : (e : ℕ) → e ≤ 2 → all_below 4 (λ c. not (is_false_copied (blank e) (blank_fields e) c)) ≡ true
-unfolding is_false_copied refs structure contents of_table sum_below all_below mapping_of word be blank splice nothing_in extension_bytes
+unfolding is_false_copied refs structure contents of_table sum_below all_below mapping_of raw_entry be blank splice nothing_in extension_bytes
 copied zero few = refl
 copied (suc zero) few = refl
 copied (suc (suc zero)) few = refl
@@ -59,7 +59,7 @@ copied (suc (suc (suc e))) few = absurd (omega arith)
 
 -- each cluster is counted as often as it is named there
 counted : (e : ℕ) → e ≤ 2 → all_below 4 (λ c. not (is_under_counted (blank e) (blank_fields e) c)) ≡ true
-unfolding is_under_counted count counter refs structure contents of_table sum_below all_below mapping_of word be blank splice nothing_in extension_bytes
+unfolding is_under_counted count counter refs structure contents of_table sum_below all_below mapping_of raw_entry be blank splice nothing_in extension_bytes
 counted zero few = refl
 counted (suc zero) few = refl
 counted (suc (suc zero)) few = refl
@@ -76,7 +76,7 @@ blank-consistent e few = record {
 
 -- only the first block is there
 one_block : (e : ℕ) → e ≤ 2 → all_below 64 (λ i. (i == 0) || (block_at (blank e) (blank_fields e) i == 0)) ≡ true
-unfolding all_below word be blank splice nothing_in extension_bytes
+unfolding all_below raw_entry be blank splice nothing_in extension_bytes
 one_block zero few = refl
 one_block (suc zero) few = refl
 one_block (suc (suc zero)) few = refl
@@ -84,7 +84,7 @@ one_block (suc (suc (suc e))) few = absurd (omega arith)
 
 -- the first block's clusters don't leak
 few_leaks : (e : ℕ) → e ≤ 2 → leaks_below (blank e) (blank_fields e) 256 ≡ []
-unfolding leaks_below count counter refs structure contents of_table sum_below mapping_of word be blank splice nothing_in extension_bytes
+unfolding leaks_below count counter refs structure contents of_table sum_below mapping_of raw_entry be blank splice nothing_in extension_bytes
 few_leaks zero few = refl
 few_leaks (suc zero) few = refl
 few_leaks (suc (suc zero)) few = refl
@@ -107,7 +107,7 @@ blank-leaks e few =
 
 -- the words of the L1 table name none
 no_tables : (e : ℕ) → e ≤ 2 → all_below e (λ i. l2_table (blank e) (blank_fields e) i == 0) ≡ true
-unfolding all_below word be blank splice nothing_in extension_bytes
+unfolding all_below raw_entry be blank splice nothing_in extension_bytes
 no_tables zero few = refl
 no_tables (suc zero) few = refl
 no_tables (suc (suc zero)) few = refl

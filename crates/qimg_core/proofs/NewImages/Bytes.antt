@@ -10,7 +10,7 @@ use Rattle.std.proofs.lemmas.Grind.{common_steps}
 use Rattle.std.proofs.lemmas.Bool.Decides.{nat_tests}
 use Rattle.imago_storage.specs.State.{StorageState, unit_of}
 use Rattle.imago_storage.specs.Calls.{Resized, Spliced, Cause}
-use Rattle.imago_storage.specs.Through.{round_up, Overflows, UnlessOverflow, NotThrough, WrittenThrough, NotWrittenThrough}
+use Rattle.imago_storage.specs.Through.{round_up, Overflows, UnlessOverflow, PaddedWriteRefused, WriteSucceeded, WriteFailed}
 use Rattle.imago_storage.specs.declared.fault.Fault.{Fault}
 use Rattle.imago_storage.specs.declared.fault.Fault.TheVariants.{RangeOverflow, Memory, Storage}
 use Rattle.qcow2_types.specs.Bytes.{Bytes, bytes_of, splice}
@@ -81,7 +81,7 @@ length-most size = pick (size == 0)
     pick false = (omega arith, omega arith)
 
 -- The storage was cut to nothing, and the bytes were written.
-pub creates : (result : Result (Unit {0}) Fault) (old cut new : StorageState) (size n : ℕ) (buffer : List ℕ) → size ≤ 65536 → Resized old cut 0 → OnOk result (WrittenThrough cut new 0 (take n buffer))
+pub creates : (result : Result (Unit {0}) Fault) (old cut new : StorageState) (size n : ℕ) (buffer : List ℕ) → size ≤ 65536 → Resized old cut 0 → OnOk result (WriteSucceeded cut new 0 (take n buffer))
     → n ≡ created_length size → length buffer ≡ 2048 → bytes_of buffer ≡ created size → OnOk result (Creates size old new)
 creates (Ok _) old cut new size n buffer small resized through long whole is =
     let most = length-most size in
@@ -132,8 +132,8 @@ unless-overflow P old new Q R never give fault h = give fault h
 
 -- a write that is refused refuses the new image
 pub created-refused : (result : Result (Unit {0}) Fault) (old new : StorageState) (size : ℕ) (bytes : List ℕ) → unit_of old.shape ≤ 2 ^ 20 → 0 + length bytes ≤ 2 ^ 60
-    → IfErr result (NotWrittenThrough old new 0 bytes) → IfErr result (NotCreated size)
+    → IfErr result (WriteFailed old new 0 bytes) → IfErr result (NotCreated size)
 created-refused (Ok _) old new size bytes small low h = tt
 created-refused (Err fault) old new size bytes small low h =
-    unless-overflow _ old new (NotThrough (unit_of old.shape) old new 0 bytes) (NotCreated size) (overflows-not (unit_of old.shape) 0 (length bytes) small low)
-    (λ (e : Fault) (n : NotThrough (unit_of old.shape) old new 0 bytes e). not-created size old.faults new.faults e n.cause) fault h
+    unless-overflow _ old new (PaddedWriteRefused (unit_of old.shape) old new 0 bytes) (NotCreated size) (overflows-not (unit_of old.shape) 0 (length bytes) small low)
+    (λ (e : Fault) (n : PaddedWriteRefused (unit_of old.shape) old new 0 bytes e). not-created size old.faults new.faults e n.cause) fault h

@@ -9,7 +9,7 @@ use Rattle.imago_storage.specs.Disk.{Value, byte}
 use Rattle.imago_storage.specs.declared.fault.Fault.{Fault}
 use Rattle.qcow2_types.specs.Bytes.{Bytes, be, run, splice}
 use Rattle.qcow2_types.specs.Words.{unmapped}
-use Rattle.qcow2_types.specs.Header.{Header, fields_of, header_of, texts_of, extensions_at, extension_at, first_fault, rules_of_kind, rules_of_size, rules_of_writing, cluster_size, words_of_cluster}
+use Rattle.qcow2_types.specs.Header.{Header, fields_of, header_of, texts_of, extensions_at, extension_at, first_fault, rules_of_kind, rules_of_size, rules_of_writing, cluster_size, entries_of_cluster}
 use Rattle.qcow2_types.specs.Entries.{entry, l2_table}
 use Rattle.qcow2_types.specs.Consistency.{IsConsistent, leaks}
 use Rattle.qcow2_types.specs.Disk.{shown_by, host_byte, in_qcow2}
@@ -106,7 +106,7 @@ module _ (size : ℕ) (small : size ≤ 65536) where
 
   -- each guest cluster is unmapped
   created-unmapped : (guest : ℕ) → entry (created size) (new_header size).fields guest ≡ unmapped
-  created-unmapped guest = entry-slot (created size) (new_header size).fields guest created-consistent.readable.tables ∙ rw (created-no_table (guest / words_of_cluster (new_header size).fields)) refl
+  created-unmapped guest = entry-slot (created size) (new_header size).fields guest created-consistent.readable.tables ∙ rw (created-no_table (guest / entries_of_cluster (new_header size).fields)) refl
 
   -- each place shows 0
   pub created-zeroes : (p : ℕ) → value_at (created size) p ≡ byte 0

@@ -2,7 +2,7 @@
 use Rattle.std.proofs.Common.{◌≡◌, ℕ, ◌<◌, ◌≤◌, refl, arith, ap, sym, subst, ◌∙◌, List, [], ◌∷◌, length, get_or, inl, inr}
 use Rattle.std.specs.Prelude.{◌⊎◌, slice_set, Result, Ok, Err, OnOk, IfErr}
 use Rattle.imago_storage.specs.State.{StorageState}
-use Rattle.imago_storage.specs.Calls.{Kept}
+use Rattle.imago_storage.specs.Calls.{UnchangedButFaults}
 use Rattle.imago_storage.specs.declared.fault.Fault.{Fault}
 use Rattle.imago_storage.specs.declared.fault.Fault.TheVariants.{Memory, Storage, Unsupported, MissingBelow}
 use Rattle.qcow2_metadata.specs.Loading.{file}
@@ -79,7 +79,7 @@ module _ {S : Type 0} (state : S → StorageState) (offset n : ℕ) where
   one-must result (x ∷ y ∷ rest) d image buffer some few format long read why fault refuses = absurd (omega arith)
 
   -- its storage is as it was
-  pub one-kept : (files : List (ChainFile S)) (d : ChainFile S) (image : S) → 0 < length files → length files ≤ 1 → Kept (state (get_or files 0 d).image) (state image) → FilesKept (seen_files state files) (seen_files state (slice_set files 0 (record (get_or files 0 d) { image = image })))
+  pub one-kept : (files : List (ChainFile S)) (d : ChainFile S) (image : S) → 0 < length files → length files ≤ 1 → UnchangedButFaults (state (get_or files 0 d).image) (state image) → FilesKept (seen_files state files) (seen_files state (slice_set files 0 (record (get_or files 0 d) { image = image })))
   unfolding seen_files
   one-kept [] d image some few kept = absurd (omega arith)
   one-kept (x ∷ []) d image some few kept = (refl, kept, tt)

@@ -6,7 +6,7 @@ use Rattle.std.proofs.lemmas.Bool.{cases_lt}
 use Rattle.std.proofs.lemmas.Bool.Decides.{nat_tests}
 use Rattle.std.proofs.lemmas.List.{get_or-drop, get_or_append_left, get_or-append_right}
 use Rattle.imago_storage.specs.State.{StorageState}
-use Rattle.imago_storage.specs.Calls.{Kept}
+use Rattle.imago_storage.specs.Calls.{UnchangedButFaults}
 use Rattle.imago_storage.specs.Disk.{Value, byte, Shows}
 use Rattle.imago_storage.specs.declared.fault.Fault.{Fault}
 use Rattle.imago_storage.specs.declared.fault.Fault.TheVariants.{Memory, Storage, DamagedTable, Unsupported, MissingBelow, RangeOverflow}
@@ -106,7 +106,7 @@ header-unread old new offset n fault why = (inl (ap (λ r. loaded_fault (file ol
 -- the L1 table isn't loaded
 pub l1-unread : (old now new : StorageState) (H : Header) (offset n : ℕ) (fault : Fault) → header_of false (file old) ≡ Ok H → file now ≡ file old → now.faults ≡ old.faults → NoL1 now new H.fields fault → NotImageRead old new offset n fault
 l1-unread old now new H offset n Memory loads same faults why = why ∙ faults
-l1-unread old now new H offset n Storage loads same faults why = record { kept = omega (arith, why.kept); rose = λ few. omega (arith, why.rose few) }
+l1-unread old now new H offset n Storage loads same faults why = record { not_fallen = omega (arith, why.not_fallen); rose = λ few. omega (arith, why.rose few) }
 l1-unread old now new H offset n DamagedTable loads same faults why = (inl (l1-first (file old) H loads offset n (ap (λ (f : Bytes). l1_table_sound f H.fields) (sym same) ∙ why.0)), why.1 ∙ faults)
 l1-unread old now new H offset n fault loads same faults why = absurd why
 
@@ -141,7 +141,7 @@ value-unread old new offset n Memory passed why = why
 value-unread old new offset n Storage passed why = why
 value-unread old new offset n fault passed why = (inr (passed, why.0), why.1)
 
-pub disk-unread : (result : Result (Unit {0}) Fault) (old now new : StorageState) (H : Header) (offset n : ℕ) → header_of false (file old) ≡ Ok H → l1_table_sound (file old) H.fields ≡ true → alone_fault H ≡ None → offset + n < 2 ^ 64 → Kept old now → now.faults ≡ old.faults
+pub disk-unread : (result : Result (Unit {0}) Fault) (old now new : StorageState) (H : Header) (offset n : ℕ) → header_of false (file old) ≡ Ok H → l1_table_sound (file old) H.fields ≡ true → alone_fault H ≡ None → offset + n < 2 ^ 64 → UnchangedButFaults old now → now.faults ≡ old.faults
     → IfErr result (NotShown (value_at (file now)) now new offset (below_size H.fields.size offset n)) → IfErr result (NotImageRead old new offset n)
 disk-unread (Ok _) old now new H offset n loads sound alone near kept faults why = tt
 disk-unread (Err fault) old now new H offset n loads sound alone near kept faults why =

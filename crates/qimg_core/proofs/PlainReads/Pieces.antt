@@ -8,7 +8,7 @@ use Rattle.std.proofs.lemmas.Nat.{mod-mul-add, div-mul-add}
 use Rattle.std.proofs.lemmas.Slice.{take-put_mid}
 use borrow.Rule.Slice.PartMut.{put_mid}
 use Rattle.imago_storage.specs.State.{StorageState}
-use Rattle.imago_storage.specs.Calls.{Kept, Reads, CountsFaults}
+use Rattle.imago_storage.specs.Calls.{UnchangedButFaults, Reads, CountsFaults}
 use Rattle.imago_storage.specs.Disk.{Value, byte, Shows}
 use Rattle.imago_storage.specs.declared.fault.Fault.{Fault}
 use Rattle.imago_storage.specs.declared.fault.Fault.TheVariants.{Memory, Storage}
@@ -56,14 +56,14 @@ counts-same (Err _) old new counts = tt
 
 -- What a loop over pieces keeps: the bytes before this one are read.
 pub record ShownSoFar (value : ℕ → Value) (old now : StorageState) (offset done : ℕ) (buffer : List ℕ) : Type 0 where
-  pub kept : Kept old now
+  pub kept : UnchangedButFaults old now
   pub faults : now.faults ≡ old.faults
   pub most : done ≤ length buffer
   pub read : (i : ℕ) → i < done → value (offset + i) ≡ byte (slice_index buffer i)
 
 -- one piece more
 pub shown-more : (value value' : ℕ → Value) (old now new : StorageState) (offset done n at k : ℕ) (buffer piece : List ℕ) → ShownSoFar value old now offset done buffer → k ≡ n → length piece ≡ n → done + n ≤ length buffer → at ≡ offset + done
-    → ((i : ℕ) → i < n → value (at + i) ≡ value' (at + i)) → Shows value' at piece → Kept now new → new.faults ≡ now.faults → ShownSoFar value old new offset (done + n) (put_mid done k buffer piece)
+    → ((i : ℕ) → i < n → value (at + i) ≡ value' (at + i)) → Shows value' at piece → UnchangedButFaults now new → new.faults ≡ now.faults → ShownSoFar value old new offset (done + n) (put_mid done k buffer piece)
 shown-more value value' old now new offset done n at k buffer piece so is long fits place same shows kept faults =
     let whole : take (done + n) (put_mid done k buffer piece) ≡ take done buffer ++ piece = take-put_mid done k buffer piece (done + n) (omega arith) (omega arith) in
     let room : done + n ≤ length (put_mid done k buffer piece) = rw (is-length) fits in
@@ -112,5 +112,5 @@ pub shown-short : (value value' : ℕ → Value) (old now new : StorageState) (o
     → ((i : ℕ) → i < n → value (at + i) ≡ value' (at + i)) → NotShown value' now new at n fault → NotShown value old new offset length_ fault
 shown-short value value' old now new offset done n at length_ buffer Memory so fits place same why = why ∙ so.faults
 shown-short value value' old now new offset done n at length_ buffer Storage so fits place same why =
-    let same : now.faults ≡ old.faults = so.faults in record { kept = omega (arith, why.kept); rose = λ few. omega (arith, why.rose few) }
+    let same : now.faults ≡ old.faults = so.faults in record { not_fallen = omega (arith, why.not_fallen); rose = λ few. omega (arith, why.rose few) }
 shown-short value value' old now new offset done n at length_ buffer fault so fits place same why = (fault-later value value' old now offset done n at length_ buffer fault so fits place same why.0, why.1 ∙ so.faults)

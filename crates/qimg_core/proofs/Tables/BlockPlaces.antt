@@ -7,8 +7,8 @@ use Rattle.std.proofs.lemmas.List.{get_or_past, get_or_push, get_or_append_left,
 use Rattle.imago_storage.specs.State.{StorageState}
 use Rattle.imago_storage.specs.declared.fault.Fault.{Fault}
 use Rattle.imago_storage.specs.declared.fault.Fault.TheVariants.{Memory, Storage, Limit, DamagedTable}
-use Rattle.qcow2_types.specs.Bytes.{Bytes, bytes_of, word}
-use Rattle.qcow2_types.specs.Words.{max_offset, is_place, block_offset, block_word_sound}
+use Rattle.qcow2_types.specs.Bytes.{Bytes, bytes_of, raw_entry}
+use Rattle.qcow2_types.specs.Words.{max_offset, is_cluster_offset, block_offset, reftable_entry_valid}
 use Rattle.qcow2_types.specs.Header.{Fields, Header, header_of, cluster_size, layout_of, refcount_table_entries, Limited}
 use Rattle.qcow2_types.specs.Counts.{block_at, refcount_table_sound}
 use Rattle.qcow2_types.specs.Entries.{l1_table_sound}
@@ -16,7 +16,7 @@ use Rattle.qcow2_types.specs.Consistency.{tables_sound}
 use Rattle.qcow2_types.proofs.Counting.Bounded.{all-below}
 use Rattle.qcow2_types.proofs.Fields.HeaderLimits.{header-limited}
 use Rattle.qcow2_types.proofs.Counting.Sound.{all-below-holds}
-use Rattle.qcow2_metadata.specs.Tables.{AreSound, HasUnsound, WhyNotLoaded, words_in, block_words}
+use Rattle.qcow2_metadata.specs.Tables.{AreSound, HasUnsound, WhyNotLoaded, raw_entries_in, refcount_table_kind}
 use Rattle.qcow2_metadata.proofs.TableFacts.{words_long, words_at}
 use Rattle.qimg_core.specs.declared.check.CheckFault.TheVariants.{Table}
 use Rattle.qcow2_metadata.specs.Loading.{file}
@@ -47,25 +47,25 @@ module _ (f : Bytes) (H : Header) (loads : header_of true f ≡ Ok H) (cluster :
       (at, omega (arith, near))
 
   -- word i of it, by the words that were loaded
-  word-loaded : (n i : ℕ) → i < n → slice_index (words_in f (cluster * cluster_size H.fields) n) i ≡ word f H.fields.refcount_table_offset i
-  word-loaded n i lt = words_at f _ _ i lt ∙ ap (λ p. word f p i) blocks-place.0
+  word-loaded : (n i : ℕ) → i < n → slice_index (raw_entries_in f (cluster * cluster_size H.fields) n) i ≡ raw_entry f H.fields.refcount_table_offset i
+  word-loaded n i lt = words_at f _ _ i lt ∙ ap (λ p. raw_entry f p i) blocks-place.0
 
-  pub block-loaded : (n i : ℕ) → n ≤ refcount_table_entries H.fields → i < n → block_at f H.fields i ≡ block_offset (slice_index (words_in f (cluster * cluster_size H.fields) n) i)
+  pub block-loaded : (n i : ℕ) → n ≤ refcount_table_entries H.fields → i < n → block_at f H.fields i ≡ block_offset (slice_index (raw_entries_in f (cluster * cluster_size H.fields) n) i)
   block-loaded n i few lt =
       let inside : nat_lt i (refcount_table_entries H.fields) ≡ true = grind (arith, nat_tests) in
-      ap (λ b. cond b (block_offset (word f H.fields.refcount_table_offset i)) 0) inside ∙ ap block_offset (sym (word-loaded n i lt))
+      ap (λ b. cond b (block_offset (raw_entry f H.fields.refcount_table_offset i)) 0) inside ∙ ap block_offset (sym (word-loaded n i lt))
 
   -- One of the first words has no meaning.
-  blocks-unsound : (n : ℕ) → n ≤ refcount_table_entries H.fields → HasUnsound block_words (layout_of H.fields) (words_in f (cluster * cluster_size H.fields) n) → refcount_table_sound f H.fields ≡ false
+  blocks-unsound : (n : ℕ) → n ≤ refcount_table_entries H.fields → HasUnsound refcount_table_kind (layout_of H.fields) (raw_entries_in f (cluster * cluster_size H.fields) n) → refcount_table_sound f H.fields ≡ false
   unfolding refcount_table_sound
   blocks-unsound n few unsound =
       let lt : unsound.0 < n = let inside = unsound.1 in omega (arith, inside, words_long f (cluster * cluster_size H.fields) n) in
-      tests-miss (refcount_table_entries H.fields) unsound.0 (λ k. block_word_sound H.fields.cluster_bits (word f H.fields.refcount_table_offset k)) (omega (arith, lt, few))
-      (ap (block_word_sound H.fields.cluster_bits) (sym (word-loaded n unsound.0 lt)) ∙ unsound.2)
+      tests-miss (refcount_table_entries H.fields) unsound.0 (λ k. reftable_entry_valid H.fields.cluster_bits (raw_entry f H.fields.refcount_table_offset k)) (omega (arith, lt, few))
+      (ap (reftable_entry_valid H.fields.cluster_bits) (sym (word-loaded n unsound.0 lt)) ∙ unsound.2)
 
 -- So the refcount table isn't loaded, and that is the finding.
 pub blocks-finding : (old new : StorageState) (H : Header) → header_of true (file old) ≡ Ok H → (cluster n : ℕ) → cluster ≡ H.fields.refcount_table_offset / 2 ^ H.fields.cluster_bits → n ≤ refcount_table_entries H.fields → (fault : Fault)
-    → WhyNotLoaded block_words (layout_of H.fields) (words_in (file old) (cluster * cluster_size H.fields) n) old.faults new.faults fault → Found old new (IsUnsound (file old) H.fields) (fault_of_load Table fault)
+    → WhyNotLoaded refcount_table_kind (layout_of H.fields) (raw_entries_in (file old) (cluster * cluster_size H.fields) n) old.faults new.faults fault → Found old new (IsUnsound (file old) H.fields) (fault_of_load Table fault)
 blocks-finding old new H loads cluster n is few Memory why = why
 blocks-finding old new H loads cluster n is few Storage why = why
 blocks-finding old new H loads cluster n is few DamagedTable why = (blocks-damaged (file old) H.fields (blocks-unsound (file old) H loads cluster is n few why.0), why.1)
@@ -76,14 +76,14 @@ blocks-finding old new H loads cluster n is few fault why = absurd why
 
 -- The words of the refcount table have a meaning where the first do, and the others are past the file's end.
 pub blocks-sound-by-first : (bytes : List ℕ) (H : Header) → header_of true (bytes_of bytes) ≡ Ok H → (cluster n : ℕ) → cluster ≡ H.fields.refcount_table_offset / 2 ^ H.fields.cluster_bits
-    → AreSound block_words (layout_of H.fields) (words_in (bytes_of bytes) (cluster * cluster_size H.fields) n) → ((i : ℕ) → n ≤ i → i < refcount_table_entries H.fields → length bytes ≤ H.fields.refcount_table_offset + 8 * i)
+    → AreSound refcount_table_kind (layout_of H.fields) (raw_entries_in (bytes_of bytes) (cluster * cluster_size H.fields) n) → ((i : ℕ) → n ≤ i → i < refcount_table_entries H.fields → length bytes ≤ H.fields.refcount_table_offset + 8 * i)
     → refcount_table_sound (bytes_of bytes) H.fields ≡ true
 unfolding refcount_table_sound
-blocks-sound-by-first bytes H loads cluster n is sound past = all-below-holds (refcount_table_entries H.fields) (λ i. block_word_sound H.fields.cluster_bits (word (bytes_of bytes) H.fields.refcount_table_offset i)) (λ i lt. elim (cases_lt i n) [
+blocks-sound-by-first bytes H loads cluster n is sound past = all-below-holds (refcount_table_entries H.fields) (λ i. reftable_entry_valid H.fields.cluster_bits (raw_entry (bytes_of bytes) H.fields.refcount_table_offset i)) (λ i lt. elim (cases_lt i n) [
   | inl less ↦
-      let inside : i < length (words_in (bytes_of bytes) (cluster * cluster_size H.fields) n) = omega (arith, words_long (bytes_of bytes) (cluster * cluster_size H.fields) n, less) in
-      ap (block_word_sound H.fields.cluster_bits) (sym (word-loaded (bytes_of bytes) H loads cluster is n i less)) ∙ sound i inside
-  | inr ge ↦ ap (block_word_sound H.fields.cluster_bits) (past-word bytes H.fields.refcount_table_offset i (past i ge lt)) ∙ zero-place H.fields.cluster_bits
+      let inside : i < length (raw_entries_in (bytes_of bytes) (cluster * cluster_size H.fields) n) = omega (arith, words_long (bytes_of bytes) (cluster * cluster_size H.fields) n, less) in
+      ap (reftable_entry_valid H.fields.cluster_bits) (sym (word-loaded (bytes_of bytes) H loads cluster is n i less)) ∙ sound i inside
+  | inr ge ↦ ap (reftable_entry_valid H.fields.cluster_bits) (past-word bytes H.fields.refcount_table_offset i (past i ge lt)) ∙ zero-place H.fields.cluster_bits
 ])
 
 -- the places that the first words name, 0 for none
@@ -104,16 +104,16 @@ blocks-more f h n place before now to is here = record {
 }
 
 -- each block is where a cluster can begin
-block-placed : (f : Bytes) (h : Fields) (i : ℕ) → IsTrue (refcount_table_sound f h) → is_place h.cluster_bits (block_at f h i) ≡ true
+block-placed : (f : Bytes) (h : Fields) (i : ℕ) → IsTrue (refcount_table_sound f h) → is_cluster_offset h.cluster_bits (block_at f h i) ≡ true
 unfolding refcount_table_sound
 block-placed f h i sound = elim (cases_lt i (refcount_table_entries h)) [
   | inl lt ↦
       let inside : nat_lt i (refcount_table_entries h) ≡ true = grind (arith, nat_tests) in
-      let here : block_word_sound h.cluster_bits (word f h.refcount_table_offset i) ≡ true = all-below (refcount_table_entries h) (λ k. block_word_sound h.cluster_bits (word f h.refcount_table_offset k)) sound i lt in
-      ap (λ b. is_place h.cluster_bits (cond b (block_offset (word f h.refcount_table_offset i)) 0)) inside ∙ last _ _ here
+      let here : reftable_entry_valid h.cluster_bits (raw_entry f h.refcount_table_offset i) ≡ true = all-below (refcount_table_entries h) (λ k. reftable_entry_valid h.cluster_bits (raw_entry f h.refcount_table_offset k)) sound i lt in
+      ap (λ b. is_cluster_offset h.cluster_bits (cond b (block_offset (raw_entry f h.refcount_table_offset i)) 0)) inside ∙ last _ _ here
   | inr le ↦
       let past : nat_lt i (refcount_table_entries h) ≡ false = le-ltb _ _ le in
-      ap (λ b. is_place h.cluster_bits (cond b (block_offset (word f h.refcount_table_offset i)) 0)) past ∙ zero-place h.cluster_bits
+      ap (λ b. is_cluster_offset h.cluster_bits (cond b (block_offset (raw_entry f h.refcount_table_offset i)) 0)) past ∙ zero-place h.cluster_bits
 ]
   where
     last : (a b : Bool) → (a && b) ≡ true → b ≡ true
@@ -125,10 +125,10 @@ block-past : (bytes : List ℕ) (h : Fields) (n i : ℕ) → n ≤ i → ((k : �
 block-past bytes h n i le past = elim (cases_lt i (refcount_table_entries h)) [
   | inl lt ↦
       let inside : nat_lt i (refcount_table_entries h) ≡ true = grind (arith, nat_tests) in
-      ap (λ b. cond b (block_offset (word (bytes_of bytes) h.refcount_table_offset i)) 0) inside ∙ ap block_offset (past-word bytes h.refcount_table_offset i (past i le lt))
+      ap (λ b. cond b (block_offset (raw_entry (bytes_of bytes) h.refcount_table_offset i)) 0) inside ∙ ap block_offset (past-word bytes h.refcount_table_offset i (past i le lt))
   | inr beyond ↦
       let outside : nat_lt i (refcount_table_entries h) ≡ false = le-ltb _ _ beyond in
-      ap (λ b. cond b (block_offset (word (bytes_of bytes) h.refcount_table_offset i)) 0) outside
+      ap (λ b. cond b (block_offset (raw_entry (bytes_of bytes) h.refcount_table_offset i)) 0) outside
 ]
 
 -- The first words name all blocks where the others are past the file's end.
@@ -136,8 +136,8 @@ pub blocks-all : (bytes : List ℕ) (h : Fields) (n : ℕ) (blocks : List ℕ) �
     → ((i : ℕ) → n ≤ i → i < refcount_table_entries h → length bytes ≤ h.refcount_table_offset + 8 * i) → BlocksTo (bytes_of bytes) h n blocks → IsBlocks (bytes_of bytes) h blocks
 blocks-all bytes h n blocks few sound past to = record {
   each = each;
-  few = omega (arith, to.long, few);
-  placed = λ i. ap (is_place h.cluster_bits) (each i) ∙ block-placed (bytes_of bytes) h i sound;
+  count_bounded = omega (arith, to.long, few);
+  placed = λ i. ap (is_cluster_offset h.cluster_bits) (each i) ∙ block-placed (bytes_of bytes) h i sound;
 }
   where
     each : (i : ℕ) → slice_index blocks i ≡ block_at (bytes_of bytes) h i

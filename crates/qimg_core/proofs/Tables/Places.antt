@@ -3,24 +3,24 @@ use Rattle.std.proofs.Common.{◌≡◌, ◌≢◌, ℕ, ◌-◌, ◌*◌, ◌/�
 use Rattle.std.specs.Prelude.{Bool, true, false, cond, ◌&&◌, ◌==◌, nat_lt, IsTrue, Ok, Some, None}
 use Rattle.std.proofs.lemmas.Bool.{cases_lt, le-ltb}
 use Rattle.std.proofs.lemmas.Bool.Decides.{nat_tests}
-use Rattle.qcow2_types.specs.Bytes.{Bytes, word}
-use Rattle.qcow2_types.specs.Words.{is_place, max_offset, l1_word_sound, table_offset}
+use Rattle.qcow2_types.specs.Bytes.{Bytes, raw_entry}
+use Rattle.qcow2_types.specs.Words.{is_cluster_offset, max_offset, l1_entry_valid, table_offset}
 use Rattle.qcow2_types.specs.Header.{Fields, Header, header_of, Limited}
 use Rattle.qcow2_types.specs.Entries.{l2_table, l1_table_sound}
 use Rattle.qcow2_types.proofs.Counting.Bounded.{all-below}
 use Rattle.qcow2_types.proofs.Fields.HeaderLimits.{header-limited}
 use Rattle.qcow2_types.proofs.Changes.WriteBack.{place-whole, place-near}
-use Rattle.qcow2_metadata.specs.Tables.{place_or_none}
+use Rattle.qcow2_metadata.specs.Tables.{offset_or_none}
 
 -- a place, or none
-pub none-place : (offset : ℕ) → None ≡ place_or_none offset → offset ≡ 0
+pub none-place : (offset : ℕ) → None ≡ offset_or_none offset → offset ≡ 0
 none-place offset is = pick (offset == 0) refl is
   where
     pick : (b : Bool) → (offset == 0) ≡ b → None ≡ cond b None (Some offset) → offset ≡ 0
     pick true e is = grind (arith, nat_tests)
     pick false e is = absurd cc
 
-pub some-place : (offset place : ℕ) → Some place ≡ place_or_none offset → (place ≡ offset) × (offset ≢ 0)
+pub some-place : (offset place : ℕ) → Some place ≡ offset_or_none offset → (place ≡ offset) × (offset ≢ 0)
 some-place offset place is = pick (offset == 0) refl is
   where
     pick : (b : Bool) → (offset == 0) ≡ b → Some place ≡ cond b None (Some offset) → (place ≡ offset) × (offset ≢ 0)
@@ -43,11 +43,11 @@ unfolding l1_table_sound
 l2-place f h i sound there = elim (cases_lt i h.l1_entries) [
   | inl lt ↦
       let inside : nat_lt i h.l1_entries ≡ true = grind (arith, nat_tests) in
-      let same : l2_table f h i ≡ table_offset (word f h.l1_offset i) = ap (λ b. cond b (table_offset (word f h.l1_offset i)) 0) inside in
-      let here : l1_word_sound h.cluster_bits (word f h.l1_offset i) ≡ true = all-below h.l1_entries (λ k. l1_word_sound h.cluster_bits (word f h.l1_offset k)) sound i lt in
-      let begins : is_place h.cluster_bits (l2_table f h i) ≡ true = ap (is_place h.cluster_bits) same ∙ last _ _ here in
+      let same : l2_table f h i ≡ table_offset (raw_entry f h.l1_offset i) = ap (λ b. cond b (table_offset (raw_entry f h.l1_offset i)) 0) inside in
+      let here : l1_entry_valid h.cluster_bits (raw_entry f h.l1_offset i) ≡ true = all-below h.l1_entries (λ k. l1_entry_valid h.cluster_bits (raw_entry f h.l1_offset k)) sound i lt in
+      let begins : is_cluster_offset h.cluster_bits (l2_table f h i) ≡ true = ap (is_cluster_offset h.cluster_bits) same ∙ last _ _ here in
       (place-whole h.cluster_bits (l2_table f h i) begins, place-near h.cluster_bits (l2_table f h i) begins)
-  | inr le ↦ let past : nat_lt i h.l1_entries ≡ false = le-ltb _ _ le in absurd (there (ap (λ b. cond b (table_offset (word f h.l1_offset i)) 0) past))
+  | inr le ↦ let past : nat_lt i h.l1_entries ≡ false = le-ltb _ _ le in absurd (there (ap (λ b. cond b (table_offset (raw_entry f h.l1_offset i)) 0) past))
 ]
   where
     last : (a b : Bool) → (a && b) ≡ true → b ≡ true

@@ -6,11 +6,11 @@ use Rattle.std.proofs.lemmas.Bool.{cases_lt, le-ltb}
 use Rattle.std.proofs.lemmas.Bool.Decides.{nat_tests}
 use Rattle.std.proofs.lemmas.List.{append-nil, get_or_past}
 use Rattle.std.proofs.lemmas.List.FromFn.{filter_of_map_range_with_len_more}
-use Rattle.qcow2_types.specs.Bytes.{Bytes, bytes_of, word}
+use Rattle.qcow2_types.specs.Bytes.{Bytes, bytes_of, raw_entry}
 use Rattle.qcow2_types.specs.Words.{table_offset}
 use Rattle.qcow2_types.specs.Header.{Fields, Header, header_of, cluster_size}
 use Rattle.qcow2_types.specs.Entries.{l2_table}
-use Rattle.qcow2_metadata.specs.Tables.{TableValue, words_in, table_in}
+use Rattle.qcow2_metadata.specs.Tables.{TableValue, raw_entries_in, table_in}
 use Rattle.qcow2_metadata.proofs.TableFacts.{words_long, words_at}
 use Rattle.imago_storage.specs.declared.fault.Fault.{Fault}
 use Rattle.qimg_core.specs.CheckParts.{tables_of}
@@ -51,17 +51,17 @@ tables-rest f h n (suc d) none =
 
 -- word i of the L1 table, by the words that were loaded
 pub l2-loaded : (f : Bytes) (H : Header) → header_of false f ≡ Ok H → (cluster n i : ℕ) → cluster ≡ H.fields.l1_offset / 2 ^ H.fields.cluster_bits → n ≤ H.fields.l1_entries → i < n
-    → l2_table f H.fields i ≡ table_offset (slice_index (words_in f (cluster * cluster_size H.fields) n) i)
+    → l2_table f H.fields i ≡ table_offset (slice_index (raw_entries_in f (cluster * cluster_size H.fields) n) i)
 l2-loaded f H loads cluster n i is few lt =
     let inside : nat_lt i H.fields.l1_entries ≡ true = grind (arith, nat_tests) in
-    let same : slice_index (words_in f (cluster * cluster_size H.fields) n) i ≡ word f H.fields.l1_offset i = words_at f _ _ i lt ∙ ap (λ p. word f p i) (l1-place f H loads cluster is).0 in
-    ap (λ b. cond b (table_offset (word f H.fields.l1_offset i)) 0) inside ∙ ap table_offset (sym same)
+    let same : slice_index (raw_entries_in f (cluster * cluster_size H.fields) n) i ≡ raw_entry f H.fields.l1_offset i = words_at f _ _ i lt ∙ ap (λ p. raw_entry f p i) (l1-place f H loads cluster is).0 in
+    ap (λ b. cond b (table_offset (raw_entry f H.fields.l1_offset i)) 0) inside ∙ ap table_offset (sym same)
 
 -- past the file's end it names none
 l2-past : (bytes : List ℕ) (h : Fields) (i : ℕ) → i < h.l1_entries → length bytes ≤ h.l1_offset + 8 * i → l2_table (bytes_of bytes) h i ≡ 0
 l2-past bytes h i lt past =
     let inside : nat_lt i h.l1_entries ≡ true = grind (arith, nat_tests) in
-    ap (λ b. cond b (table_offset (word (bytes_of bytes) h.l1_offset i)) 0) inside ∙ ap table_offset (past-word bytes h.l1_offset i past)
+    ap (λ b. cond b (table_offset (raw_entry (bytes_of bytes) h.l1_offset i)) 0) inside ∙ ap table_offset (past-word bytes h.l1_offset i past)
 
 -- or its entries
 l2-none : (bytes : List ℕ) (h : Fields) (n i : ℕ) → n ≤ i → ((i : ℕ) → n ≤ i → i < h.l1_entries → length bytes ≤ h.l1_offset + 8 * i) → l2_table (bytes_of bytes) h i ≡ 0
@@ -69,7 +69,7 @@ l2-none bytes h n i ge past = elim (cases_lt i h.l1_entries) [
   | inl lt ↦ l2-past bytes h i lt (past i ge lt)
   | inr le ↦
       let outside : nat_lt i h.l1_entries ≡ false = le-ltb _ _ le in
-      ap (λ b. cond b (table_offset (word (bytes_of bytes) h.l1_offset i)) 0) outside
+      ap (λ b. cond b (table_offset (raw_entry (bytes_of bytes) h.l1_offset i)) 0) outside
 ]
 
 -- The first words name all places where the others are past the file's end.
@@ -82,17 +82,17 @@ tables-all bytes h n places few past is =
 
 -- The first words of the L1 table name its tables where the others are past the file's end.
 first-name : (bytes : List ℕ) (H : Header) → header_of false (bytes_of bytes) ≡ Ok H → (cluster n : ℕ) → cluster ≡ H.fields.l1_offset / 2 ^ H.fields.cluster_bits → n ≤ H.fields.l1_entries
-    → ((i : ℕ) → n ≤ i → i < H.fields.l1_entries → length bytes ≤ H.fields.l1_offset + 8 * i) → NamesTables (bytes_of bytes) H.fields (words_in (bytes_of bytes) (cluster * cluster_size H.fields) n)
+    → ((i : ℕ) → n ≤ i → i < H.fields.l1_entries → length bytes ≤ H.fields.l1_offset + 8 * i) → NamesTables (bytes_of bytes) H.fields (raw_entries_in (bytes_of bytes) (cluster * cluster_size H.fields) n)
 first-name bytes H loads cluster n is few past = record {
   each = λ i. elim (cases_lt i n) [
     | inl less ↦ l2-loaded (bytes_of bytes) H loads cluster n i is few less
     | inr ge ↦
-        let missing : slice_index (words_in (bytes_of bytes) (cluster * cluster_size H.fields) n) i ≡ 0 = get_or_past (words_in (bytes_of bytes) (cluster * cluster_size H.fields) n) i 0 (omega (arith, words_long (bytes_of bytes) (cluster * cluster_size H.fields) n)) in
+        let missing : slice_index (raw_entries_in (bytes_of bytes) (cluster * cluster_size H.fields) n) i ≡ 0 = get_or_past (raw_entries_in (bytes_of bytes) (cluster * cluster_size H.fields) n) i 0 (omega (arith, words_long (bytes_of bytes) (cluster * cluster_size H.fields) n)) in
         l2-none bytes H.fields n i ge past ∙ ap table_offset (sym missing)
   ];
 }
 
 pub first-words : (result : Result TableValue Fault) (bytes : List ℕ) (H : Header) → header_of false (bytes_of bytes) ≡ Ok H → (cluster n : ℕ) → cluster ≡ H.fields.l1_offset / 2 ^ H.fields.cluster_bits → n ≤ H.fields.l1_entries
-    → ((i : ℕ) → n ≤ i → i < H.fields.l1_entries → length bytes ≤ H.fields.l1_offset + 8 * i) → IfOk result (λ table. table ≡ table_in (bytes_of bytes) H.fields cluster n) → IfOk result (λ table. NamesTables (bytes_of bytes) H.fields table.words)
+    → ((i : ℕ) → n ≤ i → i < H.fields.l1_entries → length bytes ≤ H.fields.l1_offset + 8 * i) → IfOk result (λ table. table ≡ table_in (bytes_of bytes) H.fields cluster n) → IfOk result (λ table. NamesTables (bytes_of bytes) H.fields table.raw_entries)
 first-words (Err _) bytes H loads cluster n is few past found = tt
-first-words (Ok table) bytes H loads cluster n is few past found = subst (λ t. NamesTables (bytes_of bytes) H.fields t.words) (sym found) (first-name bytes H loads cluster n is few past)
+first-words (Ok table) bytes H loads cluster n is few past found = subst (λ t. NamesTables (bytes_of bytes) H.fields t.raw_entries) (sym found) (first-name bytes H loads cluster n is few past)

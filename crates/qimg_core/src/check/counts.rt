@@ -1,6 +1,6 @@
 // Counters, which qemu calls refcounts, against what is named, or referenced.
 ghost use Rattle.std.specs.Prelude.{◌≡◌, ℕ, ◌+◌, ◌*◌, ◌<◌, ◌≤◌, ◌^◌, OnOk, IfOk, IfErr};
-ghost use Rattle.imago_storage.specs.Calls.{Kept};
+ghost use Rattle.imago_storage.specs.Calls.{UnchangedButFaults};
 ghost use Rattle.qcow2_types.specs.Header.{Limited, Shaped};
 ghost use Rattle.qcow2_types.specs.Counts.{counters_of_block};
 ghost use Rattle.qcow2_types.specs.Consistency.{Nowhere, is_under_counted, leaks};
@@ -31,7 +31,7 @@ fn block_of<S: Storage>(
     requires blocks { IsBlocks (file (S.state image.old)) header.now.fields blocks.now }
     ensures ok { IfOk result (HoldsCounters (file (S.state image.old)) header.now.fields index) }
     ensures err { IfErr result (Found (S.state image.old) (S.state image.new) NoFinding) }
-    ensures kept { Kept (S.state image.old) (S.state image.new) }
+    ensures unchanged_but_faults { UnchangedButFaults (S.state image.old) (S.state image.new) }
     ensures faults { OnOk result ((S.state image.new).faults ≡ (S.state image.old).faults) }
 {
     if index >= blocks.len() || blocks[index] == 0 || image.size() <= blocks[index] {
@@ -54,7 +54,7 @@ fn first_counted(header: &Header, index: usize) -> u64
 }
 
 /// Looks for a cluster that is named, from `low` on and up to `high`, if that is given.
-fn check_unnamed(names: &Tallies, low: u64, high: Option<u64>) -> Result<(), CheckFault>
+fn check_unreferenced(names: &Tallies, low: u64, high: Option<u64>) -> Result<(), CheckFault>
     requires { AreRising names.now.others }
     ensures ok { OnOk result (NoneWithin (is_such question.AtAll names.now) low high) }
     ensures err { IfErr result (NamesFirst names.now low high) }
@@ -84,12 +84,12 @@ fn compare_block<S: Storage>(
     ensures ok { OnOk result (AreCompared (file (S.state image.old)) header.now.fields leaks.new.items
         ((index + 1) * counters_of_block header.now.fields)) }
     ensures err { IfErr result (Found (S.state image.old) (S.state image.new) (IsUnder (file (S.state image.old)) header.now.fields)) }
-    ensures kept { Kept (S.state image.old) (S.state image.new) }
+    ensures unchanged_but_faults { UnchangedButFaults (S.state image.old) (S.state image.new) }
     ensures faults { OnOk result ((S.state image.new).faults ≡ (S.state image.old).faults) }
 {
     let low = first_counted(header, index);
     let Some(block) = block_of(alloc, image, header, blocks, index)? else {
-        return check_unnamed(names, low, Some(first_counted(header, index + 1)));
+        return check_unreferenced(names, low, Some(first_counted(header, index + 1)));
     };
     let mut way = way_from(&names.others, low);
     for place in 0..header.rb_entries() {
@@ -123,7 +123,7 @@ pub fn compare<S: Storage>(
     ensures ok { IfOk result (λ found. found.items ≡ leaks (file (S.state image.old)) header.now.fields) }
     ensures counted { OnOk result (Nowhere (is_under_counted (file (S.state image.old)) header.now.fields)) }
     ensures err { IfErr result (Found (S.state image.old) (S.state image.new) (IsUnder (file (S.state image.old)) header.now.fields)) }
-    ensures kept { Kept (S.state image.old) (S.state image.new) }
+    ensures unchanged_but_faults { UnchangedButFaults (S.state image.old) (S.state image.new) }
     ensures faults { OnOk result ((S.state image.new).faults ≡ (S.state image.old).faults) }
 {
     let mut leaks = Vec::new(alloc);
@@ -131,6 +131,6 @@ pub fn compare<S: Storage>(
         compare_block(alloc, image, header, blocks, index, names, &mut leaks)?;
     }
     let end = first_counted(header, blocks.len());
-    check_unnamed(names, end, None)?;
+    check_unreferenced(names, end, None)?;
     Ok(leaks)
 }

@@ -10,7 +10,7 @@ use super::CheckFault;
 pub fn enter(list: &mut Vec<u64>, cluster: u64, times: u64) -> Result<(), CheckFault>
     requires { cluster < 2 ^ 53 }
     ensures ok { OnOk result (AddsWeight list.old.items list.new.items cluster times) }
-    ensures few { OnOk result (TakesFew list.old.items list.new.items times) }
+    ensures length_bounded { OnOk result (TakesFew list.old.items list.new.items times) }
     ensures err { IsOkUnless result CheckFault.Memory }
 {
     for place in 0..8 {
@@ -43,7 +43,7 @@ pub fn weight_from(list: &[u64], cut: &mut usize, cluster: u64) -> u128
     requires rising { IsRising list.now }
     requires cut { IsCut list.now cluster (Some cluster) cut.old }
     ensures value { result ≡ weight_of list.now cluster }
-    ensures few { result + 2 ^ 63 ≤ 2 ^ 127 }
+    ensures weight_bounded { result + 2 ^ 63 ≤ 2 ^ 127 }
     ensures cut { IsCut list.now (cluster + 1) (Some (cluster + 1)) cut.new }
 {
     let mut sum = 0;

@@ -1,7 +1,7 @@
 // How often each host cluster is named: referenced, as qemu and imago say.
 ghost use Rattle.std.specs.Prelude.{◌≡◌, ℕ, ◌+◌, ◌*◌, ◌<◌, ◌≤◌, ◌^◌, length, OnOk, IfOk, IsOk, IfSome, IsSome, IsOkUnless};
 ghost use Rattle.qimg_core.specs.Entering.{AddsRange};
-ghost use Rattle.qimg_core.specs.Names.{AddsClusters, AddsEntry, KeepsCells, IsFewSum, HasRoom, HasRoomAt, SparesLists, AreRising, TellsNothing, cell_at, times_at};
+ghost use Rattle.qimg_core.specs.Names.{AddsClusters, AddsEntry, KeepsCells, IsFewSum, HasRoom, HasRoomAt, ListsOnlyOverflow, AreRising, TellsNothing, cell_at, times_at};
 
 use super::CheckFault;
 use super::entries::enter;
@@ -51,7 +51,7 @@ pub struct Tallies {
     pub others: Others,
 }
 
-/// How often each cluster is named, by lists of names of eight bytes each, which `sort_names` puts in order. A name by a word that is
+/// How often each cluster is named, by lists of names of eight bytes each, which `sort_references` puts in order. A name by a word that is
 /// marked as copied stands in two.
 #[derive(Drop)]
 pub struct Others {
@@ -61,10 +61,10 @@ pub struct Others {
 }
 
 /// Nothing is named, with so many cells.
-pub fn no_names(alloc: Global, count: usize) -> Result<Tallies, CheckFault>
+pub fn no_references(alloc: Global, count: usize) -> Result<Tallies, CheckFault>
     ensures ok { IfOk result TellsNothing }
     ensures cells { IfOk result (λ names. length names.cells.items ≡ count) }
-    ensures spares { IfOk result SparesLists }
+    ensures spares { IfOk result ListsOnlyOverflow }
     ensures err { IsOkUnless result CheckFault.Memory }
 {
     Ok(Tallies {
@@ -121,7 +121,7 @@ fn enter_other(others: &mut Others, cluster: u64, times: Times) -> Result<(), Ch
 
 /// Enters one cluster: in its cell, if that has room.
 #[inline(always)]
-pub fn name_cluster(names: &mut Tallies, cluster: u64, times: Times) -> Result<(), CheckFault>
+pub fn reference_cluster(names: &mut Tallies, cluster: u64, times: Times) -> Result<(), CheckFault>
     requires { cluster < 2 ^ 53 }
     ensures ok { OnOk result (AddsClusters names.old names.new cluster (cluster + 1) times) }
     ensures room { HasRoomAt names.old cluster times → IsOk result × (names.new.others ≡ names.old.others) }
@@ -138,20 +138,25 @@ pub fn name_cluster(names: &mut Tallies, cluster: u64, times: Times) -> Result<(
 }
 
 /// Enters the clusters from `low` up to `end`, which isn't one of them.
-fn name_clusters(names: &mut Tallies, low: u64, end: u64, times: Times) -> Result<(), CheckFault>
+fn reference_clusters(
+    names: &mut Tallies,
+    low: u64,
+    end: u64,
+    times: Times,
+) -> Result<(), CheckFault>
     requires from { low ≤ end }
     requires below { end ≤ 2 ^ 53 }
     ensures ok { OnOk result (AddsClusters names.old names.new low end times) }
     ensures err { IsOkUnless result CheckFault.Memory }
 {
     for cluster in low..end {
-        name_cluster(names, cluster, times)?;
+        reference_cluster(names, cluster, times)?;
     }
     Ok(())
 }
 
 /// Enters a range of bytes: each cluster that it meets.
-pub fn name_range(
+pub fn reference_range(
     names: &mut Tallies,
     header: &Header,
     first: u64,
@@ -168,14 +173,14 @@ pub fn name_range(
     let cluster_bits = header.cluster_bits();
     let HostCluster(low) = HostOffset(first).cluster(cluster_bits);
     let HostCluster(high) = HostOffset(first + (length - 1)).cluster(cluster_bits);
-    name_clusters(names, low, high + 1, times)
+    reference_clusters(names, low, high + 1, times)
 }
 
 /// Puts the lists in order.
-pub fn sort_names(names: &mut Tallies)
+pub fn sort_references(names: &mut Tallies)
     ensures same { (c : ℕ) → times_at names.new c ≡ times_at names.old c }
     ensures cells { KeepsCells names.old names.new }
-    ensures spares { SparesLists names.old → SparesLists names.new }
+    ensures spares { ListsOnlyOverflow names.old → ListsOnlyOverflow names.new }
     ensures rising { AreRising names.new.others }
 {
     names.others.structure.sort_unstable();

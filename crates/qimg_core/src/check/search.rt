@@ -91,7 +91,7 @@ fn times_listed(names: &Tallies, cluster: u64, way: &mut Way) -> AllTimes
     requires along { IsAlong names.now.others cluster way.old }
     requires next { way.old.next ≡ Some cluster }
     ensures value { all_times result ≡ times_at names.now cluster }
-    ensures few { result.structure + result.mapped < 2 ^ 128 }
+    ensures count_bounded { result.structure + result.mapped < 2 ^ 128 }
     ensures along { IsAlong names.now.others (cluster + 1) way.new }
 {
     let others = &names.others;
@@ -113,7 +113,7 @@ fn times_along(names: &Tallies, cluster: u64, way: &mut Way) -> AllTimes
     requires rising { AreRising names.now.others }
     requires along { IsAlong names.now.others cluster way.old }
     ensures value { all_times result ≡ times_at names.now cluster }
-    ensures few { result.structure + result.mapped < 2 ^ 128 }
+    ensures count_bounded { result.structure + result.mapped < 2 ^ 128 }
     ensures along { IsAlong names.now.others (cluster + 1) way.new }
 {
     if way.next == Some(cluster) {
@@ -168,7 +168,7 @@ fn cells_end(cells: u64, high: Option<u64>) -> u64
 /// The least cluster behind the cells, from `low` up to `high`, which isn't one of them, that passes.
 fn first_entry(names: &Tallies, question: Question, low: u64, high: Option<u64>) -> Option<u64>
     requires rising { AreRising names.now.others }
-    requires behind { length names.now.cells.items ≤ low }
+    requires after_structure { length names.now.cells.items ≤ low }
     ensures { MatchOption result (NoneWithin (is_such question names.now) low high) (IsFirstWithin (is_such question names.now) low high) }
 {
     let mut way = way_from(&names.others, low);

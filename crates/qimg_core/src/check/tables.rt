@@ -1,19 +1,19 @@
 // What the tables of an image name, or reference. A word of a table is its entry, and a place an offset in the file.
 ghost use Rattle.std.specs.Prelude.{◌≡◌, ℕ, ◌+◌, ◌*◌, ◌<◌, ◌≤◌, ◌^◌, length, slice_index, OnOk, IfOk, IfErr, IsOkUnless, IsTrue, All};
-ghost use Rattle.imago_storage.specs.Calls.{Kept};
-ghost use Rattle.qcow2_types.specs.Words.{max_offset, is_place, data_at};
-ghost use Rattle.qcow2_types.specs.Header.{Fields, cluster_size, words_of_cluster, layout_of};
+ghost use Rattle.imago_storage.specs.Calls.{UnchangedButFaults};
+ghost use Rattle.qcow2_types.specs.Words.{max_offset, is_cluster_offset, data_at};
+ghost use Rattle.qcow2_types.specs.Header.{Fields, cluster_size, entries_of_cluster, layout_of};
 ghost use Rattle.qcow2_types.specs.Entries.{l1_table_sound, l2_table_sound};
 ghost use Rattle.qcow2_types.specs.Counts.{refcount_table_sound};
-ghost use Rattle.qcow2_metadata.specs.MappingView.{mapping_seen, IsNamed};
+ghost use Rattle.qcow2_metadata.specs.MappingView.{mapping_seen, IsHostAddressable};
 ghost use Rattle.qcow2_metadata.specs.Loading.{file};
-ghost use Rattle.qimg_core.specs.Entering.{AddsPlaces, AddsStart, AddsStructure, AddsMapping, AddsWords, AddsTable, AddsTables};
+ghost use Rattle.qimg_core.specs.Entering.{AddsPlaces, AddsStart, AddsStructure, AddsMapping, AddsRawEntries, AddsTable, AddsTables};
 ghost use Rattle.qimg_core.specs.CheckParts.{HasHeader, tables_of, AreTables, IsBlocks, HoldsPlaces};
 ghost use Rattle.qimg_core.specs.Check.{IsUnsound, IsDamagedTable, IsOneDamaged, Found};
 
-use super::names::{Tallies, Times, name_cluster, name_range};
+use super::names::{Tallies, Times, reference_cluster, reference_range};
 use super::{CheckFault, blocks_end, load_fault};
-use crate::file_end::words_before;
+use crate::file_end::entries_before;
 use imago_storage::Storage;
 use qcow2_metadata::{Header, L1Table, L2Mapping, RefTable, StoredL2Table, Table};
 use qcow2_types::{GuestCluster, HostCluster, HostOffset};
@@ -43,13 +43,13 @@ fn table_places<S: Storage>(
     ensures ok { IfOk result (λ places. places.items ≡ tables_of (file (S.state image.old)) header.now.fields) }
     ensures sound { OnOk result (IsTrue (l1_table_sound (file (S.state image.old)) header.now.fields)) }
     ensures err { IfErr result (Found (S.state image.old) (S.state image.new) (IsUnsound (file (S.state image.old)) header.now.fields)) }
-    ensures kept { Kept (S.state image.old) (S.state image.new) }
+    ensures unchanged_but_faults { UnchangedButFaults (S.state image.old) (S.state image.new) }
     ensures faults { OnOk result ((S.state image.new).faults ≡ (S.state image.old).faults) }
 {
     let offset = header.l1_table_offset();
-    let words = words_before(image.size(), offset.0, header.l1_table_entries());
+    let raw_entries = entries_before(image.size(), offset.0, header.l1_table_entries());
     let cluster = offset.cluster(header.cluster_bits());
-    let table = match L1Table::load(alloc, image, header, cluster, words) {
+    let table = match L1Table::load(alloc, image, header, cluster, raw_entries) {
         Ok(table) => table,
         Err(fault) => return Err(load_fault(fault, CheckFault::Table)),
     };
@@ -72,13 +72,13 @@ fn block_places<S: Storage>(
     ensures ok { IfOk result (λ places. IsBlocks (file (S.state image.old)) header.now.fields places.items) }
     ensures sound { OnOk result (IsTrue (refcount_table_sound (file (S.state image.old)) header.now.fields)) }
     ensures err { IfErr result (Found (S.state image.old) (S.state image.new) (IsUnsound (file (S.state image.old)) header.now.fields)) }
-    ensures kept { Kept (S.state image.old) (S.state image.new) }
+    ensures unchanged_but_faults { UnchangedButFaults (S.state image.old) (S.state image.new) }
     ensures faults { OnOk result ((S.state image.new).faults ≡ (S.state image.old).faults) }
 {
     let offset = header.reftable_offset();
-    let words = words_before(image.size(), offset.0, header.reftable_entries());
+    let raw_entries = entries_before(image.size(), offset.0, header.reftable_entries());
     let cluster = offset.cluster(header.cluster_bits());
-    let table = match RefTable::load(alloc, image, header, cluster, words) {
+    let table = match RefTable::load(alloc, image, header, cluster, raw_entries) {
         Ok(table) => table,
         Err(fault) => return Err(load_fault(fault, CheckFault::Table)),
     };
@@ -102,7 +102,7 @@ pub fn places_of<S: Storage>(
     requires loads { HasHeader (file (S.state image.old)) header.now }
     ensures ok { IfOk result (λ places. HoldsPlaces (file (S.state image.old)) header.now.fields places.tables.items places.blocks.items) }
     ensures err { IfErr result (Found (S.state image.old) (S.state image.new) (IsUnsound (file (S.state image.old)) header.now.fields)) }
-    ensures kept { Kept (S.state image.old) (S.state image.new) }
+    ensures unchanged_but_faults { UnchangedButFaults (S.state image.old) (S.state image.new) }
     ensures faults { OnOk result ((S.state image.new).faults ≡ (S.state image.old).faults) }
 {
     // Each list has room for a place of each word of its table, and would keep it while the image is checked.
@@ -124,7 +124,7 @@ pub fn name_places(names: &mut Tallies, header: &Header, places: &[u64]) -> Resu
     let size = header.cluster_size() as u64;
     for i in 0..places.len() {
         if places[i] != 0 {
-            name_range(names, header, places[i], size, STRUCTURE)?;
+            reference_range(names, header, places[i], size, STRUCTURE)?;
         }
     }
     Ok(())
@@ -143,13 +143,13 @@ fn name_start(names: &mut Tallies, header: &Header) -> Result<(), CheckFault>
     let HostOffset(reftable_offset) = header.reftable_offset();
     let l1_size = header.l1_table_entries() as u64 * 8;
     let reftable_size = header.reftable_clusters().0 * size;
-    name_range(names, header, 0, size, STRUCTURE)?;
-    name_range(names, header, l1_offset, l1_size, STRUCTURE)?;
-    name_range(names, header, reftable_offset, reftable_size, STRUCTURE)
+    reference_range(names, header, 0, size, STRUCTURE)?;
+    reference_range(names, header, l1_offset, l1_size, STRUCTURE)?;
+    reference_range(names, header, reftable_offset, reftable_size, STRUCTURE)
 }
 
 /// Enters the structure of the image.
-pub fn name_structure(
+pub fn reference_structure(
     names: &mut Tallies,
     header: &Header,
     places: &Places,
@@ -169,14 +169,14 @@ pub fn name_structure(
 
 /// Enters what a word of an L2 table names, so often.
 #[inline(always)]
-fn name_mapping(
+fn reference_mapping(
     names: &mut Tallies,
     header: &Header,
     mapping: L2Mapping,
     times: u64,
 ) -> Result<(), CheckFault>
     requires wide { 9 ≤ header.now.fields.cluster_bits }
-    requires named { IsNamed header.now.fields.cluster_bits mapping }
+    requires named { IsHostAddressable header.now.fields.cluster_bits mapping }
     ensures ok { OnOk result (AddsMapping header.now.fields times names.old names.new (mapping_seen mapping)) }
     ensures err { IsOkUnless result CheckFault.Memory }
 {
@@ -201,7 +201,7 @@ fn name_mapping(
                 mapped: times,
                 copied: 0,
             };
-            name_range(names, header, host_offset.0, length, times)
+            reference_range(names, header, host_offset.0, length, times)
         }
         L2Mapping::Backing { .. } => Ok(()),
     }
@@ -224,30 +224,30 @@ fn name_data(
         mapped: times,
         copied: if copied { times } else { 0 },
     };
-    name_cluster(names, cluster.0, times)
+    reference_cluster(names, cluster.0, times)
 }
 
 /// Enters what the words of an L2 table name, so often.
-fn name_words(
+fn reference_entries(
     names: &mut Tallies,
     header: &Header,
     table: &StoredL2Table,
     times: u64,
 ) -> Result<(), CheckFault>
     requires layout { table.now.layout ≡ layout_of header.now.fields }
-    requires whole { length table.now.words ≡ words_of_cluster header.now.fields }
-    ensures ok { OnOk result (AddsWords header.now.fields times names.old names.new table.now.words) }
+    requires whole { length table.now.raw_entries ≡ entries_of_cluster header.now.fields }
+    ensures ok { OnOk result (AddsRawEntries header.now.fields times names.old names.new table.now.raw_entries) }
     ensures err { IsOkUnless result CheckFault.Memory }
 {
     for index in 0..table.entries() {
         let mapping = table.get_mapping(GuestCluster(index as u64));
-        name_mapping(names, header, mapping, times)?;
+        reference_mapping(names, header, mapping, times)?;
     }
     Ok(())
 }
 
 /// Enters what the L2 table at a place names, so often. Past the file's end it names nothing.
-fn name_table<S: Storage>(
+fn reference_table<S: Storage>(
     alloc: Global,
     image: &mut S,
     header: &Header,
@@ -255,12 +255,12 @@ fn name_table<S: Storage>(
     times: u64,
     names: &mut Tallies,
 ) -> Result<(), CheckFault>
-    requires place { IsTrue (is_place header.now.fields.cluster_bits place) }
+    requires place { IsTrue (is_cluster_offset header.now.fields.cluster_bits place) }
     ensures ok { OnOk result (AddsTable (file (S.state image.old)) header.now.fields times names.old names.new place) }
     ensures sound { OnOk result (IsTrue (l2_table_sound (file (S.state image.old)) header.now.fields place)) }
     ensures err { IfErr result (Found (S.state image.old) (S.state image.new)
         (IsDamagedTable (file (S.state image.old)) header.now.fields place)) }
-    ensures kept { Kept (S.state image.old) (S.state image.new) }
+    ensures unchanged_but_faults { UnchangedButFaults (S.state image.old) (S.state image.new) }
     ensures faults { OnOk result ((S.state image.new).faults ≡ (S.state image.old).faults) }
 {
     if image.size() <= place {
@@ -268,7 +268,7 @@ fn name_table<S: Storage>(
     }
     let cluster = HostOffset(place).cluster(header.cluster_bits());
     match StoredL2Table::load(alloc, image, header, cluster) {
-        Ok(table) => name_words(names, header, &table, times),
+        Ok(table) => reference_entries(names, header, &table, times),
         Err(fault) => Err(load_fault(fault, CheckFault::Table)),
     }
 }
@@ -286,7 +286,7 @@ pub fn name_contents<S: Storage>(
     ensures sound { OnOk result (All (λ place. IsTrue (l2_table_sound (file (S.state image.old)) header.now.fields place)) places.items) }
     ensures err { IfErr result (Found (S.state image.old) (S.state image.new)
         (IsOneDamaged (file (S.state image.old)) header.now.fields places.items)) }
-    ensures kept { Kept (S.state image.old) (S.state image.new) }
+    ensures unchanged_but_faults { UnchangedButFaults (S.state image.old) (S.state image.new) }
     ensures faults { OnOk result ((S.state image.new).faults ≡ (S.state image.old).faults) }
 {
     places.sort_unstable();
@@ -294,7 +294,7 @@ pub fn name_contents<S: Storage>(
     for i in 0..places.len() {
         times += 1;
         if i + 1 == places.len() || places[i + 1] != places[i] {
-            name_table(alloc, image, header, places[i], times, names)?;
+            reference_table(alloc, image, header, places[i], times, names)?;
             times = 0;
         }
     }

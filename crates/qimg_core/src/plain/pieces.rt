@@ -1,11 +1,11 @@
 // Reads of ranges of an image: inside one guest cluster, inside what one L2 table maps, and of any. A place is an offset: of the
 // guest's disk, or of the file.
 ghost use Rattle.std.specs.Prelude.{◌≡◌, ℕ, ◌+◌, ◌*◌, ◌/◌, ◌%◌, ◌<◌, ◌≤◌, ◌^◌, length, slice_index, Ok, false, IsTrue, IsFalse, OnOk, IfErr};
-ghost use Rattle.imago_storage.specs.Calls.{CountsFaults, Kept, Reads};
+ghost use Rattle.imago_storage.specs.Calls.{CountsFaults, UnchangedButFaults, Reads};
 ghost use Rattle.imago_storage.specs.Disk.{Shows};
 ghost use Rattle.qcow2_types.specs.Header.{header_of, has_external_data};
 ghost use Rattle.qcow2_types.specs.Entries.{l1_table_sound, l2_entries};
-ghost use Rattle.qcow2_metadata.specs.MappingView.{mapping_seen, IsNamed};
+ghost use Rattle.qcow2_metadata.specs.MappingView.{mapping_seen, IsHostAddressable};
 ghost use Rattle.qcow2_metadata.specs.Loading.{file};
 ghost use Rattle.qimg_core.specs.Plain.{NamesTables, NotShown, mapped_value, table_value, image_value};
 
@@ -19,7 +19,7 @@ use std::alloc::Global;
 fn read_at<S: Storage>(image: &mut S, alloc: Global, buf: &mut [u8], at: u64) -> Result<(), Fault>
     requires { at + length buf.old ≤ 2 ^ 63 }
     ensures read { OnOk result (Reads (S.state image.old).bytes at buf.new) }
-    ensures kept { Kept (S.state image.old) (S.state image.new) }
+    ensures unchanged_but_faults { UnchangedButFaults (S.state image.old) (S.state image.new) }
     ensures faults { CountsFaults (S.state image.old).faults (S.state image.new).faults result }
 {
     image.read(alloc, buf, at)
@@ -35,13 +35,13 @@ fn read_mapping<S: Storage>(
     at: u64,
 ) -> Result<(), Fault>
     requires bits { (9 ≤ cluster_bits) × (cluster_bits ≤ 21) }
-    requires named { IsNamed cluster_bits mapping }
-    requires some { 0 < length buf.old }
+    requires named { IsHostAddressable cluster_bits mapping }
+    requires nonempty { 0 < length buf.old }
     requires one_cluster { at % 2 ^ cluster_bits + length buf.old ≤ 2 ^ cluster_bits }
     ensures ok { OnOk result (Shows (mapped_value (file (S.state image.old)) cluster_bits (mapping_seen mapping)) at buf.new) }
     ensures err { IfErr result (NotShown (mapped_value (file (S.state image.old)) cluster_bits (mapping_seen mapping)) (S.state image.old)
         (S.state image.new) at (length buf.old)) }
-    ensures kept { Kept (S.state image.old) (S.state image.new) }
+    ensures unchanged_but_faults { UnchangedButFaults (S.state image.old) (S.state image.new) }
     ensures faults { OnOk result ((S.state image.new).faults ≡ (S.state image.old).faults) }
 {
     match mapping {
@@ -60,9 +60,9 @@ fn read_mapping<S: Storage>(
 /// How many of the bytes left lie in the guest cluster of a place.
 fn in_cluster(at: u64, left: usize, cluster_bits: u32) -> usize
     requires bits { (9 ≤ cluster_bits) × (cluster_bits ≤ 21) }
-    requires some { 0 < left }
+    requires nonempty { 0 < left }
     ensures one_cluster { at % 2 ^ cluster_bits + result ≤ 2 ^ cluster_bits }
-    ensures some { 0 < result }
+    ensures nonempty { 0 < result }
     ensures most { result ≤ left }
     ensures whole { result < left → at % 2 ^ cluster_bits + result ≡ 2 ^ cluster_bits }
 {
@@ -72,9 +72,9 @@ fn in_cluster(at: u64, left: usize, cluster_bits: u32) -> usize
 /// How many of the bytes left are mapped by the L2 table of a place.
 fn in_table(at: u64, left: usize, cluster_bits: u32) -> usize
     requires bits { (9 ≤ cluster_bits) × (cluster_bits ≤ 21) }
-    requires some { 0 < left }
+    requires nonempty { 0 < left }
     ensures one_table { let mapped = l2_entries cluster_bits * 2 ^ cluster_bits in at % mapped + result ≤ mapped }
-    ensures some { 0 < result }
+    ensures nonempty { 0 < result }
     ensures most { result ≤ left }
     ensures whole { let mapped = l2_entries cluster_bits * 2 ^ cluster_bits in result < left → at % mapped + result ≡ mapped }
 {
@@ -95,7 +95,7 @@ fn read_clusters<S: Storage>(
     ensures ok { OnOk result (Shows (table_value (file (S.state image.old)) table.now) at buf.new) }
     ensures err { IfErr result (NotShown (table_value (file (S.state image.old)) table.now) (S.state image.old) (S.state image.new) at
         (length buf.old)) }
-    ensures kept { Kept (S.state image.old) (S.state image.new) }
+    ensures unchanged_but_faults { UnchangedButFaults (S.state image.old) (S.state image.new) }
     ensures faults { OnOk result ((S.state image.new).faults ≡ (S.state image.old).faults) }
 {
     let bits = table.cluster_bits();
@@ -121,17 +121,17 @@ fn read_table<S: Storage>(
     at: u64,
 ) -> Result<(), Fault>
     requires loads { header_of false (file (S.state image.old)) ≡ Ok header.now }
-    requires words { NamesTables (file (S.state image.old)) header.now.fields l1.now.words }
+    requires raw_entries { NamesTables (file (S.state image.old)) header.now.fields l1.now.raw_entries }
     requires sound { IsTrue (l1_table_sound (file (S.state image.old)) header.now.fields) }
     requires data_inside { IsFalse (has_external_data header.now.fields) }
-    requires some { 0 < length buf.old }
+    requires nonempty { 0 < length buf.old }
     requires fits { at + length buf.old < 2 ^ 64 }
     requires one_table { let mapped = l2_entries header.now.fields.cluster_bits * 2 ^ header.now.fields.cluster_bits in at % mapped + length
         buf.old ≤ mapped }
     ensures ok { OnOk result (Shows (image_value (file (S.state image.old)) header.now.fields) at buf.new) }
     ensures err { IfErr result (NotShown (image_value (file (S.state image.old)) header.now.fields) (S.state image.old)
         (S.state image.new) at (length buf.old)) }
-    ensures kept { Kept (S.state image.old) (S.state image.new) }
+    ensures unchanged_but_faults { UnchangedButFaults (S.state image.old) (S.state image.new) }
     ensures faults { OnOk result ((S.state image.new).faults ≡ (S.state image.old).faults) }
 {
     let bits = header.cluster_bits();
@@ -154,14 +154,14 @@ pub fn read_tables<S: Storage>(
     at: u64,
 ) -> Result<(), Fault>
     requires loads { header_of false (file (S.state image.old)) ≡ Ok header.now }
-    requires words { NamesTables (file (S.state image.old)) header.now.fields l1.now.words }
+    requires raw_entries { NamesTables (file (S.state image.old)) header.now.fields l1.now.raw_entries }
     requires sound { IsTrue (l1_table_sound (file (S.state image.old)) header.now.fields) }
     requires data_inside { IsFalse (has_external_data header.now.fields) }
     requires fits { at + length buf.old < 2 ^ 64 }
     ensures ok { OnOk result (Shows (image_value (file (S.state image.old)) header.now.fields) at buf.new) }
     ensures err { IfErr result (NotShown (image_value (file (S.state image.old)) header.now.fields) (S.state image.old)
         (S.state image.new) at (length buf.old)) }
-    ensures kept { Kept (S.state image.old) (S.state image.new) }
+    ensures unchanged_but_faults { UnchangedButFaults (S.state image.old) (S.state image.new) }
     ensures faults { OnOk result ((S.state image.new).faults ≡ (S.state image.old).faults) }
 {
     let bits = header.cluster_bits();

@@ -12,4 +12,4 @@ pub returns-in_err-copy-clause-err : goal.returns-in_err-copy-clause-err
 returns-in_err-copy-clause-err g c = err-logged _ c.from_residual.ensures.1
 
 pub returns-in-Ok-clause-same : goal.returns-in-Ok-clause-same
-returns-in-Ok-clause-same g c = kept_same _ _ c.in-Ok.ensures.kept c.in-Ok.ensures.faults
+returns-in-Ok-clause-same g c = kept_same _ _ c.in-Ok.ensures.unchanged_but_faults c.in-Ok.ensures.faults

@@ -1,7 +1,7 @@
 -- Each piece is written behind those before.
 use Rattle.std.proofs.Common.{arith, ◌≡◌, ℕ, ◌+◌, ◌≤◌, length, take, replicate, ap, sym, ◌∙◌, subst}
-use Rattle.imago_storage.specs.State.{IsWhole, unit_of}
-use Rattle.imago_storage.specs.Through.{Through, OneRequest, NoRequest}
+use Rattle.imago_storage.specs.State.{IsUnitRange, unit_of}
+use Rattle.imago_storage.specs.Through.{PaddedWrite, OneRequest, NoRequest}
 use Rattle.imago_storage.proofs.ZeroSteps.{piece-units, piece-through, piece-not}
 use Rattle.imago_storage.proofs.Rounding.{sum_of_whole}
 use Rattle.imago_storage.proofs.Parts.{passed}
@@ -10,7 +10,7 @@ use Rattle.imago_storage.proofs.zeroing.write_pieces.Goals as goal
 pub write_whole-requires-clause-whole : goal.write_whole-requires-clause-whole
 write_whole-requires-clause-whole g c some =
     let unit : unit_of (g.S.Storage.state c.loop-done.storage).shape ≡ c.args.unit = ap unit_of c.loop-done.invariant.2.shape ∙ sym c.requires.unit in
-    subst (λ u. IsWhole u (c.args.offset + c.loop-done.done) (length (take c.min-count.result c.args.zeroes.now))) (sym unit)
+    subst (λ u. IsUnitRange u (c.args.offset + c.loop-done.done) (length (take c.min-count.result c.args.zeroes.now))) (sym unit)
     (piece-units c.args.unit c.larger_alignment-piece.result c.args.offset c.args.n c.loop-done.done c.min-count.result c.args.zeroes.now c.requires.alignment.positive c.larger_alignment-piece.ensures.alignment.positive c.larger_alignment-piece.ensures.first c.requires.whole c.loop-done.invariant.1 c.loop-done.invariant.0
     c.min-count.ensures (omega (arith, c.min-count.ensures, c.larger_alignment-piece.ensures.value, c.requires.room))).1
 
@@ -38,4 +38,4 @@ loop-done-preserved g c =
 pub returns-clause-ok : goal.returns-clause-ok
 returns-clause-ok g c =
     let all : c.loop-done.done ≡ c.args.n = omega (arith, c.loop-done.invariant.0, c.loop-done-test.false) in
-    subst (λ n. Through c.args.unit (g.S.Storage.state c.args.storage.now) (g.S.Storage.state c.loop-done.storage) c.args.offset (replicate {A = ℕ} n 0)) all c.loop-done.invariant.2
+    subst (λ n. PaddedWrite c.args.unit (g.S.Storage.state c.args.storage.now) (g.S.Storage.state c.loop-done.storage) c.args.offset (replicate {A = ℕ} n 0)) all c.loop-done.invariant.2

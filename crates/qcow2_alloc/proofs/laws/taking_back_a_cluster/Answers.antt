@@ -1,4 +1,4 @@
-use Rattle.qcow2_alloc.proofs.Quiet.QuietCounters.{give-back-quiet}
+use Rattle.qcow2_alloc.proofs.GuestView.QuietCounters.{give-back-quiet}
 use Rattle.qcow2_alloc.proofs.laws.taking_back_a_cluster.Goals as goal
 
 pub returns : goal.returns

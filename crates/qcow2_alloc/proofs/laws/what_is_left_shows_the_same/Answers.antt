@@ -1,4 +1,4 @@
-use Rattle.qcow2_alloc.proofs.Quiet.ShownDisks.{left-shows, file-shows}
+use Rattle.qcow2_alloc.proofs.GuestView.ShownDisks.{left-shows, file-shows}
 use Rattle.qcow2_alloc.proofs.laws.what_is_left_shows_the_same.Goals as goal
 
 pub returns : goal.returns

@@ -2,4 +2,4 @@ use Rattle.qcow2_alloc.proofs.Memory.FreeClusterWrites.{block-quietly, block-cou
 use Rattle.qcow2_alloc.proofs.laws.writing_a_new_block.Goals as goal
 
 pub returns : goal.returns
-returns c = record { quietly = block-quietly; counts = block-counts }
+returns c = record { preserves_guest = block-quietly; counts = block-counts }

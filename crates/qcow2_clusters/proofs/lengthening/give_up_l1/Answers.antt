@@ -14,6 +14,6 @@ returns-in-Some c =
     let some = c.if-entries-gt0.true in
     let long = c.entries.ensures.value in
     let entry = c.new.ensures ∙ c.metadata-entry.ensures in
-    let run = run-of-some l1.layout.cluster_bits c.in-Some.cluster c.cluster_count-count.result (length l1.words) l1.cluster (sym c.get_cluster.ensures ∙ c.in-Some.is)
+    let run = run-of-some l1.layout.cluster_bits c.in-Some.cluster c.cluster_count-count.result (length l1.raw_entries) l1.cluster (sym c.get_cluster.ensures ∙ c.in-Some.is)
     (omega (arith, some, long)) c.cluster_count-count.ensures in
     c.give_back.ensures ∙ ap (list_with list.entries list.held) (ap (λ (e : FreeEntry). e ∷ []) entry ∙ sym run)

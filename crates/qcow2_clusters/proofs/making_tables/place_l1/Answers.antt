@@ -8,12 +8,12 @@ use Rattle.qcow2_clusters.proofs.making_tables.place_l1.Goals as goal
 
 -- the table with its cluster there
 abbrev put_at : TableValue → ℕ → TableValue
-put_at l1 cluster = record { layout = l1.layout; words = l1.words; cluster = Some cluster; modified = true }
+put_at l1 cluster = record { layout = l1.layout; raw_entries = l1.raw_entries; cluster = Some cluster; modified = true }
 
 placed : (h : Fields) (l1 : TableValue) (cluster : ℕ) → l1.layout.cluster_bits ≡ h.cluster_bits → h.l1_offset % cluster_size h ≡ 0
     → cluster ≡ h.l1_offset / cluster_size h → h.l1_offset ≤ max_offset → PlacesL1 h l1 (Ok tt) (put_at l1 cluster)
 placed h l1 cluster bits whole is near = record {
-  same = record { layout = refl; words = refl };
+  same = record { layout = refl; raw_entries = refl };
   bits = bits;
   placed = subst (λ p. p ≤ max_offset) (sym begin) near;
   place = begin;

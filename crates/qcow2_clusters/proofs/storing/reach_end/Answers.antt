@@ -48,7 +48,7 @@ returns g c =
     let zeroes : length (replicate {A = ℕ} (c.end.inside.0 - c.max-from.result) 0) ≡ c.end.inside.0 - c.max-from.result =
     length-replicate {A = ℕ} (c.end.inside.0 - c.max-from.result) 0 in
     let put = put-below w.result before after from (replicate (c.end.inside.0 - c.max-from.result) 0) w.ensures.unit
-    (omega (arith, low, end, zeroes, short, long, last, most-from)) w.ensures.ok w.ensures.err w.ensures.stops w.ensures.shape w.ensures.later in
+    (omega (arith, low, end, zeroes, short, long, last, most-from)) w.ensures.ok w.ensures.err w.ensures.crash_images w.ensures.shape w.ensures.counts_not_fallen in
     zeroes-reach g.S.Storage.state x n c.args.file.now w.result _ from count (omega (arith, first, whole, end, size, last, most-from))
     (omega (arith, long, most-from)) (omega (arith, short, last, most-from, some)) (omega (arith, end, short, last, most-from)) refl
     w.ensures.unit w.ensures.ok put

@@ -4,7 +4,7 @@ use Rattle.std.proofs.Math.Pow.{pow_mono}
 use Rattle.std.proofs.lemmas.Nat.{pow_pos}
 use Rattle.imago_storage.proofs.Once.{not-begun-below, put-below}
 use Rattle.imago_storage.proofs.Trying.{untold}
-use Rattle.imago_storage.specs.Through.{Put}
+use Rattle.imago_storage.specs.Through.{WriteOutcome}
 use Rattle.imago_storage.specs.declared.padding.WriteFault.TheVariants.{Before, Within}
 use Rattle.qcow2_types.specs.Header.{cluster_size}
 use Rattle.qcow2_clusters.proofs.FileEnds.{put-reaches}
@@ -22,8 +22,8 @@ returns-in-Ok-clause-put g c =
     let whole = c.requires.whole in
     let at : c.place.inside.0 ≡ c.args.cluster * cluster_size h = cc in
     let low : c.place.inside.0 + length c.args.content.now ≤ 2 ^ 63 = omega (arith, most, reach, whole, at) in
-    subst (λ (n : ℕ). Put before after n c.args.content.now done_so) at
-    (put-below done_so before after c.place.inside.0 c.args.content.now w.ensures.unit low (rw c.in-Ok.is at w.ensures.ok) tt w.ensures.stops w.ensures.shape w.ensures.later)
+    subst (λ (n : ℕ). WriteOutcome before after n c.args.content.now done_so) at
+    (put-below done_so before after c.place.inside.0 c.args.content.now w.ensures.unit low (rw c.in-Ok.is at w.ensures.ok) tt w.ensures.crash_images w.ensures.shape w.ensures.counts_not_fallen)
 
 pub returns-in-Ok-clause-reaches : goal.returns-in-Ok-clause-reaches
 returns-in-Ok-clause-reaches g c =
@@ -36,8 +36,8 @@ returns-in-Ok-clause-reaches g c =
     put-reaches done_so (g.S.Storage.state c.args.file.now.image) (g.S.Storage.state w.new.self) c.place.inside.0 c.args.content.now
     ((c.args.cluster + 1) * cluster_size h) (omega (arith, whole, some)) w.ensures.unit (omega (arith, parts, at, whole)) (rw c.in-Ok.is at w.ensures.ok)
 
-pub returns-in-Ok-clause-spares : goal.returns-in-Ok-clause-spares
-returns-in-Ok-clause-spares g c = λ not. absurd (cc not)
+pub returns-in-Ok-clause-untouched_unless_begun : goal.returns-in-Ok-clause-untouched_unless_begun
+returns-in-Ok-clause-untouched_unless_begun g c = λ not. absurd (cc not)
 
 pub returns-in-Err-Before-clause-put : goal.returns-in-Err-Before-clause-put
 returns-in-Err-Before-clause-put g c =
@@ -52,11 +52,11 @@ returns-in-Err-Before-clause-put g c =
     let whole = c.requires.whole in
     let at : c.place.inside.0 ≡ c.args.cluster * cluster_size h = cc in
     let low : c.place.inside.0 + length c.args.content.now ≤ 2 ^ 63 = omega (arith, most, reach, whole, at) in
-    subst (λ (n : ℕ). Put before after n c.args.content.now (refused_so fault)) at
-    (put-below (refused_so fault) before after c.place.inside.0 c.args.content.now w.ensures.unit low tt (untold before after c.place.inside.0 c.args.content.now (Before fault) refused) w.ensures.stops w.ensures.shape w.ensures.later)
+    subst (λ (n : ℕ). WriteOutcome before after n c.args.content.now (refused_so fault)) at
+    (put-below (refused_so fault) before after c.place.inside.0 c.args.content.now w.ensures.unit low tt (untold before after c.place.inside.0 c.args.content.now (Before fault) refused) w.ensures.crash_images w.ensures.shape w.ensures.counts_not_fallen)
 
-pub returns-in-Err-Before-clause-spares : goal.returns-in-Err-Before-clause-spares
-returns-in-Err-Before-clause-spares g c = λ not.
+pub returns-in-Err-Before-clause-untouched_unless_begun : goal.returns-in-Err-Before-clause-untouched_unless_begun
+returns-in-Err-Before-clause-untouched_unless_begun g c = λ not.
     let h = c.args.file.now.header.fields in
     let before = g.S.Storage.state c.args.file.now.image in
     let after = g.S.Storage.state c.try_write.new.self in
@@ -68,7 +68,7 @@ returns-in-Err-Before-clause-spares g c = λ not.
     let whole = c.requires.whole in
     let at : c.place.inside.0 ≡ c.args.cluster * cluster_size h = cc in
     let low : c.place.inside.0 + length c.args.content.now ≤ 2 ^ 63 = omega (arith, most, reach, whole, at) in
-    (not, tt, (not-begun-below before after c.place.inside.0 c.args.content.now fault w.ensures.unit low refused).kept)
+    (not, tt, (not-begun-below before after c.place.inside.0 c.args.content.now fault w.ensures.unit low refused).unchanged_but_faults)
 
 pub returns-in-Err-Within-clause-put : goal.returns-in-Err-Within-clause-put
 returns-in-Err-Within-clause-put g c =
@@ -83,8 +83,8 @@ returns-in-Err-Within-clause-put g c =
     let whole = c.requires.whole in
     let at : c.place.inside.0 ≡ c.args.cluster * cluster_size h = cc in
     let low : c.place.inside.0 + length c.args.content.now ≤ 2 ^ 63 = omega (arith, most, reach, whole, at) in
-    subst (λ (n : ℕ). Put before after n c.args.content.now (refused_so fault)) at
-    (put-below (refused_so fault) before after c.place.inside.0 c.args.content.now w.ensures.unit low tt (untold before after c.place.inside.0 c.args.content.now (Within fault) refused) w.ensures.stops w.ensures.shape w.ensures.later)
+    subst (λ (n : ℕ). WriteOutcome before after n c.args.content.now (refused_so fault)) at
+    (put-below (refused_so fault) before after c.place.inside.0 c.args.content.now w.ensures.unit low tt (untold before after c.place.inside.0 c.args.content.now (Within fault) refused) w.ensures.crash_images w.ensures.shape w.ensures.counts_not_fallen)
 
-pub returns-in-Err-Within-clause-spares : goal.returns-in-Err-Within-clause-spares
-returns-in-Err-Within-clause-spares g c = λ not. absurd (cc not)
+pub returns-in-Err-Within-clause-untouched_unless_begun : goal.returns-in-Err-Within-clause-untouched_unless_begun
+returns-in-Err-Within-clause-untouched_unless_begun g c = λ not. absurd (cc not)

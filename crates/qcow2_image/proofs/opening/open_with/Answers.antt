@@ -28,11 +28,11 @@ returns-clause-seen g c =
       size_is = let meant = opened-meant g.S.Storage before c.args.writable l2 rb d c.in_ok-tables.ensures.ok in sym (meant.exactly refl);
       meant = opened-meant g.S.Storage before c.args.writable l2 rb d c.in_ok-tables.ensures.ok;
       counted = counted-idle g.S.Storage d c.in_ok-tables.ensures.ok.seen.loads (idle-waits d.tables.space c.in_ok-tables.ensures.ok.space.idle) refl;
-      kept = opened-kept g.S.Storage before c.args.writable l2 rb d c.in_ok-tables.ensures.ok;
+      unchanged_but_faults = opened-kept g.S.Storage before c.args.writable l2 rb d c.in_ok-tables.ensures.ok;
       free = refl;
       usable = refl;
-      sees = record { seen = c.in_ok-tables.ensures.ok.seen; sure = inl (refl, c.in_ok-tables.ensures.ok.space.idle) };
-      still = opened-still g.S.Storage before c.args.writable l2 rb d c.in_ok-tables.ensures.ok;
-      lasting = tt;
-      safe = λ keeps sound. opened-safe g.S.Storage before c.args.writable l2 rb d c.in_ok-tables.ensures.ok refl refl keeps sound;
+      coherent = record { seen = c.in_ok-tables.ensures.ok.seen; sure = inl (refl, c.in_ok-tables.ensures.ok.space.idle) };
+      has_no_dirty_data = opened-still g.S.Storage before c.args.writable l2 rb d c.in_ok-tables.ensures.ok;
+      stays_stable = tt;
+      well_formed = λ keeps sound. opened-safe g.S.Storage before c.args.writable l2 rb d c.in_ok-tables.ensures.ok refl refl keeps sound;
     }

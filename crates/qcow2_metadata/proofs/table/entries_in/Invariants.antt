@@ -10,5 +10,5 @@ invariant-loop-chunk g l =
     let n = length l.bytes / 8 in
     record {
       long : length l.entries.items ≡ n;
-      decoded : AreDecoded g.E.TableEntry.kind (layout_of l.header.fields) (bytes_of l.bytes) n (g.E.TableEntry.words l.entries.items) (min (64 * l.chunk) n);
+      decoded : AreDecoded g.E.TableEntry.kind (layout_of l.header.fields) (bytes_of l.bytes) n (g.E.TableEntry.raw_entries l.entries.items) (min (64 * l.chunk) n);
     }

@@ -5,4 +5,4 @@ use Rattle.qcow2_metadata.proofs.table.longer_content.Given as goal
 
 -- The entries so far are the words so far, 0 past the end.
 abbrev pub invariant-loop-index : goal.invariant-loop-index
-invariant-loop-index g l = g.T.InternalEntry.TableEntry.words l.content.items ≡ map (λ i. slice_index (g.T.Table.value l.table).words i) (range_with_len 0 l.index)
+invariant-loop-index g l = g.T.InternalEntry.TableEntry.raw_entries l.content.items ≡ map (λ i. slice_index (g.T.Table.value l.table).raw_entries i) (range_with_len 0 l.index)

@@ -3,7 +3,7 @@ use Rattle.std.proofs.Common.{◌≡◌, ℕ, ◌<◌, zero, suc, refl, arith}
 use Rattle.imago_access.specs.Files.{files_of}
 use Rattle.imago_access.proofs.Answers.{handed_on}
 use Rattle.imago_access.proofs.FilePairs.{kept_all_same}
-use Rattle.qimg_calls.specs.Held.{holding}
+use Rattle.qimg_calls.specs.Held.{chain_with_mapping}
 use Rattle.qimg_calls.specs.Making.{MadeAll}
 use Rattle.qimg_calls.proofs.Driven.{driven-made, going-made-all, none-kept}
 use Rattle.qimg_calls.proofs.Lists.{as-many}
@@ -18,40 +18,40 @@ pub returns-in-Err-clause-cut_short : goal.returns-in-Err-clause-cut_short
 returns-in-Err-clause-cut_short g c =
     let old = c.args.chain.now in
     let m = g.met.D.FormatDriverInstance in
-    let made : MadeAll g.D.Seen [] [] old old = (holding old None, refl, refl) in
+    let made : MadeAll g.D.DriverModel [] [] old old = (chain_with_mapping old None, refl, refl) in
     record {
       count = 0;
       fewer = some-call (length c.args.calls.now) (λ none. absurd (cc (c.in-Err.ensures.succeeds none)));
       answers = [];
       made = made;
-      driven = λ since ready stands. driven-made g.D.Seen m.safe_sees m.safe_sound [] [] old old since made c.requires.free ready stands;
+      driven = λ since ready stands. driven-made g.D.DriverModel m.well_formed_is_coherent m.well_formed_is_sound [] [] old old since made c.requires.free ready stands;
     }
 
 pub returns-in-Err-clause-below : goal.returns-in-Err-clause-below
-returns-in-Err-clause-below g c still = (kept_all_same (files_of g.D.Seen c.args.chain.now.1), still)
+returns-in-Err-clause-below g c has_no_dirty_data = (kept_all_same (files_of g.D.DriverModel c.args.chain.now.1), has_no_dirty_data)
 
 pub returns-clause-made : goal.returns-clause-made
-returns-clause-made g c = let r = c.make_all-outcome in (holding r.new.chain r.result.1, rw (c.in_ok-outcome.was) at r.ensures.ok, c.give_up.ensures)
+returns-clause-made g c = let r = c.make_all-outcome in (chain_with_mapping r.new.chain r.result.1, rw (c.in_ok-outcome.was) at r.ensures.ok, c.give_up.ensures)
 
 pub returns-clause-headline : goal.returns-clause-headline
 returns-clause-headline g c since ready stands = let m = g.met.D.FormatDriverInstance in
-    driven-made g.D.Seen m.safe_sees m.safe_sound c.args.calls.now c.make_all-outcome.new.answers.items c.args.chain.now c.give_up.new.chain since (returns-clause-made g c) c.requires.free ready stands
+    driven-made g.D.DriverModel m.well_formed_is_coherent m.well_formed_is_sound c.args.calls.now c.make_all-outcome.new.answers.items c.args.chain.now c.give_up.new.chain since (returns-clause-made g c) c.requires.free ready stands
 
 pub returns-clause-free : goal.returns-clause-free
-returns-clause-free g c = none-kept g.D.Seen c.args.chain.now c.give_up.new.chain c.requires.free
-    (going-made-all g.D.Seen c.args.calls.now c.make_all-outcome.new.answers.items c.args.chain.now c.give_up.new.chain (returns-clause-made g c))
+returns-clause-free g c = none-kept g.D.DriverModel c.args.chain.now c.give_up.new.chain c.requires.free
+    (going-made-all g.D.DriverModel c.args.calls.now c.make_all-outcome.new.answers.items c.args.chain.now c.give_up.new.chain (returns-clause-made g c))
 
 pub returns-clause-fixed : goal.returns-clause-fixed
 returns-clause-fixed g c =
-    (going-made-all g.D.Seen c.args.calls.now c.make_all-outcome.new.answers.items c.args.chain.now c.give_up.new.chain (returns-clause-made g c)).fixed
+    (going-made-all g.D.DriverModel c.args.calls.now c.make_all-outcome.new.answers.items c.args.chain.now c.give_up.new.chain (returns-clause-made g c)).fixed
 
 pub returns-clause-below : goal.returns-clause-below
 returns-clause-below g c =
-    (going-made-all g.D.Seen c.args.calls.now c.make_all-outcome.new.answers.items c.args.chain.now c.give_up.new.chain (returns-clause-made g c)).under
+    (going-made-all g.D.DriverModel c.args.calls.now c.make_all-outcome.new.answers.items c.args.chain.now c.give_up.new.chain (returns-clause-made g c)).layers_below
 
 pub returns-clause-each : goal.returns-clause-each
 returns-clause-each g c = let r = c.make_all-outcome in
-    as-many g.D.Seen c.args.calls.now r.new.answers.items (holding c.args.chain.now None) (holding r.new.chain r.result.1) (rw (c.in_ok-outcome.was) at r.ensures.ok)
+    as-many g.D.DriverModel c.args.calls.now r.new.answers.items (chain_with_mapping c.args.chain.now None) (chain_with_mapping r.new.chain r.result.1) (rw (c.in_ok-outcome.was) at r.ensures.ok)
 
 pub returns-in_err-outcome-clause-cut_short : goal.returns-in_err-outcome-clause-cut_short
 returns-in_err-outcome-clause-cut_short g c = rw (handed_on _ _ c.from_residual.ensures.1) (
@@ -60,26 +60,26 @@ returns-in_err-outcome-clause-cut_short g c = rw (handed_on _ _ c.from_residual.
     let old = c.args.chain.now in
     let new = c.give_up.new.chain in
     let n = length r.new.answers.items in
-    let made : MadeAll g.D.Seen (take n c.args.calls.now) r.new.answers.items old new = (holding r.new.chain r.result.1, rw (c.in_err-outcome.was) at r.ensures.err, c.give_up.ensures) in
+    let made : MadeAll g.D.DriverModel (take n c.args.calls.now) r.new.answers.items old new = (chain_with_mapping r.new.chain r.result.1, rw (c.in_err-outcome.was) at r.ensures.err, c.give_up.ensures) in
     record {
       count = n;
       fewer = rw (c.in_err-outcome.was) at r.ensures.fewer;
       answers = r.new.answers.items;
       made = made;
-      driven = λ since ready stands. driven-made g.D.Seen m.safe_sees m.safe_sound (take n c.args.calls.now) r.new.answers.items old new since made c.requires.free ready stands;
+      driven = λ since ready stands. driven-made g.D.DriverModel m.well_formed_is_coherent m.well_formed_is_sound (take n c.args.calls.now) r.new.answers.items old new since made c.requires.free ready stands;
     })
 
 pub returns-in_err-outcome-clause-free : goal.returns-in_err-outcome-clause-free
 returns-in_err-outcome-clause-free g c = let r = c.make_all-outcome in
-    none-kept g.D.Seen c.args.chain.now c.give_up.new.chain c.requires.free (going-made-all g.D.Seen (take (length r.new.answers.items) c.args.calls.now) r.new.answers.items c.args.chain.now c.give_up.new.chain
-    (holding r.new.chain r.result.1, rw (c.in_err-outcome.was) at r.ensures.err, c.give_up.ensures))
+    none-kept g.D.DriverModel c.args.chain.now c.give_up.new.chain c.requires.free (going-made-all g.D.DriverModel (take (length r.new.answers.items) c.args.calls.now) r.new.answers.items c.args.chain.now c.give_up.new.chain
+    (chain_with_mapping r.new.chain r.result.1, rw (c.in_err-outcome.was) at r.ensures.err, c.give_up.ensures))
 
 pub returns-in_err-outcome-clause-fixed : goal.returns-in_err-outcome-clause-fixed
 returns-in_err-outcome-clause-fixed g c = let r = c.make_all-outcome in
-    (going-made-all g.D.Seen (take (length r.new.answers.items) c.args.calls.now) r.new.answers.items c.args.chain.now c.give_up.new.chain
-    (holding r.new.chain r.result.1, rw (c.in_err-outcome.was) at r.ensures.err, c.give_up.ensures)).fixed
+    (going-made-all g.D.DriverModel (take (length r.new.answers.items) c.args.calls.now) r.new.answers.items c.args.chain.now c.give_up.new.chain
+    (chain_with_mapping r.new.chain r.result.1, rw (c.in_err-outcome.was) at r.ensures.err, c.give_up.ensures)).fixed
 
 pub returns-in_err-outcome-clause-below : goal.returns-in_err-outcome-clause-below
 returns-in_err-outcome-clause-below g c = let r = c.make_all-outcome in
-    (going-made-all g.D.Seen (take (length r.new.answers.items) c.args.calls.now) r.new.answers.items c.args.chain.now c.give_up.new.chain
-    (holding r.new.chain r.result.1, rw (c.in_err-outcome.was) at r.ensures.err, c.give_up.ensures)).under
+    (going-made-all g.D.DriverModel (take (length r.new.answers.items) c.args.calls.now) r.new.answers.items c.args.chain.now c.give_up.new.chain
+    (chain_with_mapping r.new.chain r.result.1, rw (c.in_err-outcome.was) at r.ensures.err, c.give_up.ensures)).layers_below

@@ -1,7 +1,7 @@
 use Rattle.std.proofs.Common.{◌≡◌, ℕ, suc, ◌≤◌, ◌<◌, ◌+◌, ◌++◌, ◌∷◌, ◌∙◌, [], arith, length, sym, ap}
 use Rattle.std.specs.Prelude.{None, take, vec_capacity}
 use Rattle.std.proofs.Math.Seq.{take-suc}
-use Rattle.qimg_calls.specs.Held.{holding}
+use Rattle.qimg_calls.specs.Held.{chain_with_mapping}
 use Rattle.qimg_calls.specs.Making.{Answers}
 use Rattle.qimg_calls.proofs.Lists.{all-then, going-one}
 use Rattle.qimg_calls.proofs.driving.make_all.Goals as goal
@@ -14,13 +14,13 @@ le-both a b c first second = omega (arith, first, second)
 
 pub loop-call-preserved : goal.loop-call-preserved
 loop-call-preserved g c =
-    let d = g.D.Seen in
+    let d = g.D.DriverModel in
     let i = c.loop-call.call-index in
     let calls = c.args.calls.now in
     let told = c.in-Ok.told in
-    let old = holding c.args.chain.now None in
-    let mid = holding c.loop-call.chain c.loop-call.kept in
-    let new = holding c.answer-outcome.new.chain c.answer-outcome.result.1 in
+    let old = chain_with_mapping c.args.chain.now None in
+    let mid = chain_with_mapping c.loop-call.chain c.loop-call.kept in
+    let new = chain_with_mapping c.answer-outcome.new.chain c.answer-outcome.result.1 in
     let one : Answers d c.call-item.result told mid new = (rw (c.in-Ok.is) at c.answer-outcome.ensures.answered) in
     let below : i < length calls = omega (arith, c.loop-call-test.true) in
     let more : take (i + 1) calls ≡ take i calls ++ (c.call-item.result ∷ []) =

@@ -8,7 +8,7 @@ invariant-loop-done g l = record {
   inside : l.done ≤ l.size;
   more : (l.done ≡ 0) ⊎ (l.done < l.size);
   start : (index : ℕ) × (l.done ≡ index * 65536);
-  copies : Copies g.S.Seen g.T.Seen 0 l.done (Ok tt) (l.fn.source, l.fn.target) (l.source, l.target);
+  copies : Copies g.S.DriverModel g.T.DriverModel 0 l.done (Ok tt) (l.fn.source, l.fn.target) (l.source, l.target);
 }
 
 abbrev pub decreases-loop-done : goal.decreases-loop-done

@@ -9,7 +9,7 @@ pub layers-preserved : goal.layers-preserved
 layers-preserved c =
     let count : c.len.result ≡ length c.in_ok-layer.layer.extras.items = omega (arith, c.len.ensures, c.in_ok-layer.layer.extras.ok) in
     record {
-      inside = omega (arith, c.in_ok-layer.ensures.few);
+      inside = omega (arith, c.in_ok-layer.ensures.within_words);
       taken = layer-more _ c.args.words.now c.layers.at c.len.result c.layers.layers.items c.push.new.self.items c.in_ok-layer.layer _ c.layers.invariant.taken c.in_ok-layer.ensures.ok count c.in_ok-push.ensures.items;
     }
 

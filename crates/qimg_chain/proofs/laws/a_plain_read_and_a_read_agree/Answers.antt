@@ -7,4 +7,4 @@ returns-clause-agree g c files others old new offset n plain buf same means read
     both _ _ offset plain buf (rw (same) means) reads.1 read.shows (reads.0 ∙ sym long)
 
 pub returns-clause-again : goal.returns-clause-again
-returns-clause-again g c files old new offset n buf means reads = disk_stays g.D.Seen.layer _ old new means reads.2
+returns-clause-again g c files old new offset n buf means reads = disk_stays g.D.DriverModel.layer _ old new means reads.2

@@ -14,7 +14,7 @@ returns-in-Ok-clause-replied g c text taken =
           line = c.in-Ok.line;
           is_line = subst (λ t. IfOk t (IsLine text)) c.in-Ok.is taken.0;
           tells = answered.tells;
-          keeps = c.answer_line.ensures.kept;
+          keeps = c.answer_line.ensures.keeps_saved;
         });
       },
     )
@@ -24,6 +24,6 @@ returns-in-Err-clause-replied g c text taken = (
   unmade,
   record {
     made = refl;
-    runs = inr (record { fault = c.in-Err.fault; why = subst (λ t. IfErr t (NotLine text)) c.in-Err.is taken.1; none = refl; answered = refl; kept = refl });
+    runs = inr (record { fault = c.in-Err.fault; why = subst (λ t. IfErr t (NotLine text)) c.in-Err.is taken.1; none = refl; answered = refl; saved_unchanged = refl });
   },
 )

@@ -6,11 +6,11 @@ use Rattle.qimg_chain.proofs.run.run_lines.Given as goal
 
 -- Nothing is prepared between two lines; each line so far is read, made and answered.
 abbrev pub invariant-loop : goal.invariant-loop
-invariant-loop g l = IsFree (g.D.Seen.layer l.chain.0)
-    × RanSoFar g.D.Seen g.D.NamesFiles.names (record {
+invariant-loop g l = IsFree (g.D.DriverModel.layer l.chain.0)
+    × RanSoFar g.D.DriverModel g.D.NamesFiles.names (record {
       input = g.R.Read.remaining l.fn.reader;
       left = take_remaining g.R.Read.remaining l.input;
       room = l.room;
       before = g.W.Write.contents l.fn.writer;
       after = g.W.Write.contents l.writer;
-    }) l.counter l.fn.chain (standing l.chain (kept_of (g.D.Seen.image l.chain.0).bytes l.saved))
+    }) l.counter l.fn.chain (standing l.chain (kept_of (g.D.DriverModel.image l.chain.0).bytes l.saved))

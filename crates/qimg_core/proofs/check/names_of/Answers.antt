@@ -11,16 +11,16 @@ use Rattle.qimg_core.proofs.Contents.Image.{given-tells}
 use Rattle.qimg_core.proofs.Names.Clusters.{adds-since}
 use Rattle.qimg_core.proofs.check.names_of.Goals as goal
 
-pub name_structure-requires-clause-l1 : goal.name_structure-requires-clause-l1
-name_structure-requires-clause-l1 g c =
+pub reference_structure-requires-clause-l1 : goal.reference_structure-requires-clause-l1
+reference_structure-requires-clause-l1 g c =
     omega (arith, c.requires.limited.l1_entries, place-near c.args.header.now.fields.cluster_bits c.args.header.now.fields.l1_offset c.requires.limited.l1_place)
 
-pub name_structure-requires-clause-refcounts : goal.name_structure-requires-clause-refcounts
-name_structure-requires-clause-refcounts g c =
+pub reference_structure-requires-clause-refcounts : goal.reference_structure-requires-clause-refcounts
+reference_structure-requires-clause-refcounts g c =
     omega (arith, c.requires.limited.refcount_entries, table-bytes c.args.header.now.fields c.requires.shaped, place-near c.args.header.now.fields.cluster_bits c.args.header.now.fields.refcount_table_offset c.requires.limited.refcount_place)
 
-pub name_structure-requires-clause-tables : goal.name_structure-requires-clause-tables
-name_structure-requires-clause-tables g c = places-bounded _ _ c.args.header.now.fields.cluster_bits c.requires.places.in_order (tables-placed (file (g.S.Storage.state c.args.image.now)) c.args.header.now.fields c.requires.places.l1_sound)
+pub reference_structure-requires-clause-tables : goal.reference_structure-requires-clause-tables
+reference_structure-requires-clause-tables g c = places-bounded _ _ c.args.header.now.fields.cluster_bits c.requires.places.in_order (tables-placed (file (g.S.Storage.state c.args.image.now)) c.args.header.now.fields c.requires.places.l1_sound)
 
 pub name_contents-requires : goal.name_contents-requires
 name_contents-requires g c = subst (AreTables c.args.header.now.fields.cluster_bits) (sym c.requires.places.in_order) (tables-placed (file (g.S.Storage.state c.args.image.now)) c.args.header.now.fields c.requires.places.l1_sound)
@@ -31,13 +31,13 @@ returns-in_err-name_contents-clause-err g c =
     rw (p.1, p.2) (damaged-finding (g.S.Storage.state c.args.image.now) (g.S.Storage.state c.name_contents.new.image) c.args.header.now.fields c.args.places.tables.items c.requires.places.in_order c.in_err-name_contents.field-0.0 c.in_err-name_contents.ensures.err)
 
 pub returns-clause-told : goal.returns-clause-told
-returns-clause-told g c = given-tells _ c.args.header.now _ _ c.requires.places c.in_ok-names.names _ c.sort_names.new.names c.in_ok-names.ensures.ok c.in_ok-name_structure.ensures.ok (adds-since _ _ c.name_contents.new.names _ _ _ _ c.sort_names.ensures.same c.sort_names.ensures.cells c.sort_names.ensures.spares c.in_ok-name_contents.ensures.ok)
+returns-clause-told g c = given-tells _ c.args.header.now _ _ c.requires.places c.in_ok-names.names _ c.sort_references.new.names c.in_ok-names.ensures.ok c.in_ok-reference_structure.ensures.ok (adds-since _ _ c.name_contents.new.names _ _ _ _ c.sort_references.ensures.same c.sort_references.ensures.cells c.sort_references.ensures.spares c.in_ok-name_contents.ensures.ok)
 
 pub returns-clause-spares : goal.returns-clause-spares
-returns-clause-spares g c = c.sort_names.ensures.spares (c.in_ok-name_contents.ensures.ok.spares (c.in_ok-name_structure.ensures.ok.spares c.in_ok-names.ensures.spares))
+returns-clause-spares g c = c.sort_references.ensures.spares (c.in_ok-name_contents.ensures.ok.spares (c.in_ok-reference_structure.ensures.ok.spares c.in_ok-names.ensures.spares))
 
 pub returns-clause-cells : goal.returns-clause-cells
-returns-clause-cells g c = (c.blocks_end.result, subst (λ l. IsBlocksEnd l c.blocks_end.result) c.deref.ensures.value c.blocks_end.ensures, c.sort_names.ensures.cells ∙ c.in_ok-name_contents.ensures.ok.cells ∙ c.in_ok-name_structure.ensures.ok.cells ∙ c.in_ok-names.ensures.cells ∙ c.cell_count-count.ensures ∙ ap (λ n. counted_clusters c.args.header.now.fields n c.blocks_end.result) c.size.ensures.value)
+returns-clause-cells g c = (c.blocks_end.result, subst (λ l. IsBlocksEnd l c.blocks_end.result) c.deref.ensures.value c.blocks_end.ensures, c.sort_references.ensures.cells ∙ c.in_ok-name_contents.ensures.ok.cells ∙ c.in_ok-reference_structure.ensures.ok.cells ∙ c.in_ok-names.ensures.cells ∙ c.cell_count-count.ensures ∙ ap (λ n. counted_clusters c.args.header.now.fields n c.blocks_end.result) c.size.ensures.value)
 
 pub returns-clause-sound : goal.returns-clause-sound
 returns-clause-sound g c = sound-by-list (file (g.S.Storage.state c.args.image.now)) c.args.header.now.fields c.requires.places.l1_sound c.requires.places.refcounts_sound (subst (All (λ place. IsTrue (l2_table_sound (file (g.S.Storage.state c.args.image.now)) c.args.header.now.fields place))) c.requires.places.in_order c.in_ok-name_contents.ensures.sound)

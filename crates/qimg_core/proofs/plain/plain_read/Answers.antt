@@ -10,8 +10,8 @@ returns-then-is_empty-clause-err g c = let none : length c.args.files.now ≡ 0 
 pub returns-then-is_empty-clause-must : goal.returns-then-is_empty-clause-must
 returns-then-is_empty-clause-must g c = let none : length c.args.files.now ≡ 0 = search rules in λ fault refuses. inl (none-must g.S.Storage.state c.args.offset (length c.args.buf.now) c.args.files.now none fault refuses)
 
-pub returns-then-is_empty-clause-kept : goal.returns-then-is_empty-clause-kept
-returns-then-is_empty-clause-kept g c = files-kept (seen_files g.S.Storage.state c.args.files.now)
+pub returns-then-is_empty-clause-unchanged_but_faults : goal.returns-then-is_empty-clause-unchanged_but_faults
+returns-then-is_empty-clause-unchanged_but_faults g c = files-kept (seen_files g.S.Storage.state c.args.files.now)
 
 pub returns-then-files-gt1-clause-err : goal.returns-then-files-gt1-clause-err
 returns-then-files-gt1-clause-err g c = (several-refuse g.S.Storage.state c.args.offset (length c.args.buf.now) c.args.files.now c.if-files-gt1.true, refl)
@@ -19,8 +19,8 @@ returns-then-files-gt1-clause-err g c = (several-refuse g.S.Storage.state c.args
 pub returns-then-files-gt1-clause-must : goal.returns-then-files-gt1-clause-must
 returns-then-files-gt1-clause-must g c = λ fault refuses. inl (several-must g.S.Storage.state c.args.offset (length c.args.buf.now) c.args.files.now c.if-files-gt1.true fault refuses)
 
-pub returns-then-files-gt1-clause-kept : goal.returns-then-files-gt1-clause-kept
-returns-then-files-gt1-clause-kept g c = files-kept (seen_files g.S.Storage.state c.args.files.now)
+pub returns-then-files-gt1-clause-unchanged_but_faults : goal.returns-then-files-gt1-clause-unchanged_but_faults
+returns-then-files-gt1-clause-unchanged_but_faults g c = files-kept (seen_files g.S.Storage.state c.args.files.now)
 
 pub returns-in-Qcow2-clause-ok : goal.returns-in-Qcow2-clause-ok
 returns-in-Qcow2-clause-ok g c = let some : 0 < length c.args.files.now = search rules in one-read g.S.Storage.state c.args.offset (length c.args.buf.now) c.read_image.result c.args.files.now c.index-files-0.result c.read_image.new.buf some c.if-files-gt1.false c.in-Qcow2.is c.read_image.ensures.ok
@@ -33,8 +33,8 @@ returns-in-Qcow2-clause-must g c =
     let some : 0 < length c.args.files.now = search rules in
     one-must g.S.Storage.state c.args.offset (length c.args.buf.now) c.read_image.result c.args.files.now c.index-files-0.result c.read_image.new.image c.read_image.new.buf some c.if-files-gt1.false c.in-Qcow2.is (omega (arith, c.read_image.auto.buf)) c.read_image.ensures.ok c.read_image.ensures.err
 
-pub returns-in-Qcow2-clause-kept : goal.returns-in-Qcow2-clause-kept
-returns-in-Qcow2-clause-kept g c = let some : 0 < length c.args.files.now = search rules in one-kept g.S.Storage.state c.args.offset (length c.args.buf.now) c.args.files.now c.index-files-0.result c.read_image.new.image some c.if-files-gt1.false c.read_image.ensures.kept
+pub returns-in-Qcow2-clause-unchanged_but_faults : goal.returns-in-Qcow2-clause-unchanged_but_faults
+returns-in-Qcow2-clause-unchanged_but_faults g c = let some : 0 < length c.args.files.now = search rules in one-kept g.S.Storage.state c.args.offset (length c.args.buf.now) c.args.files.now c.index-files-0.result c.read_image.new.image some c.if-files-gt1.false c.read_image.ensures.unchanged_but_faults
 
 pub returns-in-Qcow2-clause-extras : goal.returns-in-Qcow2-clause-extras
 returns-in-Qcow2-clause-extras g c = let some : 0 < length c.args.files.now = search rules in one-extras g.S.Storage.state c.args.offset (length c.args.buf.now) c.args.files.now c.index-files-0.result c.read_image.new.image some c.if-files-gt1.false
@@ -55,7 +55,7 @@ returns-in-Raw g c =
       must = λ fault refuses. inl (other-must g.S.Storage.state c.args.offset (length c.args.buf.now) files top some c.if-files-gt1.false other fault refuses);
       none = λ e. absurd (omega (arith, e, some));
       several = λ e. refl;
-      kept = subst (λ fs. FilesKept (seen_files g.S.Storage.state files) (seen_files g.S.Storage.state fs)) (sym same) (files-kept (seen_files g.S.Storage.state files));
+      unchanged_but_faults = subst (λ fs. FilesKept (seen_files g.S.Storage.state files) (seen_files g.S.Storage.state fs)) (sym same) (files-kept (seen_files g.S.Storage.state files));
       extras = ap extras_of same;
       faults = tt;
     }

@@ -20,33 +20,33 @@ returns-in-Ok-clause-writes g c =
     let shape = c.write.ensures.shape in
     let done = c.in-Ok.ensures.ok in
     record {
-      mapped = λ sees some. (0, λ i lt. rw c.requires.mapped (mapped_home d.size (at + i) d.writable c.requires.writing (omega (arith, lt, c.requires.inside))));
-      empty = λ none. absurd (omega (arith, none, c.requires.some));
-      like = record { fixed = ap (λ (s : Shape). cluster_fixed s d) shape; size = refl; unspent = refl; failed = λ f. f };
-      ok = λ safe. record {
-        like = record { fixed = ap (λ (s : Shape). cluster_fixed s d) shape; size = refl; unspent = refl; failed = λ f. f };
-        home = refl;
-        range = λ i lt. rw c.requires.mapped (ap (λ b. own (byte b)) (spliced_at old.bytes at bytes new.bytes i (done.content safe.keeps) lt), refl);
-        others = λ p out. rw c.requires.mapped (ap (λ b. own (byte b)) (spliced_out old.bytes at bytes new.bytes p (done.content safe.keeps) out), refl);
+      mapped = λ coherent some. (0, λ i lt. rw c.requires.mapped (mapped_home d.size (at + i) d.writable c.requires.writing (omega (arith, lt, c.requires.inside))));
+      empty = λ none. absurd (omega (arith, none, c.requires.nonempty));
+      keeps_layer_state = record { fixed = ap (λ (s : Shape). cluster_fixed s d) shape; size = refl; unspent = refl; failed = λ f. f };
+      ok = λ well_formed. record {
+        keeps_layer_state = record { fixed = ap (λ (s : Shape). cluster_fixed s d) shape; size = refl; unspent = refl; failed = λ f. f };
+        writable_location = refl;
+        range = λ i lt. rw c.requires.mapped (ap (λ b. own (byte b)) (spliced_at old.bytes at bytes new.bytes i (done.content well_formed.keeps) lt), refl);
+        others = λ p out. rw c.requires.mapped (ap (λ b. own (byte b)) (spliced_out old.bytes at bytes new.bytes p (done.content well_formed.keeps) out), refl);
       };
-      err = λ safe. tt;
-      room = λ safe whole. record { kept = λ p there is. is; free = λ p there is. is; zeroes = λ p there there' is. is };
-      stops = λ safe below. write_passes c.write.result old new at bytes _ c.write.ensures.ok c.write.ensures.err c.write.ensures.stops c.write.ensures.as_long
-          (λ f mixed long. mapped_left below old d (GivesBytes at bytes) f c.requires.mapped (rw c.requires.mapped at safe.fits) long (mixed_bytes old.bytes at bytes f mixed));
-      went = record {
+      err = λ well_formed. tt;
+      room = λ well_formed whole. record { stays_allocated = λ p there is. is; free = λ p there is. is; zeroes = λ p there there' is. is };
+      crash_images = λ well_formed below. write_passes c.write.result old new at bytes _ c.write.ensures.ok c.write.ensures.err c.write.ensures.crash_images c.write.ensures.as_long
+          (λ f mixed long. mapped_left below old d (GivesBytes at bytes) f c.requires.mapped (rw c.requires.mapped at well_formed.fits) long (mixed_bytes old.bytes at bytes f mixed));
+      mutating_call = record {
         fixed = ap (λ (s : Shape). cluster_fixed s d) shape;
         failed = λ f. f;
-        later = ((shape, c.write.ensures.later), tt);
+        counts_not_fallen = ((shape, c.write.ensures.counts_not_fallen), tt);
         faults = λ whole. ((done.faults, done.refusals), tt);
-        safely = λ whole safe. record {
-          runs = safe.runs;
-          keeps = keeps_on old new shape safe.keeps;
-          fits = let fits = rw c.requires.mapped at safe.fits in rw c.requires.mapped (omega (arith, fits, done.size c.requires.some));
+        safely = λ whole well_formed. record {
+          runs = well_formed.runs;
+          keeps = keeps_on old new shape well_formed.keeps;
+          fits = let fits = rw c.requires.mapped at well_formed.fits in rw c.requires.mapped (omega (arith, fits, done.size c.requires.nonempty));
         };
-        lasting = λ l. l;
-        surplus = λ w s c. refl;
+        stays_stable = λ l. l;
+        excess_refcount = λ w s c. refl;
       };
-      began = λ x call begun. tt;
+      stays_begun = λ x call begun. tt;
     }
 
 pub returns-in-Err-clause-writes : goal.returns-in-Err-clause-writes
@@ -60,26 +60,26 @@ returns-in-Err-clause-writes g c =
     let e = c.in-Err.fault in
     let refused = c.in-Err.ensures.err in
     rw (c.cut_off.ensures.same, c.cut_off.ensures.marked) (record {
-      mapped = λ sees. tt;
-      empty = λ none. absurd (omega (arith, none, c.requires.some));
-      like = record { fixed = ap (λ (s : Shape). cluster_fixed s d) shape; size = refl; unspent = refl; failed = failed_on e d.failed };
-      ok = λ safe. tt;
-      err = λ safe mild. let same = unwritten_same old new at bytes e refused mild in same_layer old new d (failed_by e d.failed) shape (ap (λ s. s.bytes) same) (mild_failed e d.failed mild);
-      room = λ safe whole. record { kept = λ p there is. is; free = λ p there is. is; zeroes = λ p there there' is. is };
-      stops = λ safe below. write_passes c.write.result old new at bytes _ c.write.ensures.ok c.write.ensures.err c.write.ensures.stops c.write.ensures.as_long
-          (λ f mixed long. mapped_left below old d (GivesBytes at bytes) f c.requires.mapped (rw c.requires.mapped at safe.fits) long (mixed_bytes old.bytes at bytes f mixed));
-      went = record {
+      mapped = λ coherent. tt;
+      empty = λ none. absurd (omega (arith, none, c.requires.nonempty));
+      keeps_layer_state = record { fixed = ap (λ (s : Shape). cluster_fixed s d) shape; size = refl; unspent = refl; failed = failed_on e d.failed };
+      ok = λ well_formed. tt;
+      err = λ well_formed not_resource_error. let same = unwritten_same old new at bytes e refused not_resource_error in same_layer old new d (failed_by e d.failed) shape (ap (λ s. s.bytes) same) (mild_failed e d.failed not_resource_error);
+      room = λ well_formed whole. record { stays_allocated = λ p there is. is; free = λ p there is. is; zeroes = λ p there there' is. is };
+      crash_images = λ well_formed below. write_passes c.write.result old new at bytes _ c.write.ensures.ok c.write.ensures.err c.write.ensures.crash_images c.write.ensures.as_long
+          (λ f mixed long. mapped_left below old d (GivesBytes at bytes) f c.requires.mapped (rw c.requires.mapped at well_formed.fits) long (mixed_bytes old.bytes at bytes f mixed));
+      mutating_call = record {
         fixed = ap (λ (s : Shape). cluster_fixed s d) shape;
         failed = failed_on e d.failed;
-        later = ((shape, c.write.ensures.later), tt);
-        faults = λ mild. (same_faultless old new (unwritten_same old new at bytes e refused mild), tt);
-        safely = λ mild safe. record {
-          runs = mild_failed e d.failed mild ∙ safe.runs;
-          keeps = keeps_on old new shape safe.keeps;
-          fits = let fits = rw c.requires.mapped at safe.fits in rw c.requires.mapped (omega (arith, fits, unwritten_long old new at bytes e refused));
+        counts_not_fallen = ((shape, c.write.ensures.counts_not_fallen), tt);
+        faults = λ not_resource_error. (same_faultless old new (unwritten_same old new at bytes e refused not_resource_error), tt);
+        safely = λ not_resource_error well_formed. record {
+          runs = mild_failed e d.failed not_resource_error ∙ well_formed.runs;
+          keeps = keeps_on old new shape well_formed.keeps;
+          fits = let fits = rw c.requires.mapped at well_formed.fits in rw c.requires.mapped (omega (arith, fits, unwritten_long old new at bytes e refused));
         };
-        lasting = λ l. l;
-        surplus = λ w s c. refl;
+        stays_stable = λ l. l;
+        excess_refcount = λ w s c. refl;
       };
-      began = λ x call begun. tt;
+      stays_begun = λ x call begun. tt;
     })

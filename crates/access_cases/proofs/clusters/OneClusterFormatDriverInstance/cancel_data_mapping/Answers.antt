@@ -16,11 +16,11 @@ returns-then-run-state g c =
         size = refl;
         failed = refl;
         none = (refl, refl);
-        lasts = λ l. l;
-        surplus = λ mine s c. refl;
-        sees = λ s. s;
-        safe = λ mine safe. record { runs = safe.runs; keeps = safe.keeps; fits = let fits = rw prepared at safe.fits in fits.0 };
-        room = λ safe mine. record { kept = λ p there room. absurd (room_by d.content _ d.size p prepared room); free = λ p there bare. inr tt; zeroes = λ p there there' bare. inr tt };
-        began = λ x call begun. tt;
+        stable = λ l. l;
+        excess_refcount = λ mine s c. refl;
+        coherent = λ s. s;
+        well_formed = λ mine well_formed. record { runs = well_formed.runs; keeps = well_formed.keeps; fits = let fits = rw prepared at well_formed.fits in fits.0 };
+        room = λ well_formed mine. record { stays_allocated = λ p there room. absurd (room_by d.content _ d.size p prepared room); free = λ p there bare. inr tt; zeroes = λ p there there' bare. inr tt };
+        stays_begun = λ x call begun. tt;
       };
     }

@@ -8,19 +8,19 @@ returns-in-Ok-settle-clause-commits g c =
     rw state (record {
       ok = (c.in-Ok-check_commit.ensures.own, done.ok);
       size = done.size;
-      room = λ safe mine. done.room;
-      stops = λ safe mine. done.stops safe;
-      went = record {
-        fixed = done.went.fixed;
-        failed = done.went.failed;
-        later = done.went.later;
-        faults = done.went.faults;
-        safely = λ whole safe. done.went.safely (whole.0, whole.1.1) safe;
-        lasting = done.went.lasting;
-        surplus = λ whole safe. done.went.surplus (whole.0, whole.1.1) safe;
+      room = λ well_formed mine. done.room;
+      crash_images = λ well_formed mine. done.crash_images well_formed;
+      mutating_call = record {
+        fixed = done.mutating_call.fixed;
+        failed = done.mutating_call.failed;
+        counts_not_fallen = done.mutating_call.counts_not_fallen;
+        faults = done.mutating_call.faults;
+        safely = λ whole well_formed. done.mutating_call.safely (whole.0, whole.1.1) well_formed;
+        stays_stable = done.mutating_call.stays_stable;
+        excess_refcount = λ whole well_formed. done.mutating_call.excess_refcount (whole.0, whole.1.1) well_formed;
       };
-      sees = λ none sees. tt;
-      began = λ x call begun mine. tt;
+      coherent = λ none coherent. tt;
+      stays_begun = λ x call begun mine. tt;
     })
 
 pub returns-in-Err-settle-clause-commits : goal.returns-in-Err-settle-clause-commits
@@ -30,17 +30,17 @@ returns-in-Err-settle-clause-commits g c =
     rw state (record {
       ok = tt;
       size = refused.size;
-      room = λ safe mine. tt;
-      stops = λ safe mine. refused.stops safe;
-      went = record {
-        fixed = refused.went.fixed;
-        failed = refused.went.failed;
-        later = refused.went.later;
-        faults = refused.went.faults;
-        safely = λ whole safe. refused.went.safely (whole.0, whole.1.1) safe;
-        lasting = refused.went.lasting;
-        surplus = λ whole safe. refused.went.surplus (whole.0, whole.1.1) safe;
+      room = λ well_formed mine. tt;
+      crash_images = λ well_formed mine. refused.crash_images well_formed;
+      mutating_call = record {
+        fixed = refused.mutating_call.fixed;
+        failed = refused.mutating_call.failed;
+        counts_not_fallen = refused.mutating_call.counts_not_fallen;
+        faults = refused.mutating_call.faults;
+        safely = λ whole well_formed. refused.mutating_call.safely (whole.0, whole.1.1) well_formed;
+        stays_stable = refused.mutating_call.stays_stable;
+        excess_refcount = λ whole well_formed. refused.mutating_call.excess_refcount (whole.0, whole.1.1) well_formed;
       };
-      sees = λ none sees. tt;
-      began = λ x call begun mine. tt;
+      coherent = λ none coherent. tt;
+      stays_begun = λ x call begun mine. tt;
     })

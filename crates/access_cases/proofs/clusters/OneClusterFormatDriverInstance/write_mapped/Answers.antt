@@ -13,26 +13,26 @@ returns-else-not-takes-clause-writes g c =
     let written = c.note.new.written.items in
     let within = c.takes.ensures.yes (search rules) in
     record {
-      mapped = λ sees some. (0, λ i lt. rw (prepared, c.if-place-guest.false) (home_between r.start r.end (guest + i) (omega (arith, within.0)) (omega (arith, lt, within.1))));
+      mapped = λ coherent some. (0, λ i lt. rw (prepared, c.if-place-guest.false) (home_between r.start r.end (guest + i) (omega (arith, within.0)) (omega (arith, lt, within.1))));
       empty = λ none. absurd (omega (arith, none));
-      like = record { fixed = rw prepared refl; size = refl; unspent = rw prepared refl; failed = λ f. f };
-      ok = λ safe. record {
-        like = record { fixed = rw prepared refl; size = refl; unspent = rw prepared refl; failed = λ f. f };
-        home = rw prepared refl;
+      keeps_layer_state = record { fixed = rw prepared refl; size = refl; unspent = rw prepared refl; failed = λ f. f };
+      ok = λ well_formed. record {
+        keeps_layer_state = record { fixed = rw prepared refl; size = refl; unspent = rw prepared refl; failed = λ f. f };
+        writable_location = rw prepared refl;
         range = λ i lt. rw prepared (takes_byte d.size r.start r.end (guest + i) _ r.overwrite r.written.items written _ (omega (arith, within.0)) (omega (arith, lt, within.1)) (c.note.ensures.inside i lt));
         others = λ p out. rw prepared (refl, stays_held d.size r.start r.end p r.overwrite r.written.items written (c.note.ensures.outside p out));
       };
-      err = λ safe. tt;
-      room = λ safe whole. record { kept = λ p there room. absurd (room_by d.content _ d.size p prepared room); free = λ p there bare. inr tt; zeroes = λ p there there' bare. inr tt };
-      stops = λ safe below. passes_none _ _ _ refl (refl, refl, refl, refl);
-      went = record {
+      err = λ well_formed. tt;
+      room = λ well_formed whole. record { stays_allocated = λ p there room. absurd (room_by d.content _ d.size p prepared room); free = λ p there bare. inr tt; zeroes = λ p there there' bare. inr tt };
+      crash_images = λ well_formed below. passes_none _ _ _ refl (refl, refl, refl, refl);
+      mutating_call = record {
         fixed = rw prepared refl;
         failed = λ f. f;
-        later = search rules;
+        counts_not_fallen = search rules;
         faults = λ whole. ((refl, refl), tt);
-        safely = λ whole safe. let fits = rw prepared at safe.fits in record {
-          runs = safe.runs;
-          keeps = safe.keeps;
+        safely = λ whole well_formed. let fits = rw prepared at well_formed.fits in record {
+          runs = well_formed.runs;
+          keeps = well_formed.keeps;
           fits = (
             fits.0,
             record {
@@ -43,29 +43,29 @@ returns-else-not-takes-clause-writes g c =
             },
           );
         };
-        lasting = λ l. l;
-        surplus = λ w s c. refl;
+        stays_stable = λ l. l;
+        excess_refcount = λ w s c. refl;
       };
-      began = λ x call begun. tt;
+      stays_begun = λ x call begun. tt;
     }
 
 pub returns-in-Unmapped-clause-refused : goal.returns-in-Unmapped-clause-refused
 returns-in-Unmapped-clause-refused g c = record {
   failed = tt;
-  marks = tt;
-  cause = λ safe. (omega arith, λ mapped. let at = rw c.in-Unmapped.is at (mapped.1 0 (omega arith)) in absurd (cc at));
+  marks_failed = tt;
+  cause = λ well_formed. (omega arith, λ mapped. let at = rw c.in-Unmapped.is at (mapped.1 0 (omega arith)) in absurd (cc at));
 }
 
 pub returns-in-Zeroed-clause-refused : goal.returns-in-Zeroed-clause-refused
 returns-in-Zeroed-clause-refused g c = record {
   failed = tt;
-  marks = tt;
-  cause = λ safe. (omega arith, λ mapped. let at = rw c.in-Zeroed.is at (mapped.1 0 (omega arith)) in absurd (cc at));
+  marks_failed = tt;
+  cause = λ well_formed. (omega arith, λ mapped. let at = rw c.in-Zeroed.is at (mapped.1 0 (omega arith)) in absurd (cc at));
 }
 
 pub returns-in-Barred-clause-refused : goal.returns-in-Barred-clause-refused
 returns-in-Barred-clause-refused g c = record {
   failed = tt;
-  marks = tt;
-  cause = λ safe. (omega arith, λ mapped. let at = rw c.in-Barred.is at (mapped.1 0 (omega arith)) in absurd (cc at));
+  marks_failed = tt;
+  cause = λ well_formed. (omega arith, λ mapped. let at = rw c.in-Barred.is at (mapped.1 0 (omega arith)) in absurd (cc at));
 }

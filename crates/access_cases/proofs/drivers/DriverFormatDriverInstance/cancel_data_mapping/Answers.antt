@@ -14,11 +14,11 @@ returns-in-Words g c = let h = c.cancel_data_mapping.ensures.cancels in rw (c.in
     size = h.size;
     failed = h.failed;
     none = h.none;
-    lasts = h.lasts;
-    surplus = h.surplus;
-    sees = h.sees;
-    safe = h.safe;
-    room = λ safe mine. let left = h.room safe mine in record { kept = left.kept; free = left.free; zeroes = left.zeroes };
-    began = λ x call begun. begun;
+    stable = h.stable;
+    excess_refcount = h.excess_refcount;
+    coherent = h.coherent;
+    well_formed = h.well_formed;
+    room = λ well_formed mine. let left = h.room well_formed mine in record { stays_allocated = left.stays_allocated; free = left.free; zeroes = left.zeroes };
+    stays_begun = λ x call begun. begun;
   };
 })

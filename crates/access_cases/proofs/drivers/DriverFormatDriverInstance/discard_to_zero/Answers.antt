@@ -17,5 +17,5 @@ returns-in-Words-clause-does g c = rw (c.in-Words.is) (does_as Words _ _ refl _ 
 pub returns-in-Words-clause-refused : goal.returns-in-Words-clause-refused
 returns-in-Words-clause-refused g c = rw (c.in-Words.is) (refused_as Words _ _ refl _ _ (λ x call begun. begun) discards_to_zero _ _ _ (words_causes c.in-Words.words) c.discard_to_zero-in-Words.ensures.refused)
 
-pub returns-in-Words-clause-at_once : goal.returns-in-Words-clause-at_once
-returns-in-Words-clause-at_once g c = rw (c.in-Words.is) (at_once_as Words _ _ refl _ _ (λ x call begun. begun) _ _ _ c.discard_to_zero-in-Words.ensures.at_once)
+pub returns-in-Words-clause-early_outcome : goal.returns-in-Words-clause-early_outcome
+returns-in-Words-clause-early_outcome g c = rw (c.in-Words.is) (at_once_as Words _ _ refl _ _ (λ x call begun. begun) _ _ _ c.discard_to_zero-in-Words.ensures.early_outcome)

@@ -1,20 +1,20 @@
 use Rattle.std.proofs.Common.{refl}
 use Rattle.access_cases.specs.declared.drivers.Driver.TheVariants.{Words}
-use Rattle.access_cases.specs.contracts.clusters.OneClusterSeen.TheImpl as cluster_seen
-use Rattle.access_cases.specs.contracts.drivers.DriverSeen.TheImpl as driver_seen
+use Rattle.access_cases.specs.contracts.clusters.OneClusterDriverModel.TheImpl as cluster_seen
+use Rattle.access_cases.specs.contracts.drivers.DriverDriverModel.TheImpl as driver_seen
 use Rattle.access_cases.proofs.SeenAs.{at_once_as, marks_as}
 use Rattle.access_cases.proofs.drivers.DriverFormatDriverInstance.flush.Goals as goal
 
-pub returns-in-Raw-clause-stops : goal.returns-in-Raw-clause-stops
-returns-in-Raw-clause-stops g c = rw (c.in-Raw.is) c.flush.ensures.stops
+pub returns-in-Raw-clause-crash_images : goal.returns-in-Raw-clause-crash_images
+returns-in-Raw-clause-crash_images g c = rw (c.in-Raw.is) c.flush.ensures.crash_images
 
-pub returns-in-Words-clause-stops : goal.returns-in-Words-clause-stops
-returns-in-Words-clause-stops g c = rw (c.in-Words.is) c.flush-in-Words.ensures.stops
+pub returns-in-Words-clause-crash_images : goal.returns-in-Words-clause-crash_images
+returns-in-Words-clause-crash_images g c = rw (c.in-Words.is) c.flush-in-Words.ensures.crash_images
 
-pub returns-in-Words-clause-at_once : goal.returns-in-Words-clause-at_once
-returns-in-Words-clause-at_once g c = rw (c.in-Words.is) (at_once_as Words _ _ refl _ _ (λ x call begun. begun) _ _ _ c.flush-in-Words.ensures.at_once)
+pub returns-in-Words-clause-early_outcome : goal.returns-in-Words-clause-early_outcome
+returns-in-Words-clause-early_outcome g c = rw (c.in-Words.is) (at_once_as Words _ _ refl _ _ (λ x call begun. begun) _ _ _ c.flush-in-Words.ensures.early_outcome)
 
-pub returns-in-Words-clause-marks : goal.returns-in-Words-clause-marks
-returns-in-Words-clause-marks g c = rw (c.in-Words.is)
+pub returns-in-Words-clause-marks_failed : goal.returns-in-Words-clause-marks_failed
+returns-in-Words-clause-marks_failed g c = rw (c.in-Words.is)
     (marks_as Words (driver_seen.ghosts g.row.S g.S.Storage g.S.Storage-dict g.S.Destruct-dict) (cluster_seen.ghosts g.row.S g.S.Storage g.S.Storage-dict g.S.Destruct-dict) refl
-    c.in-Words.words c.flush-in-Words.new.self (λ x call begun. begun) c.flush-in-Words.result c.flush-in-Words.ensures.marks)
+    c.in-Words.words c.flush-in-Words.new.self (λ x call begun. begun) c.flush-in-Words.result c.flush-in-Words.ensures.marks_failed)

@@ -9,11 +9,11 @@ returns-in-Words-clause-does g c = let h = c.prepare_data_mapping-in-Words.ensur
   ok = h.ok;
   err = h.err;
   uncut = h.uncut;
-  near = h.near;
-  room = λ safe sees whole. let left = h.room safe sees whole in record { kept = left.kept; free = left.free; zeroes = left.zeroes };
-  stops = h.stops;
-  went = record { fixed = h.went.fixed; failed = h.went.failed; later = h.went.later; faults = h.went.faults; safely = h.went.safely; lasting = h.went.lasting; surplus = h.went.surplus };
-  began = λ x call begun part whole. begun;
+  no_range_overflow = h.no_range_overflow;
+  room = λ well_formed coherent whole. let left = h.room well_formed coherent whole in record { stays_allocated = left.stays_allocated; free = left.free; zeroes = left.zeroes };
+  crash_images = h.crash_images;
+  mutating_call = record { fixed = h.mutating_call.fixed; failed = h.mutating_call.failed; counts_not_fallen = h.mutating_call.counts_not_fallen; faults = h.mutating_call.faults; safely = h.mutating_call.safely; stays_stable = h.mutating_call.stays_stable; excess_refcount = h.mutating_call.excess_refcount };
+  stays_begun = λ x call begun part whole. begun;
   refused = run_refused_as Words _ _ refl _ _ (λ x call begun. begun) _ _ _ _ _ (words_causes c.in-Words.words) h.refused;
 })
 
@@ -22,11 +22,11 @@ returns-in-Err-clause-does g c = let h = rw c.in-Err.is at c.prepare_data_mappin
   ok = h.ok;
   err = h.err;
   uncut = h.uncut;
-  near = h.near;
-  room = λ safe sees whole. let left = h.room safe sees whole in record { kept = left.kept; free = left.free; zeroes = left.zeroes };
-  stops = h.stops;
-  went = record { fixed = h.went.fixed; failed = h.went.failed; later = h.went.later; faults = h.went.faults; safely = h.went.safely; lasting = h.went.lasting; surplus = h.went.surplus };
-  began = λ x call begun part whole. begun;
+  no_range_overflow = h.no_range_overflow;
+  room = λ well_formed coherent whole. let left = h.room well_formed coherent whole in record { stays_allocated = left.stays_allocated; free = left.free; zeroes = left.zeroes };
+  crash_images = h.crash_images;
+  mutating_call = record { fixed = h.mutating_call.fixed; failed = h.mutating_call.failed; counts_not_fallen = h.mutating_call.counts_not_fallen; faults = h.mutating_call.faults; safely = h.mutating_call.safely; stays_stable = h.mutating_call.stays_stable; excess_refcount = h.mutating_call.excess_refcount };
+  stays_begun = λ x call begun part whole. begun;
   refused = run_refused_err Raw _ _ refl _ _ (λ x call begun. begun) _ _ _ _ _ (raw_causes c.in-Raw.raw) h.refused;
 })
 
@@ -35,16 +35,16 @@ returns-in-Ok-clause-does g c =
     let h = rw c.in-Ok.is at c.prepare_data_mapping.ensures.does in
     let mapping = c.stateless.ensures.value in
     rw (c.in-Raw.is, mapping) (record {
-      ok = λ safe sees. rw c.stateless.ensures.none at (h.ok safe sees);
-      err = λ safe sees. tt;
+      ok = λ well_formed coherent. rw c.stateless.ensures.none at (h.ok well_formed coherent);
+      err = λ well_formed coherent. tt;
       uncut = h.uncut;
-      near = h.near;
-      room = λ safe sees whole. let left = h.room safe sees whole in record { kept = left.kept; free = left.free; zeroes = left.zeroes };
-      stops = h.stops;
-      went = record { fixed = h.went.fixed; failed = h.went.failed; later = h.went.later; faults = h.went.faults; safely = h.went.safely; lasting = h.went.lasting; surplus = h.went.surplus };
-      began = λ x call begun part whole. begun;
-      refused = record { failed = tt; marks = tt; cause = λ safe sees x call begun part same. tt };
+      no_range_overflow = h.no_range_overflow;
+      room = λ well_formed coherent whole. let left = h.room well_formed coherent whole in record { stays_allocated = left.stays_allocated; free = left.free; zeroes = left.zeroes };
+      crash_images = h.crash_images;
+      mutating_call = record { fixed = h.mutating_call.fixed; failed = h.mutating_call.failed; counts_not_fallen = h.mutating_call.counts_not_fallen; faults = h.mutating_call.faults; safely = h.mutating_call.safely; stays_stable = h.mutating_call.stays_stable; excess_refcount = h.mutating_call.excess_refcount };
+      stays_begun = λ x call begun part whole. begun;
+      refused = record { failed = tt; marks_failed = tt; cause = λ well_formed coherent x call begun part same. tt };
     })
 
-pub returns-in-Words-clause-at_once : goal.returns-in-Words-clause-at_once
-returns-in-Words-clause-at_once g c = rw (c.in-Words.is) (at_once_as Words _ _ refl _ _ (λ x call begun. begun) _ _ _ c.prepare_data_mapping-in-Words.ensures.at_once)
+pub returns-in-Words-clause-early_outcome : goal.returns-in-Words-clause-early_outcome
+returns-in-Words-clause-early_outcome g c = rw (c.in-Words.is) (at_once_as Words _ _ refl _ _ (λ x call begun. begun) _ _ _ c.prepare_data_mapping-in-Words.ensures.early_outcome)

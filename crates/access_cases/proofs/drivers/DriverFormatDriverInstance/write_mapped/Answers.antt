@@ -15,5 +15,5 @@ returns-in-Words-clause-writes g c = rw (c.in-Words.is) (writes_as Words _ _ ref
 pub returns-in-Words-clause-refused : goal.returns-in-Words-clause-refused
 returns-in-Words-clause-refused g c = rw (c.in-Words.is) (write_refused_as Words _ _ refl _ _ (λ x call begun. begun) _ _ _ _ c.write_mapped-in-Words.ensures.refused)
 
-pub returns-in-Words-clause-at_once : goal.returns-in-Words-clause-at_once
-returns-in-Words-clause-at_once g c = rw (c.in-Words.is) (at_once_as Words _ _ refl _ _ (λ x call begun. begun) _ _ _ c.write_mapped-in-Words.ensures.at_once)
+pub returns-in-Words-clause-early_outcome : goal.returns-in-Words-clause-early_outcome
+returns-in-Words-clause-early_outcome g c = rw (c.in-Words.is) (at_once_as Words _ _ refl _ _ (λ x call begun. begun) _ _ _ c.write_mapped-in-Words.ensures.early_outcome)

@@ -1,7 +1,7 @@
 use Rattle.std.proofs.Common.{refl}
 use Rattle.access_cases.specs.declared.drivers.Driver.TheVariants.{Words}
-use Rattle.access_cases.specs.contracts.clusters.OneClusterSeen.TheImpl as cluster_seen
-use Rattle.access_cases.specs.contracts.drivers.DriverSeen.TheImpl as driver_seen
+use Rattle.access_cases.specs.contracts.clusters.OneClusterDriverModel.TheImpl as cluster_seen
+use Rattle.access_cases.specs.contracts.drivers.DriverDriverModel.TheImpl as driver_seen
 use Rattle.access_cases.proofs.SeenAs.{files_read_as}
 use Rattle.access_cases.proofs.file_reads.DriverReadFiles.read_file.Goals as goal
 

@@ -1,21 +1,21 @@
 use Rattle.std.proofs.Common.{◌-◌, ◌≡◌, ◌≤◌, List}
 use Rattle.std.specs.Prelude.{⊤}
 use Rattle.imago_storage.specs.Steps.{Call}
-use Rattle.imago_access.specs.Layer.{Layer, IsLike}
+use Rattle.imago_access.specs.Layer.{Layer, KeepsLayerState}
 use Rattle.imago_access.specs.RangeCalls.{GivesDiscarded}
 use Rattle.imago_access.specs.Room.{GivesUp, IsGivenUpTo}
 use Rattle.imago_access.specs.Parts.{IsPartOf}
-use Rattle.imago_access.specs.Running.{RanAlone}
+use Rattle.imago_access.specs.Running.{DriverRangeChange}
 use Rattle.imago_access.proofs.access.discarding.discard_all.Given as goal
 
 abbrev pub invariant-loop-at : goal.invariant-loop-at
-invariant-loop-at g l = let d = g.D.Seen in record {
+invariant-loop-at g l = let d = g.D.DriverModel in record {
   from : l.offset ≤ l.at;
   untouched : l.n ≡ 0 → l.driver ≡ l.fn.driver;
-  like : IsLike (d.layer l.fn.driver) (d.layer l.driver);
-  ran : (below : List Layer) → RanAlone d ⊤ (GivesDiscarded l.discarding below l.offset l.n) below l.fn.driver l.driver;
-  room : d.safe l.fn.driver → GivesUp d l.offset l.n l.fn.driver l.driver;
-  given : d.safe l.fn.driver → IsGivenUpTo (d.vacant l.driver) (d.layer l.fn.driver).fixed.unit (d.layer l.fn.driver).size l.offset l.n l.at;
+  like : KeepsLayerState (d.layer l.fn.driver) (d.layer l.driver);
+  range_change : (below : List Layer) → DriverRangeChange d ⊤ (GivesDiscarded l.discarding below l.offset l.n) below l.fn.driver l.driver;
+  room : d.well_formed l.fn.driver → GivesUp d l.offset l.n l.fn.driver l.driver;
+  given : d.well_formed l.fn.driver → IsGivenUpTo (d.unallocated l.driver) (d.layer l.fn.driver).fixed.unit (d.layer l.fn.driver).size l.offset l.n l.at;
   began : (x : _) (call : Call) → d.began x call l.fn.driver → IsPartOf call l.offset l.n → d.began x call l.driver;
 }
 

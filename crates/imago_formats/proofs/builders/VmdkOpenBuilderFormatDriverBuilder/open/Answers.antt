@@ -1,6 +1,6 @@
 use Rattle.std.proofs.Common.{◌≡◌, ◌∙◌, [], false, inr, sym, arith}
 use Rattle.std.specs.Prelude.{map}
-use Rattle.imago_access.specs.Files.{IsKept}
+use Rattle.imago_access.specs.Files.{UnchangedButMoreFaults}
 use Rattle.imago_access.proofs.FilePairs.{kept_all_same}
 use Rattle.imago_access.proofs.Answers.{handed_on}
 use Rattle.imago_formats.specs.DescriptorView.{kept_names}
@@ -22,8 +22,8 @@ refused g c =
     let now = c.open_implicit_dependencies_gated.new.self in
     let xs = d.disk.extents.items in
     let same : c.in_ok-image.image ≡ c.args.self.base.image = cc c.in_ok-image.ensures.image in
-    let kept : IsKept (state c.args.self.base.image) (state d.image) = kept_same (state c.args.self.base.image) (state d.image) (rw same at c.in_ok-vmdk.ensures.image) in
-    let sees = (kept_image state xs c.args.self.base.image d.image now.files.items now.files.items (kept, kept_all_same (map state now.files.items))).sees in
+    let kept : UnchangedButMoreFaults (state c.args.self.base.image) (state d.image) = kept_same (state c.args.self.base.image) (state d.image) (rw same at c.in_ok-vmdk.ensures.image) in
+    let coherent = (kept_image state xs c.args.self.base.image d.image now.files.items now.files.items (kept, kept_all_same (map state now.files.items))).coherent in
     let why = rw (
       c.in_ok-vmdk.ensures.files,
       c.open_image.ensures.gate,
@@ -34,7 +34,7 @@ refused g c =
       files = now.files.items;
       said = rw same at c.in_ok-vmdk.ensures.said;
       cause = not_all_weaker g.G.ImplicitOpenGate.answers (kept_names xs) _ _ ([], c.args.gate.now)
-          (now.files.items, c.open_implicit_dependencies_gated.new.gate) c.in_err-open_implicit_dependencies_gated.field-0.0 sees why;
+          (now.files.items, c.open_implicit_dependencies_gated.new.gate) c.in_err-open_implicit_dependencies_gated.field-0.0 coherent why;
     }
 
 closed : (g : Over) (c : After-drop-vmdk-in_err-open_implicit_dependencies_gated-2 g) → c.args.self.base.writable ≡ false

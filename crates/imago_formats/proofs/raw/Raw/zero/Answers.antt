@@ -19,21 +19,21 @@ returns-in_err-zero_range-clause-does g c =
     let shape = c.zero_range.ensures.shape in
     let long = unwritten_long old new c.args.offset zeroes c.in_err-zero_range.field-0.0 refused in
     rw (handed_on _ _ c.from_residual-in_err-zero_range.ensures.1) (record {
-      ok = λ safe. tt;
-      err = λ safe. search rules;
-      reach = λ safe. tt;
-      given = λ safe. tt;
-      room = λ safe whole. search rules;
-      like = raw_like old new r.size r.writable shape;
-      went = record {
+      ok = λ well_formed. tt;
+      err = λ well_formed. search rules;
+      reach = λ well_formed. tt;
+      given = λ well_formed. tt;
+      room = λ well_formed whole. search rules;
+      keeps_layer_state = raw_like old new r.size r.writable shape;
+      mutating_call = record {
         fixed = ap (λ (s : Shape). raw_fixed s r.writable) shape;
         failed = λ failed. failed;
-        later = ((shape, c.zero_range.ensures.later), tt);
-        faults = λ mild. (same_faultless old new (unwritten_same old new c.args.offset zeroes c.in_err-zero_range.field-0.0 refused mild), tt);
-        safely = λ mild safe. (keeps_on old new shape safe.0, le_trans safe.1 long);
-        lasting = λ lasts. le_trans lasts long;
-        surplus = λ whole safe c. refl;
+        counts_not_fallen = ((shape, c.zero_range.ensures.counts_not_fallen), tt);
+        faults = λ not_resource_error. (same_faultless old new (unwritten_same old new c.args.offset zeroes c.in_err-zero_range.field-0.0 refused not_resource_error), tt);
+        safely = λ not_resource_error well_formed. (keeps_on old new shape well_formed.0, le_trans well_formed.1 long);
+        stays_stable = λ stable. le_trans stable long;
+        excess_refcount = λ whole well_formed c. refl;
       };
-      began = λ d whole began part same. tt;
-      stops = λ safe below told. written_stops c.zero_range.result old new c.args.offset zeroes c.zero_range.ensures.ok c.zero_range.ensures.err below r.size r.writable (GivesZero c.args.offset c.args.length) safe.1 c.zero_range.ensures.stops c.zero_range.ensures.as_long (λ f mixed p lt. mixed_zeroes old.bytes c.args.offset c.args.length f mixed p);
+      stays_begun = λ d whole began part same. tt;
+      crash_images = λ well_formed below told. written_stops c.zero_range.result old new c.args.offset zeroes c.zero_range.ensures.ok c.zero_range.ensures.err below r.size r.writable (GivesZero c.args.offset c.args.length) well_formed.1 c.zero_range.ensures.crash_images c.zero_range.ensures.as_long (λ f mixed p lt. mixed_zeroes old.bytes c.args.offset c.args.length f mixed p);
     })

@@ -11,15 +11,15 @@ returns-in-Ok-clause-does g c =
     let old = g.S.Storage.state r.storage in
     let new = g.S.Storage.state c.discard.new.self in
     record {
-      ok = λ safe. given_any old new r.size r.writable c.args.offset c.args.length c.discard.ensures.unit.positive c.size-bytes.ensures.bytes safe.1 c.in_ok-check_change.ensures.inside safe.0 c.in-Ok.ensures.ok;
-      err = λ safe. tt;
-      reach = λ safe. search rules;
-      given = λ safe p within. tt;
-      room = λ safe whole. search rules;
-      like = search rules;
-      went = search rules;
-      began = λ d whole began part same. tt;
-      stops = λ safe below told. given_stops old new r.size r.writable c.args.offset c.args.length c.discard.ensures.unit.positive c.size-bytes.ensures.bytes below safe.1 c.in-Ok.ensures.ok;
+      ok = λ well_formed. given_any old new r.size r.writable c.args.offset c.args.length c.discard.ensures.unit.positive c.size-bytes.ensures.bytes well_formed.1 c.in_ok-check_change.ensures.inside well_formed.0 c.in-Ok.ensures.ok;
+      err = λ well_formed. tt;
+      reach = λ well_formed. search rules;
+      given = λ well_formed p within. tt;
+      room = λ well_formed whole. search rules;
+      keeps_layer_state = search rules;
+      mutating_call = search rules;
+      stays_begun = λ d whole began part same. tt;
+      crash_images = λ well_formed below told. given_stops old new r.size r.writable c.args.offset c.args.length c.discard.ensures.unit.positive c.size-bytes.ensures.bytes below well_formed.1 c.in-Ok.ensures.ok;
     }
 
 pub returns-in-Err-clause-does : goal.returns-in-Err-clause-does
@@ -30,21 +30,21 @@ returns-in-Err-clause-does g c =
     let refused = c.in-Err.ensures.err in
     let shape = c.discard.ensures.shape in
     record {
-      ok = λ safe. tt;
-      err = λ safe. search rules;
-      reach = λ safe. tt;
-      given = λ safe. tt;
-      room = λ safe whole. search rules;
-      like = raw_like old new r.size r.writable shape;
-      went = record {
+      ok = λ well_formed. tt;
+      err = λ well_formed. search rules;
+      reach = λ well_formed. tt;
+      given = λ well_formed. tt;
+      room = λ well_formed whole. search rules;
+      keeps_layer_state = raw_like old new r.size r.writable shape;
+      mutating_call = record {
         fixed = ap (λ (s : Shape). raw_fixed s r.writable) shape;
         failed = λ failed. failed;
-        later = ((shape, c.discard.ensures.later), tt);
-        faults = λ mild. (same_faultless old new (ungiven_same old new c.args.offset c.args.length c.in-Err.fault refused mild), tt);
-        safely = λ mild safe. (keeps_on old new shape safe.0, subst (λ (n : ℕ). r.size ≤ n) (sym (ungiven_long old new c.args.offset c.args.length c.in-Err.fault refused)) safe.1);
-        lasting = λ lasts. subst (λ (n : ℕ). r.size ≤ n) (sym (ungiven_long old new c.args.offset c.args.length c.in-Err.fault refused)) lasts;
-        surplus = λ whole safe c. refl;
+        counts_not_fallen = ((shape, c.discard.ensures.counts_not_fallen), tt);
+        faults = λ not_resource_error. (same_faultless old new (ungiven_same old new c.args.offset c.args.length c.in-Err.fault refused not_resource_error), tt);
+        safely = λ not_resource_error well_formed. (keeps_on old new shape well_formed.0, subst (λ (n : ℕ). r.size ≤ n) (sym (ungiven_long old new c.args.offset c.args.length c.in-Err.fault refused)) well_formed.1);
+        stays_stable = λ stable. subst (λ (n : ℕ). r.size ≤ n) (sym (ungiven_long old new c.args.offset c.args.length c.in-Err.fault refused)) stable;
+        excess_refcount = λ whole well_formed c. refl;
       };
-      began = λ d whole began part same. tt;
-      stops = λ safe below told. search rules;
+      stays_begun = λ d whole began part same. tt;
+      crash_images = λ well_formed below told. search rules;
     }

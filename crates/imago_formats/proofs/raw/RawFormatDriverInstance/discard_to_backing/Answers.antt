@@ -8,15 +8,15 @@ returns-clause-does g c =
     let r = c.args.self.now in
     let zeroed = c.zero.ensures.does in
     record {
-      ok = λ safe. zeroed_below c.zero.result _ _ (zeroed.ok safe);
-      err = λ safe. partly_below c.zero.result _ _ _ _ (zeroed.err safe);
+      ok = λ well_formed. zeroed_below c.zero.result _ _ (zeroed.ok well_formed);
+      err = λ well_formed. partly_below c.zero.result _ _ _ _ (zeroed.err well_formed);
       reach = zeroed.reach;
-      given = λ safe. search rules;
-      room = λ safe whole. search rules;
-      like = zeroed.like;
-      went = zeroed.went;
-      began = zeroed.began;
-      stops = λ safe below backed. backed_stops below (g.S.Storage.state r.storage) (g.S.Storage.state c.zero.new.self.storage) r.size r.writable c.args.offset c.args.length backed (zeroed.stops safe below tt);
+      given = λ well_formed. search rules;
+      room = λ well_formed whole. search rules;
+      keeps_layer_state = zeroed.keeps_layer_state;
+      mutating_call = zeroed.mutating_call;
+      stays_begun = zeroed.stays_begun;
+      crash_images = λ well_formed below backed. backed_stops below (g.S.Storage.state r.storage) (g.S.Storage.state c.zero.new.self.storage) r.size r.writable c.args.offset c.args.length backed (zeroed.crash_images well_formed below tt);
     }
 
 pub returns-clause-refused : goal.returns-clause-refused

@@ -7,7 +7,7 @@ pub returns-clause-shrinks : goal.returns-clause-shrinks
 returns-clause-shrinks g c = let r = c.args.self.now in record {
   ok = search rules;
   err = search rules;
-  stops = λ safe below backed. shrunk_stops below (g.S.Storage.state r.storage) (g.S.Storage.state c.shrink_to.new.self.storage) r.size c.args.size r.writable
-      (GivesBelowPast below c.args.size) safe.1 c.in_ok-shrink_to.ensures.ok;
-  went = search rules;
+  crash_images = λ well_formed below backed. shrunk_stops below (g.S.Storage.state r.storage) (g.S.Storage.state c.shrink_to.new.self.storage) r.size c.args.size r.writable
+      (GivesBelowPast below c.args.size) well_formed.1 c.in_ok-shrink_to.ensures.ok;
+  mutating_call = search rules;
 }

@@ -14,7 +14,7 @@ returns-in_err-open_file-clause-err g c =
     let full : length loop.files.items ≡ loop.number = omega (arith, loop.invariant.there, c.if-number-len.false, c.len.ensures) in
     rw (handed_on _ _ c.from_residual.ensures.1) (stops_here g.G.ImplicitOpenGate.answers (kept_names c.args.extents.now) _ loop.files.items c.open_file.new.files.items
     loop.gate c.open_file.new.gate loop.number c.in-Some.name.now c.in_err-open_file.field-0.0 loop.invariant.opens
-    (c.in_err-open_file.ensures.kept refl) full next c.in_err-open_file.ensures.err)
+    (c.in_err-open_file.ensures.unchanged_on_error refl) full next c.in_err-open_file.ensures.err)
 
 pub loop-extent-preserved : goal.loop-extent-preserved
 loop-extent-preserved g c =
@@ -23,7 +23,7 @@ loop-extent-preserved g c =
     c.loop-extent-test.true c.extent-item.is c.in-Some.ensures.name loop.invariant.asked in
     let full : length loop.files.items ≡ loop.number = omega (arith, loop.invariant.there, c.if-number-len.false, c.len.ensures) in
     let more = c.in_ok-open_file.ensures.ok in
-    let one : ◌≡◌ {A = ℕ} (cond (has_file c.extent-item.result) 1 0) 1 = ap (λ t. cond t 1 0) (sym c.in-Some.ensures.some) in record {
+    let one : ◌≡◌ {A = ℕ} (cond (has_file c.extent-item.result) 1 0) 1 = ap (λ t. cond t 1 0) (sym c.in-Some.ensures.some_if_file) in record {
       asked = omega (
         arith,
         loop.invariant.asked,

@@ -11,6 +11,6 @@ returns-clause-ok c =
     let xs = c.in_ok-extents.extents.items in
     IfOk-weaker c.new.result _ _
     (λ d made. rw made.0 (accepted c.args.text.now (kept_extents xs) c.in_ok-text_of.ensures.ok.1 (omega arith) (search rules)
-    (ap extents_of (sym c.split_line.ensures.rest) ∙ c.in_ok-extents.ensures.ok)
+    (ap extents_of (sym c.split_line.ensures.remainder) ∙ c.in_ok-extents.ensures.ok)
     (rw (size_kept xs) made.1)))
     c.new.ensures.ok

@@ -8,8 +8,8 @@ pub returns-then-end-text-clause-first : goal.returns-then-end-text-clause-first
 returns-then-end-text-clause-first c =
     c.split_at.ensures.front ∙ first_to_end c.args.text.now c.byte_at-end.result c.byte_at-end.ensures.value c.if-end-text.true
 
-pub returns-then-end-text-clause-rest : goal.returns-then-end-text-clause-rest
-returns-then-end-text-clause-rest c =
+pub returns-then-end-text-clause-remainder : goal.returns-then-end-text-clause-remainder
+returns-then-end-text-clause-remainder c =
     ap lines c.split_at.ensures.back ∙ rest_to_end c.args.text.now c.byte_at-end.result c.byte_at-end.ensures.value c.if-end-text.true
 
 pub returns-then-end-text-clause-whole : goal.returns-then-end-text-clause-whole
@@ -26,8 +26,8 @@ here c =
 pub returns-clause-first : goal.returns-clause-first
 returns-clause-first c = sym (ap (λ xs. get_or xs 0 []) (here c))
 
-pub returns-clause-rest : goal.returns-clause-rest
-returns-clause-rest c = sym (ap (λ xs. drop 1 xs) (here c))
+pub returns-clause-remainder : goal.returns-clause-remainder
+returns-clause-remainder c = sym (ap (λ xs. drop 1 xs) (here c))
 
 pub returns-clause-whole : goal.returns-clause-whole
 returns-clause-whole c = λ _. here c

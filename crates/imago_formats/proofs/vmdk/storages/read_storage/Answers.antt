@@ -11,16 +11,16 @@ use Rattle.imago_access.proofs.FilePairs.{kept_all_same, faultless_all_same}
 use Rattle.imago_formats.proofs.StorageLemmas.{kept_first, read_first_whole, read_at_cause, read_at_kept, read_at_whole, byte_beyond, byte_within, passes_within, same_at, overflow_beyond, overflow_within, zero_at, on_ok_reads}
 use Rattle.imago_formats.proofs.vmdk.storages.read_storage.Goals as goal
 
-pub returns-then-storage-eq0-clause-kept : goal.returns-then-storage-eq0-clause-kept
-returns-then-storage-eq0-clause-kept g c =
+pub returns-then-storage-eq0-clause-unchanged_but_faults : goal.returns-then-storage-eq0-clause-unchanged_but_faults
+returns-then-storage-eq0-clause-unchanged_but_faults g c =
     let state = g.S.Storage.state in
-    kept_first (state c.args.image.now) (state c.read.new.self) (map state c.args.files.now) (c.read.ensures.kept, c.read.ensures.later.faults)
+    kept_first (state c.args.image.now) (state c.read.new.self) (map state c.args.files.now) (c.read.ensures.unchanged_but_faults, c.read.ensures.counts_not_fallen.faults)
 
 pub returns-then-storage-eq0-clause-whole : goal.returns-then-storage-eq0-clause-whole
 returns-then-storage-eq0-clause-whole g c =
     let state = g.S.Storage.state in
     read_first_whole c.read.result (state c.args.image.now) (state c.read.new.self) (map state c.args.files.now) c.args.place (length c.args.buf.now)
-    c.read.ensures.kept c.read.ensures.faults c.read.ensures.err
+    c.read.ensures.unchanged_but_faults c.read.ensures.faults c.read.ensures.err
 
 pub returns-then-storage-eq0-clause-cause : goal.returns-then-storage-eq0-clause-cause
 returns-then-storage-eq0-clause-cause g c =
@@ -30,10 +30,10 @@ returns-then-storage-eq0-clause-cause g c =
     let n = length c.args.buf.now in
     rw c.if-storage-eq0.true (IfErr-weaker c.read.result (NotRead image new c.args.place n)
     (FileReadCause (Overflows (unit_of image.shape) c.args.place n) olds (new ∷ fs))
-    (λ e. cause_of_first image new fs c.args.place n e c.read.ensures.kept) c.read.ensures.err)
+    (λ e. cause_of_first image new fs c.args.place n e c.read.ensures.unchanged_but_faults) c.read.ensures.err)
 
-pub returns-then-storage-files-clause-kept : goal.returns-then-storage-files-clause-kept
-returns-then-storage-files-clause-kept g c = let state = g.S.Storage.state in kept_all_same (state c.args.image.now ∷ map state c.args.files.now)
+pub returns-then-storage-files-clause-unchanged_but_faults : goal.returns-then-storage-files-clause-unchanged_but_faults
+returns-then-storage-files-clause-unchanged_but_faults g c = let state = g.S.Storage.state in kept_all_same (state c.args.image.now ∷ map state c.args.files.now)
 
 pub returns-then-storage-files-clause-whole : goal.returns-then-storage-files-clause-whole
 returns-then-storage-files-clause-whole g c = λ whole. let state = g.S.Storage.state in faultless_all_same (state c.args.image.now ∷ map state c.args.files.now)
@@ -61,13 +61,13 @@ returns-clause-bytes g c =
     on_ok_reads c.read-2.result _ _ c.read-2.ensures.ok (λ reads i low. reads i (omega (arith, low, c.read-2.auto.buf))
     ∙ sym (byte_within state (state c.args.image.now) files c.args.storage c.index-files-storage.result (c.args.place + i) some inside))
 
-pub returns-clause-kept : goal.returns-clause-kept
-returns-clause-kept g c =
+pub returns-clause-unchanged_but_faults : goal.returns-clause-unchanged_but_faults
+returns-clause-unchanged_but_faults g c =
     let state = g.S.Storage.state in
     let some : 0 < c.args.storage = some_storage c.args.storage c.if-storage-eq0.false in
     let inside : c.args.storage - 1 < length c.args.files.now = omega (arith, some, c.if-storage-files.false) in
     read_at_kept state (state c.args.image.now) c.args.files.now (c.args.storage - 1) c.index-files-storage.result c.read-2.new.self inside
-    (c.read-2.ensures.kept, c.read-2.ensures.later.faults)
+    (c.read-2.ensures.unchanged_but_faults, c.read-2.ensures.counts_not_fallen.faults)
 
 pub returns-clause-whole : goal.returns-clause-whole
 returns-clause-whole g c =
@@ -75,7 +75,7 @@ returns-clause-whole g c =
     let some : 0 < c.args.storage = some_storage c.args.storage c.if-storage-eq0.false in
     let inside : c.args.storage - 1 < length c.args.files.now = omega (arith, some, c.if-storage-files.false) in
     read_at_whole state c.read-2.result (state c.args.image.now) c.args.files.now (c.args.storage - 1) c.index-files-storage.result c.read-2.new.self
-    c.args.place (length c.args.buf.now) inside c.read-2.ensures.kept c.read-2.ensures.faults c.read-2.ensures.err
+    c.args.place (length c.args.buf.now) inside c.read-2.ensures.unchanged_but_faults c.read-2.ensures.faults c.read-2.ensures.err
 
 pub returns-clause-cause : goal.returns-clause-cause
 returns-clause-cause g c =
@@ -90,7 +90,7 @@ returns-clause-cause g c =
     (λ e why. cause_more (Overflows (unit_of (state (get_or files (c.args.storage - 1) file)).shape) c.args.place n)
     (OverflowsIn (image ∷ map state files) c.args.storage c.args.place n) (image ∷ map state files) news e
     (passes_within state image files c.args.storage file c.args.place n some inside)
-    (read_at_cause state image files (c.args.storage - 1) file c.read-2.new.self c.args.place n e inside c.read-2.ensures.kept why)) c.read-2.ensures.err
+    (read_at_cause state image files (c.args.storage - 1) file c.read-2.new.self c.args.place n e inside c.read-2.ensures.unchanged_but_faults why)) c.read-2.ensures.err
 
 pub returns-clause-empty : goal.returns-clause-empty
 returns-clause-empty g c = λ none.

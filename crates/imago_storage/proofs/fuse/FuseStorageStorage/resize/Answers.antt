@@ -11,13 +11,13 @@ pub returns-then-refuses-clause-shape : goal.returns-then-refuses-clause-shape
 unfolding fuse_state
 returns-then-refuses-clause-shape g c = ap (λ s. (g.S.Storage.state s).shape) c.refuses.ensures.inner
 
-pub returns-then-refuses-clause-later : goal.returns-then-refuses-clause-later
+pub returns-then-refuses-clause-counts_not_fallen : goal.returns-then-refuses-clause-counts_not_fallen
 unfolding fuse_state
-returns-then-refuses-clause-later g c = tripped-later _ _ _ _ _ _ (ap g.S.Storage.state c.refuses.ensures.inner) c.if-refuses.ensures.faults c.if-refuses.ensures.refusals
+returns-then-refuses-clause-counts_not_fallen g c = tripped-later _ _ _ _ _ _ (ap g.S.Storage.state c.refuses.ensures.inner) c.if-refuses.ensures.faults c.if-refuses.ensures.refusals
 
-pub returns-then-refuses-clause-once : goal.returns-then-refuses-clause-once
+pub returns-then-refuses-clause-single_request : goal.returns-then-refuses-clause-single_request
 unfolding fuse_state
-returns-then-refuses-clause-once g c = tripped-once _ _ _ _ _ _ (ap g.S.Storage.state c.refuses.ensures.inner) c.if-refuses.ensures.faults c.if-refuses.ensures.refusals
+returns-then-refuses-clause-single_request g c = tripped-once _ _ _ _ _ _ (ap g.S.Storage.state c.refuses.ensures.inner) c.if-refuses.ensures.faults c.if-refuses.ensures.refusals
 
 pub returns-then-refuses-clause-counted : goal.returns-then-refuses-clause-counted
 returns-then-refuses-clause-counted g c = counted-trip c.args.self.now c.refuses.new.self c.refuses.ensures.count c.refuses.ensures.call c.if-refuses.ensures.nth c.refuses.ensures.inner
@@ -34,13 +34,13 @@ pub returns-clause-shape : goal.returns-clause-shape
 unfolding fuse_state
 returns-clause-shape g c = c.resize.ensures.shape ∙ ap (λ s. (g.S.Storage.state s).shape) c.refuses.ensures.inner
 
-pub returns-clause-later : goal.returns-clause-later
+pub returns-clause-counts_not_fallen : goal.returns-clause-counts_not_fallen
 unfolding fuse_state
-returns-clause-later g c = passed-later _ _ _ _ _ _ _ (ap g.S.Storage.state c.refuses.ensures.inner) c.if-refuses.ensures.faults c.if-refuses.ensures.refusals c.resize.ensures.later
+returns-clause-counts_not_fallen g c = passed-later _ _ _ _ _ _ _ (ap g.S.Storage.state c.refuses.ensures.inner) c.if-refuses.ensures.faults c.if-refuses.ensures.refusals c.resize.ensures.counts_not_fallen
 
-pub returns-clause-once : goal.returns-clause-once
+pub returns-clause-single_request : goal.returns-clause-single_request
 unfolding fuse_state
-returns-clause-once g c = passed-once _ _ _ _ _ _ (g.S.Storage.state c.resize.new.self) (ap g.S.Storage.state c.refuses.ensures.inner) c.if-refuses.ensures.faults c.if-refuses.ensures.refusals _ c.resize.ensures.once
+returns-clause-single_request g c = passed-once _ _ _ _ _ _ (g.S.Storage.state c.resize.new.self) (ap g.S.Storage.state c.refuses.ensures.inner) c.if-refuses.ensures.faults c.if-refuses.ensures.refusals _ c.resize.ensures.single_request
 
 pub returns-clause-counted : goal.returns-clause-counted
 returns-clause-counted g c = counted-pass c.args.self.now _ c.refuses.ensures.count c.refuses.ensures.call _ c.if-refuses.ensures.nth c.if-refuses.ensures.faults c.if-refuses.ensures.refusals

@@ -18,13 +18,13 @@ pub returns-in_err-keep-clause-shape : goal.returns-in_err-keep-clause-shape
 unfolding log_state
 returns-in_err-keep-clause-shape g c = ap (λ (s : Shape). record s { tells = true }) (ap (λ s. (g.S.Storage.state s).shape) c.keep.ensures.inner)
 
-pub returns-in_err-keep-clause-later : goal.returns-in_err-keep-clause-later
+pub returns-in_err-keep-clause-counts_not_fallen : goal.returns-in_err-keep-clause-counts_not_fallen
 unfolding log_state
-returns-in_err-keep-clause-later g c = full-later _ _ _ _ _ _ _ _ (ap (λ b. b.items) c.keep.ensures.base) c.in_err-keep.ensures.err_requests c.in_err-keep.ensures.err_refusals (ap g.S.Storage.state c.keep.ensures.inner)
+returns-in_err-keep-clause-counts_not_fallen g c = full-later _ _ _ _ _ _ _ _ (ap (λ b. b.items) c.keep.ensures.base) c.in_err-keep.ensures.err_requests c.in_err-keep.ensures.err_refusals (ap g.S.Storage.state c.keep.ensures.inner)
 
-pub returns-in_err-keep-clause-once : goal.returns-in_err-keep-clause-once
+pub returns-in_err-keep-clause-single_request : goal.returns-in_err-keep-clause-single_request
 unfolding log_state
-returns-in_err-keep-clause-once g c = full-once _ _ _ _ _ _ _ _ (ap (λ b. b.items) c.keep.ensures.base) c.in_err-keep.ensures.err_requests c.in_err-keep.ensures.err_refusals (ap g.S.Storage.state c.keep.ensures.inner) _ (handed-on _ _ _ c.from_residual.ensures.1 c.in_err-keep.ensures.err)
+returns-in_err-keep-clause-single_request g c = full-once _ _ _ _ _ _ _ _ (ap (λ b. b.items) c.keep.ensures.base) c.in_err-keep.ensures.err_requests c.in_err-keep.ensures.err_refusals (ap g.S.Storage.state c.keep.ensures.inner) _ (handed-on _ _ _ c.from_residual.ensures.1 c.in_err-keep.ensures.err)
 
 pub returns-in_err-keep-clause-noted : goal.returns-in_err-keep-clause-noted
 returns-in_err-keep-clause-noted g c = noted-full g.S.Storage.state (λ request. request ≡ Zeroes c.args.offset c.args.length) c.args.self.now c.keep.new.self c.keep.ensures.base _ (handed-on _ _ _ c.from_residual.ensures.1 c.in_err-keep.ensures.err) c.keep.ensures.inner c.in_err-keep.ensures.err_requests
@@ -39,13 +39,13 @@ pub returns-in-Ok-clause-shape : goal.returns-in-Ok-clause-shape
 unfolding log_state
 returns-in-Ok-clause-shape g c = ap (λ (s : Shape). record s { tells = true }) (c.in-Ok.ensures.shape ∙ ap (λ s. (g.S.Storage.state s).shape) c.keep.ensures.inner)
 
-pub returns-in-Ok-clause-later : goal.returns-in-Ok-clause-later
+pub returns-in-Ok-clause-counts_not_fallen : goal.returns-in-Ok-clause-counts_not_fallen
 unfolding log_state
-returns-in-Ok-clause-later g c = logged-later c.args.self.now.base.items c.keep.new.self.base.items c.args.self.now.requests.items c.keep.new.self.requests.items _ _ _ _ (g.S.Storage.state c.pure_write_zeroes.new.self) _ c.in_ok-keep.ensures.ok_refusals (ap g.S.Storage.state c.keep.ensures.inner) refl c.in-Ok.ensures.later
+returns-in-Ok-clause-counts_not_fallen g c = logged-later c.args.self.now.base.items c.keep.new.self.base.items c.args.self.now.requests.items c.keep.new.self.requests.items _ _ _ _ (g.S.Storage.state c.pure_write_zeroes.new.self) _ c.in_ok-keep.ensures.ok_refusals (ap g.S.Storage.state c.keep.ensures.inner) refl c.in-Ok.ensures.counts_not_fallen
 
-pub returns-in-Ok-clause-once : goal.returns-in-Ok-clause-once
+pub returns-in-Ok-clause-single_request : goal.returns-in-Ok-clause-single_request
 unfolding log_state
-returns-in-Ok-clause-once g c = λ _. request_pushed _ _ _ _ _ (ap (λ b. b.items) c.keep.ensures.base) c.in_ok-keep.ensures.ok
+returns-in-Ok-clause-single_request g c = λ _. request_pushed _ _ _ _ _ (ap (λ b. b.items) c.keep.ensures.base) c.in_ok-keep.ensures.ok
 
 pub returns-in-Ok-clause-noted : goal.returns-in-Ok-clause-noted
 returns-in-Ok-clause-noted g c = noted-ok g.S.Storage.state (λ request. request ≡ Zeroes c.args.offset c.args.length) c.args.self.now _ c.keep.ensures.base _ (Zeroes c.args.offset c.args.length) refl c.in_ok-keep.ensures.ok
@@ -58,13 +58,13 @@ pub returns-in-Err-clause-shape : goal.returns-in-Err-clause-shape
 unfolding log_state
 returns-in-Err-clause-shape g c = ap (λ (s : Shape). record s { tells = true }) (ap (λ s. (g.S.Storage.state s).shape) c.forget.ensures.inner ∙ c.in-Err.ensures.shape ∙ ap (λ s. (g.S.Storage.state s).shape) c.keep.ensures.inner)
 
-pub returns-in-Err-clause-later : goal.returns-in-Err-clause-later
+pub returns-in-Err-clause-counts_not_fallen : goal.returns-in-Err-clause-counts_not_fallen
 unfolding log_state
-returns-in-Err-clause-later g c = logged-later c.args.self.now.base.items c.forget.new.self.base.items c.args.self.now.requests.items c.forget.new.self.requests.items _ _ _ _ _ _ (c.forget.ensures.refusals ∙ c.in_ok-keep.ensures.ok_refusals) (ap g.S.Storage.state c.keep.ensures.inner) (ap g.S.Storage.state c.forget.ensures.inner) c.in-Err.ensures.later
+returns-in-Err-clause-counts_not_fallen g c = logged-later c.args.self.now.base.items c.forget.new.self.base.items c.args.self.now.requests.items c.forget.new.self.requests.items _ _ _ _ _ _ (c.forget.ensures.refusals ∙ c.in_ok-keep.ensures.ok_refusals) (ap g.S.Storage.state c.keep.ensures.inner) (ap g.S.Storage.state c.forget.ensures.inner) c.in-Err.ensures.counts_not_fallen
 
-pub returns-in-Err-clause-once : goal.returns-in-Err-clause-once
+pub returns-in-Err-clause-single_request : goal.returns-in-Err-clause-single_request
 unfolding log_state
-returns-in-Err-clause-once g c = replayed-same _ _ _ _ (ap (λ b. b.items) (c.forget.ensures.base ∙ c.keep.ensures.base)) (c.forget.ensures.requests _ _ c.in_ok-keep.ensures.ok)
+returns-in-Err-clause-single_request g c = replayed-same _ _ _ _ (ap (λ b. b.items) (c.forget.ensures.base ∙ c.keep.ensures.base)) (c.forget.ensures.requests _ _ c.in_ok-keep.ensures.ok)
 
 pub returns-in-Err-clause-noted : goal.returns-in-Err-clause-noted
 returns-in-Err-clause-noted g c = noted-refused g.S.Storage.state (λ request. request ≡ Zeroes c.args.offset c.args.length) c.args.self.now c.forget.new.self (c.forget.ensures.base ∙ c.keep.ensures.base) _ _ c.in-Err.e (ap g.S.Storage.state c.keep.ensures.inner) (ap g.S.Storage.state c.forget.ensures.inner) (c.forget.ensures.requests _ _ c.in_ok-keep.ensures.ok) (rose-zeroing _ _ c.args.offset c.args.length c.in-Err.e c.in-Err.ensures.err)

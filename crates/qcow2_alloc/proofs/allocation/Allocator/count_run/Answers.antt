@@ -1,8 +1,8 @@
 use Rattle.std.proofs.Common.{◌≡◌, ◌+◌, ℕ, arith, subst}
-use Rattle.qcow2_alloc.specs.Allocating.{RaisesCluster, CountsRun}
+use Rattle.qcow2_alloc.specs.Allocating.{IncrementsCluster, CountsRun}
 use Rattle.qcow2_alloc.specs.Allocators.{table_of}
 use Rattle.qcow2_alloc.specs.Caches.{cached_file}
-use Rattle.qcow2_alloc.specs.State.{lent}
+use Rattle.qcow2_alloc.specs.State.{image_state}
 use Rattle.qcow2_alloc.proofs.Blocks.ClusterCounts.{succeeded, cluster-counted}
 use Rattle.qcow2_alloc.proofs.Blocks.RunCounts.{run-none, run-then, run-within}
 use Rattle.qcow2_alloc.proofs.Freeing.EntryFrees.{failed}
@@ -22,7 +22,7 @@ returns-in_err-count_cluster g c = rw (handed-on _ _ c.from_residual.ensures.1) 
     run-within state table pending c.args.first (l.index + 1) c.args.count (omega (arith, inside)) c.args.caches.now c.args.file.now c.in_err-count_cluster.field-0.0 new.caches new.file
     (run-then state table pending c.args.first l.index c.args.caches.now c.args.file.now l.caches l.file (failed c.in_err-count_cluster.field-0.0) new.caches new.file (l.invariant pending)
     (cluster-counted state table pending (c.args.first + l.index) l.caches l.file (failed c.in_err-count_cluster.field-0.0) new.caches new.file
-    (subst (λ (n : ℕ). RaisesCluster state table (n + l.index) (cached_file l.caches l.file) (failed c.in_err-count_cluster.field-0.0) (cached_file new.caches new.file)) c.first.view_is c.in_err-count_cluster.ensures))))
+    (subst (λ (n : ℕ). IncrementsCluster state table (n + l.index) (cached_file l.caches l.file) (failed c.in_err-count_cluster.field-0.0) (cached_file new.caches new.file)) c.first.view_is c.in_err-count_cluster.ensures))))
 
 pub loop-index-preserved : goal.loop-index-preserved
 loop-index-preserved g c = λ pending.
@@ -32,7 +32,7 @@ loop-index-preserved g c = λ pending.
     let new = c.count_cluster.new in
     run-then state table pending c.args.first l.index c.args.caches.now c.args.file.now l.caches l.file succeeded new.caches new.file (l.invariant pending)
     (cluster-counted state table pending (c.args.first + l.index) l.caches l.file succeeded new.caches new.file
-    (subst (λ (n : ℕ). RaisesCluster state table (n + l.index) (cached_file l.caches l.file) succeeded (cached_file new.caches new.file)) c.first.view_is c.in_ok-count_cluster.ensures))
+    (subst (λ (n : ℕ). IncrementsCluster state table (n + l.index) (cached_file l.caches l.file) succeeded (cached_file new.caches new.file)) c.first.view_is c.in_ok-count_cluster.ensures))
 
 pub returns : goal.returns
 returns g c = λ pending.
@@ -40,4 +40,4 @@ returns g c = λ pending.
     let past = c.loop-index-test.false in
     let end = l.auto.index-end in
     let all : l.index ≡ c.args.count = omega (arith, past, end) in
-    subst (λ (n : ℕ). CountsRun g.S.Storage.state c.args.first n (lent (table_of c.args.self.now) c.args.caches.now c.args.file.now pending) succeeded (lent (table_of c.args.self.now) l.caches l.file pending)) all (l.invariant pending)
+    subst (λ (n : ℕ). CountsRun g.S.Storage.state c.args.first n (image_state (table_of c.args.self.now) c.args.caches.now c.args.file.now pending) succeeded (image_state (table_of c.args.self.now) l.caches l.file pending)) all (l.invariant pending)

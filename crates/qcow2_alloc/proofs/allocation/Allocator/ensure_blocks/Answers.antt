@@ -9,11 +9,11 @@ use Rattle.qcow2_alloc.specs.declared.file.ImageFile.{ImageFile}
 use Rattle.qcow2_alloc.specs.Allocating.{MakesBlocks}
 use Rattle.std.specs.Prelude.{IsTrue}
 use Rattle.qcow2_alloc.specs.declared.cache.CacheDependency.TheVariants.{L2DependsOnRb}
-use Rattle.qcow2_alloc.specs.Allocators.{metadata_of, table_of, mark_of}
+use Rattle.qcow2_alloc.specs.Allocators.{metadata_of, table_of, first_free_of}
 use Rattle.qcow2_alloc.specs.Caches.{order_of}
 use Rattle.qcow2_alloc.specs.FillingBlocks.{FillsFrom, IsBlockPlaced}
-use Rattle.qcow2_alloc.specs.Quiet.{IsSound}
-use Rattle.qcow2_alloc.specs.State.{lent}
+use Rattle.qcow2_alloc.specs.GuestView.{IsSound}
+use Rattle.qcow2_alloc.specs.State.{image_state}
 use Rattle.qcow2_alloc.proofs.Blocks.BlockRowPlaces.{fills-none, fills-there, turn-fills}
 use Rattle.qcow2_alloc.proofs.Blocks.BlockRows.{so, blocks-none, blocks-there, blocks-then, blocks-within}
 use Rattle.qcow2_alloc.proofs.Freeing.EntryFrees.{failed}
@@ -27,7 +27,7 @@ pub loop-index-init : goal.loop-index-init
 loop-index-init g c = (
   λ pending. blocks-none g.S.Storage.state pending c.args.first (table_of c.args.self.now) c.args.caches.now c.args.file.now,
   refl,
-  λ pending order keeps sound. fills-none (mark_of c.args.self.now) c.args.first (metadata_of g.S.Storage.state c.args.file.now c.args.caches.now (table_of c.args.self.now) pending),
+  λ pending order keeps sound. fills-none (first_free_of c.args.self.now) c.args.first (metadata_of g.S.Storage.state c.args.file.now c.args.caches.now (table_of c.args.self.now) pending),
 )
 
 pub make_block-requires-clause-inside : goal.make_block-requires-clause-inside
@@ -59,7 +59,7 @@ loop-index-preserved g c = elim c.if-is_none.branch [
             (named-none (table_of l.self) l.index (ap (λ (o : Option ℕ). is_some o) (sym c.block_cluster.ensures) ∙ w.if-is_none.ensures)) l.auto.index succeeded (table_of new.self) new.caches new.file (w.in_ok-make_block.ensures.makes pending)),
         w.in_ok-make_block.ensures.mark ∙ l.invariant.1,
         λ pending order keeps sound.
-            turn-fills g.S.Storage.state (mark_of c.args.self.now) (lent (table_of c.args.self.now) c.args.caches.now c.args.file.now pending) c.args.first l.index l.provision (table_of l.self) l.caches l.file (l.invariant.0 pending)
+            turn-fills g.S.Storage.state (first_free_of c.args.self.now) (image_state (table_of c.args.self.now) c.args.caches.now c.args.file.now pending) c.args.first l.index l.provision (table_of l.self) l.caches l.file (l.invariant.0 pending)
             (named-none (table_of l.self) l.index (ap (λ (o : Option ℕ). is_some o) (sym c.block_cluster.ensures) ∙ w.if-is_none.ensures)) l.auto.index (table_of new.self) new.caches new.file (w.in_ok-make_block.ensures.makes pending)
             (subst (λ (m : ℕ). order_of l.caches ≡ L2DependsOnRb → IsTrue (g.S.Storage.state l.file.image).shape.keeps → IsSound (metadata_of g.S.Storage.state l.file l.caches (table_of l.self) pending)
             → IsBlockPlaced m l.index (metadata_of g.S.Storage.state l.file l.caches (table_of l.self) pending) (metadata_of g.S.Storage.state new.file new.caches (table_of new.self) pending)) l.invariant.1 (w.in_ok-make_block.ensures.placed pending))
@@ -70,14 +70,14 @@ loop-index-preserved g c = elim c.if-is_none.branch [
       so_still l.provision l.self l.caches l.file w.provision-is w.self-is w.caches-is w.file-is (
         (λ pending. blocks-there g.S.Storage.state pending c.args.first l.index (table_of c.args.self.now) c.args.caches.now c.args.file.now l.provision (table_of l.self) l.caches l.file (l.invariant.0 pending) (named-some (table_of l.self) l.index (ap (λ (o : Option ℕ). is_some o) (sym c.block_cluster.ensures) ∙ w.if-is_none.ensures))),
         l.invariant.1,
-        λ pending order keeps sound. fills-there (mark_of c.args.self.now) c.args.first (metadata_of g.S.Storage.state c.args.file.now c.args.caches.now (table_of c.args.self.now) pending) l.index (metadata_of g.S.Storage.state l.file l.caches (table_of l.self) pending) (l.invariant.2 pending order keeps sound),
+        λ pending order keeps sound. fills-there (first_free_of c.args.self.now) c.args.first (metadata_of g.S.Storage.state c.args.file.now c.args.caches.now (table_of c.args.self.now) pending) l.index (metadata_of g.S.Storage.state l.file l.caches (table_of l.self) pending) (l.invariant.2 pending order keeps sound),
       )
 ]
   where
     P : Provision → Allocator → MetadataCaches g.row.S.Denot → ImageFile g.row.S.Denot → Type 0
-    P b s ca f = ((pending : List FreeEntry) → MakesBlocks g.S.Storage.state c.args.first (c.loop-index.index + 1) (lent (table_of c.args.self.now) c.args.caches.now c.args.file.now pending) (so b) (lent (table_of s) ca f pending)) × (mark_of s ≡ mark_of c.args.self.now)
+    P b s ca f = ((pending : List FreeEntry) → MakesBlocks g.S.Storage.state c.args.first (c.loop-index.index + 1) (image_state (table_of c.args.self.now) c.args.caches.now c.args.file.now pending) (so b) (image_state (table_of s) ca f pending)) × (first_free_of s ≡ first_free_of c.args.self.now)
         × ((pending : List FreeEntry) → order_of c.args.caches.now ≡ L2DependsOnRb → IsTrue (g.S.Storage.state c.args.file.now.image).shape.keeps → IsSound (metadata_of g.S.Storage.state c.args.file.now c.args.caches.now (table_of c.args.self.now) pending)
-        → FillsFrom (mark_of c.args.self.now) c.args.first (c.loop-index.index + 1) (metadata_of g.S.Storage.state c.args.file.now c.args.caches.now (table_of c.args.self.now) pending) (metadata_of g.S.Storage.state f ca (table_of s) pending))
+        → FillsFrom (first_free_of c.args.self.now) c.args.first (c.loop-index.index + 1) (metadata_of g.S.Storage.state c.args.file.now c.args.caches.now (table_of c.args.self.now) pending) (metadata_of g.S.Storage.state f ca (table_of s) pending))
 
     so_still : (b : Provision) (s : Allocator) (ca : MetadataCaches g.row.S.Denot) (f : ImageFile g.row.S.Denot) → c.if-is_none.provision ≡ b → c.if-is_none.self ≡ s → c.if-is_none.caches ≡ ca → c.if-is_none.file ≡ f → P b s ca f
         → P c.if-is_none.provision c.if-is_none.self c.if-is_none.caches c.if-is_none.file
@@ -93,7 +93,7 @@ returns-clause-makes g c = λ pending.
     let past = c.loop-index-test.false in
     let end = l.auto.index-end c.requires.order in
     let all : l.index ≡ c.args.end = omega (arith, past, end) in
-    subst (λ (n : ℕ). MakesBlocks g.S.Storage.state c.args.first n (lent (table_of c.args.self.now) c.args.caches.now c.args.file.now pending) (so l.provision) (lent (table_of l.self) l.caches l.file pending)) all (l.invariant.0 pending)
+    subst (λ (n : ℕ). MakesBlocks g.S.Storage.state c.args.first n (image_state (table_of c.args.self.now) c.args.caches.now c.args.file.now pending) (so l.provision) (image_state (table_of l.self) l.caches l.file pending)) all (l.invariant.0 pending)
 
 pub returns-clause-fills : goal.returns-clause-fills
 returns-clause-fills g c = λ pending order keeps sound.
@@ -101,4 +101,4 @@ returns-clause-fills g c = λ pending order keeps sound.
     let past = c.loop-index-test.false in
     let end = l.auto.index-end c.requires.order in
     let all : l.index ≡ c.args.end = omega (arith, past, end) in
-    subst (λ (n : ℕ). FillsFrom (mark_of c.args.self.now) c.args.first n (metadata_of g.S.Storage.state c.args.file.now c.args.caches.now (table_of c.args.self.now) pending) (metadata_of g.S.Storage.state l.file l.caches (table_of l.self) pending)) all (l.invariant.2 pending order keeps sound)
+    subst (λ (n : ℕ). FillsFrom (first_free_of c.args.self.now) c.args.first n (metadata_of g.S.Storage.state c.args.file.now c.args.caches.now (table_of c.args.self.now) pending) (metadata_of g.S.Storage.state l.file l.caches (table_of l.self) pending)) all (l.invariant.2 pending order keeps sound)

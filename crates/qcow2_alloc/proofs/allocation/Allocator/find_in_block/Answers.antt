@@ -2,7 +2,7 @@ use Rattle.std.proofs.Common.{◌≡◌, ◌+◌, ◌*◌, ◌/◌, ◌%◌, ◌
 use Rattle.std.specs.Prelude.{Option}
 use Rattle.imago_storage.specs.declared.fault.Fault.{Fault}
 use Rattle.qcow2_types.specs.Counts.{counters_of_block}
-use Rattle.qcow2_alloc.specs.Allocators.{table_of, named_block, UsesBlock}
+use Rattle.qcow2_alloc.specs.Allocators.{table_of, referenced_block, UsesBlock}
 use Rattle.qcow2_alloc.specs.Caches.{cached_file}
 use Rattle.qcow2_alloc.specs.Scanning.{FindsZero, Reads}
 use Rattle.qcow2_alloc.specs.SearchingClusters.{LooksForFree}
@@ -19,8 +19,8 @@ k g c = counters_of_block c.args.file.now.header.fields
 at : (g : Over) (c : After-find_zero_in g) → (c.rt_rb_indices-rt_index.result.0 ≡ c.args.from / k g c) × (c.rt_rb_indices-rt_index.result.1 ≡ c.args.from % k g c)
 at g c = indices c.args.from c.args.from c.rb_bits-rb_bits.result (k g c) c.rt_rb_indices-rt_index.result c.rt_rb_indices-rt_index.ensures refl c.rb_bits-rb_bits.ensures.entries
 
-named : (g : Over) (c : After-find_zero_in g) → named_block (table_of c.args.self.now) (c.args.from / k g c) ≡ Some c.in-Some.rb_cluster
-named g c = ap (λ n. named_block (table_of c.args.self.now) n) (sym (at g c).0) ∙ sym c.block_cluster.ensures ∙ c.in-Some.is
+named : (g : Over) (c : After-find_zero_in g) → referenced_block (table_of c.args.self.now) (c.args.from / k g c) ≡ Some c.in-Some.rb_cluster
+named g c = ap (λ n. referenced_block (table_of c.args.self.now) n) (sym (at g c).0) ∙ sym c.block_cluster.ensures ∙ c.in-Some.is
 
 abbrev Uses : (g : Over) (c : After-find_zero_in g) → Result (Option ℕ) Fault → Type 0
 Uses g c result = UsesBlock g.S.Storage.state c.in-Some.rb_cluster (Reads {T = Option ℕ} (k g c) (FindsZero (c.args.from % k g c))) (cached_file c.args.caches.now c.args.file.now) result (cached_file c.find_zero_in.new.caches c.find_zero_in.new.file)
@@ -48,7 +48,7 @@ returns-in_default g c =
     let size = counters_of_block c.args.file.now.header.fields in
     let table = table_of c.args.self.now in
     let own = indices c.args.from c.args.from c.rb_bits-rb_bits.result size c.rt_rb_indices-rt_index.result c.rt_rb_indices-rt_index.ensures refl c.rb_bits-rb_bits.ensures.entries in
-    finds-none g.S.Storage.state table c.args.from c.args.caches.now c.args.file.now (ap (λ n. named_block table n) (sym own.0) ∙ sym c.block_cluster.ensures ∙ c.in_default.is)
+    finds-none g.S.Storage.state table c.args.from c.args.caches.now c.args.file.now (ap (λ n. referenced_block table n) (sym own.0) ∙ sym c.block_cluster.ensures ∙ c.in_default.is)
 
 pub from_ref_indices-requires-clause-in_block : goal.from_ref_indices-requires-clause-in_block
 from_ref_indices-requires-clause-in_block g c =
@@ -65,7 +65,7 @@ from_ref_indices-requires-clause-fits g c =
     let lt = inside g d c.in-Some-2.index (c.in_ok-index.was ∙ ap (λ (o : Option ℕ). Ok o) c.in-Some-2.is) in
     let start = base g d in
     let bits = c.rb_bits-rb_bits.ensures in
-    let few = few-clusters (c.args.from / k g d) (k g d) (length (table_of c.args.self.now).words) c.rb_bits-rb_bits.result c.requires c.args.self.now.few bits.entries bits.bounds.1 in
+    let few = few-clusters (c.args.from / k g d) (k g d) (length (table_of c.args.self.now).raw_entries) c.rb_bits-rb_bits.result c.requires c.args.self.now.table_bounded bits.entries bits.bounds.1 in
     omega (arith, lt, start, few)
 
 pub returns-in-Some-2 : goal.returns-in-Some-2

@@ -23,10 +23,10 @@ loop-run-preserved g c =
     let size : 2 ^ c.rb_bits-rb_bits.result ≡ k = bits.entries ∙ ap (λ (h : Header). counters_of_block h.fields) (sym c.loop-run.invariant.1) in
     let at : c.rt_index.result ≡ next_of c.loop-run.run / k = c.rt_index.ensures ∙ ap (λ n. n / 2 ^ c.rb_bits-rb_bits.result) c.next.ensures ∙ ap (λ n. next_of c.loop-run.run / n) size in
     let test = c.if-rt_index-entries.true in
-    let words = c.entries.ensures.value in
-    let inside : next_of c.loop-run.run / counters_of_block c.args.file.now.header.fields < length table.words = subst (λ (h : Header). next_of c.loop-run.run / counters_of_block h.fields < length table.words) c.loop-run.invariant.1 (omega (arith, test, words, at)) in
-    let few = few-clusters (next_of c.loop-run.run / k) k (length table.words) c.rb_bits-rb_bits.result (omega (arith, test, words, at)) c.entries.ensures.table.long size bits.bounds.1 in (
-      let near = extends.near in omega (arith, near, few),
+    let raw_entries = c.entries.ensures.value in
+    let inside : next_of c.loop-run.run / counters_of_block c.args.file.now.header.fields < length table.raw_entries = subst (λ (h : Header). next_of c.loop-run.run / counters_of_block h.fields < length table.raw_entries) c.loop-run.invariant.1 (omega (arith, test, raw_entries, at)) in
+    let few = few-clusters (next_of c.loop-run.run / k) k (length table.raw_entries) c.rb_bits-rb_bits.result (omega (arith, test, raw_entries, at)) c.entries.ensures.table.long size bits.bounds.1 in (
+      let near = extends.end_in_block in omega (arith, near, few),
       extends.looked.header ∙ c.loop-run.invariant.1,
       searched-then state table c.args.from c.args.count c.args.caches.now c.args.file.now c.loop-run.run c.loop-run.caches c.loop-run.file c.loop-run.invariant.2 inside c.in_ok-run.run' c.extend_run.new.caches c.extend_run.new.file extends,
     )
@@ -47,7 +47,7 @@ returns g c =
           searched-all state table c.args.from c.args.count c.args.caches.now c.args.file.now c.loop-run.run c.loop-run.caches c.loop-run.file c.loop-run.invariant.2
           (let at = w.rt_index.ensures ∙ ap (λ n. n / 2 ^ c.rb_bits-rb_bits.result) w.next.ensures ∙ ap (λ n. next_of c.loop-run.run / n) c.rb_bits-rb_bits.ensures.entries in
           let past = w.if-rt_index-entries.false in
-          let words = w.entries.ensures.value in
-          omega (arith, at, past, words))
+          let raw_entries = w.entries.ensures.value in
+          omega (arith, at, past, raw_entries))
       | else-loop-run-test w ↦ searched-long state table c.args.from c.args.count c.args.caches.now c.args.file.now c.loop-run.run c.loop-run.caches c.loop-run.file c.loop-run.invariant.2 w.loop-run-test.false
     ]

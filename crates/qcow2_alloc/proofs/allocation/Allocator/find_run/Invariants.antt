@@ -10,4 +10,4 @@ abbrev pub invariant-loop-run : goal.invariant-loop-run
 invariant-loop-run g l = (next_of l.run < 2 ^ 64) × (l.file.header ≡ l.fn.file.header) × RunSearched g.S.Storage.state (table_of l.fn.self) l.fn.from l.fn.count (cached_file l.fn.caches l.fn.file) l.run (cached_file l.caches l.file)
 
 abbrev pub decreases-loop-run : goal.decreases-loop-run
-decreases-loop-run g l = length (table_of l.fn.self).words * counters_of_block l.fn.file.header.fields - next_of l.run
+decreases-loop-run g l = length (table_of l.fn.self).raw_entries * counters_of_block l.fn.file.header.fields - next_of l.run

@@ -1,8 +1,8 @@
 use Rattle.std.proofs.Common.{◌≡◌, [], List, refl, sym, ap, ◌∙◌, subst, inl}
 use Rattle.qcow2_types.specs.Pending.{FreeEntry}
 use Rattle.qcow2_alloc.specs.Freeing.{IsSublist, data_in}
-use Rattle.qcow2_alloc.specs.Quiet.{metadata_in}
-use Rattle.qcow2_alloc.specs.State.{lent_to}
+use Rattle.qcow2_alloc.specs.GuestView.{metadata_in}
+use Rattle.qcow2_alloc.specs.State.{allocator_state}
 use Rattle.qcow2_alloc.proofs.Freeing.EntryFrees.{frees-none, frees-then, freed, failed}
 use Rattle.qcow2_alloc.proofs.Freeing.FreesInTurn.{metadata-found, none-found, data-stays, all-data}
 use Rattle.qcow2_alloc.proofs.Freeing.ListRemainders.{sublist-all, sublist-then, sublist-removed, data-not-shortened, rest-whole, rest-shortened, rest-with-data}
@@ -10,7 +10,7 @@ use Rattle.qcow2_alloc.proofs.Faults.{handed-on}
 use Rattle.qcow2_alloc.proofs.allocation.Allocator.free_metadata.Goals as goal
 
 pub loop-index-init : goal.loop-index-init
-loop-index-init g c = (refl, refl, refl, refl, sublist-all c.args.list.now.entries, frees-none g.S.Storage.state (lent_to c.args.self.now c.args.caches.now c.args.file.now c.args.list.now), λ none. (refl, refl, refl, refl))
+loop-index-init g c = (refl, refl, refl, refl, sublist-all c.args.list.now.entries, frees-none g.S.Storage.state (allocator_state c.args.self.now c.args.caches.now c.args.file.now c.args.list.now), λ none. (refl, refl, refl, refl))
 
 pub loop-index-preserved : goal.loop-index-preserved
 loop-index-preserved g c =
@@ -23,7 +23,7 @@ loop-index-preserved g c =
       c.free_entry.ensures.table ∙ same.2,
       ap data_in c.in_ok-free_entry.ensures.ok ∙ data-stays l.list.entries c.in-Some.index found.0 found.1 ∙ same.3,
       sublist-then n.list.entries l.list.entries c.args.list.now.entries (subst (λ (es : List FreeEntry). IsSublist es l.list.entries) (sym c.in_ok-free_entry.ensures.ok) (sublist-removed l.list.entries c.in-Some.index)) same.4,
-      frees-then g.S.Storage.state (lent_to c.args.self.now c.args.caches.now c.args.file.now c.args.list.now) (lent_to l.self l.caches l.file l.list) freed (lent_to n.self n.caches n.file n.list) same.5
+      frees-then g.S.Storage.state (allocator_state c.args.self.now c.args.caches.now c.args.file.now c.args.list.now) (allocator_state l.self l.caches l.file l.list) freed (allocator_state n.self n.caches n.file n.list) same.5
           (c.in_ok-free_entry.ensures.frees (inl found.1)),
       λ none. absurd (none-found l.list.entries c.in-Some.index found.0 found.1 (subst (λ (es : List FreeEntry). metadata_in es ≡ []) (sym (same.6 none).3) none)),
     )
@@ -34,7 +34,7 @@ returns-in_err-free_entry-clause-frees g c = rw (handed-on _ _ c.from_residual.e
     let l = c.loop-index in
     let n = c.free_entry.new in
     let found = metadata-found l.list.entries c.in-Some.index (sym c.in-Some.ensures) in
-    frees-then g.S.Storage.state (lent_to c.args.self.now c.args.caches.now c.args.file.now c.args.list.now) (lent_to l.self l.caches l.file l.list) (failed c.in_err-free_entry.field-0.0) (lent_to n.self n.caches n.file n.list) same.5
+    frees-then g.S.Storage.state (allocator_state c.args.self.now c.args.caches.now c.args.file.now c.args.list.now) (allocator_state l.self l.caches l.file l.list) (failed c.in_err-free_entry.field-0.0) (allocator_state n.self n.caches n.file n.list) same.5
     (c.in_err-free_entry.ensures.frees (inl found.1)))
 
 pub returns-clause-ok : goal.returns-clause-ok

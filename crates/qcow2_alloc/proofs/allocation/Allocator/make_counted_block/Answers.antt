@@ -2,14 +2,14 @@ use Rattle.std.proofs.Common.{◌≡◌, ◌*◌, ◌<◌, ◌∙◌, arith, ap,
 use Rattle.imago_storage.specs.declared.fault.Fault.TheVariants.{DamagedTable}
 use Rattle.qcow2_types.specs.Counts.{counters_of_block}
 use Rattle.qcow2_metadata.specs.Blocks.{Block}
-use Rattle.qcow2_metadata.specs.Places.{IsInReach}
-use Rattle.qcow2_alloc.specs.Allocating.{RaisesCluster}
+use Rattle.qcow2_metadata.specs.Places.{IsAddressable}
+use Rattle.qcow2_alloc.specs.Allocating.{IncrementsCluster}
 use Rattle.qcow2_alloc.specs.Allocators.{table_of, metadata_of}
 use Rattle.qcow2_alloc.specs.Caches.{cached_file}
 use Rattle.qcow2_alloc.specs.Causes.{HasCause}
 use Rattle.qcow2_alloc.specs.MakingBlocks.{naming_causes}
-use Rattle.qcow2_alloc.specs.Quiet.{counted}
-use Rattle.qcow2_alloc.specs.State.{lent}
+use Rattle.qcow2_alloc.specs.GuestView.{counted}
+use Rattle.qcow2_alloc.specs.State.{image_state}
 use Rattle.qcow2_alloc.specs.declared.cache.MetadataCaches.{MetadataCaches}
 use Rattle.qcow2_alloc.proofs.Blocks.ClusterCounts.{succeeded}
 use Rattle.qcow2_alloc.proofs.Searching.FreeClusters.{uncounted-free}
@@ -24,7 +24,7 @@ pub returns-then-place-own_place-clause-makes : goal.returns-then-place-own_plac
 returns-then-place-own_place-clause-makes g c = λ pending first f begun free.
     let own = c.own_place.ensures.first in
     let past = c.if-place-own_place.true in
-    unmade g.S.Storage.state c.args.index (lent (table_of c.args.self.now) first f pending) c.args.caches.now c.args.file.now begun DamagedTable
+    unmade g.S.Storage.state c.args.index (image_state (table_of c.args.self.now) first f pending) c.args.caches.now c.args.file.now begun DamagedTable
     (λ holds. let below = (free holds.1 holds.0 holds.2).below in omega (arith, own, past, below))
 
 pub returns-in_err-check_place-clause-makes : goal.returns-in_err-check_place-clause-makes
@@ -34,36 +34,36 @@ returns-in_err-check_place-clause-makes g c = rw (handed-on _ _ c.from_residual.
     let m = metadata_of state c.args.file.now c.args.caches.now table pending in
     let own = c.own_place.ensures.first in
     let below = c.if-place-own_place.false in
-    unmade-place state c.args.index (lent table first f pending) c.args.caches.now c.args.file.now begun c.args.place c.in_err-check_place.field-0.0 (omega (arith, own, below))
+    unmade-place state c.args.index (image_state table first f pending) c.args.caches.now c.args.file.now begun c.args.place c.in_err-check_place.field-0.0 (omega (arith, own, below))
     (λ holds none.
     let zero : counted m c.args.place ≡ 0 = (free holds.1 holds.0 holds.2).uncounted in
     let at : counted m 0 ≡ 0 = subst (λ n. counted m n ≡ 0) none zero in
-    let some = first-counted m ((begun.quiet holds.1).holds holds.0 holds.2 tt).0 in
+    let some = first-counted m ((begun.guest_unchanged holds.1).holds holds.0 holds.2 tt).0 in
     omega (arith, at, some))
     (subst (λ b. HasCause (naming_causes table b c.args.place) c.in_err-check_place.field-0.0) c.cluster_bits.ensures.value c.in_err-check_place.ensures.err))
 
 pub returns-in_err-block-clause-makes : goal.returns-in_err-block-clause-makes
 returns-in_err-block-clause-makes g c = rw (handed-on _ _ c.from_residual-in_err-block.ensures.1) (λ pending first f begun free.
-    unmade-memory g.S.Storage.state c.args.index (lent (table_of c.args.self.now) first f pending) c.args.caches.now c.args.file.now begun c.in_err-block.field-0.0 c.in_err-block.ensures.err)
+    unmade-memory g.S.Storage.state c.args.index (image_state (table_of c.args.self.now) first f pending) c.args.caches.now c.args.file.now begun c.in_err-block.field-0.0 c.in_err-block.ensures.err)
 
 pub returns-in_err-rb_forget-clause-makes : goal.returns-in_err-rb_forget-clause-makes
 returns-in_err-rb_forget-clause-makes g c = rw (handed-on _ _ c.from_residual-in_err-rb_forget.ensures.1) (λ pending first f begun free.
     let state = g.S.Storage.state in
     let table = table_of c.args.self.now in
     let m = metadata_of state c.args.file.now c.args.caches.now table pending in
-    unforgotten state c.args.index (lent table first f pending) c.args.caches.now c.args.file.now begun c.args.place c.in_err-rb_forget.field-0.0 c.rb_forget.new.self
-    (λ holds. (uncounted-free m ((begun.quiet holds.1).holds holds.0 holds.2 tt).0 (begun.order ∙ holds.1) c.args.place (free holds.1 holds.0 holds.2).uncounted).0) c.in_err-rb_forget.ensures.err)
+    unforgotten state c.args.index (image_state table first f pending) c.args.caches.now c.args.file.now begun c.args.place c.in_err-rb_forget.field-0.0 c.rb_forget.new.self
+    (λ holds. (uncounted-free m ((begun.guest_unchanged holds.1).holds holds.0 holds.2 tt).0 (begun.order ∙ holds.1) c.args.place (free holds.1 holds.0 holds.2).uncounted).0) c.in_err-rb_forget.ensures.err)
 
 pub returns-in_err-count_cluster-clause-makes : goal.returns-in_err-count_cluster-clause-makes
 returns-in_err-count_cluster-clause-makes g c = rw (handed-on _ _ c.from_residual-in_err-count_cluster.ensures.1) (λ pending first f begun free.
     let state = g.S.Storage.state in
     let table = table_of c.args.self.now in
     let new = c.count_cluster.new in
-    uncounted-made state (lent table first f pending) c.args.index c.args.place c.args.caches.now c.args.file.now begun free c.in_err-count_cluster.field-0.0 new.caches new.file
-    (subst (λ (m : MetadataCaches _). RaisesCluster state table c.args.place (cached_file m c.args.file.now) (failed c.in_err-count_cluster.field-0.0) (cached_file new.caches new.file)) c.in_ok-rb_forget.ensures.ok c.in_err-count_cluster.ensures))
+    uncounted-made state (image_state table first f pending) c.args.index c.args.place c.args.caches.now c.args.file.now begun free c.in_err-count_cluster.field-0.0 new.caches new.file
+    (subst (λ (m : MetadataCaches _). IncrementsCluster state table c.args.place (cached_file m c.args.file.now) (failed c.in_err-count_cluster.field-0.0) (cached_file new.caches new.file)) c.in_ok-rb_forget.ensures.ok c.in_err-count_cluster.ensures))
 
-pub write_block-requires-clause-namable : goal.write_block-requires-clause-namable
-write_block-requires-clause-namable g c =
+pub write_block-requires-clause-can_be_referenced : goal.write_block-requires-clause-can_be_referenced
+write_block-requires-clause-can_be_referenced g c =
     let named = c.in_ok-check_place.ensures.ok in
     namable (table_of c.args.self.now) c.cluster_bits.result c.args.place named.0 named.1 c.in_ok-block.block.cluster (ap (λ (b : Block). b.cluster) c.in_ok-block.ensures.ok)
 
@@ -76,13 +76,13 @@ returns-clause-makes g c = λ pending first f begun free.
     let new = c.write_block.new in
     let done = c.in_ok-flush_rb.ensures in
     let named = c.in_ok-check_place.ensures.ok in
-    let reach : IsInReach c.args.file.now.header.fields.cluster_bits c.args.place = subst (λ b. IsInReach b c.args.place) c.cluster_bits.ensures.value named.1 in
+    let reach : IsAddressable c.args.file.now.header.fields.cluster_bits c.args.place = subst (λ b. IsAddressable b c.args.place) c.cluster_bits.ensures.value named.1 in
     let own = c.own_place.ensures.first in
     let ge = c.if-place-own_place.false in
     let below : c.args.place < c.args.index * counters_of_block c.args.file.now.header.fields = omega (arith, own, ge) in
-    let raises = subst (λ (m : MetadataCaches _). RaisesCluster state table c.args.place (cached_file m c.args.file.now) succeeded (cached_file mid.caches mid.file)) c.in_ok-rb_forget.ensures.ok c.in_ok-count_cluster.ensures in
-    taken-made-so state (lent table first f pending) c.args.index c.args.place c.args.caches.now c.args.file.now begun free mid.caches mid.file raises flushed.self flushed.file done.going done.kept done.others done.room done.cause done.clean
-    c.requires.inside c.requires.empty c.cluster_bits.ensures.shaped.low named.0.some reach below c.in_ok-block.block c.in_ok-block.ensures.ok c.write_block.result (table_of new.self) new.file c.write_block.ensures.header c.write_block.ensures.names
+    let raises = subst (λ (m : MetadataCaches _). IncrementsCluster state table c.args.place (cached_file m c.args.file.now) succeeded (cached_file mid.caches mid.file)) c.in_ok-rb_forget.ensures.ok c.in_ok-count_cluster.ensures in
+    taken-made-so state (image_state table first f pending) c.args.index c.args.place c.args.caches.now c.args.file.now begun free mid.caches mid.file raises flushed.self flushed.file done.writes_back_cached done.written_value_unchanged done.others done.room done.cause done.clean
+    c.requires.inside c.requires.empty c.cluster_bits.ensures.shaped.low named.0.offset_nonzero reach below c.in_ok-block.block c.in_ok-block.ensures.ok c.write_block.result (table_of new.self) new.file c.write_block.ensures.header c.write_block.ensures.names
 
 pub returns-in_err-flush_rb-clause-makes : goal.returns-in_err-flush_rb-clause-makes
 returns-in_err-flush_rb-clause-makes g c = rw (handed-on _ _ c.from_residual-in_err-flush_rb.ensures.1) (λ pending first f begun free.
@@ -91,14 +91,14 @@ returns-in_err-flush_rb-clause-makes g c = rw (handed-on _ _ c.from_residual-in_
     let mid = c.count_cluster.new in
     let flushed = c.flush_rb.new in
     let done = c.in_err-flush_rb.ensures in
-    let raises = subst (λ (m : MetadataCaches _). RaisesCluster state table c.args.place (cached_file m c.args.file.now) succeeded (cached_file mid.caches mid.file)) c.in_ok-rb_forget.ensures.ok c.in_ok-count_cluster.ensures in
-    unwritten-made state (lent table first f pending) c.args.index c.args.place c.args.caches.now c.args.file.now begun free mid.caches mid.file raises c.in_err-flush_rb.field-0.0 flushed.self flushed.file done.going done.kept done.others done.room done.cause done.faults)
+    let raises = subst (λ (m : MetadataCaches _). IncrementsCluster state table c.args.place (cached_file m c.args.file.now) succeeded (cached_file mid.caches mid.file)) c.in_ok-rb_forget.ensures.ok c.in_ok-count_cluster.ensures in
+    unwritten-made state (image_state table first f pending) c.args.index c.args.place c.args.caches.now c.args.file.now begun free mid.caches mid.file raises c.in_err-flush_rb.field-0.0 flushed.self flushed.file done.writes_back_cached done.written_value_unchanged done.others done.room done.cause done.faults)
 
 pub returns-clause-at : goal.returns-clause-at
 returns-clause-at g c =
     let table = table_of c.args.self.now in
     let h = c.args.file.now.header.fields in
     let named = c.in_ok-check_place.ensures.ok in
-    let reach : IsInReach h.cluster_bits c.args.place = subst (λ b. IsInReach b c.args.place) c.cluster_bits.ensures.value named.1 in
+    let reach : IsAddressable h.cluster_bits c.args.place = subst (λ b. IsAddressable b c.args.place) c.cluster_bits.ensures.value named.1 in
     written-on-ok table c.args.index c.args.place h.cluster_bits c.in_ok-block.block _ _ (table_of c.write_block.new.self) c.write_block.result c.requires.inside c.cluster_bits.ensures.shaped.low reach
-    (ap (λ (b : Block). b.cluster_bits) c.in_ok-block.ensures.ok) (ap (λ (b : Block). b.cluster) c.in_ok-block.ensures.ok) named.0.some c.write_block.ensures.names
+    (ap (λ (b : Block). b.cluster_bits) c.in_ok-block.ensures.ok) (ap (λ (b : Block). b.cluster) c.in_ok-block.ensures.ok) named.0.offset_nonzero c.write_block.ensures.names

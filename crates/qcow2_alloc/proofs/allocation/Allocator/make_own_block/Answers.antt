@@ -1,10 +1,10 @@
 use Rattle.std.proofs.Common.{◌≡◌, arith, subst}
-use Rattle.qcow2_metadata.specs.Places.{IsInReach}
+use Rattle.qcow2_metadata.specs.Places.{IsAddressable}
 use Rattle.qcow2_alloc.specs.Allocators.{table_of, metadata_of}
 use Rattle.qcow2_alloc.specs.Causes.{HasCause}
 use Rattle.qcow2_alloc.specs.MakingBlocks.{naming_causes}
-use Rattle.qcow2_alloc.specs.Quiet.{IsSound, counted}
-use Rattle.qcow2_alloc.specs.State.{lent}
+use Rattle.qcow2_alloc.specs.GuestView.{IsSound, counted}
+use Rattle.qcow2_alloc.specs.State.{image_state}
 use Rattle.qcow2_alloc.proofs.Searching.FreeClusters.{uncounted-free}
 use Rattle.qcow2_alloc.proofs.Blocks.BlockCreationCalls.{begins-none, first-counted, unmade-memory, unmade-place, unforgotten}
 use Rattle.qcow2_alloc.proofs.Blocks.OwnBlocks.{own-uncounted, own-made-at}
@@ -23,7 +23,7 @@ returns-in_err-check_place-clause-makes g c = rw (handed-on _ _ c.from_residual.
     let d = c.own_place-place.result in
     let m = metadata_of state c.args.file.now c.args.caches.now table pending in
     let first = c.own_place-place.ensures.first in
-    unmade-place state c.args.index (lent table c.args.caches.now c.args.file.now pending) c.args.caches.now c.args.file.now (begins-none state c.args.index (lent table c.args.caches.now c.args.file.now pending)) d c.in_err-check_place.field-0.0 (omega (arith, first))
+    unmade-place state c.args.index (image_state table c.args.caches.now c.args.file.now pending) c.args.caches.now c.args.file.now (begins-none state c.args.index (image_state table c.args.caches.now c.args.file.now pending)) d c.in_err-check_place.field-0.0 (omega (arith, first))
     (λ holds none.
     let sound : IsSound m = holds.2 in
     let zero : counted m d ≡ 0 = own-uncounted m c.args.index d c.own_place-place.ensures.own c.requires.inside c.requires.empty sound in
@@ -35,7 +35,7 @@ returns-in_err-check_place-clause-makes g c = rw (handed-on _ _ c.from_residual.
 pub returns-in_err-block-clause-makes : goal.returns-in_err-block-clause-makes
 returns-in_err-block-clause-makes g c = rw (handed-on _ _ c.from_residual-in_err-block.ensures.1) (λ pending.
     let state = g.S.Storage.state in
-    let s = lent (table_of c.args.self.now) c.args.caches.now c.args.file.now pending in
+    let s = image_state (table_of c.args.self.now) c.args.caches.now c.args.file.now pending in
     unmade-memory state c.args.index s c.args.caches.now c.args.file.now (begins-none state c.args.index s) c.in_err-block.field-0.0 c.in_err-block.ensures.err)
 
 pub returns-clause-makes : goal.returns-clause-makes
@@ -47,8 +47,8 @@ returns-clause-makes g c = λ pending.
     let d = c.own_place-place.result in
     let new = c.write_block.new in
     let named = c.in_ok-check_place.ensures.ok in
-    let reach : IsInReach before.header.fields.cluster_bits d = subst (λ b. IsInReach b d) c.cluster_bits.ensures.value named.1 in
-    own-made-at state (lent table old before pending) d c.args.index c.own_place-place.ensures.own c.requires.inside c.requires.empty c.cluster_bits.ensures.shaped.low named.0.some reach
+    let reach : IsAddressable before.header.fields.cluster_bits d = subst (λ b. IsAddressable b d) c.cluster_bits.ensures.value named.1 in
+    own-made-at state (image_state table old before pending) d c.args.index c.own_place-place.ensures.own c.requires.inside c.requires.empty c.cluster_bits.ensures.shaped.low named.0.offset_nonzero reach
     c.in_ok-block.block c.in_ok-block.ensures.ok c.rb_forget.new.self c.in_ok-rb_forget.ensures.ok c.write_block.result (table_of new.self) new.file c.write_block.ensures.header c.write_block.ensures.names
 
 pub returns-in_err-rb_forget-clause-makes : goal.returns-in_err-rb_forget-clause-makes
@@ -57,7 +57,7 @@ returns-in_err-rb_forget-clause-makes g c = rw (handed-on _ _ c.from_residual-in
     let table = table_of c.args.self.now in
     let d = c.own_place-place.result in
     let m = metadata_of state c.args.file.now c.args.caches.now table pending in
-    unforgotten state c.args.index (lent table c.args.caches.now c.args.file.now pending) c.args.caches.now c.args.file.now (begins-none state c.args.index (lent table c.args.caches.now c.args.file.now pending)) d c.in_err-rb_forget.field-0.0 c.rb_forget.new.self
+    unforgotten state c.args.index (image_state table c.args.caches.now c.args.file.now pending) c.args.caches.now c.args.file.now (begins-none state c.args.index (image_state table c.args.caches.now c.args.file.now pending)) d c.in_err-rb_forget.field-0.0 c.rb_forget.new.self
     (λ holds. (uncounted-free m holds.2 holds.1 d (own-uncounted m c.args.index d c.own_place-place.ensures.own c.requires.inside c.requires.empty holds.2)).0) c.in_err-rb_forget.ensures.err)
 
 pub returns-clause-at : goal.returns-clause-at
@@ -66,7 +66,7 @@ returns-clause-at g c =
     let d = c.own_place-place.result in
     let h = c.args.file.now.header.fields in
     let named = c.in_ok-check_place.ensures.ok in
-    let reach : IsInReach h.cluster_bits d = subst (λ b. IsInReach b d) c.cluster_bits.ensures.value named.1 in
-    subst (λ (n : ℕ). OnOk c.write_block.result ((n ≢ 0) × (block_offset (slice_index (table_of c.write_block.new.self).words c.args.index) ≡ n * 2 ^ h.cluster_bits))) c.own_place-place.ensures.first
+    let reach : IsAddressable h.cluster_bits d = subst (λ b. IsAddressable b d) c.cluster_bits.ensures.value named.1 in
+    subst (λ (n : ℕ). OnOk c.write_block.result ((n ≢ 0) × (block_offset (slice_index (table_of c.write_block.new.self).raw_entries c.args.index) ≡ n * 2 ^ h.cluster_bits))) c.own_place-place.ensures.first
     (written-on-ok table c.args.index d h.cluster_bits c.in_ok-block.block _ _ (table_of c.write_block.new.self) c.write_block.result c.requires.inside c.cluster_bits.ensures.shaped.low reach
-    (ap (λ (b : Block). b.cluster_bits) c.in_ok-block.ensures.ok) (ap (λ (b : Block). b.cluster) c.in_ok-block.ensures.ok) named.0.some c.write_block.ensures.names)
+    (ap (λ (b : Block). b.cluster_bits) c.in_ok-block.ensures.ok) (ap (λ (b : Block). b.cluster) c.in_ok-block.ensures.ok) named.0.offset_nonzero c.write_block.ensures.names)

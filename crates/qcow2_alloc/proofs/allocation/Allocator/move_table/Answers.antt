@@ -1,9 +1,9 @@
 use Rattle.std.proofs.Common.{◌≡◌, refl, ap, subst, ◌∙◌, Ok, Err, None}
-use Rattle.imago_storage.specs.Through.{PutAtOnce}
+use Rattle.imago_storage.specs.Through.{AtomicWriteOutcome}
 use Rattle.qcow2_types.specs.Header.{Header, first_fault, rules_of_size}
 use Rattle.qcow2_types.specs.HeaderSwitch.{FirstFieldsFit}
 use Rattle.qcow2_types.specs.HeaderBytes.{first_bytes}
-use Rattle.qcow2_metadata.specs.Tables.{TableValue, table_place}
+use Rattle.qcow2_metadata.specs.Tables.{TableValue, table_start}
 use Rattle.qcow2_alloc.specs.MovingTables.{clusters_of, naming_table}
 use Rattle.qcow2_alloc.proofs.Handing.CountSequences.{moved-none}
 use Rattle.qcow2_alloc.proofs.Faults.{handed-on}
@@ -31,7 +31,7 @@ returns-in-Ok-clause-moves g c =
       mid = c.write.new.image;
       put = c.in_ok-write.ensures.request;
       stopped = λ fault is. absurd (cc is);
-      pointed = λ is. subst (λ (h : Header). PutAtOnce (g.S.Storage.state c.write.new.image) (g.S.Storage.state c.write_reftable_pointer.new.image) 0 (first_bytes h.fields) (Ok tt)) named c.in-Ok.ensures;
+      pointed = λ is. subst (λ (h : Header). AtomicWriteOutcome (g.S.Storage.state c.write.new.image) (g.S.Storage.state c.write_reftable_pointer.new.image) 0 (first_bytes h.fields) (Ok tt)) named c.in-Ok.ensures;
       fit = λ is. subst (λ (h : Header). FirstFieldsFit h.fields) named c.set_reftable.ensures.fit;
       sizes = λ is kept. subst (λ (h : Header). first_fault (rules_of_size h.fields) ≡ None) named (c.set_reftable.ensures.sizes kept);
       ok = (c.in_ok-write.ensures.ok, named);
@@ -47,9 +47,9 @@ returns-in-Err-clause-moves g c =
       mid = c.write.new.image;
       put = c.in_ok-write.ensures.request;
       stopped = λ fault is. absurd (cc is);
-      pointed = λ is. subst (λ (h : Header). PutAtOnce (g.S.Storage.state c.write.new.image) (g.S.Storage.state c.write_reftable_pointer.new.image) 0 (first_bytes h.fields) (Err c.in-Err.fault)) named c.in-Err.ensures;
+      pointed = λ is. subst (λ (h : Header). AtomicWriteOutcome (g.S.Storage.state c.write.new.image) (g.S.Storage.state c.write_reftable_pointer.new.image) 0 (first_bytes h.fields) (Err c.in-Err.fault)) named c.in-Err.ensures;
       fit = λ is. subst (λ (h : Header). FirstFieldsFit h.fields) named c.set_reftable.ensures.fit;
       sizes = λ is kept. subst (λ (h : Header). first_fault (rules_of_size h.fields) ≡ None) named (c.set_reftable.ensures.sizes kept);
       ok = tt;
-      err = (refl, (table_place c.args.self.now.reftable, clusters_of c.args.self.now.reftable c.args.file.now.header.fields.cluster_bits, back ∙ ap (λ (h : Header). naming_table h c.args.self.now.reftable) named));
+      err = (refl, (table_start c.args.self.now.reftable, clusters_of c.args.self.now.reftable c.args.file.now.header.fields.cluster_bits, back ∙ ap (λ (h : Header). naming_table h c.args.self.now.reftable) named));
     }

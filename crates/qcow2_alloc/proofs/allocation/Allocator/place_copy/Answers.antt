@@ -1,9 +1,9 @@
 use Rattle.std.proofs.Common.{◌≡◌, ◌+◌, ◌-◌, ◌*◌, ◌^◌, ◌∙◌, ℕ, ap, subst, arith, length, Some, true}
 use Rattle.qcow2_types.specs.Counts.{counters_of_block}
-use Rattle.qcow2_metadata.specs.Places.{IsInReach}
+use Rattle.qcow2_metadata.specs.Places.{IsAddressable}
 use Rattle.qcow2_alloc.specs.Allocators.{table_of}
 use Rattle.qcow2_alloc.specs.Growing.{lacking}
-use Rattle.qcow2_alloc.specs.MakingBlocks.{CanName}
+use Rattle.qcow2_alloc.specs.MakingBlocks.{CanReference}
 use Rattle.qcow2_alloc.proofs.Growth.CopyPlaces.{copy-planned}
 use Rattle.qcow2_alloc.proofs.allocation.Allocator.place_copy.Goals as goal
 
@@ -20,12 +20,12 @@ returns-clause-ok c =
     let more = c.requires.copy.more in
     let enough = c.requires.copy.enough in
     let last : c.first-2.inside.0 + (c.len.result - 1) ≡ run.first + (run.len - 1) = (let len = c.len.ensures in omega (arith, first, len)) in
-    let can = subst (λ (d : ℕ). CanName t h.cluster_bits d × IsInReach h.cluster_bits d) last (subst (λ (b : ℕ). CanName t b (c.first-2.inside.0 + (c.len.result - 1)) × IsInReach b (c.first-2.inside.0 + (c.len.result - 1))) c.cluster_bits.ensures.value c.in_ok-check_place.ensures.ok) in
-    let words : c.entries.result * 2 ^ r ≡ length c.args.copy.now.words * k = ap (λ n. n * 2 ^ r) c.entries.ensures.value ∙ ap (λ n. length c.args.copy.now.words * n) entries in
+    let can = subst (λ (d : ℕ). CanReference t h.cluster_bits d × IsAddressable h.cluster_bits d) last (subst (λ (b : ℕ). CanReference t b (c.first-2.inside.0 + (c.len.result - 1)) × IsAddressable b (c.first-2.inside.0 + (c.len.result - 1))) c.cluster_bits.ensures.value c.in_ok-check_place.ensures.ok) in
+    let raw_entries : c.entries.result * 2 ^ r ≡ length c.args.copy.now.raw_entries * k = ap (λ n. n * 2 ^ r) c.entries.ensures.value ∙ ap (λ n. length c.args.copy.now.raw_entries * n) entries in
     let end : c.from_ref_indices-2.inside.0 ≡ c.entries.result * 2 ^ r + 0 = c.from_ref_indices-2.view_is ∙ c.from_ref_indices.ensures in
     let below = c.if-last-from_ref_indices.false in
     let blocks : c.lacking_for.result ≡ lacking t k run.first run.len = c.lacking_for.ensures ∙ ap (λ n. lacking t n run.first run.len) entries in
     let place : c.first-2.inside.0 + c.lacking_for.result ≡ run.first + lacking t k run.first run.len = omega (arith, first, blocks) in
-    copy-planned h t run c.args.copy.now c.set_cluster.new.self c.name_new_blocks.new.table c.requires.copy c.cluster_bits.ensures.shaped.low
-    (c.set_cluster.ensures ∙ ap (λ (d : ℕ). record c.args.copy.now { cluster = Some d; modified = true }) place) c.in_ok-name_new_blocks.ensures.ok c.entries.ensures.table
-    (λ none. some (omega (arith, first, none))) can.0 can.1 (omega (arith, last, below, end, words, more, enough))
+    copy-planned h t run c.args.copy.now c.set_cluster.new.self c.link_new_blocks.new.table c.requires.copy c.cluster_bits.ensures.shaped.low
+    (c.set_cluster.ensures ∙ ap (λ (d : ℕ). record c.args.copy.now { cluster = Some d; modified = true }) place) c.in_ok-link_new_blocks.ensures.ok c.entries.ensures.table
+    (λ none. some (omega (arith, first, none))) can.0 can.1 (omega (arith, last, below, end, raw_entries, more, enough))

@@ -3,15 +3,15 @@ use Rattle.std.specs.Prelude.{min}
 use Rattle.std.proofs.lemmas.Bool.{cases_lt}
 use Rattle.std.proofs.Math.Nat.{mul-le-mul, pow-le-pow_right, div-le_self}
 use Rattle.qcow2_types.specs.Counts.{counters_of_block}
-use Rattle.qcow2_types.specs.Header.{Fields, words_of_cluster}
+use Rattle.qcow2_types.specs.Header.{Fields, entries_of_cluster}
 use Rattle.qcow2_metadata.specs.Tables.{TableValue}
 use Rattle.qcow2_metadata.proofs.Placing.{whole_entries}
-use Rattle.qcow2_alloc.specs.Allocators.{table_of, mark_of}
+use Rattle.qcow2_alloc.specs.Allocators.{table_of, first_free_of}
 use Rattle.qcow2_types.specs.Pending.{FreeEntry}
 use Rattle.qcow2_alloc.specs.FreeList.{FreeList}
 use Rattle.qcow2_alloc.specs.GrowingTables.{GrowsTable}
 use Rattle.qcow2_alloc.specs.MovingTables.{clusters_of, IsGrownFor}
-use Rattle.qcow2_alloc.specs.State.{lent, with_mark, lent_to}
+use Rattle.qcow2_alloc.specs.State.{image_state, with_first_free, allocator_state}
 use Rattle.qcow2_alloc.proofs.Freeing.EntryFrees.{failed}
 use Rattle.qcow2_alloc.proofs.Growth.TableGrowth.{no-room, no-place, grows}
 use Rattle.qcow2_alloc.proofs.Growth.CopyPlaces.{whole-fill}
@@ -19,14 +19,14 @@ use Rattle.qcow2_alloc.proofs.allocation.Allocator.place_grown.Goals as goal
 
 pub returns-in-Err-clause-grows : goal.returns-in-Err-clause-grows
 returns-in-Err-clause-grows g c = λ at grown.
-    let s = lent_to c.args.self.now c.args.caches.now c.args.file.now c.args.list.now in
-    subst (λ (es : List FreeEntry). GrowsTable g.S.Storage.state at s (failed c.in-Err.fault) (with_mark (lent (table_of c.args.self.now) c.find_room-2.new.caches c.find_room-2.new.file es) (mark_of c.args.self.now)))
+    let s = allocator_state c.args.self.now c.args.caches.now c.args.file.now c.args.list.now in
+    subst (λ (es : List FreeEntry). GrowsTable g.S.Storage.state at s (failed c.in-Err.fault) (with_first_free (image_state (table_of c.args.self.now) c.find_free_area-2.new.caches c.find_free_area-2.new.file es) (first_free_of c.args.self.now)))
     (sym (ap (λ (l : FreeList). l.entries) c.release.ensures))
-    (no-room g.S.Storage.state at s c.in-Err.fault c.find_room-2.new.caches c.find_room-2.new.file c.in-Err.ensures.looks.looked)
+    (no-room g.S.Storage.state at s c.in-Err.fault c.find_free_area-2.new.caches c.find_free_area-2.new.file c.in-Err.ensures.looks.looked)
 
 -- A grown copy has some clusters, which its words fill,
-filled : (h : Fields) (table : TableValue) (at : ℕ) (copy : TableValue) → 9 ≤ h.cluster_bits → IsGrownFor h table at copy → clusters_of copy h.cluster_bits * words_of_cluster h ≡ length copy.words
-filled h table at copy low grown = whole_entries h (length copy.words) low (whole-fill h (length copy.words) low grown.long.enough.whole)
+filled : (h : Fields) (table : TableValue) (at : ℕ) (copy : TableValue) → 9 ≤ h.cluster_bits → IsGrownFor h table at copy → clusters_of copy h.cluster_bits * entries_of_cluster h ≡ length copy.raw_entries
+filled h table at copy low grown = whole_entries h (length copy.raw_entries) low (whole-fill h (length copy.raw_entries) low grown.long.enough.whole)
 
 some-clusters : (h : Fields) (table : TableValue) (at : ℕ) (copy : TableValue) → 9 ≤ h.cluster_bits → IsGrownFor h table at copy → 1 ≤ clusters_of copy h.cluster_bits
 some-clusters h table at copy low grown = elim (cases_lt 0 (clusters_of copy h.cluster_bits)) [
@@ -34,14 +34,14 @@ some-clusters h table at copy low grown = elim (cases_lt 0 (clusters_of copy h.c
   | inr none ↦
       let above = grown.long.enough.above in
       let all = filled h table at copy low grown in
-      let zero : clusters_of copy h.cluster_bits * words_of_cluster h ≡ 0 * words_of_cluster h = ap (λ n. n * words_of_cluster h) (omega (arith, none)) in
+      let zero : clusters_of copy h.cluster_bits * entries_of_cluster h ≡ 0 * entries_of_cluster h = ap (λ n. n * entries_of_cluster h) (omega (arith, none)) in
       absurd (omega (arith, above, all, zero))
 ]
 
 -- and not many.
-few-clusters : (bits : ℕ) (copy : TableValue) → bits ≤ 21 → length copy.words ≤ 2 ^ 20 → clusters_of copy bits ≤ 2 ^ 24
+few-clusters : (bits : ℕ) (copy : TableValue) → bits ≤ 21 → length copy.raw_entries ≤ 2 ^ 20 → clusters_of copy bits ≤ 2 ^ 24
 few-clusters bits copy high long =
-    let le : clusters_of copy bits ≤ 8 * length copy.words + (2 ^ bits - 1) = div-le_self (8 * length copy.words + (2 ^ bits - 1)) (2 ^ bits) in
+    let le : clusters_of copy bits ≤ 8 * length copy.raw_entries + (2 ^ bits - 1) = div-le_self (8 * length copy.raw_entries + (2 ^ bits - 1)) (2 ^ bits) in
     let most : 2 ^ bits ≤ 2 ^ 21 = pow-le-pow_right (omega arith) high in
     omega (arith, le, most, long)
 
@@ -52,14 +52,14 @@ pub place_copy-requires-clause-fits : goal.place_copy-requires-clause-fits
 place_copy-requires-clause-fits g c =
     let h = c.args.file.now.header.fields in
     let at = c.requires.grown.0 in
-    let past : length (table_of c.args.self.now).words ≤ at = c.requires.grown.1 in
+    let past : length (table_of c.args.self.now).raw_entries ≤ at = c.requires.grown.1 in
     let grown : IsGrownFor h (table_of c.args.self.now) at c.args.copy = c.requires.grown.2 in
-    let long : length c.args.copy.words ≤ 2 ^ 20 = subst (λ (t : TableValue). length t.words ≤ 2 ^ 20) c.copy.view_is c.copy.invariant.long in
+    let long : length c.args.copy.raw_entries ≤ 2 ^ 20 = subst (λ (t : TableValue). length t.raw_entries ≤ 2 ^ 20) c.copy.view_is c.copy.invariant.long in
     let high : c.args.copy.layout.cluster_bits ≤ 21 = subst (λ (t : TableValue). t.layout.cluster_bits ≤ 21) c.copy.view_is c.copy.invariant.high in
     let few = few-clusters c.args.copy.layout.cluster_bits c.args.copy high long in
-    let n : c.find_room.inside.0 ≡ clusters_of c.args.copy c.args.copy.layout.cluster_bits = c.find_room.view_is ∙ c.cluster_count.ensures in
+    let n : c.find_free_area.inside.0 ≡ clusters_of c.args.copy c.args.copy.layout.cluster_bits = c.find_free_area.view_is ∙ c.cluster_count.ensures in
     let above = grown.long.enough.above in
-    let near = few-counters (length (table_of c.args.self.now).words) c.rb_bits.result (counters_of_block h) c.rb_bits.ensures.entries c.rb_bits.ensures.bounds.1 (omega (arith, past, above, long)) in
+    let near = few-counters (length (table_of c.args.self.now).raw_entries) c.rb_bits.result (counters_of_block h) c.rb_bits.ensures.entries c.rb_bits.ensures.bounds.1 (omega (arith, past, above, long)) in
     let within = c.in-Ok.ensures.within in
     let first = within.0 in
     let len = within.1 in
@@ -69,31 +69,31 @@ pub returns-in-Ok-place_copy-clause-grows : goal.returns-in-Ok-place_copy-clause
 returns-in-Ok-place_copy-clause-grows g c = λ at grown.
     let h = c.args.file.now.header.fields in
     let table = table_of c.args.self.now in
-    let mark = mark_of c.args.self.now in
+    let mark = first_free_of c.args.self.now in
     let copy = c.args.copy in
     let bits : copy.layout.cluster_bits ≡ h.cluster_bits = ap (λ (t : TableValue). t.layout.cluster_bits) grown.copied in
     let low : 9 ≤ h.cluster_bits = subst (λ b. 9 ≤ b) bits (subst (λ (t : TableValue). 9 ≤ t.layout.cluster_bits) c.copy.view_is c.copy.invariant.low) in
-    let C = c.find_room-2.new in
-    let D = c.enter_room.new in
+    let C = c.find_free_area-2.new in
+    let D = c.enter_free_area.new in
     let plan = c.in-Ok-place_copy.ensures.ok in
-    grows g.S.Storage.state at (lent_to c.args.self.now c.args.caches.now c.args.file.now c.args.list.now) c.in-Ok.room copy c.room_start-from.result c.find_room.inside.0 C.caches C.file c.in-Ok.ensures.looks
-    (c.room_start-from.ensures ∙ ap (λ k. min mark (length table.words * k)) c.rb_bits.ensures.entries) (c.find_room.view_is ∙ c.cluster_count.ensures ∙ ap (λ b. clusters_of copy b) bits) grown.long (filled h table at copy low grown)
-    c.place_copy.new.copy plan.0 plan.1 c.enter_room.result (lent_to D.self D.caches D.file D.list) c.enter_room.ensures.fills c.enter_room.ensures.waits c.enter_room.ensures.kept c.enter_room.ensures.mark
+    grows g.S.Storage.state at (allocator_state c.args.self.now c.args.caches.now c.args.file.now c.args.list.now) c.in-Ok.room copy c.free_area_start-from.result c.find_free_area.inside.0 C.caches C.file c.in-Ok.ensures.looks
+    (c.free_area_start-from.ensures ∙ ap (λ k. min mark (length table.raw_entries * k)) c.rb_bits.ensures.entries) (c.find_free_area.view_is ∙ c.cluster_count.ensures ∙ ap (λ b. clusters_of copy b) bits) grown.long (filled h table at copy low grown)
+    c.place_copy.new.copy plan.0 plan.1 c.enter_free_area.result (allocator_state D.self D.caches D.file D.list) c.enter_free_area.ensures.fills c.enter_free_area.ensures.waits c.enter_free_area.ensures.unchanged_on_error c.enter_free_area.ensures.mark
 
 pub returns-in-Err-place_copy-clause-grows : goal.returns-in-Err-place_copy-clause-grows
 returns-in-Err-place_copy-clause-grows g c = λ at grown.
     let h = c.args.file.now.header.fields in
     let table = table_of c.args.self.now in
-    let mark = mark_of c.args.self.now in
+    let mark = first_free_of c.args.self.now in
     let copy = c.args.copy in
     let bits : copy.layout.cluster_bits ≡ h.cluster_bits = ap (λ (t : TableValue). t.layout.cluster_bits) grown.copied in
     let low : 9 ≤ h.cluster_bits = subst (λ b. 9 ≤ b) bits (subst (λ (t : TableValue). 9 ≤ t.layout.cluster_bits) c.copy.view_is c.copy.invariant.low) in
-    let C = c.find_room-2.new in
-    let n : c.find_room.inside.0 ≡ clusters_of copy h.cluster_bits = c.find_room.view_is ∙ c.cluster_count.ensures ∙ ap (λ b. clusters_of copy b) bits in
+    let C = c.find_free_area-2.new in
+    let n : c.find_free_area.inside.0 ≡ clusters_of copy h.cluster_bits = c.find_free_area.view_is ∙ c.cluster_count.ensures ∙ ap (λ b. clusters_of copy b) bits in
     let one = some-clusters h table at copy low grown in
     let enough = c.in-Ok.ensures.enough in
-    subst (λ (es : List FreeEntry). GrowsTable g.S.Storage.state at (lent_to c.args.self.now c.args.caches.now c.args.file.now c.args.list.now) (failed c.in-Err-place_copy.fault) (with_mark (lent table C.caches C.file es) mark))
+    subst (λ (es : List FreeEntry). GrowsTable g.S.Storage.state at (allocator_state c.args.self.now c.args.caches.now c.args.file.now c.args.list.now) (failed c.in-Err-place_copy.fault) (with_first_free (image_state table C.caches C.file es) mark))
     (sym (ap (λ (l : FreeList). l.entries) c.release-in-Err-place_copy.ensures))
-    (no-place g.S.Storage.state at (lent_to c.args.self.now c.args.caches.now c.args.file.now c.args.list.now) c.in-Ok.room copy c.room_start-from.result c.find_room.inside.0 C.caches C.file c.in-Ok.ensures.looks
-    (c.room_start-from.ensures ∙ ap (λ k. min mark (length table.words * k)) c.rb_bits.ensures.entries) n grown.long (filled h table at copy low grown)
+    (no-place g.S.Storage.state at (allocator_state c.args.self.now c.args.caches.now c.args.file.now c.args.list.now) c.in-Ok.room copy c.free_area_start-from.result c.find_free_area.inside.0 C.caches C.file c.in-Ok.ensures.looks
+    (c.free_area_start-from.ensures ∙ ap (λ k. min mark (length table.raw_entries * k)) c.rb_bits.ensures.entries) n grown.long (filled h table at copy low grown)
     c.in-Err-place_copy.fault (omega (arith, n, one, enough)) c.in-Err-place_copy.ensures.err)

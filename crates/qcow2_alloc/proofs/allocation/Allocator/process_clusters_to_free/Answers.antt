@@ -6,8 +6,8 @@ use Rattle.qcow2_alloc.specs.declared.file.ImageFile.{ImageFile}
 use Rattle.qcow2_alloc.specs.Caches.{cached_in, order_of}
 use Rattle.qcow2_alloc.specs.FreeList.{FreeList}
 use Rattle.qcow2_alloc.specs.Freeing.{IsRest, IsRestInTurn, data_in}
-use Rattle.qcow2_alloc.specs.Quiet.{metadata_in}
-use Rattle.qcow2_alloc.specs.State.{lent_to}
+use Rattle.qcow2_alloc.specs.GuestView.{metadata_in}
+use Rattle.qcow2_alloc.specs.State.{allocator_state}
 use Rattle.qcow2_alloc.proofs.Caching.FileLengths.{announced-long}
 use Rattle.qcow2_alloc.proofs.Freeing.EntryFrees.{frees-then, freed, failed}
 use Rattle.qcow2_alloc.proofs.Freeing.FreesInTurn.{announcing-frees}
@@ -24,11 +24,11 @@ returns-clause-frees g c =
     let done = c.in_ok-rb_depends_on_l2.ensures in
     let long = announced-long (order_of m.caches) (state m.file.image) (cached_in m.caches) freed (state a.file.image) (cached_in a.self)
     (λ no. ap (λ (f : ImageFile g.row.S.Denot). state f.image) (done.idle no).2) done.written in
-    let before = lent_to m.self m.caches m.file m.list in
-    let announced = announcing-frees state before a.self a.file done.kept done.header done.room freed done.going done.announced tt done.safe done.cause done.faults long in
-    let s' = lent_to n.self n.caches n.file n.list in
-    frees-then state (lent_to c.args.self.now c.args.caches.now c.args.file.now c.args.list.now) before c.free_all.result s' c.in_ok-free_metadata.ensures.frees
-    (frees-then state before (lent_to m.self a.self a.file m.list) c.free_all.result s' announced (c.free_all.ensures.frees done.announced))
+    let before = allocator_state m.self m.caches m.file m.list in
+    let announced = announcing-frees state before a.self a.file done.written_value_unchanged done.header done.room freed done.writes_back_cached done.announced tt done.well_formed done.cause done.faults long in
+    let s' = allocator_state n.self n.caches n.file n.list in
+    frees-then state (allocator_state c.args.self.now c.args.caches.now c.args.file.now c.args.list.now) before c.free_all.result s' c.in_ok-free_metadata.ensures.frees
+    (frees-then state before (allocator_state m.self a.self a.file m.list) c.free_all.result s' announced (c.free_all.ensures.frees done.announced))
 
 pub returns-in_err-rb_depends_on_l2-clause-frees : goal.returns-in_err-rb_depends_on_l2-clause-frees
 returns-in_err-rb_depends_on_l2-clause-frees g c = rw (handed-on _ _ c.from_residual-in_err-rb_depends_on_l2.ensures.1) (
@@ -39,9 +39,9 @@ returns-in_err-rb_depends_on_l2-clause-frees g c = rw (handed-on _ _ c.from_resi
     let refused = failed c.in_err-rb_depends_on_l2.field-0.0 in
     let long = announced-long (order_of m.caches) (state m.file.image) (cached_in m.caches) refused (state a.file.image) (cached_in a.self)
     (λ no. ap (λ (f : ImageFile g.row.S.Denot). state f.image) (done.idle no).2) done.written in
-    let before = lent_to m.self m.caches m.file m.list in
-    let announced = announcing-frees state before a.self a.file done.kept done.header done.room refused done.going tt done.stays tt done.cause done.faults long in
-    frees-then state (lent_to c.args.self.now c.args.caches.now c.args.file.now c.args.list.now) before refused (lent_to m.self a.self a.file m.list) c.in_ok-free_metadata.ensures.frees announced)
+    let before = allocator_state m.self m.caches m.file m.list in
+    let announced = announcing-frees state before a.self a.file done.written_value_unchanged done.header done.room refused done.writes_back_cached tt done.stays tt done.cause done.faults long in
+    frees-then state (allocator_state c.args.self.now c.args.caches.now c.args.file.now c.args.list.now) before refused (allocator_state m.self a.self a.file m.list) c.in_ok-free_metadata.ensures.frees announced)
 
 pub returns-clause-left : goal.returns-clause-left
 returns-clause-left g c = rest-of-data c.args.list.now.entries c.free_all.new.list.entries (subst (λ (es : List FreeEntry). IsRest es c.free_all.new.list.entries) c.in_ok-free_metadata.ensures.ok c.free_all.ensures.left)

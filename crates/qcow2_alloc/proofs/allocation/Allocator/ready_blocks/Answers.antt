@@ -1,8 +1,8 @@
 use Rattle.std.proofs.Common.{arith, ℕ, ◌+◌, ◌/◌, subst}
-use Rattle.qcow2_alloc.specs.Allocators.{table_of, mark_of}
+use Rattle.qcow2_alloc.specs.Allocators.{table_of, first_free_of}
 use Rattle.qcow2_types.specs.Counts.{counters_of_block}
 use Rattle.qcow2_alloc.specs.GrowingTables.{GrowsTable}
-use Rattle.qcow2_alloc.specs.State.{lent_to}
+use Rattle.qcow2_alloc.specs.State.{allocator_state}
 use Rattle.qcow2_alloc.proofs.Blocks.ClusterCounts.{succeeded}
 use Rattle.qcow2_alloc.proofs.Freeing.EntryFrees.{failed}
 use Rattle.qcow2_alloc.proofs.Blocks.RunProvision.{blocks-ready, table-ready, table-not-ready}
@@ -14,14 +14,14 @@ returns-then-last-entries-clause-readies g c =
     let new = c.ensure_blocks.new in
     let inside = c.if-last-entries.true in
     let long = c.entries.ensures.value in
-    blocks-ready g.S.Storage.state (c.args.last + (c.args.count / counters_of_block c.args.file.now.header.fields + 2)) c.args.first c.args.last (lent_to c.args.self.now c.args.caches.now c.args.file.now c.args.list.now) (omega (arith, inside, long)) c.ensure_blocks.result (table_of new.self) new.caches new.file (mark_of new.self) c.ensure_blocks.ensures.mark
+    blocks-ready g.S.Storage.state (c.args.last + (c.args.count / counters_of_block c.args.file.now.header.fields + 2)) c.args.first c.args.last (allocator_state c.args.self.now c.args.caches.now c.args.file.now c.args.list.now) (omega (arith, inside, long)) c.ensure_blocks.result (table_of new.self) new.caches new.file (first_free_of new.self) c.ensure_blocks.ensures.mark
     (c.ensure_blocks.ensures.makes c.args.list.now.entries) (c.ensure_blocks.ensures.fills c.args.list.now.entries)
 
 pub returns-in_err-grow_table-clause-readies : goal.returns-in_err-grow_table-clause-readies
 returns-in_err-grow_table-clause-readies g c = rw (handed-on _ _ c.from_residual.ensures.1) (
-    let s = lent_to c.args.self.now c.args.caches.now c.args.file.now c.args.list.now in
+    let s = allocator_state c.args.self.now c.args.caches.now c.args.file.now c.args.list.now in
     let new = c.grow_table.new in
-    let s' = lent_to new.self new.caches new.file new.list in
+    let s' = allocator_state new.self new.caches new.file new.list in
     let past = c.if-last-entries.false in
     let long = c.entries.ensures.value in
     table-not-ready g.S.Storage.state (c.args.last + (c.args.count / counters_of_block c.args.file.now.header.fields + 2)) c.args.first c.args.last s (omega (arith, past, long))
@@ -30,9 +30,9 @@ returns-in_err-grow_table-clause-readies g c = rw (handed-on _ _ c.from_residual
 
 pub returns-clause-readies : goal.returns-clause-readies
 returns-clause-readies g c =
-    let s = lent_to c.args.self.now c.args.caches.now c.args.file.now c.args.list.now in
+    let s = allocator_state c.args.self.now c.args.caches.now c.args.file.now c.args.list.now in
     let new = c.grow_table.new in
-    let s' = lent_to new.self new.caches new.file new.list in
+    let s' = allocator_state new.self new.caches new.file new.list in
     let past = c.if-last-entries.false in
     let long = c.entries.ensures.value in
     table-ready g.S.Storage.state (c.args.last + (c.args.count / counters_of_block c.args.file.now.header.fields + 2)) c.args.first c.args.last s (omega (arith, past, long))

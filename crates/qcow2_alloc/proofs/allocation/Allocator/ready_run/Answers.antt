@@ -4,19 +4,19 @@ use Rattle.imago_storage.specs.declared.fault.Fault.TheVariants.{Limit}
 use Rattle.qcow2_types.specs.Counts.{counters_of_block}
 use Rattle.qcow2_alloc.specs.declared.allocation.readying_runs.Provision.{Provision}
 use Rattle.qcow2_alloc.specs.declared.allocation.readying_runs.Provision.TheVariants.{Complete, Extended}
-use Rattle.qcow2_alloc.specs.Allocators.{table_of, mark_of}
+use Rattle.qcow2_alloc.specs.Allocators.{table_of, first_free_of}
 use Rattle.qcow2_alloc.specs.Caches.{cached_file}
 use Rattle.qcow2_alloc.specs.FreeList.{FreeList}
 use Rattle.qcow2_alloc.specs.ReadyingBlocks.{ReadiesBlocks, last_number}
 use Rattle.qcow2_alloc.specs.ReadyingRuns.{ReadiesRun}
 use Rattle.qcow2_alloc.specs.SearchingClusters.{KeepsClean}
-use Rattle.qcow2_alloc.specs.State.{seen, with_mark, lent_to}
+use Rattle.qcow2_alloc.specs.State.{seen, with_first_free, allocator_state}
 use Rattle.qcow2_alloc.proofs.Handing.RunReadiness.{Stays, stays-none, stays-found, stays-on, found-run, readying-none, readying-searched, readying-made, search-refused, making-refused, unfit-refused, grown-refused, run-ready, turns-fewer}
 use Rattle.qcow2_alloc.proofs.Faults.{handed-on}
 use Rattle.qcow2_alloc.proofs.allocation.Allocator.ready_run.Goals as goal
 
 pub loop-first-init : goal.loop-first-init
-loop-first-init g c = (readying-none g.S.Storage.state (seen c.args.self.now c.args.caches.now c.args.file.now c.args.list.now), refl, refl, c.entries-entries.ensures.value, stays-none g.S.Storage.state (seen c.args.self.now c.args.caches.now c.args.file.now c.args.list.now) (mark_of c.args.self.now) c.args.count c.requires.some, λ not. (not, refl, refl, refl, refl))
+loop-first-init g c = (readying-none g.S.Storage.state (seen c.args.self.now c.args.caches.now c.args.file.now c.args.list.now), refl, refl, c.entries-entries.ensures.value, stays-none g.S.Storage.state (seen c.args.self.now c.args.caches.now c.args.file.now c.args.list.now) (first_free_of c.args.self.now) c.args.count c.requires.nonempty, λ not. (not, refl, refl, refl, refl))
 
 pub returns-in_err-first-clause-readies : goal.returns-in_err-first-clause-readies
 returns-in_err-first-clause-readies g c = rw (handed-on _ _ c.from_residual.ensures.1) (
@@ -24,8 +24,8 @@ returns-in_err-first-clause-readies g c = rw (handed-on _ _ c.from_residual.ensu
     let state = g.S.Storage.state in
     let l = c.loop-first in
     let new = c.find_run.new in
-    subst (λ (m : ℕ). ReadiesRun state c.args.count (with_mark s m) (Err c.in_err-first.field-0.0) (lent_to l.self new.caches new.file l.list)) l.invariant.1
-    (search-refused state s (seen l.self l.caches l.file l.list) l.invariant.0 (mark_of l.self) c.args.count c.in_err-first.field-0.0 new.caches new.file c.in_err-first.ensures))
+    subst (λ (m : ℕ). ReadiesRun state c.args.count (with_first_free s m) (Err c.in_err-first.field-0.0) (allocator_state l.self new.caches new.file l.list)) l.invariant.1
+    (search-refused state s (seen l.self l.caches l.file l.list) l.invariant.0 (first_free_of l.self) c.args.count c.in_err-first.field-0.0 new.caches new.file c.in_err-first.ensures))
 
 pub returns-in_err-last_index-clause-readies : goal.returns-in_err-last_index-clause-readies
 returns-in_err-last_index-clause-readies g c = rw (handed-on _ _ c.from_residual-in_err-last_index.ensures.1) (
@@ -34,8 +34,8 @@ returns-in_err-last_index-clause-readies g c = rw (handed-on _ _ c.from_residual
     let l = c.loop-first in
     let so_far = seen l.self l.caches l.file l.list in
     let new = c.find_run.new in
-    subst (λ (m : ℕ). ReadiesRun state c.args.count (with_mark s m) (Err c.in_err-last_index.field-0.0) (lent_to l.self new.caches new.file l.list)) l.invariant.1
-    (unfit-refused state s so_far l.invariant.0 (mark_of l.self) c.args.count c.in_ok-first.first c.requires.some new.caches new.file c.in_ok-first.ensures
+    subst (λ (m : ℕ). ReadiesRun state c.args.count (with_first_free s m) (Err c.in_err-last_index.field-0.0) (allocator_state l.self new.caches new.file l.list)) l.invariant.1
+    (unfit-refused state s so_far l.invariant.0 (first_free_of l.self) c.args.count c.in_ok-first.first c.requires.nonempty new.caches new.file c.in_ok-first.ensures
     c.in_err-last_index.field-0.0 c.in_err-last_index.ensures.err
     (subst (λ (m : ℕ). Stays state s m c.args.count so_far) (sym l.invariant.1) l.invariant.4)))
 
@@ -59,8 +59,8 @@ returns-then-has_grown_short_of-clause-readies g c =
     let more = short.0 in
     let less = short.1 in
     let index = c.in_ok-last_index.ensures.index in
-    subst (λ (m : ℕ). ReadiesRun state c.args.count (with_mark s m) (Err (Limit c.saturating_add.result)) (lent_to l.self new.caches new.file l.list)) l.invariant.1
-    (grown-refused state s so_far l.invariant.0 (mark_of l.self) c.args.count c.in_ok-first.first c.requires.some new.caches new.file c.in_ok-first.ensures
+    subst (λ (m : ℕ). ReadiesRun state c.args.count (with_first_free s m) (Err (Limit c.saturating_add.result)) (allocator_state l.self new.caches new.file l.list)) l.invariant.1
+    (grown-refused state s so_far l.invariant.0 (first_free_of l.self) c.args.count c.in_ok-first.first c.requires.nonempty new.caches new.file c.in_ok-first.ensures
     c.saturating_add.result (subst (λ (z : ℕ). c.saturating_add.result ≡ last_number z c.args.count) c.first.view_is c.saturating_add.ensures) (omega (arith, long, more)) (omega (arith, less, index))
     (subst (λ (m : ℕ). Stays state s m c.args.count so_far) (sym l.invariant.1) l.invariant.4))
 
@@ -75,7 +75,7 @@ pub loop-first-smaller : goal.loop-first-smaller
 loop-first-smaller g c =
     let l = c.loop-first in
     let made = c.in_ok-ready_blocks.ensures in
-    turns-fewer (table_of l.self) (table_of c.ready_blocks.new.self) l.self.few (made.readies.further c.in_default.is)
+    turns-fewer (table_of l.self) (table_of c.ready_blocks.new.self) l.self.table_bounded (made.readies.further c.in_default.is)
 
 pub loop-first-preserved : goal.loop-first-preserved
 loop-first-preserved g c =
@@ -85,25 +85,25 @@ loop-first-preserved g c =
     let so_far = seen l.self l.caches l.file l.list in
     let searched = c.find_run.new in
     let new = c.ready_blocks.new in
-    let s' = lent_to new.self new.caches new.file new.list in
+    let s' = allocator_state new.self new.caches new.file new.list in
     let made = c.in_ok-ready_blocks.ensures in
     let bits = c.rb_bits.ensures in
     let k = counters_of_block searched.file.header.fields in
     let at = c.in_ok-last_index.last_index + (c.args.count / k + 2) in
-    let found = readying-searched state s so_far l.invariant.0 (mark_of l.self) c.args.count c.in_ok-first.first searched.caches searched.file c.in_ok-first.ensures in
-    let kept = stays-found state s so_far l.invariant.0 (mark_of l.self) c.args.count c.in_ok-first.first c.requires.some searched.caches searched.file c.in_ok-first.ensures
+    let found = readying-searched state s so_far l.invariant.0 (first_free_of l.self) c.args.count c.in_ok-first.first searched.caches searched.file c.in_ok-first.ensures in
+    let kept = stays-found state s so_far l.invariant.0 (first_free_of l.self) c.args.count c.in_ok-first.first c.requires.nonempty searched.caches searched.file c.in_ok-first.ensures
     (subst (λ (m : ℕ). Stays state s m c.args.count so_far) (sym l.invariant.1) l.invariant.4) in
     let index : c.rt_index-first_index.result ≡ c.in_ok-first.first / k = c.rt_index-first_index.ensures ∙ ap (λ (m : ℕ). c.in_ok-first.first / m) bits.entries in
-    let readies = subst (λ (b : Provision). ReadiesBlocks state at c.rt_index-first_index.result c.in_ok-last_index.last_index (lent_to l.self searched.caches searched.file l.list) (Ok b) s') c.in_default.is made.readies in (
+    let readies = subst (λ (b : Provision). ReadiesBlocks state at c.rt_index-first_index.result c.in_ok-last_index.last_index (allocator_state l.self searched.caches searched.file l.list) (Ok b) s') c.in_default.is made.readies in (
       readying-made state s (seen l.self searched.caches searched.file l.list) found
-          (mark_of l.self) at c.rt_index-first_index.result c.in_ok-last_index.last_index Extended s' readies
-          (covers _ (length (table_of l.self).words) c.in_ok-last_index.last_index (length (table_of c.args.self.now).words) c.has_grown_short_of.result c.if-has_grown_short_of.false (λ a b. c.has_grown_short_of.ensures.1 (a, b)) l.invariant.3),
+          (first_free_of l.self) at c.rt_index-first_index.result c.in_ok-last_index.last_index Extended s' readies
+          (covers _ (length (table_of l.self).raw_entries) c.in_ok-last_index.last_index (length (table_of c.args.self.now).raw_entries) c.has_grown_short_of.result c.if-has_grown_short_of.false (λ a b. c.has_grown_short_of.ensures.1 (a, b)) l.invariant.3),
       made.readies.mark ∙ l.invariant.1,
       made.held ∙ l.invariant.2,
       l.invariant.3,
       subst (λ (m : ℕ). Stays state s m c.args.count s'.image) l.invariant.1
-          (stays-on state s (seen l.self searched.caches searched.file l.list) found (mark_of l.self) c.args.count c.in_ok-first.first c.rt_index-first_index.result c.in_ok-last_index.last_index c.requires.some
-          (found-run state s so_far l.invariant.0 (mark_of l.self) c.args.count c.in_ok-first.first c.requires.some searched.caches searched.file c.in_ok-first.ensures)
+          (stays-on state s (seen l.self searched.caches searched.file l.list) found (first_free_of l.self) c.args.count c.in_ok-first.first c.rt_index-first_index.result c.in_ok-last_index.last_index c.requires.nonempty
+          (found-run state s so_far l.invariant.0 (first_free_of l.self) c.args.count c.in_ok-first.first c.requires.nonempty searched.caches searched.file c.in_ok-first.ensures)
           index c.in_ok-last_index.ensures.index kept s' readies),
       λ not. absurd (cc not),
     )
@@ -116,23 +116,23 @@ returns-in-Complete-clause-readies g c =
     let so_far = seen l.self l.caches l.file l.list in
     let searched = c.find_run.new in
     let new = c.ready_blocks.new in
-    let s' = lent_to new.self new.caches new.file new.list in
+    let s' = allocator_state new.self new.caches new.file new.list in
     let k = counters_of_block searched.file.header.fields in
     let at = c.in_ok-last_index.last_index + (c.args.count / k + 2) in
     let bits = c.rb_bits.ensures in
     let index : c.rt_index-first_index.result ≡ c.in_ok-first.first / k = c.rt_index-first_index.ensures ∙ ap (λ (m : ℕ). c.in_ok-first.first / m) bits.entries in
     let last = c.in_ok-last_index.ensures in
     let made = c.in_ok-ready_blocks.ensures in
-    let found = readying-searched state s so_far l.invariant.0 (mark_of l.self) c.args.count c.in_ok-first.first searched.caches searched.file
+    let found = readying-searched state s so_far l.invariant.0 (first_free_of l.self) c.args.count c.in_ok-first.first searched.caches searched.file
     c.in_ok-first.ensures in
     let done = readying-made state s (seen l.self searched.caches searched.file l.list) found
-    (mark_of l.self) at c.rt_index-first_index.result c.in_ok-last_index.last_index c.in_ok-ready_blocks.field-0 s' made.readies
-    (covers _ (length (table_of l.self).words) c.in_ok-last_index.last_index (length (table_of c.args.self.now).words) c.has_grown_short_of.result c.if-has_grown_short_of.false (λ a b. c.has_grown_short_of.ensures.1 (a, b)) l.invariant.3) in
-    let none : ReadiesBlocks state at (c.in_ok-first.first / k) c.in_ok-last_index.last_index (lent_to l.self searched.caches searched.file l.list) (Ok Complete) s' =
-    subst (λ (m : ℕ). ReadiesBlocks state at m c.in_ok-last_index.last_index (lent_to l.self searched.caches searched.file l.list) (Ok Complete) s') index
-    (subst (λ (b : Provision). ReadiesBlocks state at c.rt_index-first_index.result c.in_ok-last_index.last_index (lent_to l.self searched.caches searched.file l.list) (Ok b) s') c.in-Complete.is made.readies) in
-    subst (λ (m : ℕ). ReadiesRun state c.args.count (with_mark s m) (Ok c.in_ok-first.first) s') l.invariant.1
-    (run-ready state s so_far l.invariant.0 (mark_of l.self) c.args.count c.in_ok-first.first c.requires.some searched.caches searched.file c.in_ok-first.ensures
+    (first_free_of l.self) at c.rt_index-first_index.result c.in_ok-last_index.last_index c.in_ok-ready_blocks.field-0 s' made.readies
+    (covers _ (length (table_of l.self).raw_entries) c.in_ok-last_index.last_index (length (table_of c.args.self.now).raw_entries) c.has_grown_short_of.result c.if-has_grown_short_of.false (λ a b. c.has_grown_short_of.ensures.1 (a, b)) l.invariant.3) in
+    let none : ReadiesBlocks state at (c.in_ok-first.first / k) c.in_ok-last_index.last_index (allocator_state l.self searched.caches searched.file l.list) (Ok Complete) s' =
+    subst (λ (m : ℕ). ReadiesBlocks state at m c.in_ok-last_index.last_index (allocator_state l.self searched.caches searched.file l.list) (Ok Complete) s') index
+    (subst (λ (b : Provision). ReadiesBlocks state at c.rt_index-first_index.result c.in_ok-last_index.last_index (allocator_state l.self searched.caches searched.file l.list) (Ok b) s') c.in-Complete.is made.readies) in
+    subst (λ (m : ℕ). ReadiesRun state c.args.count (with_first_free s m) (Ok c.in_ok-first.first) s') l.invariant.1
+    (run-ready state s so_far l.invariant.0 (first_free_of l.self) c.args.count c.in_ok-first.first c.requires.nonempty searched.caches searched.file c.in_ok-first.ensures
     s' k c.in_ok-last_index.last_index refl at none done
     (subst (λ (m : ℕ). Stays state s m c.args.count so_far) (sym l.invariant.1) l.invariant.4)
     (wide c.rb_bits.result k bits.entries) last.start last.reach last.index)
@@ -148,23 +148,23 @@ returns-in_err-ready_blocks-clause-readies g c = rw (handed-on _ _ c.from_residu
     let so_far = seen l.self l.caches l.file l.list in
     let searched = c.find_run.new in
     let new = c.ready_blocks.new in
-    let s' = lent_to new.self new.caches new.file new.list in
+    let s' = allocator_state new.self new.caches new.file new.list in
     let bits = c.rb_bits.ensures in
     let k = counters_of_block searched.file.header.fields in
     let index : c.rt_index-first_index.result ≡ c.in_ok-first.first / k = c.rt_index-first_index.ensures ∙ ap (λ (m : ℕ). c.in_ok-first.first / m) bits.entries in
-    let kept = stays-found state s so_far l.invariant.0 (mark_of l.self) c.args.count c.in_ok-first.first c.requires.some searched.caches searched.file c.in_ok-first.ensures
+    let kept = stays-found state s so_far l.invariant.0 (first_free_of l.self) c.args.count c.in_ok-first.first c.requires.nonempty searched.caches searched.file c.in_ok-first.ensures
     (subst (λ (m : ℕ). Stays state s m c.args.count so_far) (sym l.invariant.1) l.invariant.4) in
-    subst (λ (m : ℕ). ReadiesRun state c.args.count (with_mark s m) (Err c.in_err-ready_blocks.field-0.0) s') l.invariant.1
+    subst (λ (m : ℕ). ReadiesRun state c.args.count (with_first_free s m) (Err c.in_err-ready_blocks.field-0.0) s') l.invariant.1
     (making-refused state s (seen l.self searched.caches searched.file l.list)
-    (readying-searched state s so_far l.invariant.0 (mark_of l.self) c.args.count c.in_ok-first.first searched.caches searched.file c.in_ok-first.ensures)
-    (mark_of l.self) c.args.count c.in_ok-first.first c.rt_index-first_index.result c.in_ok-last_index.last_index c.requires.some
-    (found-run state s so_far l.invariant.0 (mark_of l.self) c.args.count c.in_ok-first.first c.requires.some searched.caches searched.file c.in_ok-first.ensures)
+    (readying-searched state s so_far l.invariant.0 (first_free_of l.self) c.args.count c.in_ok-first.first searched.caches searched.file c.in_ok-first.ensures)
+    (first_free_of l.self) c.args.count c.in_ok-first.first c.rt_index-first_index.result c.in_ok-last_index.last_index c.requires.nonempty
+    (found-run state s so_far l.invariant.0 (first_free_of l.self) c.args.count c.in_ok-first.first c.requires.nonempty searched.caches searched.file c.in_ok-first.ensures)
     index c.in_ok-last_index.ensures.index c.in_ok-last_index.ensures.reach kept c.in_err-ready_blocks.field-0.0 s' c.in_err-ready_blocks.ensures.readies
-    (covers _ (length (table_of l.self).words) c.in_ok-last_index.last_index (length (table_of c.args.self.now).words) c.has_grown_short_of.result c.if-has_grown_short_of.false (λ a b. c.has_grown_short_of.ensures.1 (a, b)) l.invariant.3)))
+    (covers _ (length (table_of l.self).raw_entries) c.in_ok-last_index.last_index (length (table_of c.args.self.now).raw_entries) c.has_grown_short_of.result c.if-has_grown_short_of.false (λ a b. c.has_grown_short_of.ensures.1 (a, b)) l.invariant.3)))
 
 -- Before the first search nothing was done.
-pub returns-in_err-first-clause-spares : goal.returns-in_err-first-clause-spares
-returns-in_err-first-clause-spares g c = λ not.
+pub returns-in_err-first-clause-untouched_unless_begun : goal.returns-in_err-first-clause-untouched_unless_begun
+returns-in_err-first-clause-untouched_unless_begun g c = λ not.
     let state = g.S.Storage.state in
     let l = c.loop-first in
     let new = c.find_run.new in

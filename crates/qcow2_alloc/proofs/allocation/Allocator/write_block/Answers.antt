@@ -1,11 +1,11 @@
 use Rattle.std.proofs.Common.{◌≡◌, ◌+◌, ◌*◌, ◌∙◌, refl, ap, subst, Bool, true, Result, Ok, Err}
 use Rattle.std.specs.Prelude.{OnOk, OnErr, slice_index}
 use Rattle.std.specs.Int.{w64, to_be_bytes}
-use Rattle.imago_storage.specs.Through.{PutAtOnce}
+use Rattle.imago_storage.specs.Through.{AtomicWriteOutcome}
 use Rattle.imago_storage.specs.declared.fault.Fault.{Fault}
 use Rattle.qcow2_metadata.specs.Blocks.{Block}
 use Rattle.qcow2_metadata.specs.Places.{place_of}
-use Rattle.qcow2_metadata.specs.Tables.{TableValue, table_place, with_word}
+use Rattle.qcow2_metadata.specs.Tables.{TableValue, table_start, with_raw_entry}
 use Rattle.qcow2_alloc.specs.Allocators.{table_of}
 use Rattle.qcow2_alloc.proofs.Faults.{handed-on}
 use Rattle.qcow2_alloc.proofs.allocation.Allocator.write_block.Goals as goal
@@ -30,15 +30,15 @@ returns-clause-names g c =
     let table = table_of c.args.self.now in
     let i = c.args.index in
     let new = c.write_entry.new in
-    let entered : c.enter_refblock.new.self ≡ with_word table i (place_of c.args.block.cluster_bits c.args.block.cluster) =
-    c.enter_refblock.ensures ∙ ap (λ (b : Block). with_word table i (place_of b.cluster_bits b.cluster)) c.in_ok-write.ensures.ok in
+    let entered : c.enter_refblock.new.self ≡ with_raw_entry table i (place_of c.args.block.cluster_bits c.args.block.cluster) =
+    c.enter_refblock.ensures ∙ ap (λ (b : Block). with_raw_entry table i (place_of b.cluster_bits b.cluster)) c.in_ok-write.ensures.ok in
     record {
       done = Ok tt;
       mid = state c.write.new.image;
       put = c.in_ok-write.ensures.request;
       stopped = λ fault is. absurd (cc is);
       named = λ is. (
-        subst (λ (t : TableValue). PutAtOnce (state c.write.new.image) (state new.image) (table_place t + 8 * i) (to_be_bytes w64 (slice_index t.words i)) c.write_entry.result) entered c.write_entry.ensures.request,
+        subst (λ (t : TableValue). AtomicWriteOutcome (state c.write.new.image) (state new.image) (table_start t + 8 * i) (to_be_bytes w64 (slice_index t.raw_entries i)) c.write_entry.result) entered c.write_entry.ensures.request,
         subst (λ (t : TableValue). (m : Bool) × (new.self ≡ record t { modified = m })) entered (as-it-was c.write_entry.result c.enter_refblock.new.self new.self c.write_entry.ensures.ok c.write_entry.ensures.err),
       );
     }

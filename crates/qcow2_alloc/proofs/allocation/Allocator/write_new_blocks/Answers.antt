@@ -7,7 +7,7 @@ use Rattle.imago_storage.specs.declared.fault.Fault.{Fault}
 use Rattle.qcow2_types.specs.Header.{Header}
 use Rattle.qcow2_types.specs.Counts.{counters_of_block}
 use Rattle.qcow2_types.specs.Words.{block_offset}
-use Rattle.qcow2_metadata.specs.Places.{IsInReach}
+use Rattle.qcow2_metadata.specs.Places.{IsAddressable}
 use Rattle.qcow2_metadata.specs.Tables.{TableValue}
 use Rattle.qcow2_alloc.specs.declared.allocation.searching.Run.{Run}
 use Rattle.qcow2_alloc.specs.declared.file.ImageFile.{ImageFile}
@@ -58,7 +58,7 @@ from_ref_indices-requires-clause-fits g c =
 
 -- Where a block is lacking the run has a cluster for it.
 room-here : (h : Header) (t : TableValue) (run : Run) (r i written at end : ℕ) → 2 ^ r ≡ counters_of_block h.fields → lacking t (counters_of_block h.fields) run.first run.len ≤ run.len → written ≡ rank (lack h t run) i
-    → run.first / counters_of_block h.fields ≤ i → at ≡ i * 2 ^ r + 0 → end ≡ run.first + run.len → at < end → block_offset (slice_index t.words i) ≡ 0 → (rank (lack h t run) (suc i) ≡ rank (lack h t run) i + 1) × (written + 1 ≤ run.len)
+    → run.first / counters_of_block h.fields ≤ i → at ≡ i * 2 ^ r + 0 → end ≡ run.first + run.len → at < end → block_offset (slice_index t.raw_entries i) ≡ 0 → (rank (lack h t run) (suc i) ≡ rank (lack h t run) i + 1) × (written + 1 ≤ run.len)
 room-here h t run r i written at end entries room is from place stop lt none =
     let first = first-of i r (counters_of_block h.fields) at entries place in
     let inside : i * counters_of_block h.fields < run.first + run.len = omega (arith, first, stop, lt) in
@@ -85,7 +85,7 @@ write_new_block-requires-clause-reach g c =
     let bits = c.args.file.now.header.fields.cluster_bits in
     let le : (c.first-2.inside.0 + c.loop-run.written) * 2 ^ bits ≤ (c.args.run.first + (c.args.run.len - 1)) * 2 ^ bits = mul-le-mul_right (2 ^ bits) (omega (arith, room, first)) in
     let reach = c.requires.reach in
-    subst (λ (H : Header). IsInReach H.fields.cluster_bits (c.first-2.inside.0 + c.loop-run.written)) (sym c.loop-run.invariant.0) (omega (arith, le, reach))
+    subst (λ (H : Header). IsAddressable H.fields.cluster_bits (c.first-2.inside.0 + c.loop-run.written)) (sym c.loop-run.invariant.0) (omega (arith, le, reach))
 
 pub write_new_block-requires-clause-own : goal.write_new_block-requires-clause-own
 write_new_block-requires-clause-own g c =

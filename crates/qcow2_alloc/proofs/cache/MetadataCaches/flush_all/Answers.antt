@@ -5,15 +5,15 @@ use Rattle.qcow2_alloc.proofs.Flushing.WriteSequences.{going-next, in-turn-both,
 use Rattle.qcow2_alloc.proofs.Faults.{handed-on}
 use Rattle.qcow2_alloc.proofs.cache.MetadataCaches.flush_all.Goals as goal
 
-pub returns-then-eq-clause-going : goal.returns-then-eq-clause-going
-returns-then-eq-clause-going g c =
+pub returns-then-eq-clause-writes_back_cached : goal.returns-then-eq-clause-writes_back_cached
+returns-then-eq-clause-writes_back_cached g c =
     going-next ReadyTables c.args.file.now.header _ _ _ (Ok tt ≡ Ok tt) (c.flush_l2.result ≡ Ok tt) _ _ _ _ _ _ c.in_ok-flush_rb.ensures.others.1 c.in_ok-flush_rb.ensures.others.0 refl (λ first. c.in_ok-flush_rb.ensures.clean)
-    c.in_ok-flush_rb.ensures.going c.flush_l2.ensures.going
+    c.in_ok-flush_rb.ensures.writes_back_cached c.flush_l2.ensures.writes_back_cached
 
-pub returns-clause-going : goal.returns-clause-going
-returns-clause-going g c =
+pub returns-clause-writes_back_cached : goal.returns-clause-writes_back_cached
+returns-clause-writes_back_cached g c =
     going-next ReadyBlocks c.args.file.now.header _ _ _ (Ok tt ≡ Ok tt) (c.flush_blocks.result ≡ Ok tt) _ _ _ _ _ _ c.in_ok-flush_tables.ensures.others.1 c.in_ok-flush_tables.ensures.others.0 refl (λ first. c.in_ok-flush_tables.ensures.clean)
-    c.in_ok-flush_tables.ensures.going c.flush_blocks.ensures.going
+    c.in_ok-flush_tables.ensures.writes_back_cached c.flush_blocks.ensures.writes_back_cached
 
 pub returns-then-eq-clause-blocks_first : goal.returns-then-eq-clause-blocks_first
 returns-then-eq-clause-blocks_first g c = λ order. in-turn-both WritesBlocks WritesTables _ _ _ _ _ _ _ (c.in_ok-flush_rb.ensures.alone (λ other. let both = sym order ∙ other in cc)) c.flush_l2.ensures.written

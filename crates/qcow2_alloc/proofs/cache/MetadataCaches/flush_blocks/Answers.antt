@@ -8,8 +8,8 @@ use Rattle.qcow2_alloc.proofs.Caching.BlockSide.{block-laws}
 use Rattle.qcow2_alloc.specs.CachedKinds.{block_entries, by_blocks}
 use Rattle.qcow2_alloc.proofs.cache.MetadataCaches.flush_blocks.Goals as goal
 
-pub returns-clause-going : goal.returns-clause-going
-returns-clause-going g c = (all-flushed (block_entries g.S.Storage.state) (block-laws g.S.Storage.state) (by_blocks c.args.self.now) c.args.file.now c.flush.result c.flush.new.device c.flush.new.self.slots.entries c.flush.ensures.flushed).going
+pub returns-clause-writes_back_cached : goal.returns-clause-writes_back_cached
+returns-clause-writes_back_cached g c = (all-flushed (block_entries g.S.Storage.state) (block-laws g.S.Storage.state) (by_blocks c.args.self.now) c.args.file.now c.flush.result c.flush.new.device c.flush.new.self.slots.entries c.flush.ensures.flushed).writes_back_cached
 
 pub returns-clause-clean : goal.returns-clause-clean
 returns-clause-clean g c = (all-flushed (block_entries g.S.Storage.state) (block-laws g.S.Storage.state) (by_blocks c.args.self.now) c.args.file.now c.flush.result c.flush.new.device c.flush.new.self.slots.entries c.flush.ensures.flushed).clean
@@ -23,8 +23,8 @@ returns-clause-cause g c = (all-flushed (block_entries g.S.Storage.state) (block
 pub returns-clause-faults : goal.returns-clause-faults
 returns-clause-faults g c = (all-flushed (block_entries g.S.Storage.state) (block-laws g.S.Storage.state) (by_blocks c.args.self.now) c.args.file.now c.flush.result c.flush.new.device c.flush.new.self.slots.entries c.flush.ensures.flushed).faults
 
-pub returns-clause-kept : goal.returns-clause-kept
-returns-clause-kept g c = ap (λ (l : List (ℕ × Slot Block)). record { blocks = l; tables = map written_table c.args.self.now.l2.slots.entries }) (all-flushed (block_entries g.S.Storage.state) (block-laws g.S.Storage.state) (by_blocks c.args.self.now) c.args.file.now c.flush.result c.flush.new.device c.flush.new.self.slots.entries c.flush.ensures.flushed).kept
+pub returns-clause-written_value_unchanged : goal.returns-clause-written_value_unchanged
+returns-clause-written_value_unchanged g c = ap (λ (l : List (ℕ × Slot Block)). record { blocks = l; tables = map written_table c.args.self.now.l2.slots.entries }) (all-flushed (block_entries g.S.Storage.state) (block-laws g.S.Storage.state) (by_blocks c.args.self.now) c.args.file.now c.flush.result c.flush.new.device c.flush.new.self.slots.entries c.flush.ensures.flushed).kept
 
 pub returns-clause-written : goal.returns-clause-written
 returns-clause-written g c = (refl, (all-flushed (block_entries g.S.Storage.state) (block-laws g.S.Storage.state) (by_blocks c.args.self.now) c.args.file.now c.flush.result c.flush.new.device c.flush.new.self.slots.entries c.flush.ensures.flushed).told)

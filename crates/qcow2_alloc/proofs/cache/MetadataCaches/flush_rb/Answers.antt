@@ -5,10 +5,10 @@ use Rattle.qcow2_alloc.proofs.Flushing.WriteSequences.{going-next, in-turn-both,
 use Rattle.qcow2_alloc.proofs.Faults.{handed-on}
 use Rattle.qcow2_alloc.proofs.cache.MetadataCaches.flush_rb.Goals as goal
 
-pub returns-clause-going : goal.returns-clause-going
-returns-clause-going g c =
+pub returns-clause-writes_back_cached : goal.returns-clause-writes_back_cached
+returns-clause-writes_back_cached g c =
     going-next ReadyBlocks c.args.file.now.header _ _ _ (Ok tt ≡ Ok tt) (c.flush_blocks.result ≡ Ok tt) _ _ _ _ _ _ c.in_ok-before_blocks.ensures.others.2 c.in_ok-before_blocks.ensures.others.1 refl c.in_ok-before_blocks.ensures.ready
-    c.in_ok-before_blocks.ensures.going c.flush_blocks.ensures.going
+    c.in_ok-before_blocks.ensures.writes_back_cached c.flush_blocks.ensures.writes_back_cached
 
 pub returns-clause-in_turn : goal.returns-clause-in_turn
 returns-clause-in_turn g c = λ order. in-turn-both WritesTables WritesBlocks _ _ _ _ _ _ _ (c.in_ok-before_blocks.ensures.written order) c.flush_blocks.ensures.written

@@ -5,10 +5,10 @@ use Rattle.qcow2_alloc.proofs.Flushing.WriteSequences.{going-next, in-turn-both,
 use Rattle.qcow2_alloc.proofs.Faults.{handed-on}
 use Rattle.qcow2_alloc.proofs.cache.MetadataCaches.flush_tables.Goals as goal
 
-pub returns-clause-going : goal.returns-clause-going
-returns-clause-going g c =
+pub returns-clause-writes_back_cached : goal.returns-clause-writes_back_cached
+returns-clause-writes_back_cached g c =
     going-next ReadyTables c.args.file.now.header _ _ _ (Ok tt ≡ Ok tt) (c.flush_l2.result ≡ Ok tt) _ _ _ _ _ _ c.in_ok-before_tables.ensures.others.2 c.in_ok-before_tables.ensures.others.1 refl c.in_ok-before_tables.ensures.ready
-    c.in_ok-before_tables.ensures.going c.flush_l2.ensures.going
+    c.in_ok-before_tables.ensures.writes_back_cached c.flush_l2.ensures.writes_back_cached
 
 pub returns-clause-in_turn : goal.returns-clause-in_turn
 returns-clause-in_turn g c = λ order. in-turn-both WritesBlocks WritesTables _ _ _ _ _ _ _ (c.in_ok-before_tables.ensures.written order) c.flush_l2.ensures.written

@@ -3,6 +3,6 @@ use Rattle.qcow2_alloc.proofs.Caching.EntryDrops.{entries-dropped}
 use Rattle.qcow2_alloc.proofs.Memory.EntryKinds.{block_kind}
 use Rattle.qcow2_alloc.proofs.cache.MetadataCaches.invalidate_rb.Goals as goal
 
-pub returns-clause-safe : goal.returns-clause-safe
-returns-clause-safe g c = λ clean. rw c.invalidate.ensures.kept
+pub returns-clause-well_formed : goal.returns-clause-well_formed
+returns-clause-well_formed g c = λ clean. rw c.invalidate.ensures.keeps_pinned
     (entries-dropped block_kind block-kind-laws c.args.self.now.l2.slots.entries c.args.self.now.rb.slots.entries c.args.self.now.order clean)

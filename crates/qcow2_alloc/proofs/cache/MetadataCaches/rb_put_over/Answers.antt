@@ -10,7 +10,7 @@ returns-in_ok-insert-in-Ok g c =
     let state = g.S.Storage.state in
     let flushed = c.before_blocks-flushed in
     let done = c.in-Ok.ensures in
-    let first = tables-first state c.args.self.now c.args.file.now (Ok tt) flushed.new.self flushed.new.file done.going done.kept done.ready done.idle done.others done.room done.cause done.faults done.written in
+    let first = tables-first state c.args.self.now c.args.file.now (Ok tt) flushed.new.self flushed.new.file done.writes_back_cached done.written_value_unchanged done.ready done.idle done.others done.room done.cause done.faults done.written in
     (put-behind (block_entries state) (block-laws state) c.args.cluster c.args.block (by_blocks c.args.self.now) c.args.file.now c.requires flushed.new.file (by_blocks flushed.new.self) first
     (Ok c.in_ok-insert-in-Ok.field-0) c.insert.new.device (by_blocks (record flushed.new.self { rb = c.insert.new.self })) (ap (λ l. record (by_blocks flushed.new.self) { own = l }) c.insert.ensures.others) c.in_ok-insert-in-Ok.ensures.inserted)
 
@@ -19,7 +19,7 @@ returns-in_err-insert-in-Ok g c =
     let state = g.S.Storage.state in
     let flushed = c.before_blocks-flushed in
     let done = c.in-Ok.ensures in
-    let first = tables-first state c.args.self.now c.args.file.now (Ok tt) flushed.new.self flushed.new.file done.going done.kept done.ready done.idle done.others done.room done.cause done.faults done.written in
+    let first = tables-first state c.args.self.now c.args.file.now (Ok tt) flushed.new.self flushed.new.file done.writes_back_cached done.written_value_unchanged done.ready done.idle done.others done.room done.cause done.faults done.written in
     rw (handed-on _ _ c.from_residual.ensures.1) ((put-behind (block_entries state) (block-laws state) c.args.cluster c.args.block (by_blocks c.args.self.now) c.args.file.now c.requires flushed.new.file (by_blocks flushed.new.self) first
     (Err c.in_err-insert-in-Ok.field-0.0) c.insert.new.device (by_blocks (record flushed.new.self { rb = c.insert.new.self })) (ap (λ l. record (by_blocks flushed.new.self) { own = l }) c.insert.ensures.others) c.in_err-insert-in-Ok.ensures.inserted))
 
@@ -28,5 +28,5 @@ returns-in-Err g c =
     let state = g.S.Storage.state in
     let flushed = c.before_blocks-flushed in
     let done = c.in-Err.ensures in
-    let first = tables-first state c.args.self.now c.args.file.now (Err c.in-Err.fault) flushed.new.self flushed.new.file done.going done.kept done.ready done.idle done.others done.room done.cause done.faults done.written in
+    let first = tables-first state c.args.self.now c.args.file.now (Err c.in-Err.fault) flushed.new.self flushed.new.file done.writes_back_cached done.written_value_unchanged done.ready done.idle done.others done.room done.cause done.faults done.written in
     (put-halted (block_entries state) (block-laws state) c.args.cluster c.args.block (by_blocks c.args.self.now) c.args.file.now c.requires flushed.new.file (by_blocks flushed.new.self) c.in-Err.fault first)

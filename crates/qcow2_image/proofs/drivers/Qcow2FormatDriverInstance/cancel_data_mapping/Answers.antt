@@ -8,5 +8,5 @@ returns-else-state-self g c = record {
   cancels = cancels-by g.row.S g.S.Storage g.S.Storage-dict g.S.Destruct-dict c.args.mapping c.in-Some.state
       (sym c.into_state.ensures ∙ c.in-Some.is) c.args.self.now c.cancel_unspent.new.self (let same = c.if-state-self.false in omega (arith, same))
       c.cancel_unspent.ensures;
-  leaks = λ safe. cancel-leaks g.S.Storage c.in-Some.state.claim c.args.self.now c.cancel_unspent.new.self c.cancel_unspent.ensures safe;
+  leaks = λ well_formed. cancel-leaks g.S.Storage c.in-Some.state.mapping_id c.args.self.now c.cancel_unspent.new.self c.cancel_unspent.ensures well_formed;
 }

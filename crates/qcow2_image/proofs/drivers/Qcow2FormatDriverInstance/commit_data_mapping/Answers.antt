@@ -1,7 +1,7 @@
 use Rattle.std.proofs.Common.{sym, subst, ◌∙◌, Option}
 use Rattle.imago_access.specs.PreparingCalls.{Commits}
 use Rattle.qcow2_image.specs.declared.qcow2.PreparedMappingState.{PreparedMappingState}
-use Rattle.qcow2_image.specs.contracts.qcow2.Qcow2Seen.TheImpl.{ghosts}
+use Rattle.qcow2_image.specs.contracts.qcow2.Qcow2DriverModel.TheImpl.{ghosts}
 use Rattle.qcow2_image.proofs.Lengths.{committed-long}
 use Rattle.qcow2_image.proofs.CommitsAndCancels.{commits-by, refused-by}
 use Rattle.qcow2_image.proofs.CommitLeaks.{commit-leaks}
@@ -21,8 +21,8 @@ returns-in-Ok-clause-refused g c =
 
 pub returns-in-Ok-clause-leaks : goal.returns-in-Ok-clause-leaks
 returns-in-Ok-clause-leaks g c =
-    commit-leaks g.S.Storage c.in-Some.state.claim c.args.self.now c.commit_unspent.new.self c.commit_unspent.result c.commit_unspent.ensures
+    commit-leaks g.S.Storage c.in-Some.state.mapping_id c.args.self.now c.commit_unspent.new.self c.commit_unspent.result c.commit_unspent.ensures
 
 pub returns-in-Ok-clause-no_shorter : goal.returns-in-Ok-clause-no_shorter
 returns-in-Ok-clause-no_shorter g c =
-    committed-long g.S.Storage c.in-Some.state.claim c.args.self.now c.commit_unspent.result c.commit_unspent.new.self c.commit_unspent.ensures
+    committed-long g.S.Storage c.in-Some.state.mapping_id c.args.self.now c.commit_unspent.result c.commit_unspent.new.self c.commit_unspent.ensures

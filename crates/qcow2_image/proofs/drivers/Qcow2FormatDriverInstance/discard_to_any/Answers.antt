@@ -4,5 +4,5 @@ use Rattle.qcow2_image.proofs.drivers.Qcow2FormatDriverInstance.discard_to_any.G
 
 pub returns-clause-refused : goal.returns-clause-refused
 returns-clause-refused g c =
-    declined g.row.S g.S.Storage g.S.Storage-dict g.S.Destruct-dict discards_to_any c.args.self.now c.args.offset c.args.length c.decline.result c.decline.ensures.mild c.decline.ensures.failed
+    declined g.row.S g.S.Storage g.S.Storage-dict g.S.Destruct-dict discards_to_any c.args.self.now c.args.offset c.args.length c.decline.result c.decline.ensures.not_resource_error c.decline.ensures.failed
     c.decline.ensures.cause

@@ -2,81 +2,81 @@ use Rattle.std.proofs.Common.{ap, sym, ◌∙◌, length, refl, Result}
 use Rattle.std.specs.Prelude.{⊤}
 use Rattle.imago_storage.specs.declared.fault.Fault.{Fault}
 use Rattle.qcow2_image.specs.declared.qcow2.Qcow2.{Qcow2}
-use Rattle.qcow2_image.specs.Steps.{KeepsImage, failed_behind, failed_by}
+use Rattle.qcow2_image.specs.Steps.{KeepsImage, failed_after, failed_by}
 use Rattle.qcow2_image.proofs.Leaks.{leaks-asked}
 use Rattle.qcow2_image.proofs.Lengths.{asked-long}
 use Rattle.qcow2_image.proofs.RequestsWithoutChanges.{read-faultless, settled-keeps, ok-whole}
 use Rattle.qcow2_image.proofs.Steps.{began-kept, looked-kept, marks-kept}
 use Rattle.imago_access.proofs.Looking.{looked_same}
 use Rattle.qcow2_image.specs.Seen.{layer_of}
-use Rattle.qcow2_image.proofs.CallsWithoutChanges.{failed-barrier, failed-runs, runs-barrier, failed-at_once, idle-at_once, busy-at_once, below-empty, told-empty, told-some}
+use Rattle.qcow2_image.proofs.CallsWithoutChanges.{failed-barrier, failed-runs, runs-barrier, failed-early_outcome, idle-early_outcome, busy-early_outcome, below-empty, told-empty, told-some}
 use Rattle.qcow2_image.proofs.drivers.Qcow2FormatDriverInstance.read_mapped.Goals as goal
 
-pub returns-clause-looked : goal.returns-clause-looked
-returns-clause-looked g c =
+pub returns-clause-lookup_call : goal.returns-clause-lookup_call
+returns-clause-lookup_call g c =
     let q = c.args.self.now in
-    let d = c.settle.new.self in
-    let is = c.settle.ensures.marks in
-    let same = c.settle.ensures.same in
+    let d = c.mark_fault.new.self in
+    let is = c.mark_fault.ensures.marks_failed in
+    let same = c.mark_fault.ensures.same in
     let s = g.S.Storage.state q.tables.file.image in
     let t = g.S.Storage.state c.read-answer.new.self in
-    let keeps : KeepsImage {T = Unit} g.S.Storage q c.settle.result d =
-    settled-keeps g.S.Storage q d c.read-answer.result c.settle.result is same (refl, refl, refl, refl) c.read-answer.ensures.kept c.read-answer.ensures.later
-    (read-faultless s t c.args.place (length c.args.buf.now) c.read-answer.result c.read-answer.ensures.kept c.read-answer.ensures.faults c.read-answer.ensures.err) in
-    looked-kept g.row.S g.S.Storage g.S.Storage-dict g.S.Destruct-dict {T = Unit} q d c.settle.result keeps
+    let keeps : KeepsImage {T = Unit} g.S.Storage q c.mark_fault.result d =
+    settled-keeps g.S.Storage q d c.read-answer.result c.mark_fault.result is same (refl, refl, refl, refl) c.read-answer.ensures.unchanged_but_faults c.read-answer.ensures.counts_not_fallen
+    (read-faultless s t c.args.place (length c.args.buf.now) c.read-answer.result c.read-answer.ensures.unchanged_but_faults c.read-answer.ensures.faults c.read-answer.ensures.err) in
+    looked-kept g.row.S g.S.Storage g.S.Storage-dict g.S.Destruct-dict {T = Unit} q d c.mark_fault.result keeps
 
-pub returns-clause-began : goal.returns-clause-began
-returns-clause-began g c =
+pub returns-clause-stays_begun : goal.returns-clause-stays_begun
+returns-clause-stays_begun g c =
     let q = c.args.self.now in
-    let d = c.settle.new.self in
-    let is = c.settle.ensures.marks in
-    let same = c.settle.ensures.same in
+    let d = c.mark_fault.new.self in
+    let is = c.mark_fault.ensures.marks_failed in
+    let same = c.mark_fault.ensures.same in
     let s = g.S.Storage.state q.tables.file.image in
     let t = g.S.Storage.state c.read-answer.new.self in
-    let keeps : KeepsImage {T = Unit} g.S.Storage q c.settle.result d =
-    settled-keeps g.S.Storage q d c.read-answer.result c.settle.result is same (refl, refl, refl, refl) c.read-answer.ensures.kept c.read-answer.ensures.later
-    (read-faultless s t c.args.place (length c.args.buf.now) c.read-answer.result c.read-answer.ensures.kept c.read-answer.ensures.faults c.read-answer.ensures.err) in
-    ok-whole c.settle.result _ (began-kept g.row.S g.S.Storage g.S.Storage-dict g.S.Destruct-dict {T = Unit} q d c.settle.result keeps)
+    let keeps : KeepsImage {T = Unit} g.S.Storage q c.mark_fault.result d =
+    settled-keeps g.S.Storage q d c.read-answer.result c.mark_fault.result is same (refl, refl, refl, refl) c.read-answer.ensures.unchanged_but_faults c.read-answer.ensures.counts_not_fallen
+    (read-faultless s t c.args.place (length c.args.buf.now) c.read-answer.result c.read-answer.ensures.unchanged_but_faults c.read-answer.ensures.faults c.read-answer.ensures.err) in
+    ok-whole c.mark_fault.result _ (began-kept g.row.S g.S.Storage g.S.Storage-dict g.S.Destruct-dict {T = Unit} q d c.mark_fault.result keeps)
 
-pub returns-clause-marks : goal.returns-clause-marks
-returns-clause-marks g c =
+pub returns-clause-marks_failed : goal.returns-clause-marks_failed
+returns-clause-marks_failed g c =
     let q = c.args.self.now in
-    let d = c.settle.new.self in
-    let is = c.settle.ensures.marks in
-    let same = c.settle.ensures.same in
+    let d = c.mark_fault.new.self in
+    let is = c.mark_fault.ensures.marks_failed in
+    let same = c.mark_fault.ensures.same in
     let s = g.S.Storage.state q.tables.file.image in
     let t = g.S.Storage.state c.read-answer.new.self in
-    let keeps : KeepsImage {T = Unit} g.S.Storage q c.settle.result d =
-    settled-keeps g.S.Storage q d c.read-answer.result c.settle.result is same (refl, refl, refl, refl) c.read-answer.ensures.kept c.read-answer.ensures.later
-    (read-faultless s t c.args.place (length c.args.buf.now) c.read-answer.result c.read-answer.ensures.kept c.read-answer.ensures.faults c.read-answer.ensures.err) in
-    marks-kept g.row.S g.S.Storage g.S.Storage-dict g.S.Destruct-dict {T = Unit} q d c.settle.result keeps
+    let keeps : KeepsImage {T = Unit} g.S.Storage q c.mark_fault.result d =
+    settled-keeps g.S.Storage q d c.read-answer.result c.mark_fault.result is same (refl, refl, refl, refl) c.read-answer.ensures.unchanged_but_faults c.read-answer.ensures.counts_not_fallen
+    (read-faultless s t c.args.place (length c.args.buf.now) c.read-answer.result c.read-answer.ensures.unchanged_but_faults c.read-answer.ensures.faults c.read-answer.ensures.err) in
+    marks-kept g.row.S g.S.Storage g.S.Storage-dict g.S.Destruct-dict {T = Unit} q d c.mark_fault.result keeps
 
 pub returns-clause-leaks : goal.returns-clause-leaks
 returns-clause-leaks g c =
-    let is = c.settle.ensures.marks in
-    leaks-asked g.S.Storage c.args.self.now c.settle.new.self (g.S.Storage.state c.read-answer.new.self) c.read-answer.ensures.kept
+    let is = c.mark_fault.ensures.marks_failed in
+    leaks-asked g.S.Storage c.args.self.now c.mark_fault.new.self (g.S.Storage.state c.read-answer.new.self) c.read-answer.ensures.unchanged_but_faults
     (ap (λ (x : Qcow2 g.row.S.Denot g.S.Storage). g.S.Storage.state x.tables.file.image) is) (ap (λ (x : Qcow2 g.row.S.Denot g.S.Storage). x.tables.file.header) is)
     (ap (λ (x : Qcow2 g.row.S.Denot g.S.Storage). x.tables.space) is) (ap (λ (x : Qcow2 g.row.S.Denot g.S.Storage). x.unspent) is)
 
 pub returns-clause-no_shorter : goal.returns-clause-no_shorter
 returns-clause-no_shorter g c =
-    let is = c.settle.ensures.marks in
-    asked-long g.S.Storage c.args.self.now c.settle.new.self (g.S.Storage.state c.read-answer.new.self) c.read-answer.ensures.kept
+    let is = c.mark_fault.ensures.marks_failed in
+    asked-long g.S.Storage c.args.self.now c.mark_fault.new.self (g.S.Storage.state c.read-answer.new.self) c.read-answer.ensures.unchanged_but_faults
     (ap (λ (x : Qcow2 g.row.S.Denot g.S.Storage). g.S.Storage.state x.tables.file.image) is)
 
 pub returns-then-self-clause-bytes : goal.returns-then-self-clause-bytes
 returns-then-self-clause-bytes g c = tt
 
-pub returns-then-self-clause-at_once : goal.returns-then-self-clause-at_once
-returns-then-self-clause-at_once g c =
-    failed-at_once _ _ _ c.args.self.now (failed-barrier (layer_of g.S.Storage c.args.self.now) c.if-self.true)
+pub returns-then-self-clause-early_outcome : goal.returns-then-self-clause-early_outcome
+returns-then-self-clause-early_outcome g c =
+    failed-early_outcome _ _ _ c.args.self.now (failed-barrier (layer_of g.S.Storage c.args.self.now) c.if-self.true)
     (failed-barrier (layer_of g.S.Storage c.args.self.now) c.if-self.true)
 
-pub returns-then-self-clause-looked : goal.returns-then-self-clause-looked
-returns-then-self-clause-looked g c = looked_same _ ⊤ c.args.self.now
+pub returns-then-self-clause-lookup_call : goal.returns-then-self-clause-lookup_call
+returns-then-self-clause-lookup_call g c = looked_same _ ⊤ c.args.self.now
 
-pub returns-then-self-clause-began : goal.returns-then-self-clause-began
-returns-then-self-clause-began g c = tt
+pub returns-then-self-clause-stays_begun : goal.returns-then-self-clause-stays_begun
+returns-then-self-clause-stays_begun g c = tt
 
 pub returns-then-self-clause-none : goal.returns-then-self-clause-none
 returns-then-self-clause-none g c = (refl, refl, refl, refl)
@@ -84,8 +84,8 @@ returns-then-self-clause-none g c = (refl, refl, refl, refl)
 pub returns-then-self-clause-overflow : goal.returns-then-self-clause-overflow
 returns-then-self-clause-overflow g c = λ runs _. absurd (failed-runs (layer_of g.S.Storage c.args.self.now) c.if-self.true runs)
 
-pub returns-then-self-clause-marks : goal.returns-then-self-clause-marks
-returns-then-self-clause-marks g c = tt
+pub returns-then-self-clause-marks_failed : goal.returns-then-self-clause-marks_failed
+returns-then-self-clause-marks_failed g c = tt
 
 pub returns-then-self-clause-cause : goal.returns-then-self-clause-cause
 returns-then-self-clause-cause g c = failed-barrier (layer_of g.S.Storage c.args.self.now) c.if-self.true
@@ -96,21 +96,21 @@ returns-then-self-clause-leaks g c = λ _. refl
 pub returns-then-self-clause-marked : goal.returns-then-self-clause-marked
 returns-then-self-clause-marked g c = refl
 
-pub returns-then-storage-ne0-clause-at_once : goal.returns-then-storage-ne0-clause-at_once
-returns-then-storage-ne0-clause-at_once g c =
-    idle-at_once _ _ _ _ c.args.self.now (runs-barrier (layer_of g.S.Storage c.args.self.now) c.if-self.false refl)
+pub returns-then-storage-ne0-clause-early_outcome : goal.returns-then-storage-ne0-clause-early_outcome
+returns-then-storage-ne0-clause-early_outcome g c =
+    idle-early_outcome _ _ _ _ c.args.self.now (runs-barrier (layer_of g.S.Storage c.args.self.now) c.if-self.false refl)
 
-pub returns-then-storage-ne0-clause-looked : goal.returns-then-storage-ne0-clause-looked
-returns-then-storage-ne0-clause-looked g c = looked_same _ ⊤ c.args.self.now
+pub returns-then-storage-ne0-clause-lookup_call : goal.returns-then-storage-ne0-clause-lookup_call
+returns-then-storage-ne0-clause-lookup_call g c = looked_same _ ⊤ c.args.self.now
 
-pub returns-then-storage-ne0-clause-began : goal.returns-then-storage-ne0-clause-began
-returns-then-storage-ne0-clause-began g c = λ e call begun. begun
+pub returns-then-storage-ne0-clause-stays_begun : goal.returns-then-storage-ne0-clause-stays_begun
+returns-then-storage-ne0-clause-stays_begun g c = λ e call begun. begun
 
 pub returns-then-storage-ne0-clause-none : goal.returns-then-storage-ne0-clause-none
 returns-then-storage-ne0-clause-none g c = (refl, refl, refl, refl)
 
-pub returns-then-storage-ne0-clause-marks : goal.returns-then-storage-ne0-clause-marks
-returns-then-storage-ne0-clause-marks g c = tt
+pub returns-then-storage-ne0-clause-marks_failed : goal.returns-then-storage-ne0-clause-marks_failed
+returns-then-storage-ne0-clause-marks_failed g c = tt
 
 pub returns-then-storage-ne0-clause-cause : goal.returns-then-storage-ne0-clause-cause
 returns-then-storage-ne0-clause-cause g c = tt
@@ -121,21 +121,21 @@ returns-then-storage-ne0-clause-leaks g c = λ _. refl
 pub returns-then-storage-ne0-clause-marked : goal.returns-then-storage-ne0-clause-marked
 returns-then-storage-ne0-clause-marked g c = refl
 
-pub returns-then-is_empty-clause-at_once : goal.returns-then-is_empty-clause-at_once
-returns-then-is_empty-clause-at_once g c =
-    idle-at_once _ _ _ _ c.args.self.now (runs-barrier (layer_of g.S.Storage c.args.self.now) c.if-self.false refl)
+pub returns-then-is_empty-clause-early_outcome : goal.returns-then-is_empty-clause-early_outcome
+returns-then-is_empty-clause-early_outcome g c =
+    idle-early_outcome _ _ _ _ c.args.self.now (runs-barrier (layer_of g.S.Storage c.args.self.now) c.if-self.false refl)
 
-pub returns-then-is_empty-clause-looked : goal.returns-then-is_empty-clause-looked
-returns-then-is_empty-clause-looked g c = looked_same _ ⊤ c.args.self.now
+pub returns-then-is_empty-clause-lookup_call : goal.returns-then-is_empty-clause-lookup_call
+returns-then-is_empty-clause-lookup_call g c = looked_same _ ⊤ c.args.self.now
 
-pub returns-then-is_empty-clause-began : goal.returns-then-is_empty-clause-began
-returns-then-is_empty-clause-began g c = λ e call begun. begun
+pub returns-then-is_empty-clause-stays_begun : goal.returns-then-is_empty-clause-stays_begun
+returns-then-is_empty-clause-stays_begun g c = λ e call begun. begun
 
 pub returns-then-is_empty-clause-none : goal.returns-then-is_empty-clause-none
 returns-then-is_empty-clause-none g c = (refl, refl, refl, refl)
 
-pub returns-then-is_empty-clause-marks : goal.returns-then-is_empty-clause-marks
-returns-then-is_empty-clause-marks g c = tt
+pub returns-then-is_empty-clause-marks_failed : goal.returns-then-is_empty-clause-marks_failed
+returns-then-is_empty-clause-marks_failed g c = tt
 
 pub returns-then-is_empty-clause-cause : goal.returns-then-is_empty-clause-cause
 returns-then-is_empty-clause-cause g c = tt
@@ -148,17 +148,17 @@ returns-then-is_empty-clause-marked g c = refl
 
 pub returns-clause-none : goal.returns-clause-none
 returns-clause-none g c =
-    let k = c.read-answer.ensures.kept in
-    rw (ap (λ (x : Qcow2 g.row.S.Denot g.S.Storage). g.S.Storage.state x.tables.file.image) c.settle.ensures.marks) (k.stop, k.past, k.bytes, k.refusals)
+    let k = c.read-answer.ensures.unchanged_but_faults in
+    rw (ap (λ (x : Qcow2 g.row.S.Denot g.S.Storage). g.S.Storage.state x.tables.file.image) c.mark_fault.ensures.marks_failed) (k.crash_image, k.past_crash_images, k.bytes, k.refusals)
 
 pub returns-clause-marked : goal.returns-clause-marked
 returns-clause-marked g c =
-    ap (λ (x : Qcow2 g.row.S.Denot g.S.Storage). x.failed) c.settle.ensures.marks
-    ∙ ap (λ (r : Result Unit Fault). failed_behind failed_by r c.args.self.now.failed) (sym c.settle.ensures.same)
+    ap (λ (x : Qcow2 g.row.S.Denot g.S.Storage). x.failed) c.mark_fault.ensures.marks_failed
+    ∙ ap (λ (r : Result Unit Fault). failed_after failed_by r c.args.self.now.failed) (sym c.mark_fault.ensures.same)
 
-pub returns-clause-at_once : goal.returns-clause-at_once
-returns-clause-at_once g c =
-    busy-at_once _ _ _ _ c.args.self.now _ (runs-barrier (layer_of g.S.Storage c.args.self.now) c.if-self.false refl) (told-some _ _ c.is_empty.ensures c.if-is_empty.false)
+pub returns-clause-early_outcome : goal.returns-clause-early_outcome
+returns-clause-early_outcome g c =
+    busy-early_outcome _ _ _ _ c.args.self.now _ (runs-barrier (layer_of g.S.Storage c.args.self.now) c.if-self.false refl) (told-some _ _ c.is_empty.ensures c.if-is_empty.false)
 
 pub returns-then-is_empty-clause-bytes : goal.returns-then-is_empty-clause-bytes
 returns-then-is_empty-clause-bytes g c = λ i low. absurd (below-empty low (told-empty _ _ c.is_empty.ensures c.if-is_empty.true))

@@ -1,7 +1,7 @@
 use Rattle.std.proofs.Common.{ℕ, ◌<◌, ◌≤◌, refl, subst, ◌∙◌, ap}
 use Rattle.std.specs.Prelude.{⊤, if◌then◌else◌, Bool}
 use Rattle.imago_storage.specs.declared.fault.Fault.TheVariants.{ReadOnly, Unsupported}
-use Rattle.imago_access.specs.Files.{IsMild}
+use Rattle.imago_access.specs.Files.{IsNotResourceError}
 use Rattle.imago_access.proofs.Looking.{looked_under_same}
 use Rattle.qcow2_image.specs.Seen.{layer_of}
 use Rattle.qcow2_image.proofs.CallsWithoutChanges.{failed-barrier, runs-barrier, resizes-failed, resizes-idle, resizes-declined, grows-idle, grows-refused, growth-failed, growth-idle, growth-declined}
@@ -18,7 +18,7 @@ pub returns-then-self-clause-unread : goal.returns-then-self-clause-unread
 returns-then-self-clause-unread g c = λ _. refl
 
 pub returns-then-self-clause-below : goal.returns-then-self-clause-below
-returns-then-self-clause-below g c = looked_under_same g.B.SeenBelow ⊤ c.args._below.now
+returns-then-self-clause-below g c = looked_under_same g.B.LayersBelowModel ⊤ c.args._below.now
 
 pub returns-then-self-clause-refused : goal.returns-then-self-clause-refused
 returns-then-self-clause-refused g c =
@@ -39,7 +39,7 @@ pub returns-then-size-clause-unread : goal.returns-then-size-clause-unread
 returns-then-size-clause-unread g c = λ _. refl
 
 pub returns-then-size-clause-below : goal.returns-then-size-clause-below
-returns-then-size-clause-below g c = looked_under_same g.B.SeenBelow ⊤ c.args._below.now
+returns-then-size-clause-below g c = looked_under_same g.B.LayersBelowModel ⊤ c.args._below.now
 
 pub returns-then-size-clause-refused : goal.returns-then-size-clause-refused
 returns-then-size-clause-refused g c = growth-idle _ _ _ _ _ _
@@ -60,7 +60,7 @@ pub returns-clause-unread : goal.returns-clause-unread
 returns-clause-unread g c = λ _. refl
 
 pub returns-clause-below : goal.returns-clause-below
-returns-clause-below g c = looked_under_same g.B.SeenBelow (IsMild c.resize_refusal.result) c.args._below.now
+returns-clause-below g c = looked_under_same g.B.LayersBelowModel (IsNotResourceError c.resize_refusal.result) c.args._below.now
 
 pub returns-clause-refused : goal.returns-clause-refused
 returns-clause-refused g c = rw c.resize_refusal.ensures (

@@ -45,7 +45,7 @@ returns-clause-shrinks g c = shrinks-refused _ _ _ _
 pub returns-clause-refused : goal.returns-clause-refused
 returns-clause-refused g c = rw c.resize_refusal.ensures (
     shrink-declined _ _ c.args.self.now.mode.writable c.args.self.now refl
-    (subst (λ (n : ℕ). c.args.size < n) c.size.ensures c.if-size.false) (λ below safe. tt))
+    (subst (λ (n : ℕ). c.args.size < n) c.size.ensures c.if-size.false) (λ below well_formed. tt))
 
 pub returns-clause-same : goal.returns-clause-same
 returns-clause-same g c = refl

@@ -13,13 +13,13 @@ use Rattle.qcow2_image.proofs.qcow2.Qcow2.content_for.Goals as goal
 
 pub returns-in_err-shown : goal.returns-in_err-shown
 returns-in_err-shown g c = rw (handed-on _ _ c.from_residual.ensures.1)
-    (content-unseen g.S.Storage g.B.SeenBelow (asking c.args.offset c.args.length c.args.overwrite) c.cluster-guest.result c.args.self.now
+    (content-unseen g.S.Storage g.B.LayersBelowModel (asking c.args.offset c.args.length c.args.overwrite) c.cluster-guest.result c.args.self.now
     c.shown_at.new.self
     c.args.below.now c.in_err-shown.field-0.0 c.in_err-shown.ensures)
 
 pub returns-in_err-content : goal.returns-in_err-content
 returns-in_err-content g c = rw (handed-on _ _ c.from_residual-in_err-content.ensures.1)
-    (content-unmade g.S.Storage g.B.SeenBelow (asking c.args.offset c.args.length c.args.overwrite) c.cluster-guest.result c.args.self.now
+    (content-unmade g.S.Storage g.B.LayersBelowModel (asking c.args.offset c.args.length c.args.overwrite) c.cluster-guest.result c.args.self.now
     c.shown_at.new.self
     c.args.below.now c.in_ok-shown.shown c.in_ok-shown.ensures c.in_err-content.field-0.0 c.in_err-content.ensures.err)
 
@@ -48,10 +48,10 @@ returns g c =
     let long : length c.copy_shown.new.content ≡ cluster_size h = same ∙ ap length c.in_ok-content.ensures.ok
     ∙ length-replicate c.cluster_size-size.result 0 ∙ size in
     let cut = subst (λ (r : ℕ × ℕ). CopiesPart r.0 r.1 asked c.copied_part-part.result) places c.copied_part-part.ensures in
-    content-copied g.S.Storage g.B.SeenBelow asked c.args.self.now c.shown_at.new.self c.copy_shown.new.self c.args.below.now c.copy_shown.new.below
+    content-copied g.S.Storage g.B.LayersBelowModel asked c.args.self.now c.shown_at.new.self c.copy_shown.new.self c.args.below.now c.copy_shown.new.below
     c.in_ok-shown.shown told c.copied_part-part.result cut _ c.copy_shown.new.content
     (overwritten c.copy_shown.new.content c.in_ok-content.content.items c.in_ok-content.content.len c.in_ok-content.content.ok.0 same) long
-    (subst (λ (r : ℕ × ℕ). CopiesShown g.S.Storage g.B.SeenBelow c.in_ok-shown.shown c.copied_part-part.result
+    (subst (λ (r : ℕ × ℕ). CopiesShown g.S.Storage g.B.LayersBelowModel c.in_ok-shown.shown c.copied_part-part.result
     (c.shown_at.new.self, c.args.below.now) (Ok tt)
     (c.copy_shown.new.self, c.copy_shown.new.below) (λ p. slice_index c.copy_shown.new.content (p - r.0))) places
     c.in_ok-copy_shown.ensures)
@@ -65,6 +65,6 @@ returns-in_err-copy_shown g c = rw (handed-on _ _ c.from_residual-in_err-copy_sh
     c.in_ok-shown.ensures in
     let places = c.first_places-start.ensures ∙ ap (λ (H : Header). first_places H.fields c.args.offset) told.keeps.tables.header in
     let cut = subst (λ (r : ℕ × ℕ). CopiesPart r.0 r.1 asked c.copied_part-part.result) places c.copied_part-part.ensures in
-    content-uncopied g.S.Storage g.B.SeenBelow asked c.args.self.now c.shown_at.new.self c.copy_shown.new.self c.args.below.now c.copy_shown.new.below
+    content-uncopied g.S.Storage g.B.LayersBelowModel asked c.args.self.now c.shown_at.new.self c.copy_shown.new.self c.args.below.now c.copy_shown.new.below
     c.in_ok-shown.shown told c.copied_part-part.result cut c.in_err-copy_shown.field-0.0
     (λ p. slice_index c.copy_shown.new.content (p - c.first_places-start.result.0)) c.in_err-copy_shown.ensures)

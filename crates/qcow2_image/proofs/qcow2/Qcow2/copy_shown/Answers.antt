@@ -5,7 +5,7 @@ use Rattle.qcow2_image.proofs.ContentCopies.{nothing-copied, part-copied, part-r
 use Rattle.qcow2_image.proofs.qcow2.Qcow2.copy_shown.Goals as goal
 
 pub returns-then-first-end : goal.returns-then-first-end
-returns-then-first-end g c = nothing-copied g.S.Storage g.B.SeenBelow c.args.shown c.args.part c.args.self.now c.args.below.now _ c.if-first-end.true
+returns-then-first-end g c = nothing-copied g.S.Storage g.B.LayersBelowModel c.args.shown c.args.part c.args.self.now c.args.below.now _ c.if-first-end.true
 
 pub read_shown-requires-clause-row : goal.read_shown-requires-clause-row
 read_shown-requires-clause-row g c =
@@ -16,8 +16,8 @@ read_shown-requires-clause-row g c =
     part-row (cluster_size c.args.self.now.tables.file.header.fields) c.args.start c.args.part.0 (length (mid_of a k c.args.content.now)) r.begins r.low
     (omega (arith, long, r.low, r.order, c.if-first-end.false)) (omega (arith, long, r.low, r.order, r.fits, r.whole))
 
-pub read_shown-requires-clause-some : goal.read_shown-requires-clause-some
-read_shown-requires-clause-some g c =
+pub read_shown-requires-clause-nonempty : goal.read_shown-requires-clause-nonempty
+read_shown-requires-clause-nonempty g c =
     let a : ℕ = c.args.part.0 - c.args.start in
     let k : ℕ = c.args.part.1 - c.args.start - (c.args.part.0 - c.args.start) in
     let long : length (mid_of a k c.args.content.now) ≡ k = mid_len a (c.args.part.1 - c.args.start) c.args.content.now c.requires.fits in
@@ -31,6 +31,6 @@ read_shown-requires-clause-zero g c = λ i less.
     zero-part c.args.content.now a k i c.requires.zero (omega (arith, long, less))
 
 pub returns : goal.returns
-returns g c = part-copied g.S.Storage g.B.SeenBelow c.args.shown c.args.start c.args.part c.args.content.now c.read_shown.new.buf
+returns g c = part-copied g.S.Storage g.B.LayersBelowModel c.args.shown c.args.start c.args.part c.args.content.now c.read_shown.new.buf
     (c.args.self.now, c.args.below.now) (c.read_shown.new.self, c.read_shown.new.below) c.requires.low c.requires.order c.requires.fits
     c.read_shown.result c.read_shown.auto.buf c.read_shown.ensures

@@ -27,7 +27,7 @@ returns-in-Ok g c =
     ∙ ap (λ (b : ℕ). c.args.offset / 2 ^ b) c.cluster_bits.ensures.value in
     record {
       keeps = record {
-        tables = record { kept = la.kept; later = la.later; faults = λ ok. c.in-Ok.ensures.faults tt; header = la.header; space = la.space; seen = la.seen };
+        tables = record { unchanged_but_faults = la.unchanged_but_faults; counts_not_fallen = la.counts_not_fallen; faults = λ ok. c.in-Ok.ensures.faults tt; header = la.header; space = la.space; seen = la.seen };
         mode = refl;
         number = refl;
         unspent = refl;

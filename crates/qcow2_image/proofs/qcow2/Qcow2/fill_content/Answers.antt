@@ -15,8 +15,8 @@ returns-clause-fills g c = λ guest.
     let bytes = c.args.content.now in
     let caches = c.drop_cached-dropped.new.caches in
     let some = some-there old.tables.space (c.is_none.ensures ∙ ap not c.if-is_none.false) in
-    subst (λ (r : Result Unit Fault). FillsContent g.S.Storage guest c.args.host bytes old r c.settle_change.new.self) (sym c.settle_change.ensures.same)
-    (subst (λ (d : Qcow2 g.row.S.Denot g.S.Storage). FillsContent g.S.Storage guest c.args.host bytes old c.fill-filled.result d) (sym c.settle_change.ensures.marks)
+    subst (λ (r : Result Unit Fault). FillsContent g.S.Storage guest c.args.host bytes old r c.mark_change_fault.new.self) (sym c.mark_change_fault.ensures.same)
+    (subst (λ (d : Qcow2 g.row.S.Denot g.S.Storage). FillsContent g.S.Storage guest c.args.host bytes old c.fill-filled.result d) (sym c.mark_change_fault.ensures.marks_failed)
     (filled g.S.Storage old c.fill-filled.new.begun _ some.0 caches guest c.args.host bytes c.fill-filled.result some.1 some.1 refl c.requires.free
     (c.fill-filled.ensures.fills guest caches some.0 c.drop_cached-dropped.ensures.empty) c.fill-filled.ensures.reaches))
 
@@ -32,9 +32,9 @@ returns-clause-begins g c =
     let was = c.args.begun.now in
     let now = filled.new.begun in
     let fills = filled.ensures.fills 0 caches some.0 c.drop_cached-dropped.ensures.empty in
-    subst (λ (r : Result Unit Fault). Begins g.S.Storage was old r now c.settle_change.new.self) (sym c.settle_change.ensures.same)
-    (subst (λ (d : Qcow2 g.row.S.Denot g.S.Storage). Begins g.S.Storage was old filled.result now d) (sym c.settle_change.ensures.marks)
-    (changed-begins g.S.Storage was now old _ some.0 some.0 caches filled.result some.1 some.1 fills.rests.later fills.rests.faults
+    subst (λ (r : Result Unit Fault). Begins g.S.Storage was old r now c.mark_change_fault.new.self) (sym c.mark_change_fault.ensures.same)
+    (subst (λ (d : Qcow2 g.row.S.Denot g.S.Storage). Begins g.S.Storage was old filled.result now d) (sym c.mark_change_fault.ensures.marks_failed)
+    (changed-begins g.S.Storage was now old _ some.0 some.0 caches filled.result some.1 some.1 fills.rests.counts_not_fallen fills.rests.faults
     c.drop_cached-dropped.ensures.empty (λ unbegun.
-    let spared = filled.ensures.spares unbegun in
-    (record { unbegun = spared.0; refused = spared.1; kept = spared.2; header = fills.header; space = refl }, words-same old.tables.l1))))
+    let spared = filled.ensures.untouched_unless_begun unbegun in
+    (record { unbegun = spared.0; refused = spared.1; unchanged_but_faults = spared.2; header = fills.header; space = refl }, words-same old.tables.l1))))

@@ -19,7 +19,7 @@ returns g c =
     let place : c.place.inside.0 ≡ place_in c.args.self.now.tables.file.header.fields c.args.clusters.host c.args.offset = view ∙ c.relative_offset.ensures ∙ ap (λ (b : ℕ). c.args.clusters.host * 2 ^ b + c.args.offset % 2 ^ b) bits in
     record {
       unspent = record {
-        claim = (c.args.self.now.claims + 1) % 18446744073709551616;
+        mapping_id = (c.args.self.now.claims + 1) % 18446744073709551616;
         offset = c.args.offset;
         length = c.args.length;
         place = c.place.inside.0;
@@ -31,12 +31,12 @@ returns g c =
         overwrite = c.args.overwrite;
         copied = c.of.result;
         written = c.none.result;
-        near = _;
+        end_bounded = _;
       };
       now = refl;
       anew = λ same. another c.args.self.now.claims same;
       holds = λ i. record {
-        claim = (c.args.self.now.claims + 1) % 18446744073709551616;
+        mapping_id = (c.args.self.now.claims + 1) % 18446744073709551616;
         offset = c.args.offset;
         length = c.args.length;
         place = place i;
@@ -50,5 +50,5 @@ returns g c =
         written = covers c.none.result;
       };
       unwritten = c.none.ensures;
-      answer = c.to_commit.ensures ∙ ap (λ (p : ℕ). record { storage = 0; offset = p; length = c.args.length; state = Some (record { number = c.args.self.now.number; claim = (c.args.self.now.claims + 1) % 18446744073709551616 }) }) place;
+      answer = c.to_commit.ensures ∙ ap (λ (p : ℕ). record { storage = 0; offset = p; length = c.args.length; state = Some (record { number = c.args.self.now.number; mapping_id = (c.args.self.now.claims + 1) % 18446744073709551616 }) }) place;
     }

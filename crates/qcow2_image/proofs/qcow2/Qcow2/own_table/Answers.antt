@@ -17,8 +17,8 @@ returns-then-is_copied-clause-table g c =
     let old = c.args.self.now in
     let bits = c.cluster_bits-cluster_bits.ensures.value in
     table-there g.S.Storage old c.args.guest c.in-Some.table
-    (ap (λ b. place_of_table old.tables.l1.words b c.args.guest) (sym bits) ∙ sym c.l2_cluster-named.ensures ∙ c.in-Some.is)
-    (ap (λ n. is_copied (slice_index old.tables.l1.words n)) (sym (c.l1_index-index.ensures ∙ ap (λ b. c.args.guest / l2_entries b) bits))
+    (ap (λ b. place_of_table old.tables.l1.raw_entries b c.args.guest) (sym bits) ∙ sym c.l2_cluster-named.ensures ∙ c.in-Some.is)
+    (ap (λ n. is_copied (slice_index old.tables.l1.raw_entries n)) (sym (c.l1_index-index.ensures ∙ ap (λ b. c.args.guest / l2_entries b) bits))
     ∙ ap is_copied (sym c.get.ensures) ∙ sym c.is_copied.ensures ∙ c.if-is_copied.true)
 
 pub returns-clause-table : goal.returns-clause-table
@@ -26,15 +26,15 @@ returns-clause-table g c =
     let old = c.args.self.now in
     let guest = c.args.guest in
     let bits = c.cluster_bits-cluster_bits.ensures.value in
-    subst (λ (r : Result ℕ Fault). EnsuresTable g.S.Storage (enough_for_one old.tables) guest old r c.settle_change.new.self) (sym c.settle_change.ensures.same)
-    (subst (λ (d : Qcow2 g.row.S.Denot g.S.Storage). EnsuresTable g.S.Storage (enough_for_one old.tables) guest old c.new_table-made.result d) (sym c.settle_change.ensures.marks)
+    subst (λ (r : Result ℕ Fault). EnsuresTable g.S.Storage (enough_for_one old.tables) guest old r c.mark_change_fault.new.self) (sym c.mark_change_fault.ensures.same)
+    (subst (λ (d : Qcow2 g.row.S.Denot g.S.Storage). EnsuresTable g.S.Storage (enough_for_one old.tables) guest old c.new_table-made.result d) (sym c.mark_change_fault.ensures.marks_failed)
     (renewed g.S.Storage old c.new_table-made.new.begun _ c.in-Some-space.space c.new_table-made.new.space c.drop_cached-dropped.new.caches guest c.l1_index-index.result
     c.new_table-made.result c.in-Some-space.is refl c.requires.free (c.l1_index-index.ensures ∙ ap (λ b. guest / l2_entries b) bits)
     (let inside = c.requires.inside in let at = c.l1_index-index.ensures ∙ ap (λ b. guest / l2_entries b) bits in omega (arith, inside, at)) c.l2_cluster-named.result
-    (ap (λ b. place_of_table old.tables.l1.words b guest) (sym bits) ∙ sym c.l2_cluster-named.ensures)
+    (ap (λ b. place_of_table old.tables.l1.raw_entries b guest) (sym bits) ∙ sym c.l2_cluster-named.ensures)
     (λ table is. elim c.match-named.branch [
       | in-Some+else-is_copied w ↦
-          ap (λ n. is_copied (slice_index old.tables.l1.words n)) (sym (c.l1_index-index.ensures ∙ ap (λ b. guest / l2_entries b) bits))
+          ap (λ n. is_copied (slice_index old.tables.l1.raw_entries n)) (sym (c.l1_index-index.ensures ∙ ap (λ b. guest / l2_entries b) bits))
           ∙ ap is_copied (sym w.get.ensures) ∙ sym w.is_copied.ensures ∙ w.if-is_copied.false
       | in_default w ↦ absurd (cc (sym is ∙ w.in_default.is))
     ])
@@ -50,7 +50,7 @@ returns-clause-begins g c =
     let made = c.new_table-made in
     let was = c.args.begun.now in
     let now = made.new.begun in
-    subst (λ (r : Result ℕ Fault). Begins g.S.Storage was old r now c.settle_change.new.self) (sym c.settle_change.ensures.same)
-    (subst (λ (d : Qcow2 g.row.S.Denot g.S.Storage). Begins g.S.Storage was old made.result now d) (sym c.settle_change.ensures.marks)
+    subst (λ (r : Result ℕ Fault). Begins g.S.Storage was old r now c.mark_change_fault.new.self) (sym c.mark_change_fault.ensures.same)
+    (subst (λ (d : Qcow2 g.row.S.Denot g.S.Storage). Begins g.S.Storage was old made.result now d) (sym c.mark_change_fault.ensures.marks_failed)
     (changed-begins g.S.Storage was now old _ c.in-Some-space.space made.new.space c.drop_cached-dropped.new.caches made.result c.in-Some-space.is refl
-    made.ensures.rests.later made.ensures.rests.faults made.ensures.rests.empty made.ensures.spares))
+    made.ensures.rests.counts_not_fallen made.ensures.rests.faults made.ensures.rests.empty made.ensures.untouched_unless_begun))

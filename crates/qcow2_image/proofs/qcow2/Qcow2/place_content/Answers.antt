@@ -1,6 +1,6 @@
 use Rattle.std.proofs.Common.{ℕ, Option, Ok, Err, sym, subst}
 use Rattle.std.specs.Prelude.{true, IfSome}
-use Rattle.qcow2_metadata.specs.Places.{IsInReach}
+use Rattle.qcow2_metadata.specs.Places.{IsAddressable}
 use Rattle.qcow2_image.specs.Allocating.{PlacesContent}
 use Rattle.qcow2_image.specs.declared.allocating.Placed.{Placed}
 use Rattle.qcow2_image.proofs.CallStarts.{begins-err, begins-ok}
@@ -13,7 +13,7 @@ returns-in_ok-fill_content-in-Some-clause-places g c = λ guest.
     let old = c.args.self.now in
     subst (λ (o : Option ℕ). PlacesContent g.S.Storage guest o c.args.count c.args.content.now old (Ok (record { host = c.in-Some.host; count = 1; is_kept = true })) c.fill_content.new.self) (sym c.in-Some.is)
     (placed-kept g.S.Storage guest c.args.content.now old c.fill_content.new.self c.in-Some.host c.args.count c.requires.any
-    (subst (λ (o : Option ℕ). IfSome o (λ host. IsInReach old.tables.file.header.fields.cluster_bits host)) c.in-Some.is c.requires.near)
+    (subst (λ (o : Option ℕ). IfSome o (λ host. IsAddressable old.tables.file.header.fields.cluster_bits host)) c.in-Some.is c.requires.host_addressable)
     (c.in_ok-fill_content-in-Some.ensures.fills guest))
 
 pub returns-in_err-fill_content-in-Some-clause-places : goal.returns-in_err-fill_content-in-Some-clause-places

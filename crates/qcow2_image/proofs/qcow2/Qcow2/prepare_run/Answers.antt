@@ -2,8 +2,8 @@ use Rattle.std.specs.Prelude.{min}
 use Rattle.std.proofs.Common.{◌≡◌, ℕ, ◌+◌, ◌-◌, ◌*◌, ◌%◌, ◌^◌, ◌/◌, ◌<◌, ◌≤◌, ap, sym, subst, ◌∙◌, Ok, Err, arith}
 use Rattle.std.proofs.lemmas.Nat.{pow_pos}
 use Rattle.imago_access.specs.Changes.{Asked, asking}
-use Rattle.qcow2_types.specs.Header.{Header, cluster_size, words_of_cluster}
-use Rattle.qcow2_metadata.specs.Places.{IsInReach}
+use Rattle.qcow2_types.specs.Header.{Header, cluster_size, entries_of_cluster}
+use Rattle.qcow2_metadata.specs.Places.{IsAddressable}
 use Rattle.qcow2_image.specs.Filling.{MakesContent}
 use Rattle.qcow2_image.specs.Preparing.{KeepsMapping, Reserves}
 use Rattle.qcow2_image.proofs.Preparations.RangeRuns.{one-cluster}
@@ -25,9 +25,9 @@ pub returns-in_err-content : goal.returns-in_err-content
 returns-in_err-content g c = rw (handed-on _ _ c.from_residual.ensures.1) (
     let asked : Asked = asking c.args.offset c.args.length c.args.overwrite in
     let first = c.run_in-first.ensures ∙ one-cluster c.args.self.now.tables.file.header.fields c.args.offset c.args.length in
-    fresh-unfilled g.S.Storage g.B.SeenBelow asked c.args.count (c.args.self.now, c.args.below.now)
+    fresh-unfilled g.S.Storage g.B.LayersBelowModel asked c.args.count (c.args.self.now, c.args.below.now)
     (c.content_for.new.self, c.content_for.new.below) c.in_err-content.field-0.0
-    (subst (λ (n : ℕ). MakesContent g.S.Storage g.B.SeenBelow (record asked { length = n }) (c.args.self.now, c.args.below.now)
+    (subst (λ (n : ℕ). MakesContent g.S.Storage g.B.LayersBelowModel (record asked { length = n }) (c.args.self.now, c.args.below.now)
     (Err c.in_err-content.field-0.0)
     (c.content_for.new.self, c.content_for.new.below)) first c.in_err-content.ensures))
 
@@ -35,9 +35,9 @@ pub returns-in_err-kept : goal.returns-in_err-kept
 returns-in_err-kept g c = rw (handed-on _ _ c.from_residual-in_err-kept.ensures.1) (
     let asked : Asked = asking c.args.offset c.args.length c.args.overwrite in
     let first = c.run_in-first.ensures ∙ one-cluster c.args.self.now.tables.file.header.fields c.args.offset c.args.length in
-    fresh-untold g.S.Storage g.B.SeenBelow asked c.cluster-guest.result c.args.count c.in_ok-content.content
+    fresh-untold g.S.Storage g.B.LayersBelowModel asked c.cluster-guest.result c.args.count c.in_ok-content.content
     (c.args.self.now, c.args.below.now) c.content_for.new.self c.content_for.new.below
-    (subst (λ (n : ℕ). MakesContent g.S.Storage g.B.SeenBelow (record asked { length = n }) (c.args.self.now, c.args.below.now)
+    (subst (λ (n : ℕ). MakesContent g.S.Storage g.B.LayersBelowModel (record asked { length = n }) (c.args.self.now, c.args.below.now)
     (Ok c.in_ok-content.content)
     (c.content_for.new.self, c.content_for.new.below)) first c.in_ok-content.ensures)
     c.kept_at.new.self c.in_err-kept.field-0.0 c.in_err-kept.ensures)
@@ -52,9 +52,9 @@ returns g c =
     let first = c.run_in-first.ensures ∙ one-cluster c.args.self.now.tables.file.header.fields c.args.offset c.args.length in
     let guest : c.cluster-guest.result ≡ c.args.offset / cluster_size c.args.self.now.tables.file.header.fields = c.cluster-guest.ensures
     ∙ ap (λ (b : ℕ). c.args.offset / 2 ^ b) c.cluster_bits-cluster_bits.ensures.value in
-    fresh-done g.S.Storage g.B.SeenBelow asked c.cluster-guest.result c.args.count c.in_ok-content.content
+    fresh-done g.S.Storage g.B.LayersBelowModel asked c.cluster-guest.result c.args.count c.in_ok-content.content
     (c.args.self.now, c.args.below.now) c.content_for.new.self c.content_for.new.below
-    (subst (λ (n : ℕ). MakesContent g.S.Storage g.B.SeenBelow (record asked { length = n }) (c.args.self.now, c.args.below.now)
+    (subst (λ (n : ℕ). MakesContent g.S.Storage g.B.LayersBelowModel (record asked { length = n }) (c.args.self.now, c.args.below.now)
     (Ok c.in_ok-content.content)
     (c.content_for.new.self, c.content_for.new.below)) first c.in_ok-content.ensures)
     c.in_ok-kept.kept c.kept_at.new.self c.in_ok-kept.ensures guest c.requires.any c.in_ok-clusters.clusters c.reserve.new.self
@@ -71,9 +71,9 @@ returns-in_err-clusters g c = rw (handed-on _ _ c.from_residual-in_err-clusters.
     let guest : c.cluster-guest.result ≡ c.args.offset / cluster_size c.args.self.now.tables.file.header.fields = c.cluster-guest.ensures
     ∙ ap (λ (b : ℕ). c.args.offset / 2 ^ b) c.cluster_bits-cluster_bits.ensures.value in
     let first = c.run_in-first.ensures ∙ one-cluster c.args.self.now.tables.file.header.fields c.args.offset c.args.length in
-    fresh-unreserved g.S.Storage g.B.SeenBelow asked c.cluster-guest.result c.args.count c.in_ok-content.content
+    fresh-unreserved g.S.Storage g.B.LayersBelowModel asked c.cluster-guest.result c.args.count c.in_ok-content.content
     (c.args.self.now, c.args.below.now) c.content_for.new.self c.content_for.new.below
-    (subst (λ (n : ℕ). MakesContent g.S.Storage g.B.SeenBelow (record asked { length = n }) (c.args.self.now, c.args.below.now)
+    (subst (λ (n : ℕ). MakesContent g.S.Storage g.B.LayersBelowModel (record asked { length = n }) (c.args.self.now, c.args.below.now)
     (Ok c.in_ok-content.content)
     (c.content_for.new.self, c.content_for.new.below)) first c.in_ok-content.ensures)
     c.in_ok-kept.kept c.kept_at.new.self c.in_ok-kept.ensures guest
@@ -92,10 +92,10 @@ content_for-requires-clause-row g c =
     run-most c.args.length (cluster_size c.args.self.now.tables.file.header.fields - c.args.offset % cluster_size c.args.self.now.tables.file.header.fields) c.run_in-first.result
     (c.run_in-first.ensures ∙ one-cluster c.args.self.now.tables.file.header.fields c.args.offset c.args.length)
 
-pub content_for-requires-clause-some : goal.content_for-requires-clause-some
-content_for-requires-clause-some g c =
+pub content_for-requires-clause-nonempty : goal.content_for-requires-clause-nonempty
+content_for-requires-clause-nonempty g c =
     run-some c.args.offset c.args.length (cluster_size c.args.self.now.tables.file.header.fields) c.run_in-first.result
-    (pow_pos c.args.self.now.tables.file.header.fields.cluster_bits) (c.run_in-first.ensures ∙ one-cluster c.args.self.now.tables.file.header.fields c.args.offset c.args.length) c.requires.some
+    (pow_pos c.args.self.now.tables.file.header.fields.cluster_bits) (c.run_in-first.ensures ∙ one-cluster c.args.self.now.tables.file.header.fields c.args.offset c.args.length) c.requires.nonempty
 
 pub content_for-requires-clause-runs : goal.content_for-requires-clause-runs
 content_for-requires-clause-runs g c = c.requires.runs
@@ -103,8 +103,8 @@ content_for-requires-clause-runs g c = c.requires.runs
 pub kept_at-requires-clause-runs : goal.kept_at-requires-clause-runs
 kept_at-requires-clause-runs g c = c.in_ok-content.ensures.keeps.failed ∙ c.requires.runs
 
-pub reserve-requires-clause-near : goal.reserve-requires-clause-near
-reserve-requires-clause-near g c =
+pub reserve-requires-clause-host_addressable : goal.reserve-requires-clause-host_addressable
+reserve-requires-clause-host_addressable g c =
     rw (ap (λ (H : Header). H.fields.cluster_bits) c.in_ok-kept.ensures.keeps.tables.header) c.in_ok-kept.ensures.reach
 
 pub reserve-requires-clause-any : goal.reserve-requires-clause-any
@@ -114,9 +114,9 @@ pub reserve-requires-clause-row : goal.reserve-requires-clause-row
 reserve-requires-clause-row g c =
     let guest : c.cluster-guest.result ≡ c.args.offset / cluster_size c.args.self.now.tables.file.header.fields = c.cluster-guest.ensures
     ∙ ap (λ (b : ℕ). c.args.offset / 2 ^ b) c.cluster_bits-cluster_bits.ensures.value in
-    subst (λ (H : Header). c.cluster-guest.result % words_of_cluster H.fields + c.args.count ≤ words_of_cluster H.fields)
+    subst (λ (H : Header). c.cluster-guest.result % entries_of_cluster H.fields + c.args.count ≤ entries_of_cluster H.fields)
     (sym (c.in_ok-kept.ensures.keeps.tables.header ∙ c.in_ok-content.ensures.keeps.tables.header))
-    (subst (λ (n : ℕ). n % words_of_cluster c.args.self.now.tables.file.header.fields + c.args.count ≤ words_of_cluster c.args.self.now.tables.file.header.fields)
+    (subst (λ (n : ℕ). n % entries_of_cluster c.args.self.now.tables.file.header.fields + c.args.count ≤ entries_of_cluster c.args.self.now.tables.file.header.fields)
     (sym guest) c.requires.row)
 
 pub reserve-requires-clause-free : goal.reserve-requires-clause-free
@@ -124,8 +124,8 @@ reserve-requires-clause-free g c = c.in_ok-kept.ensures.keeps.unspent ∙ (c.in_
 
 pub hold-requires-clause-reach : goal.hold-requires-clause-reach
 hold-requires-clause-reach g c =
-    subst (λ (b : ℕ). IsInReach b (c.in_ok-clusters.clusters.host + (c.in_ok-clusters.clusters.count - 1))) (sym c.in_ok-clusters.ensures.keeps.bits)
-    c.in_ok-clusters.ensures.near
+    subst (λ (b : ℕ). IsAddressable b (c.in_ok-clusters.clusters.host + (c.in_ok-clusters.clusters.count - 1))) (sym c.in_ok-clusters.ensures.keeps.bits)
+    c.in_ok-clusters.ensures.host_addressable
 
 pub hold-requires-clause-any : goal.hold-requires-clause-any
 hold-requires-clause-any g c = c.in_ok-clusters.ensures.many.0

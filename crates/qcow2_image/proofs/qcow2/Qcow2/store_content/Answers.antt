@@ -11,8 +11,8 @@ pub returns-clause-stores : goal.returns-clause-stores
 returns-clause-stores g c =
     let old = c.args.self.now in
     let bytes = c.args.content.now in
-    subst (λ (r : Result ℕ Fault). StoresContent g.S.Storage c.args.count bytes old r c.settle_change.new.self) (sym (c.host_of.ensures ∙ c.settle_change.ensures.same))
-    (subst (λ (d : Qcow2 g.row.S.Denot g.S.Storage). StoresContent g.S.Storage c.args.count bytes old c.store_run-stored.result d) (sym c.settle_change.ensures.marks)
+    subst (λ (r : Result ℕ Fault). StoresContent g.S.Storage c.args.count bytes old r c.mark_change_fault.new.self) (sym (c.host_of.ensures ∙ c.mark_change_fault.ensures.same))
+    (subst (λ (d : Qcow2 g.row.S.Denot g.S.Storage). StoresContent g.S.Storage c.args.count bytes old c.store_run-stored.result d) (sym c.mark_change_fault.ensures.marks_failed)
     (stored g.S.Storage old c.store_run-stored.new.begun _ c.in-Some.space c.store_run-stored.new.space c.drop_cached-dropped.new.caches c.args.count bytes c.store_run-stored.result c.in-Some.is refl refl
     c.requires.free c.requires.any c.store_run-stored.ensures.stores c.store_run-stored.ensures.reaches))
 
@@ -22,8 +22,8 @@ returns-clause-begins g c =
     let stored = c.store_run-stored in
     let was = c.args.begun.now in
     let now = stored.new.begun in
-    subst (λ (r : Result ℕ Fault). Begins g.S.Storage was old r now c.settle_change.new.self) (sym (c.host_of.ensures ∙ c.settle_change.ensures.same))
-    (subst (λ (d : Qcow2 g.row.S.Denot g.S.Storage). Begins g.S.Storage was old stored.result now d) (sym c.settle_change.ensures.marks)
+    subst (λ (r : Result ℕ Fault). Begins g.S.Storage was old r now c.mark_change_fault.new.self) (sym (c.host_of.ensures ∙ c.mark_change_fault.ensures.same))
+    (subst (λ (d : Qcow2 g.row.S.Denot g.S.Storage). Begins g.S.Storage was old stored.result now d) (sym c.mark_change_fault.ensures.marks_failed)
     (changed-begins g.S.Storage was now old _ c.in-Some.space stored.new.space c.drop_cached-dropped.new.caches stored.result c.in-Some.is refl
-    stored.ensures.stores.rests.later stored.ensures.stores.rests.faults stored.ensures.stores.rests.empty
-    (λ not. (stored.ensures.spares not, words-same old.tables.l1))))
+    stored.ensures.stores.rests.counts_not_fallen stored.ensures.stores.rests.faults stored.ensures.stores.rests.empty
+    (λ not. (stored.ensures.untouched_unless_begun not, words-same old.tables.l1))))

@@ -10,7 +10,7 @@ use Rattle.qcow2_image.proofs.qcow2.Qcow2.write_at.Goals as goal
 
 pub returns-in-Ok : goal.returns-in-Ok
 returns-in-Ok g c = record {
-  put = put-below (Ok tt) _ _ c.args.place c.args.bytes.now c.try_write.ensures.unit (omega (arith, c.requires.near)) (rw c.in-Ok.is at c.try_write.ensures.ok) tt c.try_write.ensures.stops c.try_write.ensures.shape c.try_write.ensures.later;
+  put = put-below (Ok tt) _ _ c.args.place c.args.bytes.now c.try_write.ensures.unit (omega (arith, c.requires.end_bounded)) (rw c.in-Ok.is at c.try_write.ensures.ok) tt c.try_write.ensures.crash_images c.try_write.ensures.shape c.try_write.ensures.counts_not_fallen;
   header = refl;
   l1 = refl;
   caches = refl;
@@ -27,7 +27,7 @@ returns-in-Err-Before g c =
     let refused = rw c.in-Err-Before.field-0-is at c.in-Err-Before.ensures.err in
     let before = with_image c.args.self.now c.try_write.new.self in
     rw c.mark.ensures (record {
-      put = put-below (Err fault) _ _ c.args.place c.args.bytes.now c.try_write.ensures.unit (omega (arith, c.requires.near)) tt (untold _ _ _ _ (Before fault) refused) c.try_write.ensures.stops c.try_write.ensures.shape c.try_write.ensures.later;
+      put = put-below (Err fault) _ _ c.args.place c.args.bytes.now c.try_write.ensures.unit (omega (arith, c.requires.end_bounded)) tt (untold _ _ _ _ (Before fault) refused) c.try_write.ensures.crash_images c.try_write.ensures.shape c.try_write.ensures.counts_not_fallen;
       header = refl;
       l1 = refl;
       caches = refl;
@@ -35,14 +35,14 @@ returns-in-Err-Before g c =
       mode = refl;
       number = refl;
       unspent = refl;
-      failed = marks-before g.S.Storage c.args.self.now (record before { failed = failed_by fault before.failed }) fault (ap (failed_by fault) c.requires.runs) (not-begun-below _ _ _ _ fault c.try_write.ensures.unit (omega (arith, c.requires.near)) refused);
+      failed = marks-before g.S.Storage c.args.self.now (record before { failed = failed_by fault before.failed }) fault (ap (failed_by fault) c.requires.runs) (not-begun-below _ _ _ _ fault c.try_write.ensures.unit (omega (arith, c.requires.end_bounded)) refused);
     })
 
 pub returns-in-Err-Within : goal.returns-in-Err-Within
 returns-in-Err-Within g c =
     let fault = c.in-Err-Within.fault in
     let refused = rw c.in-Err-Within.field-0-is at c.in-Err-Within.ensures.err in record {
-      put = put-below (Err fault) _ _ c.args.place c.args.bytes.now c.try_write.ensures.unit (omega (arith, c.requires.near)) tt (untold _ _ _ _ (Within fault) refused) c.try_write.ensures.stops c.try_write.ensures.shape c.try_write.ensures.later;
+      put = put-below (Err fault) _ _ c.args.place c.args.bytes.now c.try_write.ensures.unit (omega (arith, c.requires.end_bounded)) tt (untold _ _ _ _ (Within fault) refused) c.try_write.ensures.crash_images c.try_write.ensures.shape c.try_write.ensures.counts_not_fallen;
       header = refl;
       l1 = refl;
       caches = refl;

@@ -24,7 +24,7 @@ returns-in_err-header-2-clause-err g c =
     let f = file old in
     let fields : c.in_ok-header.header.fields ≡ fields_of f = c.in_ok-header.ensures.fields ∙ start-fields old.bytes c.read_at.new.buf c.in_ok-read_at.ensures.read c.read_at.auto.buf in
     let kept : None ≡ fields_fault f = c.in_ok-header.ensures.fault ∙ start-fault old.bytes c.read_at.new.buf c.in_ok-read_at.ensures.read c.read_at.auto.buf in
-    let reads : Reads old.bytes 0 c.in_ok-cluster.cluster.items = rw c.in_ok-read_at.ensures.kept.bytes at c.in_ok-cluster.ensures.read in
+    let reads : Reads old.bytes 0 c.in_ok-cluster.cluster.items = rw c.in_ok-read_at.ensures.unchanged_but_faults.bytes at c.in_ok-cluster.ensures.read in
     let texts : texts_of (bytes_of c.in_ok-cluster.cluster.items) c.in_ok-header.header.fields ≡ texts_of f (fields_of f) = cluster-texts old.bytes c.in_ok-cluster.cluster.items reads c.in_ok-header.header.fields fields c.in_ok-cluster.ensures.size in
     rw (p.1, p.2) (not-loaded c.args.writable f old new _
     (refused-through (texts_of f (fields_of f)) (header_of c.args.writable f) (texts-refused c.args.writable f kept) _ (rw (c.deref.ensures.value, texts) at c.in_err-header-2.ensures.err))
@@ -38,7 +38,7 @@ returns-in_err-check_writing-clause-err g c =
     let f = file old in
     let fields : c.in_ok-header.header.fields ≡ fields_of f = c.in_ok-header.ensures.fields ∙ start-fields old.bytes c.read_at.new.buf c.in_ok-read_at.ensures.read c.read_at.auto.buf in
     let kept : None ≡ fields_fault f = c.in_ok-header.ensures.fault ∙ start-fault old.bytes c.read_at.new.buf c.in_ok-read_at.ensures.read c.read_at.auto.buf in
-    let reads : Reads old.bytes 0 c.in_ok-cluster.cluster.items = rw c.in_ok-read_at.ensures.kept.bytes at c.in_ok-cluster.ensures.read in
+    let reads : Reads old.bytes 0 c.in_ok-cluster.cluster.items = rw c.in_ok-read_at.ensures.unchanged_but_faults.bytes at c.in_ok-cluster.ensures.read in
     let texts : texts_of (bytes_of c.in_ok-cluster.cluster.items) c.in_ok-header.header.fields ≡ texts_of f (fields_of f) = cluster-texts old.bytes c.in_ok-cluster.cluster.items reads c.in_ok-header.header.fields fields c.in_ok-cluster.ensures.size in
     rw (p.1, p.2) (not-loaded c.args.writable f old new _
     (refused-as (header_of c.args.writable f) _ (writing-refused c.args.writable f kept c.in_ok-header-2.header (rw (c.deref.ensures.value, texts) at c.in_ok-header-2.ensures.ok) _ c.in_err-check_writing.ensures))
@@ -50,6 +50,6 @@ returns-clause-ok g c =
     let f = file old in
     let fields : c.in_ok-header.header.fields ≡ fields_of f = c.in_ok-header.ensures.fields ∙ start-fields old.bytes c.read_at.new.buf c.in_ok-read_at.ensures.read c.read_at.auto.buf in
     let kept : None ≡ fields_fault f = c.in_ok-header.ensures.fault ∙ start-fault old.bytes c.read_at.new.buf c.in_ok-read_at.ensures.read c.read_at.auto.buf in
-    let reads : Reads old.bytes 0 c.in_ok-cluster.cluster.items = rw c.in_ok-read_at.ensures.kept.bytes at c.in_ok-cluster.ensures.read in
+    let reads : Reads old.bytes 0 c.in_ok-cluster.cluster.items = rw c.in_ok-read_at.ensures.unchanged_but_faults.bytes at c.in_ok-cluster.ensures.read in
     let texts : texts_of (bytes_of c.in_ok-cluster.cluster.items) c.in_ok-header.header.fields ≡ texts_of f (fields_of f) = cluster-texts old.bytes c.in_ok-cluster.cluster.items reads c.in_ok-header.header.fields fields c.in_ok-cluster.ensures.size in
     header-loads c.args.writable f kept c.in_ok-header-2.header (rw (c.deref.ensures.value, texts) at c.in_ok-header-2.ensures.ok) c.in_ok-check_writing.ensures

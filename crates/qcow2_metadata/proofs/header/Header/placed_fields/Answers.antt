@@ -1,6 +1,6 @@
 use Rattle.std.proofs.Common.{◌≡◌, ◌+◌, ◌∙◌, refl, ap, sym, length}
 use Rattle.qcow2_types.specs.Header.{Header as HeaderRecord}
-use Rattle.qcow2_types.specs.HeaderBytes.{fields_length, written_fields, extensions_bytes, name_bytes, name_place}
+use Rattle.qcow2_types.specs.HeaderBytes.{fields_length, written_fields, extensions_bytes, name_bytes, backing_name_offset}
 use Rattle.std.specs.String.{string_bytes}
 use Rattle.qcow2_metadata.specs.HeaderView.{seen_header}
 use Rattle.qcow2_metadata.proofs.Written.{with-place, place-some, place-none}
@@ -14,7 +14,7 @@ returns-clause-fields c =
     let long : c.fields_length.result ≡ fields_length (seen_header c.self.inside).fields = c.fields_length.ensures ∙ ap (λ (r : HeaderRecord). fields_length r.fields) (sym same) in
     let at : c.args.name_at ≡ fields_length (seen_header c.self.inside).fields + length (extensions_bytes (seen_header c.self.inside)) =
     c.requires.at ∙ ap (λ (r : HeaderRecord). fields_length r.fields + length (extensions_bytes r)) (sym same) in
-    let place : c.if-is_some.place ≡ name_place (seen_header c.self.inside) (seen_header c.self.inside).backing_name =
+    let place : c.if-is_some.place ≡ backing_name_offset (seen_header c.self.inside) (seen_header c.self.inside).backing_name =
     elim c.if-is_some.branch [
       | then-is_some w ↦ w.place-is ∙ (at ∙ place-some h string_bytes c.self.inside.backing_filename (sym c.is_some.ensures ∙ w.if-is_some.true))
       | else-is_some w ↦ w.place-is ∙ place-none h string_bytes c.self.inside.backing_filename (sym c.is_some.ensures ∙ w.if-is_some.false)

@@ -18,5 +18,5 @@ from_data-table-requires-clause-long g c =
     let h = c.args.header.now.fields in
     let kind = g.Self.InternalEntry.TableEntry.kind in
     let most : c.args.entries ≤ max_entries kind = omega (arith, few) in
-    let long = ap length c.in_ok-content.ensures.words ∙ words_long f (c.args.cluster * cluster_size h) c.args.entries in
+    let long = ap length c.in_ok-content.ensures.raw_entries ∙ words_long f (c.args.cluster * cluster_size h) c.args.entries in
     subst (IsLength kind (layout_of h)) (sym long) (asked_is_length kind h c.args.entries c.load_entries.ensures.shaped most c.requires.asked)

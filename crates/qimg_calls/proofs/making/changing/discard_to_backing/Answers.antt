@@ -1,12 +1,12 @@
 use Rattle.std.specs.Prelude.{None, map}
 use Rattle.std.proofs.Common.{arith, refl}
 use Rattle.imago_storage.specs.Steps.{discard_to_backing}
-use Rattle.imago_access.specs.Files.{WasNotCutOff}
-use Rattle.imago_access.specs.RunCalls.{MarksAlone}
+use Rattle.imago_access.specs.Files.{HadNoResourceError}
+use Rattle.imago_access.specs.RunCalls.{DriverMarksFailed}
 use Rattle.imago_access.specs.Stops.{GivesBelow}
 use Rattle.imago_access.specs.ChainCalls.{ChainFails}
 use Rattle.qimg_calls.specs.Calls.{GoesOn}
-use Rattle.qimg_calls.specs.Held.{holding}
+use Rattle.qimg_calls.specs.Held.{chain_with_mapping}
 use Rattle.qimg_calls.specs.Making.{done_or_refused}
 use Rattle.qimg_calls.specs.RoomTaken.{SettlesUnits}
 use Rattle.qimg_calls.specs.declared.call.Call.TheVariants as calls
@@ -16,24 +16,24 @@ use Rattle.qimg_calls.proofs.making.changing.discard_to_backing.Goals as goal
 
 pub returns : goal.returns
 returns g c =
-    let d = g.D.Seen in
+    let d = g.D.DriverModel in
     let old = c.args.chain.now in
     let new = c.discard_to_backing.new.self in
     let r = c.discard_to_backing.result in
     let e = c.discard_to_backing.ensures in
     rw (c.told.ensures) (record {
       fits = told-fits (calls.DiscardToBacking c.args.offset c.args.length) r refl;
-      at_once = λ f is. told-refused r f (e.at_once f is);
+      early_outcome = λ f is. told-refused r f (e.early_outcome f is);
       idle = λ nothing usable. told-idle r (e.idle nothing usable);
       room = λ intact on. e.room intact (not-cut r on);
       units = λ intact may was. told-done (SettlesUnits d (calls.DiscardToBacking c.args.offset c.args.length) old.0 new.0) r was (e.gives_up intact may);
-      marks = told-marks (MarksAlone d old.0 new.0) r e.marks;
+      marks_failed = told-marks (DriverMarksFailed d old.0 new.0) r e.marks_failed;
       failed = told-marks (ChainFails d old new) r (top-refused d old new r e.failed);
       cancels = λ is. absurd (cc is);
-      moves = λ intact. told-moves d (calls.DiscardToBacking c.args.offset c.args.length) r (holding old None) (holding new None) refl
+      moves = λ intact. told-moves d (calls.DiscardToBacking c.args.offset c.args.length) r (chain_with_mapping old None) (chain_with_mapping new None) refl
           (e.ok intact) (nothing-named r) (e.cause intact) (e.err intact);
-      leads = ran-leads d old new (GoesOn (done_or_refused r)) (WasNotCutOff r) (discard_to_backing c.args.offset c.args.length) g.met.D.FormatDriverInstance.safe_runs
-          (GivesBelow (map g.D.Seen.layer c.args.chain.now.1) c.args.offset c.args.length) e.ran (λ on ready. not-cut r on) (λ p v gave. gave) (omega arith);
-      kept = λ kept. record { mine = tt; free = λ none. rw (e.like.unspent) (kept.free refl) };
+      leads = ran-leads d old new (GoesOn (done_or_refused r)) (HadNoResourceError r) (discard_to_backing c.args.offset c.args.length) g.met.D.FormatDriverInstance.well_formed_is_usable
+          (GivesBelow (map g.D.DriverModel.layer c.args.chain.now.1) c.args.offset c.args.length) e.range_change (λ on ready. not-cut r on) (λ p v gave. gave) (omega arith);
+      mapping_prepared = λ kept. record { mine = tt; free = λ none. rw (e.keeps_layer_state.unspent) (kept.free refl) };
       same = λ _. refl;
     })

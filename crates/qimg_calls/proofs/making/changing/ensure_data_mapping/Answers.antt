@@ -18,47 +18,47 @@ announced below disk offset n false p v gave = gave
 
 pub returns-in-Ok : goal.returns-in-Ok
 returns-in-Ok g c =
-    let d = g.D.Seen in
+    let d = g.D.DriverModel in
     let old = c.args.chain.now in
     let new = c.ensure_data_mapping.new.self in
     let r = c.ensure_data_mapping.result in
     let e = c.in-Ok.ensures in
     record {
       fits = tt;
-      at_once = λ f is. absurd (cc (e.at_once f is));
+      early_outcome = λ f is. absurd (cc (e.early_outcome f is));
       idle = λ nothing usable. tt;
       room = λ intact on. tt;
       units = λ intact may was. tt;
-      marks = tt;
+      marks_failed = tt;
       failed = tt;
       cancels = λ is. absurd (cc is);
-      moves = λ intact. ((run c.in-Ok.count, refl, e.ok intact, (e.home intact, λ none. (ap (λ r. r.0) (e.empty none).0, ap (λ r. r.1) (e.empty none).0))), refl);
-      leads = ran-leads d old new (GoesOn (told.Mapped c.in-Ok.mapping c.in-Ok.count)) _ (ensure c.args.offset c.args.length c.args.overwrite) g.met.D.FormatDriverInstance.safe_runs
-          (GivesAnnounced c.args.overwrite c.args.offset c.args.length) e.ran (λ on ready. tt)
+      moves = λ intact. ((run c.in-Ok.count, refl, e.ok intact, (e.writable_location intact, λ none. (ap (λ r. r.0) (e.empty none).0, ap (λ r. r.1) (e.empty none).0))), refl);
+      leads = ran-leads d old new (GoesOn (told.Mapped c.in-Ok.mapping c.in-Ok.count)) _ (ensure c.args.offset c.args.length c.args.overwrite) g.met.D.FormatDriverInstance.well_formed_is_usable
+          (GivesAnnounced c.args.overwrite c.args.offset c.args.length) e.range_change (λ on ready. tt)
           (announced (map d.layer old.1) (chain_disk d.layer old) c.args.offset c.args.length c.args.overwrite) (omega arith);
-      kept = λ kept. record { mine = tt; free = λ none. rw (e.like.unspent) (kept.free refl) };
+      mapping_prepared = λ kept. record { mine = tt; free = λ none. rw (e.keeps_layer_state.unspent) (kept.free refl) };
       same = λ _. refl;
     }
 
 pub returns-in-Err : goal.returns-in-Err
 returns-in-Err g c =
-    let d = g.D.Seen in
+    let d = g.D.DriverModel in
     let old = c.args.chain.now in
     let new = c.ensure_data_mapping.new.self in
     let e = c.in-Err.ensures in
     record {
       fits = tt;
-      at_once = λ f is. ap told.Refused (cc (e.at_once f is));
+      early_outcome = λ f is. ap told.Refused (cc (e.early_outcome f is));
       idle = λ nothing usable. absurd (cc (e.idle nothing usable));
       room = λ intact on. tt;
       units = λ intact may was. tt;
-      marks = e.marks;
+      marks_failed = e.marks_failed;
       failed = e.failed;
       cancels = λ is. absurd (cc is);
-      moves = λ intact. (e.cause intact, λ mild. (e.err intact mild, refl));
-      leads = ran-leads d old new (GoesOn (told.Refused c.in-Err.fault)) _ (ensure c.args.offset c.args.length c.args.overwrite) g.met.D.FormatDriverInstance.safe_runs
-          (GivesAnnounced c.args.overwrite c.args.offset c.args.length) e.ran (λ on ready. on)
+      moves = λ intact. (e.cause intact, λ not_resource_error. (e.err intact not_resource_error, refl));
+      leads = ran-leads d old new (GoesOn (told.Refused c.in-Err.fault)) _ (ensure c.args.offset c.args.length c.args.overwrite) g.met.D.FormatDriverInstance.well_formed_is_usable
+          (GivesAnnounced c.args.overwrite c.args.offset c.args.length) e.range_change (λ on ready. on)
           (announced (map d.layer old.1) (chain_disk d.layer old) c.args.offset c.args.length c.args.overwrite) (omega arith);
-      kept = λ kept. record { mine = tt; free = λ none. rw (e.like.unspent) (kept.free refl) };
+      mapping_prepared = λ kept. record { mine = tt; free = λ none. rw (e.keeps_layer_state.unspent) (kept.free refl) };
       same = λ _. refl;
     }

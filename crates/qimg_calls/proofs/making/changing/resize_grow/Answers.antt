@@ -1,14 +1,14 @@
 use Rattle.std.specs.Prelude.{None, map, max}
 use Rattle.std.proofs.Common.{arith, refl}
 use Rattle.imago_storage.specs.Steps.{grow}
-use Rattle.imago_access.specs.Files.{WasNotCutOff}
+use Rattle.imago_access.specs.Files.{HadNoResourceError}
 use Rattle.imago_access.specs.Resizes.{fill_of}
 use Rattle.imago_access.specs.Running.{chain_disk, below_of}
-use Rattle.imago_access.specs.Going.{MarksOver}
+use Rattle.imago_access.specs.Going.{MarksFailedOver}
 use Rattle.imago_access.specs.Stops.{GivesPast}
 use Rattle.imago_access.specs.ChainCalls.{ChainFails}
 use Rattle.qimg_calls.specs.Calls.{GoesOn}
-use Rattle.qimg_calls.specs.Held.{holding}
+use Rattle.qimg_calls.specs.Held.{chain_with_mapping}
 use Rattle.qimg_calls.specs.Making.{done_or_refused}
 use Rattle.qimg_calls.specs.declared.call.Call.TheVariants as calls
 use Rattle.qimg_calls.proofs.Leading.{fewer-stops, step-leads}
@@ -18,7 +18,7 @@ use Rattle.qimg_calls.proofs.making.changing.resize_grow.Goals as goal
 
 pub returns : goal.returns
 returns g c =
-    let d = g.D.Seen in
+    let d = g.D.DriverModel in
     let old = c.args.chain.now in
     let new = c.resize_grow.new.self in
     let r = c.resize_grow.result in
@@ -26,20 +26,20 @@ returns g c =
     let call = grow c.args.size (fill_of c.args.mode) in
     rw (c.told.ensures) (record {
       fits = told-fits (calls.ResizeGrow c.args.size c.args.mode) r refl;
-      at_once = λ f is. told-refused r f (resize-refused d c.args.size (d.layer old.0).size r old.0 new.0 f e.resizes is);
-      idle = λ nothing usable. told-idle r (e.resizes.at_once.idle nothing usable);
+      early_outcome = λ f is. told-refused r f (resize-refused d c.args.size (d.layer old.0).size r old.0 new.0 f e.resizes is);
+      idle = λ nothing usable. told-idle r (e.resizes.early_outcome.idle nothing usable);
       room = λ intact on. tt;
       units = λ intact may was. tt;
-      marks = told-marks (MarksOver d old.0 new.0) r e.marks;
+      marks_failed = told-marks (MarksFailedOver d old.0 new.0) r e.marks_failed;
       failed = told-marks (ChainFails d old new) r e.failed;
       cancels = λ is. absurd (cc is);
-      moves = λ intact. told-moves d (calls.ResizeGrow c.args.size c.args.mode) r (holding old None) (holding new None) refl
+      moves = λ intact. told-moves d (calls.ResizeGrow c.args.size c.args.mode) r (chain_with_mapping old None) (chain_with_mapping new None) refl
           (e.ok intact) (nothing-named r) (e.cause intact) (e.err intact);
-      leads = step-leads d old new (GoesOn (done_or_refused r)) (WasNotCutOff r) call g.met.D.FormatDriverInstance.safe_runs e.went e.below
-          (λ on ready. not-cut r on) (λ on ready. e.went.surplus (not-cut r on, ready.intact.is_seen) ready.intact.is_safe) (λ on ready. e.intact (not-cut r on) ready.intact)
+      leads = step-leads d old new (GoesOn (done_or_refused r)) (HadNoResourceError r) call g.met.D.FormatDriverInstance.well_formed_is_usable e.mutating_call e.below
+          (λ on ready. not-cut r on) (λ on ready. e.mutating_call.excess_refcount (not-cut r on, ready.intact.is_coherent) ready.intact.is_well_formed) (λ on ready. e.intact (not-cut r on) ready.intact)
           (λ on ready. grown-between (below_of d.layer old) (map d.layer old.1) (chain_disk d.layer old) (chain_disk d.layer new) c.args.size (fill_of c.args.mode) r on (e.ok ready.intact) (e.err ready.intact))
           (λ ready. fewer-stops d (map d.layer old.1) (d.layer old.0).size (max (d.layer old.0).size c.args.size) (max (d.layer old.0).size c.args.size) (GivesPast (d.layer old.0).size) (GivesPast (d.layer old.0).size) old.0 new.0
-          (omega arith) (λ p v gave. gave) (e.stops ready.intact));
-      kept = λ kept. record { mine = tt; free = λ none. e.free };
+          (omega arith) (λ p v gave. gave) (e.crash_images ready.intact));
+      mapping_prepared = λ kept. record { mine = tt; free = λ none. e.free };
       same = λ _. refl;
     })

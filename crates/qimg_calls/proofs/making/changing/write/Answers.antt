@@ -1,13 +1,13 @@
 use Rattle.std.specs.Prelude.{None}
 use Rattle.std.proofs.Common.{arith, refl}
 use Rattle.imago_storage.specs.Steps.{write}
-use Rattle.imago_access.specs.Files.{WasNotCutOff}
-use Rattle.imago_access.specs.RunCalls.{MarksTop}
+use Rattle.imago_access.specs.Files.{HadNoResourceError}
+use Rattle.imago_access.specs.RunCalls.{MarksTopFailed}
 use Rattle.imago_access.specs.Running.{below_ghosts}
 use Rattle.imago_access.specs.Stops.{GivesBytes}
 use Rattle.imago_access.specs.ChainCalls.{ChainFails}
 use Rattle.qimg_calls.specs.Calls.{GoesOn}
-use Rattle.qimg_calls.specs.Held.{holding}
+use Rattle.qimg_calls.specs.Held.{chain_with_mapping}
 use Rattle.qimg_calls.specs.Making.{done_or_refused}
 use Rattle.qimg_calls.specs.declared.call.Call.TheVariants as calls
 use Rattle.qimg_calls.proofs.Leading.{ran-leads}
@@ -16,7 +16,7 @@ use Rattle.qimg_calls.proofs.making.changing.write.Goals as goal
 
 pub returns : goal.returns
 returns g c =
-    let d = g.D.Seen in
+    let d = g.D.DriverModel in
     let old = c.args.chain.now in
     let new = c.write.new.self in
     let r = c.write.result in
@@ -24,16 +24,16 @@ returns g c =
     let call = calls.Write c.args.offset c.args.bytes.now in
     rw (c.told.ensures) (record {
       fits = told-fits call r refl;
-      at_once = λ f is. told-refused r f ((rw (c.deref.ensures.value) at e.at_once) f is);
+      early_outcome = λ f is. told-refused r f ((rw (c.deref.ensures.value) at e.early_outcome) f is);
       idle = λ nothing usable. told-idle r ((rw (c.deref.ensures.value) at e.idle) nothing usable);
       room = λ intact on. (rw (c.deref.ensures.value) at e.room) intact (not-cut r on);
       units = λ intact may was. tt;
-      marks = told-marks (MarksTop d (below_ghosts d) old new) r e.marks;
+      marks_failed = told-marks (MarksTopFailed d (below_ghosts d) old new) r e.marks_failed;
       failed = told-marks (ChainFails d old new) r e.failed;
       cancels = λ is. absurd (cc is);
-      moves = λ intact. told-moves d call r (holding old None) (holding new None) refl (rw (c.deref.ensures.value) at e.ok intact) (nothing-named r) (rw (c.deref.ensures.value) at e.cause intact) (rw (c.deref.ensures.value) at e.err intact);
-      leads = ran-leads d old new (GoesOn (done_or_refused r)) (WasNotCutOff r) (write c.args.offset c.args.bytes.now.items) g.met.D.FormatDriverInstance.safe_runs (GivesBytes c.args.offset c.args.bytes.now.items) (rw (c.deref.ensures.value) at e.ran)
+      moves = λ intact. told-moves d call r (chain_with_mapping old None) (chain_with_mapping new None) refl (rw (c.deref.ensures.value) at e.ok intact) (nothing-named r) (rw (c.deref.ensures.value) at e.cause intact) (rw (c.deref.ensures.value) at e.err intact);
+      leads = ran-leads d old new (GoesOn (done_or_refused r)) (HadNoResourceError r) (write c.args.offset c.args.bytes.now.items) g.met.D.FormatDriverInstance.well_formed_is_usable (GivesBytes c.args.offset c.args.bytes.now.items) (rw (c.deref.ensures.value) at e.range_change)
           (λ on ready. not-cut r on) (λ p v gave. gave) (omega arith);
-      kept = λ kept. record { mine = tt; free = λ none. rw (e.like.unspent) (kept.free refl) };
+      mapping_prepared = λ kept. record { mine = tt; free = λ none. rw (e.keeps_layer_state.unspent) (kept.free refl) };
       same = λ _. refl;
     })

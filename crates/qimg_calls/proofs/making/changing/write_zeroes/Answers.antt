@@ -1,13 +1,13 @@
 use Rattle.std.specs.Prelude.{None}
 use Rattle.std.proofs.Common.{arith, refl}
 use Rattle.imago_storage.specs.Steps.{write_zeroes}
-use Rattle.imago_access.specs.Files.{WasNotCutOff}
-use Rattle.imago_access.specs.RunCalls.{MarksTop}
+use Rattle.imago_access.specs.Files.{HadNoResourceError}
+use Rattle.imago_access.specs.RunCalls.{MarksTopFailed}
 use Rattle.imago_access.specs.Running.{below_ghosts}
 use Rattle.imago_access.specs.Stops.{GivesZero}
 use Rattle.imago_access.specs.ChainCalls.{ChainFails}
 use Rattle.qimg_calls.specs.Calls.{GoesOn}
-use Rattle.qimg_calls.specs.Held.{holding}
+use Rattle.qimg_calls.specs.Held.{chain_with_mapping}
 use Rattle.qimg_calls.specs.Making.{done_or_refused}
 use Rattle.qimg_calls.specs.RoomTaken.{SettlesUnits}
 use Rattle.qimg_calls.specs.declared.call.Call.TheVariants as calls
@@ -17,24 +17,24 @@ use Rattle.qimg_calls.proofs.making.changing.write_zeroes.Goals as goal
 
 pub returns : goal.returns
 returns g c =
-    let d = g.D.Seen in
+    let d = g.D.DriverModel in
     let old = c.args.chain.now in
     let new = c.write_zeroes.new.self in
     let r = c.write_zeroes.result in
     let e = c.write_zeroes.ensures in
     rw (c.told.ensures) (record {
       fits = told-fits (calls.WriteZeroes c.args.offset c.args.length) r refl;
-      at_once = λ f is. told-refused r f (e.at_once f is);
+      early_outcome = λ f is. told-refused r f (e.early_outcome f is);
       idle = λ nothing usable. told-idle r (e.idle nothing usable);
       room = λ intact on. e.room intact (not-cut r on);
       units = λ intact may was. told-done (SettlesUnits d (calls.WriteZeroes c.args.offset c.args.length) old.0 new.0) r was (e.zeroed intact may);
-      marks = told-marks (MarksTop d (below_ghosts d) old new) r e.marks;
+      marks_failed = told-marks (MarksTopFailed d (below_ghosts d) old new) r e.marks_failed;
       failed = told-marks (ChainFails d old new) r e.failed;
       cancels = λ is. absurd (cc is);
-      moves = λ intact. told-moves d (calls.WriteZeroes c.args.offset c.args.length) r (holding old None) (holding new None) refl
+      moves = λ intact. told-moves d (calls.WriteZeroes c.args.offset c.args.length) r (chain_with_mapping old None) (chain_with_mapping new None) refl
           (e.ok intact) (nothing-named r) (e.cause intact) (e.err intact);
-      leads = ran-leads d old new (GoesOn (done_or_refused r)) (WasNotCutOff r) (write_zeroes c.args.offset c.args.length) g.met.D.FormatDriverInstance.safe_runs
-          (GivesZero c.args.offset c.args.length) e.ran (λ on ready. not-cut r on) (λ p v gave. gave) (omega arith);
-      kept = λ kept. record { mine = tt; free = λ none. rw (e.like.unspent) (kept.free refl) };
+      leads = ran-leads d old new (GoesOn (done_or_refused r)) (HadNoResourceError r) (write_zeroes c.args.offset c.args.length) g.met.D.FormatDriverInstance.well_formed_is_usable
+          (GivesZero c.args.offset c.args.length) e.range_change (λ on ready. not-cut r on) (λ p v gave. gave) (omega arith);
+      mapping_prepared = λ kept. record { mine = tt; free = λ none. rw (e.keeps_layer_state.unspent) (kept.free refl) };
       same = λ _. refl;
     })

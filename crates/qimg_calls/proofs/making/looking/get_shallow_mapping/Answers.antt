@@ -9,44 +9,44 @@ use Rattle.qimg_calls.proofs.making.looking.get_shallow_mapping.Goals as goal
 
 pub returns-in-Ok : goal.returns-in-Ok
 returns-in-Ok g c kept is =
-    let d = g.D.Seen in
+    let d = g.D.DriverModel in
     let m = g.met.D.FormatDriverInstance in
     let old = c.args.chain.now in
     let new = c.get_shallow_mapping.new.self in
     let e = c.in-Ok.ensures in
     record {
       fits = tt;
-      at_once = λ f is. absurd (cc (e.unusable f is));
+      early_outcome = λ f is. absurd (cc (e.unusable f is));
       idle = λ nothing usable. tt;
       room = λ intact on. tt;
       units = λ intact may was. tt;
-      marks = tt;
+      marks_failed = tt;
       failed = tt;
       cancels = λ is. absurd (cc is);
-      moves = λ sees. ((found (kind_of c.in-Ok.mapping) c.in-Ok.count, refl, e.ok sees.0, (e.looks sees.0, (e.looked.0.stays tt sees.0).0, e.there, e.room sees.0, e.stated sees.0)), refl);
-      leads = look-leads d old new (GoesOn (told.Shallow c.in-Ok.mapping c.in-Ok.count)) _ (lookup c.args.offset c.args.length) m.safe_sees e.looked (λ on. tt) (omega arith);
-      kept = like-kept d old new kept e.looked.0.like;
+      moves = λ coherent. ((found (kind_of c.in-Ok.mapping) c.in-Ok.count, refl, e.ok coherent.0, (e.looks coherent.0, (e.lookup_call.0.stays tt coherent.0).0, e.storage_exists, e.room coherent.0, e.explicit_zero coherent.0)), refl);
+      leads = look-leads d old new (GoesOn (told.Shallow c.in-Ok.mapping c.in-Ok.count)) _ (lookup c.args.offset c.args.length) m.well_formed_is_coherent e.lookup_call (λ on. tt) (omega arith);
+      mapping_prepared = like-kept d old new kept e.lookup_call.0.keeps_layer_state;
       same = λ _. refl;
     }
 
 pub returns-in-Err : goal.returns-in-Err
 returns-in-Err g c kept is =
-    let d = g.D.Seen in
+    let d = g.D.DriverModel in
     let m = g.met.D.FormatDriverInstance in
     let old = c.args.chain.now in
     let new = c.get_shallow_mapping.new.self in
     let e = c.in-Err.ensures in
     record {
       fits = tt;
-      at_once = λ f is. ap told.Refused (cc (e.unusable f is));
+      early_outcome = λ f is. ap told.Refused (cc (e.unusable f is));
       idle = λ nothing usable. absurd (cc (e.idle nothing usable));
       room = λ intact on. tt;
       units = λ intact may was. tt;
-      marks = e.marks;
+      marks_failed = e.marks_failed;
       failed = top-failed d old new c.in-Err.fault e.failed;
       cancels = λ is. absurd (cc is);
-      moves = λ sees. (e.cause sees.0, λ mild. (((e.looked.0.stays mild sees.0).0, looked-stays d old new _ mild e.looked sees), refl));
-      leads = look-leads d old new (GoesOn (told.Refused c.in-Err.fault)) _ (lookup c.args.offset c.args.length) m.safe_sees e.looked (λ on. on) (omega arith);
-      kept = like-kept d old new kept e.looked.0.like;
+      moves = λ coherent. (e.cause coherent.0, λ not_resource_error. (((e.lookup_call.0.stays not_resource_error coherent.0).0, looked-stays d old new _ not_resource_error e.lookup_call coherent), refl));
+      leads = look-leads d old new (GoesOn (told.Refused c.in-Err.fault)) _ (lookup c.args.offset c.args.length) m.well_formed_is_coherent e.lookup_call (λ on. on) (omega arith);
+      mapping_prepared = like-kept d old new kept e.lookup_call.0.keeps_layer_state;
       same = λ _. refl;
     }

@@ -13,55 +13,55 @@ filled bytes rest len same all = rw (all ∙ sym same) (take-append_seam bytes r
 
 pub returns-in-Ok-clause-made : goal.returns-in-Ok-clause-made
 returns-in-Ok-clause-made g c kept is =
-    let d = g.D.Seen in
+    let d = g.D.DriverModel in
     let m = g.met.D.FormatDriverInstance in
     let old = c.args.chain.now in
     let new = c.read.new.self in
     let e = c.in-Ok.ensures in
     record {
       fits = tt;
-      at_once = λ f is. absurd (cc ((rw (c.deref_mut.ensures.len ∙ c.in_ok-buf.ensures.len) at e.at_once) f is));
+      early_outcome = λ f is. absurd (cc ((rw (c.deref_mut.ensures.len ∙ c.in_ok-buf.ensures.len) at e.early_outcome) f is));
       idle = λ nothing usable. tt;
       room = λ intact on. tt;
       units = λ intact may was. tt;
-      marks = tt;
+      marks_failed = tt;
       failed = tt;
       cancels = λ is. absurd (cc is);
-      moves = λ sees. (
-        let ok = e.ok sees in
+      moves = λ coherent. (
+        let ok = e.ok coherent in
             let size : length c.deref_mut.result.now ≡ c.args.length = c.deref_mut.ensures.len ∙ c.in_ok-buf.ensures.len in (
               bytes_read _,
               refl,
               subst (λ (bytes : List ℕ). ChainReads d c.args.offset c.args.length bytes old new)
                   (sym (filled c.read.new.buf (drop (length c.read.new.buf) c.in_ok-buf.buf.items) c.in_ok-buf.buf.len (ok.0 ∙ size) c.in_ok-buf.ensures.len))
                   (ok.0 ∙ size, ok.1, ok.2),
-              (e.looked.0.stays tt sees.0).0,
+              (e.lookup_call.0.stays tt coherent.0).0,
             ),
         refl,
       );
-      leads = look-leads d old new _ _ (read c.args.offset c.args.length) m.safe_sees e.looked (λ on. tt) (omega arith);
-      kept = like-kept d old new kept e.looked.0.like;
+      leads = look-leads d old new _ _ (read c.args.offset c.args.length) m.well_formed_is_coherent e.lookup_call (λ on. tt) (omega arith);
+      mapping_prepared = like-kept d old new kept e.lookup_call.0.keeps_layer_state;
       same = λ _. refl;
     }
 
 pub returns-in-Err-clause-made : goal.returns-in-Err-clause-made
 returns-in-Err-clause-made g c kept is =
-    let d = g.D.Seen in
+    let d = g.D.DriverModel in
     let m = g.met.D.FormatDriverInstance in
     let old = c.args.chain.now in
     let new = c.read.new.self in
     let e = c.in-Err.ensures in
     record {
       fits = tt;
-      at_once = λ f is. ap told.Refused (cc ((rw (c.deref_mut.ensures.len ∙ c.in_ok-buf.ensures.len) at e.at_once) f is));
+      early_outcome = λ f is. ap told.Refused (cc ((rw (c.deref_mut.ensures.len ∙ c.in_ok-buf.ensures.len) at e.early_outcome) f is));
       idle = λ nothing usable. absurd (cc ((rw (c.deref_mut.ensures.len ∙ c.in_ok-buf.ensures.len) at e.idle) nothing usable));
       room = λ intact on. tt;
       units = λ intact may was. tt;
-      marks = e.marks;
+      marks_failed = e.marks_failed;
       failed = e.failed;
       cancels = λ is. absurd (cc is);
-      moves = λ sees. (rw (c.deref_mut.ensures.len ∙ c.in_ok-buf.ensures.len) at e.cause sees, λ mild. (((e.looked.0.stays mild sees.0).0, looked-stays d old new _ mild e.looked sees), refl));
-      leads = look-leads d old new _ _ (read c.args.offset c.args.length) m.safe_sees e.looked (λ on. on) (omega arith);
-      kept = like-kept d old new kept e.looked.0.like;
+      moves = λ coherent. (rw (c.deref_mut.ensures.len ∙ c.in_ok-buf.ensures.len) at e.cause coherent, λ not_resource_error. (((e.lookup_call.0.stays not_resource_error coherent.0).0, looked-stays d old new _ not_resource_error e.lookup_call coherent), refl));
+      leads = look-leads d old new _ _ (read c.args.offset c.args.length) m.well_formed_is_coherent e.lookup_call (λ on. on) (omega arith);
+      mapping_prepared = like-kept d old new kept e.lookup_call.0.keeps_layer_state;
       same = λ _. refl;
     }

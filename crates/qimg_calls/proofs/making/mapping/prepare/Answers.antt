@@ -9,7 +9,7 @@ use Rattle.qimg_calls.proofs.making.mapping.prepare.Goals as goal
 
 pub returns-in-Ok : goal.returns-in-Ok
 returns-in-Ok g c =
-    let d = g.D.Seen in
+    let d = g.D.DriverModel in
     let old = c.args.chain.now in
     let new = c.prepare_data_mapping.new.self in
     let e = c.in-Ok.ensures in
@@ -17,39 +17,39 @@ returns-in-Ok g c =
     let state : is_some m.state ≡ _ = some-or-none m.state ∙ ap not (sym c.is_nonblocking.ensures) in
     record {
       fits = tt;
-      at_once = λ f is. absurd (cc (e.at_once f is));
+      early_outcome = λ f is. absurd (cc (e.early_outcome f is));
       idle = λ nothing usable. tt;
       room = λ intact on. tt;
       units = λ intact may was. tt;
-      marks = tt;
+      marks_failed = tt;
       failed = tt;
       cancels = λ is. absurd (cc is);
       moves = λ intact. (
         (prepared _ _, refl, rw (c.length.ensures, sym state) (e.ok intact), tt),
-        (m, refl, record { storage_is = sym c.storage.ensures; place_is = sym c.offset.ensures; length_is = sym c.length.ensures; state_is = state }, e.home intact, λ none. (e.empty none).0),
+        (m, refl, record { storage_is = sym c.storage.ensures; place_is = sym c.offset.ensures; length_is = sym c.length.ensures; state_is = state }, e.writable_location intact, λ none. (e.empty none).0),
       );
-      leads = ran-leads d old new _ _ (prepare c.args.offset c.args.length c.args.overwrite) g.met.D.FormatDriverInstance.safe_runs GivesNone e.ran (λ on ready. tt) (λ p v none. absurd none) (omega arith);
-      kept = λ kept. record { mine = e.mine; free = λ none. e.stateless none };
+      leads = ran-leads d old new _ _ (prepare c.args.offset c.args.length c.args.overwrite) g.met.D.FormatDriverInstance.well_formed_is_usable GivesNone e.range_change (λ on ready. tt) (λ p v none. absurd none) (omega arith);
+      mapping_prepared = λ kept. record { mine = e.mine; free = λ none. e.stateless none };
       same = λ no. absurd (cc no);
     }
 
 pub returns-in-Err : goal.returns-in-Err
 returns-in-Err g c =
-    let d = g.D.Seen in
+    let d = g.D.DriverModel in
     let old = c.args.chain.now in
     let new = c.prepare_data_mapping.new.self in
     let e = c.in-Err.ensures in
     record {
       fits = tt;
-      at_once = λ f is. ap told.Refused (cc (e.at_once f is));
+      early_outcome = λ f is. ap told.Refused (cc (e.early_outcome f is));
       idle = λ nothing usable. absurd (cc (e.idle nothing usable));
       room = λ intact on. tt;
       units = λ intact may was. tt;
-      marks = e.marks;
+      marks_failed = e.marks_failed;
       failed = e.failed;
       cancels = λ is. absurd (cc is);
-      moves = λ intact. (e.cause intact, λ mild. (e.err intact mild, refl));
-      leads = ran-leads d old new _ _ (prepare c.args.offset c.args.length c.args.overwrite) g.met.D.FormatDriverInstance.safe_runs GivesNone e.ran (λ on ready. on) (λ p v none. absurd none) (omega arith);
-      kept = λ kept. record { mine = tt; free = λ none. e.free refl };
+      moves = λ intact. (e.cause intact, λ not_resource_error. (e.err intact not_resource_error, refl));
+      leads = ran-leads d old new _ _ (prepare c.args.offset c.args.length c.args.overwrite) g.met.D.FormatDriverInstance.well_formed_is_usable GivesNone e.range_change (λ on ready. on) (λ p v none. absurd none) (omega arith);
+      mapping_prepared = λ kept. record { mine = tt; free = λ none. e.free refl };
       same = λ no. absurd (cc no);
     }

@@ -1,11 +1,11 @@
 use Rattle.std.proofs.Common.{◌≡◌, length, arith, refl}
 use Rattle.imago_storage.specs.Steps.{write_mapped}
 use Rattle.imago_access.specs.ChainCalls.{ChainFails, IsMappedFor}
-use Rattle.imago_access.specs.Files.{WasNotCutOff}
-use Rattle.imago_access.specs.Going.{Marks}
+use Rattle.imago_access.specs.Files.{HadNoResourceError}
+use Rattle.imago_access.specs.Going.{MarksFailed}
 use Rattle.imago_access.specs.Stops.{GivesBytes}
 use Rattle.qimg_calls.specs.Calls.{GoesOn}
-use Rattle.qimg_calls.specs.Held.{holding}
+use Rattle.qimg_calls.specs.Held.{chain_with_mapping}
 use Rattle.qimg_calls.specs.Making.{done_or_refused}
 use Rattle.qimg_calls.specs.declared.call.Call.TheVariants as calls
 use Rattle.qimg_calls.proofs.Leading.{ran-leads, like-kept}
@@ -14,7 +14,7 @@ use Rattle.qimg_calls.proofs.making.mapping.write_mapped.Goals as goal
 
 pub returns : goal.returns
 returns g c kept is =
-    let d = g.D.Seen in
+    let d = g.D.DriverModel in
     let m = g.met.D.FormatDriverInstance in
     let old = c.args.chain.now in
     let new = c.write_mapped.new.self in
@@ -23,19 +23,19 @@ returns g c kept is =
     let call = calls.WriteMapped c.args.guest c.args.place c.args.bytes.now in
     rw (c.told.ensures) (record {
       fits = told-fits call r refl;
-      at_once = λ f is. told-refused r f ((rw (c.deref.ensures.value) at e.at_once) f is);
+      early_outcome = λ f is. told-refused r f ((rw (c.deref.ensures.value) at e.early_outcome) f is);
       idle = λ nothing usable. told-idle r ((rw (c.deref.ensures.value) at e.idle) nothing usable);
       room = λ intact on. tt;
       units = λ intact may was. tt;
-      marks = told-marks (Marks d old.0 new.0) r e.marks;
+      marks_failed = told-marks (MarksFailed d old.0 new.0) r e.marks_failed;
       failed = told-marks (ChainFails d old new) r (top-refused d old new r e.failed);
       cancels = λ is. absurd (cc is);
-      moves = λ intact. told-moves d call r (holding old kept) (holding new kept) refl
+      moves = λ intact. told-moves d call r (chain_with_mapping old kept) (chain_with_mapping new kept) refl
           (rw (c.deref.ensures.value) at e.ok intact)
-          (both-named (IsMappedFor (d.layer old.0) c.args.guest c.args.place (length c.args.bytes.now.items)) ((d.layer new.0).home ≡ (d.layer old.0).home) r (rw (c.deref.ensures.value) at e.mapped (m.safe_sees old.0 intact.is_safe)) (e.home intact))
+          (both-named (IsMappedFor (d.layer old.0) c.args.guest c.args.place (length c.args.bytes.now.items)) ((d.layer new.0).writable_location ≡ (d.layer old.0).writable_location) r (rw (c.deref.ensures.value) at e.mapped (m.well_formed_is_coherent old.0 intact.is_well_formed)) (e.writable_location intact))
           (rw (c.deref.ensures.value) at e.cause intact) (same-stays d old new r e.below (e.err intact));
-      leads = ran-leads d old new (GoesOn (done_or_refused r)) (WasNotCutOff r) (write_mapped c.args.guest c.args.bytes.now.items) m.safe_runs (GivesBytes c.args.guest c.args.bytes.now.items) (rw (c.deref.ensures.value) at e.ran)
+      leads = ran-leads d old new (GoesOn (done_or_refused r)) (HadNoResourceError r) (write_mapped c.args.guest c.args.bytes.now.items) m.well_formed_is_usable (GivesBytes c.args.guest c.args.bytes.now.items) (rw (c.deref.ensures.value) at e.range_change)
           (λ on ready. not-cut r on) (λ p v gave. gave) (omega arith);
-      kept = like-kept d old new kept e.like;
+      mapping_prepared = like-kept d old new kept e.keeps_layer_state;
       same = λ _. refl;
     })

@@ -5,7 +5,7 @@ use Rattle.qimg_chain.proofs.chain.lending.lend.Given as goal
 
 -- those so far, and those of the layers to come, are all
 abbrev pub invariant-loop-files : goal.invariant-loop-files
-invariant-loop-files g l = let bytes = driver_bytes g.D.Seen g.D.NamesFiles.names in
+invariant-loop-files g l = let bytes = driver_bytes g.D.DriverModel g.D.NamesFiles.names in
     files_bytes view_state l.files.items ++ map bytes (l.next.0 ∷ l.next.1) ≡ map bytes (l.chain.0 ∷ l.chain.1)
 
 abbrev pub decreases-loop-files : goal.decreases-loop-files

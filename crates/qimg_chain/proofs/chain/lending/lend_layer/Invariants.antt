@@ -5,4 +5,4 @@ use Rattle.qimg_chain.proofs.chain.lending.lend_layer.Given as goal
 
 -- so many of the further files are copied
 abbrev pub invariant-loop-index : goal.invariant-loop-index
-invariant-loop-index g l = map (extra_bytes view_state) l.extras.items ≡ take l.index (with_names (g.D.NamesFiles.names l.driver) 0 (g.D.Seen.extras l.driver))
+invariant-loop-index g l = map (extra_bytes view_state) l.extras.items ≡ take l.index (with_names (g.D.NamesFiles.names l.driver) 0 (g.D.DriverModel.extras l.driver))

@@ -5,9 +5,9 @@ use Rattle.imago_storage.specs.declared.fault.Fault.{Fault}
 use Rattle.imago_storage.specs.declared.fault.Fault.TheVariants.{ExtraLayer}
 use Rattle.imago_storage.proofs.Parts.{passed}
 use Rattle.qimg_core.specs.declared.plain.ChainFile.{ChainFile}
-use Rattle.qimg_chain.specs.contracts.chain.image_driver.ImageDriverSeen.TheImpl as image_seen
+use Rattle.qimg_chain.specs.contracts.chain.image_driver.ImageDriverDriverModel.TheImpl as image_seen
 use Rattle.qimg_chain.specs.FileMeanings.{file_bytes, files_bytes}
-use Rattle.qimg_chain.specs.Refusals.{IsCutOff, WhyNotLayers}
+use Rattle.qimg_chain.specs.Refusals.{HadResourceError, WhyNotLayers}
 use Rattle.qimg_chain.proofs.FilesShown.{over}
 use Rattle.qimg_chain.proofs.Refusing.{at_below, at_place, shown_so, upper_misplaced, upper_placed}
 use Rattle.qimg_chain.proofs.chain.opening.+open_over.Goals as goal
@@ -30,19 +30,19 @@ pub returns-then-not-shows_below-clause-err : goal.returns-then-not-shows_below-
 returns-then-not-shows_below-clause-err g t c =
     let rest = reverse c.pop.new.self.items in
     let same = begins c.args.below.now.items c.pop.new.self.items c.in-Some.next c.in-Some.ensures.items in
-    let unnamed = shown_so c.shows_below-2.result _ c.shows_below-2.ensures ∙ c.if-not-shows_below.true in
-    subst (λ (fs : List (ChainFile g.row.S.Denot)). IsCutOff g.S.Storage.state ExtraLayer ⊎ WhyNotLayers g.S.Storage.state c.args.writable (c.args.top ∷ fs) ExtraLayer) (sym same)
+    let not_referenced = shown_so c.shows_below-2.result _ c.shows_below-2.ensures ∙ c.if-not-shows_below.true in
+    subst (λ (fs : List (ChainFile g.row.S.Denot)). HadResourceError g.S.Storage.state ExtraLayer ⊎ WhyNotLayers g.S.Storage.state c.args.writable (c.args.top ∷ fs) ExtraLayer) (sym same)
     (at_place g.S.Storage.state c.args.writable c.args.top (c.in-Some.next ∷ rest) ExtraLayer _ _ c.in_ok-driver.ensures.layer
-    (upper_misplaced _ c.in-Some.next rest unnamed))
+    (upper_misplaced _ c.in-Some.next rest not_referenced))
 
 pub returns-in_err-rest-clause-err : goal.returns-in_err-rest-clause-err
 returns-in_err-rest-clause-err g t c =
     let rest = reverse c.pop.new.self.items in
     let same = begins c.args.below.now.items c.pop.new.self.items c.in-Some.next c.in-Some.ensures.items in
     let named = shown_so c.shows_below-2.result _ c.shows_below-2.ensures ∙ c.if-not-shows_below.false in
-    passed c.from_residual-in_err-rest.result (λ (e : Fault). IsCutOff g.S.Storage.state e ⊎ WhyNotLayers g.S.Storage.state c.args.writable (c.args.top ∷ reverse c.args.below.now.items) e)
+    passed c.from_residual-in_err-rest.result (λ (e : Fault). HadResourceError g.S.Storage.state e ⊎ WhyNotLayers g.S.Storage.state c.args.writable (c.args.top ∷ reverse c.args.below.now.items) e)
     c.in_err-rest.field-0.0 c.from_residual-in_err-rest.ensures.1
-    (subst (λ (fs : List (ChainFile g.row.S.Denot)). IsCutOff g.S.Storage.state c.in_err-rest.field-0.0
+    (subst (λ (fs : List (ChainFile g.row.S.Denot)). HadResourceError g.S.Storage.state c.in_err-rest.field-0.0
     ⊎ WhyNotLayers g.S.Storage.state c.args.writable (c.args.top ∷ fs) c.in_err-rest.field-0.0) (sym same)
     (at_below g.S.Storage.state c.args.writable c.args.top (c.in-Some.next ∷ rest) c.in_err-rest.field-0.0 _ _ c.in_ok-driver.ensures.layer
     (upper_placed _ c.in-Some.next rest named) c.in_err-rest.ensures.err))

@@ -3,7 +3,7 @@ use Rattle.std.proofs.Common.{◌≡◌, ◌≤◌, ◌∷◌, ◌++◌, ◌∙�
 use Rattle.std.specs.Prelude.{reverse}
 use Rattle.std.proofs.lemmas.List.{reverse-append, reverse-reverse}
 use Rattle.qimg_chain.proofs.ImageKinds.{keeps_so, none_held, sound_so}
-use Rattle.qimg_chain.proofs.Opened.{formed, free, on_ok, on_ok_both, ready, stands, still}
+use Rattle.qimg_chain.proofs.Opened.{formed, free, on_ok, on_ok_both, ready, stands, has_no_dirty_data}
 use Rattle.qimg_chain.proofs.Refusing.{first_of, on_err}
 use Rattle.qimg_chain.proofs.chain.opening.open_chain.Goals as goal
 
@@ -19,9 +19,9 @@ pub returns-in-Some-clause-free : goal.returns-in-Some-clause-free
 returns-in-Some-clause-free g c =
     on_ok (free _ g.S.Storage.state c.args.writable c.args.number c.in-Some.top (reverse c.pop.new.self.items)) c.open_over.result c.open_over.ensures.layers
 
-pub returns-in-Some-clause-still : goal.returns-in-Some-clause-still
-returns-in-Some-clause-still g c =
-    on_ok (still _ g.S.Storage.state c.args.writable c.args.number c.in-Some.top (reverse c.pop.new.self.items)) c.open_over.result c.open_over.ensures.layers
+pub returns-in-Some-clause-has_no_dirty_data : goal.returns-in-Some-clause-has_no_dirty_data
+returns-in-Some-clause-has_no_dirty_data g c =
+    on_ok (has_no_dirty_data _ g.S.Storage.state c.args.writable c.args.number c.in-Some.top (reverse c.pop.new.self.items)) c.open_over.result c.open_over.ensures.layers
 
 pub returns-in-Some-clause-ready : goal.returns-in-Some-clause-ready
 returns-in-Some-clause-ready g c =

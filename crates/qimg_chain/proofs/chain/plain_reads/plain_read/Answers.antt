@@ -2,13 +2,13 @@ use Rattle.std.proofs.Common.{◌≡◌, ◌∷◌, arith, length, length-take}
 use Rattle.std.proofs.lemmas.Grind.{common_steps}
 use Rattle.std.specs.Prelude.{false}
 use Rattle.imago_access.specs.Running.{chain_disk}
-use Rattle.qimg_chain.specs.contracts.chain.image_driver.ImageDriverSeen.TheImpl as image_seen
+use Rattle.qimg_chain.specs.contracts.chain.image_driver.ImageDriverDriverModel.TheImpl as image_seen
 use Rattle.qimg_chain.proofs.Failing.{fails}
 use Rattle.qimg_chain.proofs.PlainlyRead.{not_read, read_plainly, seen, usable}
 use Rattle.qimg_chain.proofs.chain.plain_reads.plain_read.Goals as goal
 
-pub read_in_order-requires-clause-sees : goal.read_in_order-requires-clause-sees
-read_in_order-requires-clause-sees g c =
+pub read_in_order-requires-clause-coherent : goal.read_in_order-requires-clause-coherent
+read_in_order-requires-clause-coherent g c =
     seen (image_seen.ghosts g.row.S g.S.Storage g.S.Storage-dict g.S.Destruct-dict) g.S.Storage.state false 0 c.args.files.items (c.in_ok-chain.chain.0 ∷ c.in_ok-chain.chain.1) c.in_ok-chain.ensures.layers
 
 pub read_in_order-requires-clause-usable : goal.read_in_order-requires-clause-usable

@@ -12,6 +12,6 @@ use Rattle.qimg_chain.proofs.chain.snapshots.copy_layer.Given as goal
 -- so many of the further files are copied, and the chain is as it was
 abbrev pub invariant-loop-index : goal.invariant-loop-index
 invariant-loop-index g l = record {
-  so_far : map (extra_bytes mem_state) l.extras.items ≡ with_bytes (take l.index (map string_bytes l.names.names.items)) 1 (files_at g.D.Seen (drivers l.fn.chain) l.layer);
-  read : Pairs (FilesRead g.D.Seen ⊤) (drivers l.fn.chain) (drivers l.chain);
+  so_far : map (extra_bytes mem_state) l.extras.items ≡ with_bytes (take l.index (map string_bytes l.names.names.items)) 1 (files_at g.D.DriverModel (drivers l.fn.chain) l.layer);
+  read : Pairs (FilesRead g.D.DriverModel ⊤) (drivers l.fn.chain) (drivers l.chain);
 }

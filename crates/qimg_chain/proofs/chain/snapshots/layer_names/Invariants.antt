@@ -4,7 +4,7 @@ use Rattle.qimg_chain.proofs.chain.snapshots.layer_names.Given as goal
 
 -- those so far, and those of the layers to come, are all
 abbrev pub invariant-loop-layers : goal.invariant-loop-layers
-invariant-loop-layers g l = let names = names_of g.D.Seen g.D.NamesFiles.names in
+invariant-loop-layers g l = let names = names_of g.D.DriverModel g.D.NamesFiles.names in
     map said_names l.layers.items ++ map names (l.next.0 ∷ l.next.1) ≡ map names (l.chain.0 ∷ l.chain.1)
 
 abbrev pub decreases-loop-layers : goal.decreases-loop-layers

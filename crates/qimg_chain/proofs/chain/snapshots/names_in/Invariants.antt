@@ -5,4 +5,4 @@ use Rattle.qimg_chain.proofs.chain.snapshots.names_in.Given as goal
 
 -- so many of the names are kept
 abbrev pub invariant-loop-index : goal.invariant-loop-index
-invariant-loop-index g l = map string_bytes l.names.items ≡ take l.index (map (λ file. file.0) (with_names (g.D.NamesFiles.names l.driver) 0 (g.D.Seen.extras l.driver)))
+invariant-loop-index g l = map string_bytes l.names.items ≡ take l.index (map (λ file. file.0) (with_names (g.D.NamesFiles.names l.driver) 0 (g.D.DriverModel.extras l.driver)))

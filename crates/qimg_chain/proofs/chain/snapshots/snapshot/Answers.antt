@@ -2,8 +2,8 @@ use Rattle.std.proofs.Common.{rules, ◌∙◌, ap, arith, subst, sym}
 use Rattle.std.specs.Prelude.{⊤}
 use Rattle.imago_storage.proofs.Parts.{passed}
 use Rattle.imago_access.specs.FileReads.{FilesRead, files_at}
-use Rattle.imago_access.specs.Files.{IsMild, Pairs, WasNotCutOff, files_of}
-use Rattle.imago_access.specs.Going.{Looked}
+use Rattle.imago_access.specs.Files.{IsNotResourceError, Pairs, HadNoResourceError, files_of}
+use Rattle.imago_access.specs.Going.{LookupCall}
 use Rattle.imago_access.specs.Layers.{chain as drivers}
 use Rattle.imago_access.proofs.FilePairs.{faultless_all_same}
 use Rattle.imago_access.proofs.FileReads.{all_read_both, all_read_looked, all_read_same, bytes_at_kept}
@@ -11,24 +11,24 @@ use Rattle.imago_access.proofs.Looking.{all_looked_same}
 use Rattle.imago_storage.specs.MemStorage.{mem_state}
 use Rattle.qimg_chain.specs.FileMeanings.{files_bytes}
 use Rattle.qimg_chain.specs.Snapshots.{said_names, WhyNotCopied}
-use Rattle.qimg_chain.proofs.Snapshots.{calm, cause_behind, files_more, filled_kept, passed_mildly, wanting}
+use Rattle.qimg_chain.proofs.Snapshots.{no_change_refused, cause_behind, files_more, filled_kept, passed_mildly, wanting}
 use Rattle.qimg_chain.proofs.chain.snapshots.snapshot.Goals as goal
 
 pub returns-in_err-layers-clause-read : goal.returns-in_err-layers-clause-read
-returns-in_err-layers-clause-read g c = all_read_same g.D.Seen (WasNotCutOff c.from_residual.result) (drivers c.args.chain.now)
+returns-in_err-layers-clause-read g c = all_read_same g.D.DriverModel (HadNoResourceError c.from_residual.result) (drivers c.args.chain.now)
 
-pub returns-in_err-layers-clause-looked : goal.returns-in_err-layers-clause-looked
-returns-in_err-layers-clause-looked g c = all_looked_same g.D.Seen (WasNotCutOff c.from_residual.result) (drivers c.args.chain.now)
+pub returns-in_err-layers-clause-lookup_call : goal.returns-in_err-layers-clause-lookup_call
+returns-in_err-layers-clause-lookup_call g c = all_looked_same g.D.DriverModel (HadNoResourceError c.from_residual.result) (drivers c.args.chain.now)
 
 pub loop-layer-init : goal.loop-layer-init
 loop-layer-init g c = record {
   so_far = ap (λ items. files_bytes mem_state items) c.new-files.ensures.items;
-  read = all_read_same g.D.Seen ⊤ (drivers c.args.chain.now);
+  read = all_read_same g.D.DriverModel ⊤ (drivers c.args.chain.now);
 }
 
 pub loop-layer-preserved : goal.loop-layer-preserved
 loop-layer-preserved g c =
-    let d = g.D.Seen in
+    let d = g.D.DriverModel in
     let old = drivers c.args.chain.now in let now = drivers c.loop-layer.chain in
     let i = c.loop-layer.layer in
     let layers = c.in_ok-layers.layers in
@@ -43,16 +43,16 @@ loop-layer-preserved g c =
 
 pub returns-in_err-push-clause-read : goal.returns-in_err-push-clause-read
 returns-in_err-push-clause-read g c =
-    let d = g.D.Seen in
+    let d = g.D.DriverModel in
     let old = drivers c.args.chain.now in let now = drivers c.loop-layer.chain in let new = drivers c.copy_layer.new.chain in
-    let whole = WasNotCutOff c.from_residual-in_err-push.result in
+    let whole = HadNoResourceError c.from_residual-in_err-push.result in
     all_read_both d whole old new new (all_read_both d ⊤ old now new c.loop-layer.invariant.read c.in_ok-file.ensures.read) (all_read_same d whole new)
 
-pub returns-in_err-push-clause-looked : goal.returns-in_err-push-clause-looked
-returns-in_err-push-clause-looked g c =
-    let d = g.D.Seen in
+pub returns-in_err-push-clause-lookup_call : goal.returns-in_err-push-clause-lookup_call
+returns-in_err-push-clause-lookup_call g c =
+    let d = g.D.DriverModel in
     let old = drivers c.args.chain.now in let now = drivers c.loop-layer.chain in let new = drivers c.copy_layer.new.chain in
-    let whole = WasNotCutOff c.from_residual-in_err-push.result in
+    let whole = HadNoResourceError c.from_residual-in_err-push.result in
     all_read_looked d whole old new
     (all_read_both d whole old new new (all_read_both d ⊤ old now new c.loop-layer.invariant.read c.in_ok-file.ensures.read) (all_read_same d whole new))
 
@@ -60,37 +60,37 @@ pub returns-in_err-file-clause-read : goal.returns-in_err-file-clause-read
 returns-in_err-file-clause-read g c =
     let old = drivers c.args.chain.now in let now = drivers c.loop-layer.chain in let new = drivers c.copy_layer.new.chain in
     passed_mildly c.from_residual-in_err-file.result c.in_err-file.field-0.0 c.from_residual-in_err-file.ensures.1
-    (λ whole. Pairs (FilesRead g.D.Seen whole) old new)
-    (all_read_both g.D.Seen (IsMild c.in_err-file.field-0.0) old now new c.loop-layer.invariant.read c.in_err-file.ensures.read)
+    (λ whole. Pairs (FilesRead g.D.DriverModel whole) old new)
+    (all_read_both g.D.DriverModel (IsNotResourceError c.in_err-file.field-0.0) old now new c.loop-layer.invariant.read c.in_err-file.ensures.read)
 
-pub returns-in_err-file-clause-looked : goal.returns-in_err-file-clause-looked
-returns-in_err-file-clause-looked g c =
-    let d = g.D.Seen in
+pub returns-in_err-file-clause-lookup_call : goal.returns-in_err-file-clause-lookup_call
+returns-in_err-file-clause-lookup_call g c =
+    let d = g.D.DriverModel in
     let old = drivers c.args.chain.now in let now = drivers c.loop-layer.chain in let new = drivers c.copy_layer.new.chain in
-    let whole = IsMild c.in_err-file.field-0.0 in
+    let whole = IsNotResourceError c.in_err-file.field-0.0 in
     passed_mildly c.from_residual-in_err-file.result c.in_err-file.field-0.0 c.from_residual-in_err-file.ensures.1
-    (λ whole. Pairs (Looked d whole) old new)
+    (λ whole. Pairs (LookupCall d whole) old new)
     (all_read_looked d whole old new (all_read_both d whole old now new c.loop-layer.invariant.read c.in_err-file.ensures.read))
 
 pub returns-in_err-file-clause-cause : goal.returns-in_err-file-clause-cause
 returns-in_err-file-clause-cause g c =
     let old = drivers c.args.chain.now in let now = drivers c.loop-layer.chain in let new = drivers c.copy_layer.new.chain in
     passed c.from_residual-in_err-file.result _ c.in_err-file.field-0.0 c.from_residual-in_err-file.ensures.1
-    (cause_behind g.D.Seen old now new c.in_err-file.field-0.0 c.loop-layer.invariant.read c.in_err-file.ensures.cause)
+    (cause_behind g.D.DriverModel old now new c.in_err-file.field-0.0 c.loop-layer.invariant.read c.in_err-file.ensures.cause)
 
-pub returns-clause-looked : goal.returns-clause-looked
-returns-clause-looked g c =
-    all_read_looked g.D.Seen ⊤ (drivers c.args.chain.now) (drivers c.loop-layer.chain) c.loop-layer.invariant.read
+pub returns-clause-lookup_call : goal.returns-clause-lookup_call
+returns-clause-lookup_call g c =
+    all_read_looked g.D.DriverModel ⊤ (drivers c.args.chain.now) (drivers c.loop-layer.chain) c.loop-layer.invariant.read
 
 pub returns-in_err-layers-clause-cause : goal.returns-in_err-layers-clause-cause
 returns-in_err-layers-clause-cause g c =
-    let ss = files_of g.D.Seen (drivers c.args.chain.now) in
+    let ss = files_of g.D.DriverModel (drivers c.args.chain.now) in
     passed c.from_residual.result _ c.in_err-layers.field-0.0 c.from_residual.ensures.1
     (subst (WhyNotCopied ss ss) (sym c.in_err-layers.ensures.err) (faultless_all_same ss))
 
 pub returns-in_err-push-clause-cause : goal.returns-in_err-push-clause-cause
 returns-in_err-push-clause-cause g c =
-    let d = g.D.Seen in
+    let d = g.D.DriverModel in
     let old = drivers c.args.chain.now in let now = drivers c.loop-layer.chain in let new = drivers c.copy_layer.new.chain in
     wanting c.from_residual-in_err-push.result (WhyNotCopied (files_of d old) (files_of d new))
-    (calm d old new (all_read_both d ⊤ old now new c.loop-layer.invariant.read c.in_ok-file.ensures.read)) (search rules)
+    (no_change_refused d old new (all_read_both d ⊤ old now new c.loop-layer.invariant.read c.in_ok-file.ensures.read)) (search rules)

@@ -10,6 +10,6 @@ use Rattle.qimg_chain.proofs.chain.snapshots.snapshot.Given as goal
 -- the files of so many layers are copied, and the chain is as it was
 abbrev pub invariant-loop-layer : goal.invariant-loop-layer
 invariant-loop-layer g l = record {
-  so_far : files_bytes mem_state l.files.items ≡ take l.layer (map (driver_bytes g.D.Seen g.D.NamesFiles.names) (drivers l.fn.chain));
-  read : Pairs (FilesRead g.D.Seen ⊤) (drivers l.fn.chain) (drivers l.chain);
+  so_far : files_bytes mem_state l.files.items ≡ take l.layer (map (driver_bytes g.D.DriverModel g.D.NamesFiles.names) (drivers l.fn.chain));
+  read : Pairs (FilesRead g.D.DriverModel ⊤) (drivers l.fn.chain) (drivers l.chain);
 }

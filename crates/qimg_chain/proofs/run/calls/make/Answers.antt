@@ -12,7 +12,7 @@ only-one all (a ∷ b ∷ rest) last len is = absurd (cc (rw (is) at len))
 
 pub returns-clause-made : goal.returns-clause-made
 returns-clause-made g c =
-    let d = g.D.Seen in
+    let d = g.D.DriverModel in
     let call = c.args.call in
     let answer = c.in-Some.answer in
     let old = c.args.chain.now in

@@ -28,7 +28,7 @@ returns-in_err-plain_read g c =
     let fault = c.in_err-plain_read.field-0.0 in
     let long = ap (λ bytes. length bytes) c.deref_mut.ensures.value ∙ c.in_ok-buf.ensures.ok.1 in
     let p = err_from_is_err_and c.from_residual-in_err-plain_read.result c.from_residual-in_err-plain_read.ensures.1 in
-    subst (λ r. ReadsPlainly g.D.Seen g.D.NamesFiles.names c.args.offset c.args.count r c.args.chain.now) (sym (p.1 ∙ ap (λ e. Err e) p.2)) (
+    subst (λ r. ReadsPlainly g.D.DriverModel g.D.NamesFiles.names c.args.offset c.args.count r c.args.chain.now) (sym (p.1 ∙ ap (λ e. Err e) p.2)) (
       unread view_state view_never lent c.args.offset _ fault c.in_err-plain_read.ensures.err,
       inr (
         c.in_ok-buf.ensures.ok.0,

@@ -1,15 +1,15 @@
 use Rattle.std.proofs.Common.{List, [], ◌∷◌}
 use Rattle.std.specs.Prelude.{ℕ, IsTrue, Option, Result, map}
 use Rattle.imago_storage.specs.MemStorage.{mem_state}
-use Rattle.imago_storage.specs.State.{InStep}
+use Rattle.imago_storage.specs.State.{CrashImageIsBytes}
 use Rattle.imago_storage.specs.declared.memory.MemStorage.{MemStorage}
 use Rattle.qimg_core.specs.declared.plain.ChainFile.{ChainFile}
 use Rattle.imago_access.specs.Chain.{Each}
 use Rattle.imago_access.specs.Layers.{chain}
 use Rattle.imago_access.specs.Running.{chain_disk}
-use Rattle.imago_access.specs.declared.seen.Seen.{Ghosts}
+use Rattle.imago_access.specs.declared.driver_model.DriverModel.{Ghosts}
 use Rattle.qimg_calls.specs.Held.{IsReady}
-use Rattle.qimg_calls.specs.Runs.{StandsSince}
+use Rattle.qimg_calls.specs.Runs.{HoldsSince}
 use Rattle.qimg_calls.specs.Since.{flushed}
 use Rattle.qimg_chain.specs.Chains.{AreInPlace, AreLayers, IsFit, OfTop}
 use Rattle.qimg_chain.specs.FileMeanings.{FindsByNames, IsDiskOf, files_bytes}
@@ -27,7 +27,7 @@ silent : (m : MemStorage) → IsTrue (mem_state m).shape.tells → ⊥
 unfolding mem_state
 silent m tells = cc tells
 
-in-step : (files : List (ChainFile MemStorage)) → OfTop (IsFit mem_state) files → OfTop (λ file. InStep (mem_state file.image)) files
+in-step : (files : List (ChainFile MemStorage)) → OfTop (IsFit mem_state) files → OfTop (λ file. CrashImageIsBytes (mem_state file.image)) files
 in-step [] fit = fit
 in-step (file ∷ below) fit = λ tells keeps. absurd (silent file.image tells)
 
@@ -36,7 +36,7 @@ from-opening : {D St : Type 0} {g : Ghosts D St} {names : D → ℕ → List ℕ
     → (opened last : D × List D) → FormChain mem_state what.writable what.files → AreLayers g mem_state what.writable what.number what.files (chain opened) → AreInPlace (map g.layer (chain opened))
     → IsDiskOf (chain_disk g.layer opened) (files_bytes mem_state what.files) → Each (FindsByNames g names) (chain opened)
     → Scripted g names input before after result opened last
-    → (OfTop (IsFit mem_state) what.files → IsReady g opened) → (OfTop (λ file. InStep (mem_state file.image)) what.files → StandsSince g (flushed (chain_disk g.layer opened)) opened)
+    → (OfTop (IsFit mem_state) what.files → IsReady g opened) → (OfTop (λ file. CrashImageIsBytes (mem_state file.image)) what.files → HoldsSince g (flushed (chain_disk g.layer opened)) opened)
     → RunFrom g names what input before after result
 from-opening {what = what} opened last formed layers places means named scripted ready stands = record {
   opened = opened;

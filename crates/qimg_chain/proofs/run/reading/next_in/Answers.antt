@@ -8,7 +8,7 @@ returns c =
     let line = c.args.line.now in
     record {
       text = c.without_return.result.now;
-      rest = [];
-      first = lone-line line (grind (arith, c.if-is_empty.false, c.if-is_empty.ensures)) c.requires.stops c.requires.ends ∙ ap (λ text. text ∷ lines []) (sym c.without_return.ensures);
+      remainder = [];
+      first = lone-line line (grind (arith, c.if-is_empty.false, c.if-is_empty.ensures)) c.requires.crash_images c.requires.ends ∙ ap (λ text. text ∷ lines []) (sym c.without_return.ensures);
       taken = (c.parse_line.ensures.ok, c.parse_line.ensures.err);
     }

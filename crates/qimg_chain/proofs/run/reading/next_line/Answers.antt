@@ -14,7 +14,7 @@ returns-clause-ok g c =
     record {
       bytes = line;
       are = kept-known left shown (λ all. line ≡ take_through 10 all) kept.0 c.in_ok-read_line.ensures.line;
-      drops = kept-known left shown (λ all. g.R.Read.remaining c.read_line.new.input ≡ Some (drop_through 10 all)) kept.0 c.in_ok-read_line.ensures.rest;
+      drops = kept-known left shown (λ all. g.R.Read.remaining c.read_line.new.input ≡ Some (drop_through 10 all)) kept.0 c.in_ok-read_line.ensures.remainder;
       fits = omega (arith, kept.1, c.if-len-room.false, c.len.ensures, c.len-2.ensures);
       next = subst (λ bytes. IsNext bytes c.next_of.result) c.deref.ensures.value c.next_of.ensures;
     }

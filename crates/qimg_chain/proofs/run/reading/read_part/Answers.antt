@@ -15,5 +15,5 @@ returns-clause-ok g c =
       appended = c.in_ok-extend_from_slice.ensures.items;
       taken = moved.0;
       goes_on = count.ensures.goes_on;
-      ends = λ is. through-read (g.R.Read.remaining c.args.input.now) (g.R.Read.remaining c.consume.new.self) c.in-Ok.shown.now count.result.0 count.ensures.inside moved (count.ensures.stops is) (count.ensures.ends is) count.ensures.none;
+      ends = λ is. through-read (g.R.Read.remaining c.args.input.now) (g.R.Read.remaining c.consume.new.self) c.in-Ok.shown.now count.result.0 count.ensures.inside moved (count.ensures.crash_images is) (count.ensures.ends is) count.ensures.none;
     }

@@ -10,7 +10,7 @@ returns-clause-ok g c =
     let filled = subst (FillKeeps _ (g.R.Read.remaining rested) (g.R.BufRead.consumable_len rested)) c.in-Ok.is c.fill_buf.follows.holds-at-none in
     let count = c.line_part-count in
     let moved = Consumes_shown (g.R.Read.remaining c.args.input.now) (g.R.Read.remaining rested) (g.R.Read.remaining c.consume.new.self) _ c.in-Ok.shown.now count.result.0 count.ensures.inside c.in-Ok.ensures.front c.in-Ok.ensures.end filled.0 filled.1 c.consume.ensures.bytes in
-    let line = through-read (g.R.Read.remaining c.args.input.now) (g.R.Read.remaining c.consume.new.self) c.in-Ok.shown.now count.result.0 count.ensures.inside moved (count.ensures.stops c.if-not-ended.false) (count.ensures.ends c.if-not-ended.false) count.ensures.none in
+    let line = through-read (g.R.Read.remaining c.args.input.now) (g.R.Read.remaining c.consume.new.self) c.in-Ok.shown.now count.result.0 count.ensures.inside moved (count.ensures.crash_images c.if-not-ended.false) (count.ensures.ends c.if-not-ended.false) count.ensures.none in
     record {
       bytes = take count.result.0 c.in-Ok.shown.now;
       are = line.0;

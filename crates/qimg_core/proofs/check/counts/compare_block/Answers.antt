@@ -41,10 +41,10 @@ pub returns-clause-ok : goal.returns-clause-ok
 returns-clause-ok g c = subst (AreCompared (file (g.S.Storage.state c.args.image.now)) c.args.header.now.fields c.loop-place.leaks.items) (let all : c.args.index * counters_of_block c.args.header.now.fields + c.loop-place.place ≡ (c.args.index + 1) * counters_of_block c.args.header.now.fields = omega (arith, c.loop-place-test.false, c.loop-place.auto.place-end, c.rb_entries-place-end.ensures.value) in all) c.loop-place.invariant.0
 
 pub returns-in_default-clause-ok : goal.returns-in_default-clause-ok
-returns-in_default-clause-ok g c = on_ok_weaker c.check_unnamed.result (gap-compared (file (g.S.Storage.state c.args.image.now)) c.args.header.now.fields c.args.names.now c.requires.told c.args.leaks.now.items c.args.index c.first_counted-low.result c.first_counted.result c.first_counted-low.ensures c.first_counted.ensures (subst (HoldsCounters (file (g.S.Storage.state c.args.image.now)) c.args.header.now.fields c.args.index) c.in_default.is c.in_ok-block.ensures.ok) c.requires.before) c.check_unnamed.ensures.ok
+returns-in_default-clause-ok g c = on_ok_weaker c.check_unreferenced.result (gap-compared (file (g.S.Storage.state c.args.image.now)) c.args.header.now.fields c.args.names.now c.requires.told c.args.leaks.now.items c.args.index c.first_counted-low.result c.first_counted.result c.first_counted-low.ensures c.first_counted.ensures (subst (HoldsCounters (file (g.S.Storage.state c.args.image.now)) c.args.header.now.fields c.args.index) c.in_default.is c.in_ok-block.ensures.ok) c.requires.before) c.check_unreferenced.ensures.ok
 
 pub returns-in_default-clause-err : goal.returns-in_default-clause-err
 returns-in_default-clause-err g c =
-    MatchResult-weaker c.check_unnamed.result c.check_unnamed.ensures.err (λ x y. y)
+    MatchResult-weaker c.check_unreferenced.result c.check_unreferenced.ensures.err (λ x y. y)
     (uncounted-finding (g.S.Storage.state c.args.image.now) (g.S.Storage.state c.block_of.new.image) c.args.header.now.fields c.args.names.now c.first_counted-low.result (Some c.first_counted.result) c.in_ok-block.ensures.faults
     (gap-under (file (g.S.Storage.state c.args.image.now)) c.args.header.now.fields c.args.names.now c.requires.told c.args.leaks.now.items c.args.index c.first_counted-low.result c.first_counted.result c.first_counted-low.ensures c.first_counted.ensures (subst (HoldsCounters (file (g.S.Storage.state c.args.image.now)) c.args.header.now.fields c.args.index) c.in_default.is c.in_ok-block.ensures.ok) c.requires.before))

@@ -13,13 +13,13 @@ loop-i-init c = (sum-start c.args.list.now c.args.cluster c.args.cut.now c.requi
 
 pub returns-then-list-i-clause-value : goal.returns-then-list-i-clause-value
 returns-then-list-i-clause-value c =
-    let here : c.args.cluster ≤ slice_index c.args.list.now c.loop-i.i / 2048 = c.requires.cut.behind c.loop-i.i c.loop-i.auto.i c.loop-i-test.true in
+    let here : c.args.cluster ≤ slice_index c.args.list.now c.loop-i.i / 2048 = c.requires.cut.next_not_after c.loop-i.i c.loop-i.auto.i c.loop-i-test.true in
     sum-end c.args.list.now c.args.cluster c.args.cut.now c.requires.cut.bound c.requires.cut.before c.loop-i.i c.loop-i.sum c.loop-i.auto.i
     (λ k le lt is. c.if-list-i.true (let up = c.requires.rising c.loop-i.i k 0 le lt in omega (arith, up, here, is)))
     c.loop-i.invariant.0
 
-pub returns-then-list-i-clause-few : goal.returns-then-list-i-clause-few
-returns-then-list-i-clause-few c = omega (arith, returns-then-list-i-clause-value c, weight-few c.args.cluster c.args.list.now (omega arith))
+pub returns-then-list-i-clause-weight_bounded : goal.returns-then-list-i-clause-weight_bounded
+returns-then-list-i-clause-weight_bounded c = omega (arith, returns-then-list-i-clause-value c, weight-few c.args.cluster c.args.list.now (omega arith))
 
 pub overflow_add-sum : goal.overflow_add-sum
 overflow_add-sum c =
@@ -39,5 +39,5 @@ returns-clause-value c =
     (λ k le lt is. absurd (omega (arith, c.loop-i-test.false, le, lt)))
     c.loop-i.invariant.0
 
-pub returns-clause-few : goal.returns-clause-few
-returns-clause-few c = omega (arith, returns-clause-value c, weight-few c.args.cluster c.args.list.now (omega arith))
+pub returns-clause-weight_bounded : goal.returns-clause-weight_bounded
+returns-clause-weight_bounded c = omega (arith, returns-clause-value c, weight-few c.args.cluster c.args.list.now (omega arith))

@@ -6,7 +6,7 @@ use Rattle.qimg_core.proofs.check.search.first_entry.Goals as goal
 
 pub loop-way-init : goal.loop-way-init
 loop-way-init c = (
-  ahead-first c.args.question c.args.names.now c.args.low c.way_from-way.result c.requires.behind c.way_from-way.ensures,
+  ahead-first c.args.question c.args.names.now c.args.low c.way_from-way.result c.requires.after_structure c.way_from-way.ensures,
   λ n is. along-at c.args.names.now.others c.args.low n c.way_from-way.result is c.way_from-way.ensures,
 )
 
@@ -24,7 +24,7 @@ returns-then-passes c =
 
 pub loop-way-preserved : goal.loop-way-preserved
 loop-way-preserved c = (
-  ahead-next c.args.question c.args.names.now c.args.low c.in-Some.cluster c.times_along.new.way c.requires.behind (subst (IsAhead c.args.question c.args.names.now c.args.low) c.in-Some.is c.loop-way.invariant.0)
+  ahead-next c.args.question c.args.names.now c.args.low c.in-Some.cluster c.times_along.new.way c.requires.after_structure (subst (IsAhead c.args.question c.args.names.now c.args.low) c.in-Some.is c.loop-way.invariant.0)
       (such-is c.args.question c.args.names.now c.in-Some.cluster (all_times c.times_along.result) c.times_along.ensures.value c.passes.ensures c.if-passes.false) c.times_along.ensures.along,
   λ n is. along-at c.args.names.now.others _ n c.times_along.new.way is c.times_along.ensures.along,
 )

@@ -13,8 +13,8 @@ returns-clause-one_table c =
     let less : c.args.at % mapped < mapped = mod_below c.args.at mapped (some-mapped c.args.cluster_bits c.requires.bits.0) in
     omega (arith, c.remaining_in_l2_table.ensures, c.min.ensures)
 
-pub returns-clause-some : goal.returns-clause-some
-returns-clause-some c =
+pub returns-clause-nonempty : goal.returns-clause-nonempty
+returns-clause-nonempty c =
     let mapped : ℕ = l2_entries c.args.cluster_bits * 2 ^ c.args.cluster_bits in
     let less : c.args.at % mapped < mapped = mod_below c.args.at mapped (some-mapped c.args.cluster_bits c.requires.bits.0) in
     omega (arith, c.remaining_in_l2_table.ensures, c.min.ensures)

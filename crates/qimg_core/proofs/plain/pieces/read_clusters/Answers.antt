@@ -13,21 +13,21 @@ use Rattle.qimg_core.proofs.PlainReads.Pieces.{shown-more, shown-short, div-near
 use Rattle.qimg_core.proofs.plain.pieces.read_clusters.Goals as goal
 
 -- places of one guest cluster have one mapping
-one-mapping : (f g : Bytes) (table : TableValue) (m : Mapping) (bits at n : ℕ) → g ≡ f → bits ≡ table.layout.cluster_bits → m ≡ mapping_of table.layout (slice_index table.words (at / 2 ^ bits % l2_entries bits))
+one-mapping : (f g : Bytes) (table : TableValue) (m : Mapping) (bits at n : ℕ) → g ≡ f → bits ≡ table.layout.cluster_bits → m ≡ mapping_of table.layout (slice_index table.raw_entries (at / 2 ^ bits % l2_entries bits))
     → at % 2 ^ bits + n ≤ 2 ^ bits → (i : ℕ) → i < n → table_value f table (at + i) ≡ mapped_value g bits m (at + i)
 one-mapping f g table m bits at n same is means fits i lt =
     let near : (at + i) / 2 ^ bits ≡ at / 2 ^ bits = div-near at i (2 ^ bits) (omega arith) in
-    ap (λ b. mapped_value f b (mapping_of table.layout (slice_index table.words ((at + i) / 2 ^ b % l2_entries b))) (at + i)) (sym is)
-    ∙ (ap (λ n. mapped_value f bits (mapping_of table.layout (slice_index table.words (n % l2_entries bits))) (at + i)) near
+    ap (λ b. mapped_value f b (mapping_of table.layout (slice_index table.raw_entries ((at + i) / 2 ^ b % l2_entries b))) (at + i)) (sym is)
+    ∙ (ap (λ n. mapped_value f bits (mapping_of table.layout (slice_index table.raw_entries (n % l2_entries bits))) (at + i)) near
     ∙ (ap (λ x. mapped_value f bits x (at + i)) (sym means) ∙ ap (λ (x : Bytes). mapped_value x bits m (at + i)) (sym same)))
 
 -- the mapping of the guest cluster of a place
-its-mapping : (table : TableValue) (m : Mapping) (cluster bits place : ℕ) → m ≡ mapping_of table.layout (slice_index table.words (cluster % l2_entries table.layout.cluster_bits)) → cluster ≡ place / 2 ^ bits → bits ≡ table.layout.cluster_bits
-    → m ≡ mapping_of table.layout (slice_index table.words (place / 2 ^ bits % l2_entries bits))
+its-mapping : (table : TableValue) (m : Mapping) (cluster bits place : ℕ) → m ≡ mapping_of table.layout (slice_index table.raw_entries (cluster % l2_entries table.layout.cluster_bits)) → cluster ≡ place / 2 ^ bits → bits ≡ table.layout.cluster_bits
+    → m ≡ mapping_of table.layout (slice_index table.raw_entries (place / 2 ^ bits % l2_entries bits))
 its-mapping table m cluster bits place means at is =
     means
-    ∙ (ap (λ n. mapping_of table.layout (slice_index table.words (n % l2_entries table.layout.cluster_bits))) at
-    ∙ ap (λ b. mapping_of table.layout (slice_index table.words (place / 2 ^ bits % l2_entries b))) (sym is))
+    ∙ (ap (λ n. mapping_of table.layout (slice_index table.raw_entries (n % l2_entries table.layout.cluster_bits))) at
+    ∙ ap (λ b. mapping_of table.layout (slice_index table.raw_entries (place / 2 ^ bits % l2_entries b))) (sym is))
 
 pub loop-done-preserved : goal.loop-done-preserved
 loop-done-preserved g c =
@@ -43,7 +43,7 @@ loop-done-preserved g c =
     let most : c.loop-done.done + c.in_cluster-n.result ≤ length c.loop-done.buf = omega (arith, c.in_cluster-n.ensures.most) in
     shown-more (table_value (file old) c.args.table.now) (mapped_value (file now) bits mapping) old now new c.args.at c.loop-done.done c.in_cluster-n.result place _ c.loop-done.buf c.read_mapping.new.buf c.loop-done.invariant n long most refl
     (one-mapping (file old) (file now) c.args.table.now mapping bits place c.in_cluster-n.result (kept-file old now c.loop-done.invariant.kept) c.cluster_bits-bits.ensures.value means c.in_cluster-n.ensures.one_cluster)
-    c.in_ok-read_mapping.ensures.ok c.read_mapping.ensures.kept c.in_ok-read_mapping.ensures.faults
+    c.in_ok-read_mapping.ensures.ok c.read_mapping.ensures.unchanged_but_faults c.in_ok-read_mapping.ensures.faults
 
 pub returns-in_err-read_mapping-clause-err : goal.returns-in_err-read_mapping-clause-err
 returns-in_err-read_mapping-clause-err g c =

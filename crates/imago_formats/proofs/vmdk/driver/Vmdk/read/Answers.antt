@@ -6,12 +6,12 @@ pub returns-clause-keeps : goal.returns-clause-keeps
 returns-clause-keeps g c =
     let r = c.args.self.now in
     let kept = kept_back g.S.Storage.state r.disk.extents.items r.image c.read_storage.new.image r.files.items c.read_storage.new.files r.files.len
-    (omega (arith, c.read_storage.auto.files, c.deref_mut.ensures.len)) (rw c.deref_mut.ensures.value at c.read_storage.ensures.kept) in record {
+    (omega (arith, c.read_storage.auto.files, c.deref_mut.ensures.len)) (rw c.deref_mut.ensures.value at c.read_storage.ensures.unchanged_but_faults) in record {
       layer = kept.layer;
-      kept = kept.kept;
-      sees = kept.sees;
-      safely = λ safe. (kept.keeps safe.0, kept.sees safe.1, kept.said safe.2);
+      unchanged_but_faults = kept.kept;
+      coherent = kept.coherent;
+      safely = λ well_formed. (kept.keeps well_formed.0, kept.coherent well_formed.1, kept.said well_formed.2);
       stilled = λ s. s;
-      lasting = λ l. l;
-      surplus = λ safe c. refl;
+      stays_stable = λ l. l;
+      excess_refcount = λ well_formed c. refl;
     }

@@ -8,13 +8,13 @@ use Rattle.imago_formats.specs.VmdkLayer.{vmdk_layer}
 use Rattle.imago_formats.proofs.vmdk.driver.VmdkFormatDriverInstance.invalidate_cache.Goals as goal
 
 pub returns-clause-same : goal.returns-clause-same
-returns-clause-same g c = λ keeps see still. on_ok c.keep.result _ (c.keep.ensures.keeps.layer, c.keep.ensures.keeps.sees see)
+returns-clause-same g c = λ keeps see has_no_dirty_data. on_ok c.keep.result _ (c.keep.ensures.keeps.layer, c.keep.ensures.keeps.coherent see)
 
-pub returns-clause-kept : goal.returns-clause-kept
-returns-clause-kept g c = c.keep.ensures.keeps.kept
+pub returns-clause-unchanged_but_faults : goal.returns-clause-unchanged_but_faults
+returns-clause-unchanged_but_faults g c = c.keep.ensures.keeps.unchanged_but_faults
 
-pub returns-clause-went : goal.returns-clause-went
-returns-clause-went g c =
+pub returns-clause-mutating_call : goal.returns-clause-mutating_call
+returns-clause-mutating_call g c =
     went_anew _ _ _ c.args.self.now c.keep.new.self
     (quiet_went _ _ _ c.args.self.now c.keep.new.self c.keep.ensures.keeps (λ ok. c.keep.ensures.whole (ok_whole c.keep.result ok)))
 
@@ -25,8 +25,8 @@ returns-clause-failed g c =
     IfErr-weaker c.keep.result _ _ (λ e cause stale. absurd (plain_fresh (vmdk_layer r.disk.extents.items (state r.image) (map state r.files.items))
     (state r.image ∷ map state r.files.items) (state c.keep.new.self.image ∷ map state c.keep.new.self.files.items) e cause stale)) c.keep.ensures.err
 
-pub returns-clause-marks : goal.returns-clause-marks
-returns-clause-marks g c = unmarked _ c.keep.result c.args.self.now c.keep.new.self (search rules)
+pub returns-clause-marks_failed : goal.returns-clause-marks_failed
+returns-clause-marks_failed g c = unmarked _ c.keep.result c.args.self.now c.keep.new.self (search rules)
 
 pub returns-clause-cause : goal.returns-clause-cause
 returns-clause-cause g c =

@@ -1,7 +1,7 @@
 use Rattle.std.proofs.Common.{◌≡◌, length, map}
 use Rattle.std.proofs.lemmas.Result.{IfErr-weaker}
 use Rattle.imago_access.specs.FileReads.{FileReadCause}
-use Rattle.imago_access.specs.Files.{OverflowsIn, WasNotCutOff}
+use Rattle.imago_access.specs.Files.{OverflowsIn, HadNoResourceError}
 use Rattle.imago_access.specs.Refusals.{ReadMappedCause}
 use Rattle.imago_access.proofs.Looking.{looked_same}
 use Rattle.imago_formats.specs.VmdkFiles.{states}
@@ -10,17 +10,17 @@ use Rattle.imago_formats.proofs.StorageLemmas.{mapped_cause, overflow_all}
 use Rattle.imago_formats.proofs.Quiet.{at_once_runs, quiet_looked}
 use Rattle.imago_formats.proofs.vmdk.driver.VmdkFormatDriverInstance.read_mapped.Goals as goal
 
-pub returns-clause-looked : goal.returns-clause-looked
-returns-clause-looked g c =
-    quiet_looked _ (WasNotCutOff c.read.result) c.args.self.now c.read.new.self c.read.ensures.keeps
+pub returns-clause-lookup_call : goal.returns-clause-lookup_call
+returns-clause-lookup_call g c =
+    quiet_looked _ (HadNoResourceError c.read.result) c.args.self.now c.read.new.self c.read.ensures.keeps
     c.read.ensures.whole
 
-pub returns-clause-at_once : goal.returns-clause-at_once
-returns-clause-at_once g c =
+pub returns-clause-early_outcome : goal.returns-clause-early_outcome
+returns-clause-early_outcome g c =
     at_once_runs _ (length c.args.buf.now ≡ 0) c.read.result c.args.self.now c.read.new.self c.in_ok-ready.ensures.ok c.read.ensures.empty
 
-pub returns-in_err-ready-clause-looked : goal.returns-in_err-ready-clause-looked
-returns-in_err-ready-clause-looked g c = looked_same _ (WasNotCutOff c.from_residual.result) c.args.self.now
+pub returns-in_err-ready-clause-lookup_call : goal.returns-in_err-ready-clause-lookup_call
+returns-in_err-ready-clause-lookup_call g c = looked_same _ (HadNoResourceError c.from_residual.result) c.args.self.now
 
 pub returns-clause-cause : goal.returns-clause-cause
 returns-clause-cause g c =

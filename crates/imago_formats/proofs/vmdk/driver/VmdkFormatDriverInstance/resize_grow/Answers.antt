@@ -1,5 +1,5 @@
 use Rattle.std.proofs.Common.{rules}
-use Rattle.imago_access.specs.Files.{WasNotCutOff}
+use Rattle.imago_access.specs.Files.{HadNoResourceError}
 use Rattle.imago_access.proofs.Looking.{looked_under_same}
 use Rattle.imago_formats.proofs.Quiet.{grows_same, growth_refused, resizes_same}
 use Rattle.imago_formats.proofs.vmdk.driver.VmdkFormatDriverInstance.resize_grow.Goals as goal
@@ -11,13 +11,13 @@ returns-clause-resizes g c =
 
 pub returns-clause-grows : goal.returns-clause-grows
 returns-clause-grows g c =
-    grows_same _ g.B.SeenBelow c.args.size c.saturating_sub.result c.args._mode c.check_change.result c.args.self.now c.args._below.now (search rules)
+    grows_same _ g.B.LayersBelowModel c.args.size c.saturating_sub.result c.args._mode c.check_change.result c.args.self.now c.args._below.now (search rules)
     c.check_change.ensures.ok
 
 pub returns-clause-below : goal.returns-clause-below
-returns-clause-below g c = looked_under_same g.B.SeenBelow (WasNotCutOff c.check_change.result) c.args._below.now
+returns-clause-below g c = looked_under_same g.B.LayersBelowModel (HadNoResourceError c.check_change.result) c.args._below.now
 
 pub returns-clause-refused : goal.returns-clause-refused
 returns-clause-refused g c =
-    growth_refused _ g.B.SeenBelow c.args.size c.saturating_sub.result c.args._mode c.check_change.result c.args.self.now c.args._below.now
+    growth_refused _ g.B.LayersBelowModel c.args.size c.saturating_sub.result c.args._mode c.check_change.result c.args.self.now c.args._below.now
     (search rules) (search rules) c.check_change.ensures.err

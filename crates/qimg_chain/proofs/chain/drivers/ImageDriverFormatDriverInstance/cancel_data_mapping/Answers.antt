@@ -34,11 +34,11 @@ returns-in-Qcow2 g c =
         size = h.size;
         failed = h.failed;
         none = h.none;
-        lasts = h.lasts;
-        surplus = h.surplus;
-        sees = h.sees;
-        safe = h.safe;
-        room = λ safe mine. leaves kind a b _ _ (h.room safe mine);
-        began = on kind a b h.began;
+        stable = h.stable;
+        excess_refcount = h.excess_refcount;
+        coherent = h.coherent;
+        well_formed = h.well_formed;
+        room = λ well_formed mine. leaves kind a b _ _ (h.room well_formed mine);
+        stays_begun = on kind a b h.stays_begun;
       };
     })

@@ -4,7 +4,7 @@ use Rattle.std.proofs.lemmas.Result.{IfErr-weaker}
 use Rattle.qimg_chain.specs.declared.chain.image_driver.ImageDriver.TheVariants as variant
 use Rattle.qimg_chain.proofs.CallsThrough.{on_ok_weaker}
 use Rattle.qimg_chain.proofs.ImageKinds.{qcow2_kind}
-use Rattle.qimg_chain.proofs.SeenThrough.{began_on_ok, leaves, stops, unchanged, went}
+use Rattle.qimg_chain.proofs.SeenThrough.{began_on_ok, leaves, stops, unchanged, mutating_call}
 use Rattle.qimg_chain.proofs.StatelessDrivers.{commits, commit_refused}
 use Rattle.qimg_chain.proofs.chain.drivers.ImageDriverFormatDriverInstance.commit_data_mapping.Goals as goal
 
@@ -57,11 +57,11 @@ returns-in-Qcow2-clause-commits g c =
     rw (c.in-Qcow2.is) (record {
       ok = h.ok;
       size = h.size;
-      room = λ safe mine. on_ok_weaker c.commit_data_mapping.result _ _ (λ left. leaves kind a b _ _ left) (h.room safe mine);
-      stops = λ safe mine below. stops kind a b below _ _ _ (h.stops safe mine below);
-      went = went kind a b _ _ h.went;
-      sees = h.sees;
-      began = λ e call now mine. began_on_ok kind a b c.commit_data_mapping.result (λ d y is. h.began d y is mine) e call now;
+      room = λ well_formed mine. on_ok_weaker c.commit_data_mapping.result _ _ (λ left. leaves kind a b _ _ left) (h.room well_formed mine);
+      crash_images = λ well_formed mine below. stops kind a b below _ _ _ (h.crash_images well_formed mine below);
+      mutating_call = mutating_call kind a b _ _ h.mutating_call;
+      coherent = h.coherent;
+      stays_begun = λ e call now mine. began_on_ok kind a b c.commit_data_mapping.result (λ d y is. h.stays_begun d y is mine) e call now;
     })
 
 pub returns-in-Qcow2-clause-refused : goal.returns-in-Qcow2-clause-refused
@@ -71,7 +71,7 @@ returns-in-Qcow2-clause-refused g c =
     let b = c.commit_data_mapping.new.self in
     let h = c.commit_data_mapping.ensures.refused in
     rw (c.in-Qcow2.is) (record {
-      at_once = h.at_once;
+      early_outcome = h.early_outcome;
       unchanged = λ why. unchanged kind a b (h.unchanged why);
       back = IfErr-weaker c.commit_data_mapping.result _ _ (λ e k. IfSome_then e.1 k (λ m back. (back.0, back.1, unchanged kind a b back.2))) h.back;
       spent = h.spent;

@@ -1,6 +1,6 @@
 use Rattle.imago_access.specs.PartCalls.{ensures_zero}
 use Rattle.qimg_chain.proofs.ImageKinds.{raw_kind, vmdk_kind, qcow2_kind}
-use Rattle.qimg_chain.proofs.SeenThrough.{at_once}
+use Rattle.qimg_chain.proofs.SeenThrough.{early_outcome}
 use Rattle.qimg_chain.proofs.CallsThrough.{does, part_refused}
 use Rattle.qimg_chain.proofs.chain.drivers.ImageDriverFormatDriverInstance.ensure_zero_mapping.Goals as goal
 
@@ -9,10 +9,10 @@ returns-in-Raw-clause-does g c =
     rw (c.in-Raw.is) (does (raw_kind g.row.S g.S.Storage g.S.Storage-dict g.S.Destruct-dict)
     c.in-Raw.raw c.ensure_zero_mapping.new.self ensures_zero _ _ _ c.ensure_zero_mapping.ensures.does)
 
-pub returns-in-Raw-clause-at_once : goal.returns-in-Raw-clause-at_once
-returns-in-Raw-clause-at_once g c =
-    rw (c.in-Raw.is) (at_once (raw_kind g.row.S g.S.Storage g.S.Storage-dict g.S.Destruct-dict)
-    c.in-Raw.raw c.ensure_zero_mapping.new.self _ _ _ c.ensure_zero_mapping.ensures.at_once)
+pub returns-in-Raw-clause-early_outcome : goal.returns-in-Raw-clause-early_outcome
+returns-in-Raw-clause-early_outcome g c =
+    rw (c.in-Raw.is) (early_outcome (raw_kind g.row.S g.S.Storage g.S.Storage-dict g.S.Destruct-dict)
+    c.in-Raw.raw c.ensure_zero_mapping.new.self _ _ _ c.ensure_zero_mapping.ensures.early_outcome)
 
 pub returns-in-Raw-clause-refused : goal.returns-in-Raw-clause-refused
 returns-in-Raw-clause-refused g c =
@@ -24,10 +24,10 @@ returns-in-Vmdk-clause-does g c =
     rw (c.in-Vmdk.is) (does (vmdk_kind g.row.S g.S.Storage g.S.Storage-dict g.S.Destruct-dict)
     c.in-Vmdk.vmdk c.ensure_zero_mapping-in-Vmdk.new.self ensures_zero _ _ _ c.ensure_zero_mapping-in-Vmdk.ensures.does)
 
-pub returns-in-Vmdk-clause-at_once : goal.returns-in-Vmdk-clause-at_once
-returns-in-Vmdk-clause-at_once g c =
-    rw (c.in-Vmdk.is) (at_once (vmdk_kind g.row.S g.S.Storage g.S.Storage-dict g.S.Destruct-dict)
-    c.in-Vmdk.vmdk c.ensure_zero_mapping-in-Vmdk.new.self _ _ _ c.ensure_zero_mapping-in-Vmdk.ensures.at_once)
+pub returns-in-Vmdk-clause-early_outcome : goal.returns-in-Vmdk-clause-early_outcome
+returns-in-Vmdk-clause-early_outcome g c =
+    rw (c.in-Vmdk.is) (early_outcome (vmdk_kind g.row.S g.S.Storage g.S.Storage-dict g.S.Destruct-dict)
+    c.in-Vmdk.vmdk c.ensure_zero_mapping-in-Vmdk.new.self _ _ _ c.ensure_zero_mapping-in-Vmdk.ensures.early_outcome)
 
 pub returns-in-Vmdk-clause-refused : goal.returns-in-Vmdk-clause-refused
 returns-in-Vmdk-clause-refused g c =
@@ -39,10 +39,10 @@ returns-in-Qcow2-clause-does g c =
     rw (c.in-Qcow2.is) (does (qcow2_kind g.row.S g.S.Storage g.S.Storage-dict g.S.Destruct-dict)
     c.in-Qcow2.qcow2 c.ensure_zero_mapping-in-Qcow2.new.self ensures_zero _ _ _ c.ensure_zero_mapping-in-Qcow2.ensures.does)
 
-pub returns-in-Qcow2-clause-at_once : goal.returns-in-Qcow2-clause-at_once
-returns-in-Qcow2-clause-at_once g c =
-    rw (c.in-Qcow2.is) (at_once (qcow2_kind g.row.S g.S.Storage g.S.Storage-dict g.S.Destruct-dict)
-    c.in-Qcow2.qcow2 c.ensure_zero_mapping-in-Qcow2.new.self _ _ _ c.ensure_zero_mapping-in-Qcow2.ensures.at_once)
+pub returns-in-Qcow2-clause-early_outcome : goal.returns-in-Qcow2-clause-early_outcome
+returns-in-Qcow2-clause-early_outcome g c =
+    rw (c.in-Qcow2.is) (early_outcome (qcow2_kind g.row.S g.S.Storage g.S.Storage-dict g.S.Destruct-dict)
+    c.in-Qcow2.qcow2 c.ensure_zero_mapping-in-Qcow2.new.self _ _ _ c.ensure_zero_mapping-in-Qcow2.ensures.early_outcome)
 
 pub returns-in-Qcow2-clause-refused : goal.returns-in-Qcow2-clause-refused
 returns-in-Qcow2-clause-refused g c =

@@ -1,5 +1,0 @@
-use Rattle.qcow2_alloc.proofs.Memory.CounterChanges.{counter-lowered}
-use Rattle.qcow2_alloc.proofs.laws.lowering_a_counter.Goals as goal
-
-pub returns : goal.returns
-returns c = counter-lowered

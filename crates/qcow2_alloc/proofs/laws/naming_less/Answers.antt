@@ -1,5 +1,0 @@
-use Rattle.qcow2_alloc.proofs.Memory.WordChanges.{word-drops}
-use Rattle.qcow2_alloc.proofs.laws.naming_less.Goals as goal
-
-pub returns : goal.returns
-returns c = word-drops

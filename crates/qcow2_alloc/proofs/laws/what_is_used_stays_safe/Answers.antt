@@ -1,5 +1,0 @@
-use Rattle.qcow2_alloc.proofs.Caching.EntryUses.{table-used, block-used}
-use Rattle.qcow2_alloc.proofs.laws.what_is_used_stays_safe.Goals as goal
-
-pub returns : goal.returns
-returns c = record { tables = table-used; blocks = block-used }

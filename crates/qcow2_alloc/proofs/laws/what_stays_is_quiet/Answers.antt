@@ -1,5 +1,0 @@
-use Rattle.qcow2_alloc.proofs.Quiet.QuietFlushes.{quiet-none, used-quiet, order-quiet, settled-quiet}
-use Rattle.qcow2_alloc.proofs.laws.what_stays_is_quiet.Goals as goal
-
-pub returns : goal.returns
-returns c = record { none = quiet-none; used = used-quiet; order = order-quiet; settled = settled-quiet }

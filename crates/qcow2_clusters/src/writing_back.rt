@@ -1,0 +1,81 @@
+// Ends changes at rest: what is modified is written, and then nothing is cached, or L2 tables alone. A change is cut off by what qemu tells
+// as `-ENOMEM` or `-EIO`, and imago as an error of memory or of input and output.
+ghost use Rattle.std.specs.Prelude.{MatchBool, MatchResult, Ok, Err};
+ghost use Rattle.qcow2_alloc.specs.Caches.{HasRoomOf};
+ghost use Rattle.qcow2_alloc.specs.Going.{HadNoResourceError};
+ghost use Rattle.qcow2_clusters.specs.Flushed.{AreEmpty};
+ghost use Rattle.qcow2_clusters.specs.WritingBack.{AreUnpinned, KeepsCachedTables, WritesBack, without_tables};
+
+use imago_storage::{Fault, Storage};
+use qcow2_alloc::{ImageFile, MetadataCaches};
+
+// Drops all that is cached: as nothing of it is pinned, nothing stays.
+fn drop_cached<S: Storage>(caches: &mut MetadataCaches<S>)
+    requires unpinned { AreUnpinned caches.old }
+    ensures empty { AreEmpty caches.new }
+    ensures room { HasRoomOf caches.old caches.new }
+{
+    let _tables = caches.invalidate_l2();
+    let _blocks = caches.invalidate_rb();
+}
+
+// Whether an answer is none of want of memory or of a storage that failed.
+fn had_no_resource_error<T>(answer: &Result<T, Fault>) -> bool
+    ensures { MatchBool result (HadNoResourceError answer.now) (HadNoResourceError answer.now → ⊥) }
+{
+    !matches!(answer, Err(Fault::Memory) | Err(Fault::Storage))
+}
+
+// Ends a change that was answered so: unless it was cut off, what is modified is written. Then nothing is cached. It answers the fault of
+// that write, where it was refused.
+pub(crate) fn end_change<S: Storage, T>(
+    file: &mut ImageFile<S>,
+    caches: &mut MetadataCaches<S>,
+    given: &Result<T, Fault>,
+) -> Result<(), Fault>
+    requires unpinned { AreUnpinned caches.old }
+    ensures { MatchResult result (λ _. WritesBack S.state given.now file.old caches.old given.now file.new caches.new)
+        (λ fault. WritesBack S.state given.now file.old caches.old (Err fault) file.new caches.new) }
+{
+    if !had_no_resource_error(given) {
+        drop_cached(caches);
+        return Ok(());
+    }
+    let flushed = caches.flush_all(file);
+    drop_cached(caches);
+    flushed
+}
+
+// Ends a change as `end_change` does, and answers what refused that, or else what the change was answered.
+pub(crate) fn write_back<S: Storage>(
+    file: &mut ImageFile<S>,
+    caches: &mut MetadataCaches<S>,
+    given: Result<(), Fault>,
+) -> Result<(), Fault>
+    requires unpinned { AreUnpinned caches.old }
+    ensures { WritesBack S.state given file.old caches.old result file.new caches.new }
+{
+    end_change(file, caches, &given)?;
+    given
+}
+
+// Ends a change that succeeded as `settle` does, but that the L2 tables stay cached where all that is modified was written.
+pub(crate) fn write_back_keeping_tables<S: Storage>(
+    file: &mut ImageFile<S>,
+    caches: &mut MetadataCaches<S>,
+) -> Result<(), Fault>
+    requires unpinned { AreUnpinned caches.old }
+    ensures settles { WritesBack S.state (Ok tt) file.old caches.old result file.new (without_tables caches.new) }
+    ensures keeps_tables { KeepsCachedTables S.state file.old caches.old result file.new caches.new }
+{
+    match caches.flush_all(file) {
+        Ok(()) => {
+            let _blocks = caches.invalidate_rb();
+            Ok(())
+        }
+        Err(fault) => {
+            drop_cached(caches);
+            Err(fault)
+        }
+    }
+}

@@ -1,5 +1,0 @@
-use Rattle.qcow2_types.proofs.Changes.SlotSteps.{slot-rewritten-spliced, slot-references-spliced}
-use Rattle.qcow2_types.proofs.steps.rewriting_a_word.Goals as goal
-
-pub returns : goal.returns
-returns c = record { written = slot-rewritten-spliced; references = slot-references-spliced }

@@ -1,7 +1,0 @@
-use Rattle.std.proofs.Common.{take}
-use Rattle.qimg_core.specs.Entering.{AddsWords}
-use Rattle.qimg_core.proofs.check.tables.name_words.Given as goal
-
--- what the words before this one name is entered
-abbrev pub invariant-loop-index : goal.invariant-loop-index
-invariant-loop-index l = AddsWords l.header.fields l.times l.fn.names l.names (take l.index l.table.words)
