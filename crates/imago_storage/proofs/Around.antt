@@ -1,4 +1,4 @@
--- A range that is written as whole units, its two ends read before.
+-- Writes of a range as whole units, after its first and last unit are read.
 use Rattle.std.proofs.Common.{◌≡◌, ℕ, ◌+◌, ◌-◌, ◌%◌, ◌<◌, List, ◌++◌, append_assoc, length, take, drop, arith, sym, ◌∙◌, ap, subst, length-append}
 use Rattle.std.proofs.lemmas.List.{take-append-drop}
 use Rattle.imago_storage.specs.State.{StorageState}
@@ -37,7 +37,7 @@ module _ (unit : ℕ) (positive : 0 < unit) (s a b : StorageState) (same : a ≡
       subst (λ (f : StorageState). PaddedWriteFailed unit f b at bytes fault) same
       (halted-narrow unit positive a b at bytes (at - at % unit) (first ++ mid ++ last) pads-all (omega (arith, long, some)) end fault halted)
 
--- bytes that were split twice
+-- The parts of a list that is split twice.
 pub split-twice : (bytes rest head mid tail : List ℕ) (i j : ℕ) → head ≡ take i bytes → rest ≡ drop i bytes → mid ≡ take j rest → tail ≡ drop j rest → head ++ mid ++ tail ≡ bytes
 split-twice bytes rest head mid tail i j a b c d =
     let behind : mid ++ tail ≡ rest = ap (λ (l : List ℕ). l ++ tail) c ∙ (ap (λ (l : List ℕ). take j rest ++ l) d ∙ take-append-drop j rest) in

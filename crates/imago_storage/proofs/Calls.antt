@@ -1,4 +1,4 @@
--- A padded call, a request at a time.
+-- The effect of a padded call, from that of one request.
 use Rattle.std.proofs.Common.{◌≡◌, refl, inl, inr, ℕ, ◌+◌, ◌-◌, ◌%◌, ◌^◌, ◌<◌, ◌≤◌, max, List, length, arith, sym, ◌∙◌, ap, subst}
 use Rattle.std.specs.Prelude.{IsTrue, Result, OnOk, IfErr, IsErrAnd}
 use Rattle.std.proofs.lemmas.Result.{on_ok_weaker, IfErr-weaker, err_from_is_err_and}
@@ -10,7 +10,7 @@ use Rattle.imago_storage.specs.declared.fault.Fault.TheVariants.{Memory}
 use Rattle.imago_storage.proofs.Rounding.{round_up_whole, le_round_up, sum_of_whole, start_whole, mod_self, round_up_unit}
 use Rattle.imago_storage.proofs.Composing.{tells_on, keeps_on, no_stops, one_stop, long_stop, spliced-mixed, same-mixed}
 
--- a request as the bytes written, for a splice of other bytes that says the same
+-- `content` may describe the written bytes by another splice.
 pub one_request : (unit : ℕ) (old new : StorageState) (at : ℕ) (bytes : List ℕ) → Changed old new → 0 < length bytes → (IsTrue old.shape.keeps → Spliced old.bytes at bytes new.bytes) → length new.bytes ≡ max (length old.bytes) (round_up unit (at + length bytes)) → OneRequest unit old new at bytes
 one_request unit old new at bytes changed some content size = record {
   through = record {
@@ -27,7 +27,6 @@ one_request unit old new at bytes changed some content size = record {
   mark = λ _. changed.mark;
 }
 
--- a request that was refused
 pub no_request : (unit : ℕ) (old new : StorageState) (at : ℕ) (bytes : List ℕ) (fault : Fault) → 0 < length bytes → Refused old new fault → (IsTrue old.shape.keeps → OldOrNewBytes old.bytes at bytes new.bytes) → length old.bytes ≤ length new.bytes → length new.bytes ≤ max (length old.bytes) (round_up unit (at + length bytes)) → NoRequest unit old new at bytes fault
 no_request unit old new at bytes fault some refused content no_shorter no_longer = record {
   nonempty = some;
@@ -45,7 +44,7 @@ no_request unit old new at bytes fault some refused content no_shorter no_longer
   past_crash_images = refused.past_crash_images;
 }
 
--- a call of which a request was refused
+-- A failed request makes the padded call fail.
 pub halted-not : (unit : ℕ) (old new : StorageState) (at : ℕ) (bytes : List ℕ) (fault : Fault) → PaddedWriteFailed unit old new at bytes fault → PaddedWriteRefused unit old new at bytes fault
 halted-not unit old new at bytes fault halted = record {
   shape = halted.shape;
@@ -60,7 +59,7 @@ halted-not unit old new at bytes fault halted = record {
   as_long = halted.as_long;
 }
 
--- a call that was refused before its first request
+-- The call failed before its first request.
 pub kept-not : (unit : ℕ) (old new : StorageState) (at : ℕ) (bytes : List ℕ) (fault : Fault) → UnchangedButFaults old new → Cause old.faults new.faults fault → PaddedWriteRefused unit old new at bytes fault
 kept-not unit old new at bytes fault kept cause = record {
   shape = kept.shape;
@@ -75,7 +74,6 @@ kept-not unit old new at bytes fault kept cause = record {
   as_long = no_stops _ old new kept.crash_image kept.past_crash_images;
 }
 
--- nothing to write
 pub none_written : (unit : ℕ) (s : StorageState) (at : ℕ) (bytes : List ℕ) → length bytes ≡ 0 → OneRequest unit s s at bytes
 none_written unit s at bytes none = record {
   through = record {
@@ -92,7 +90,6 @@ none_written unit s at bytes none = record {
   mark = λ some. absurd (omega arith);
 }
 
--- whole units, as the storage writes them
 pub whole_written : (old new : StorageState) (at : ℕ) (bytes : List ℕ) → 0 < unit_of old.shape → 0 < length bytes → IsUnitRange (unit_of old.shape) at (length bytes) → Written old new at bytes → OneRequest (unit_of old.shape) old new at bytes
 whole_written old new at bytes positive some whole written =
     let sum_whole : (at + length bytes) % unit_of old.shape ≡ 0 = sum_of_whole (unit_of old.shape) at (length bytes) positive whole.start whole.size in
@@ -102,7 +99,7 @@ pub whole_refused : (old new : StorageState) (at : ℕ) (bytes : List ℕ) (faul
 whole_refused old new at bytes fault positive some refused =
     no_request (unit_of old.shape) old new at bytes fault some refused.refused refused.content refused.no_shorter (omega (arith, refused.no_longer, le_round_up (unit_of old.shape) (at + length bytes) positive))
 
--- the unit that a range lies in
+-- The unit that contains a range is a valid range of a request.
 pub one_unit : (unit long at n : ℕ) → long ≡ unit → 0 < unit → 0 < n → at % unit + n ≤ unit → round_up unit (at + n) < 2 ^ 64 → IsUnitRange unit (at - at % unit) long
 one_unit unit long at n is positive some inside fits = record {
   start = start_whole unit at positive;
@@ -117,7 +114,7 @@ module _ (old new : StorageState) (at : ℕ) (bytes : List ℕ) (positive : 0 < 
   pub whole_err : {T : Type 0} (result : Result T Fault) → IfErr result (NotWritten old new at bytes) → IfErr result (NoRequest (unit_of old.shape) old new at bytes)
   whole_err result h = IfErr-weaker result (NotWritten old new at bytes) (NoRequest (unit_of old.shape) old new at bytes) (λ fault refused. whole_refused old new at bytes fault positive some refused) h
 
--- want of memory before any request
+-- Memory ran out before any request.
 pub no_room : {T : Type 0} (unit : ℕ) (s : StorageState) (at : ℕ) (bytes : List ℕ) (P : Type 0) (result : Result T Fault) → IsErrAnd result (λ e. e ≡ Memory) → IfErr result (UnlessOverflow P s s (PaddedWriteRefused unit s s at bytes))
 no_room unit s at bytes P result is_err =
     let p = err_from_is_err_and result is_err in

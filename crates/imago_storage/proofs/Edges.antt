@@ -1,4 +1,4 @@
--- A range in three parts, of which the first and the last are written as whole units.
+-- A range in three parts. The first and the last part are written as whole units.
 use Rattle.std.proofs.Common.{◌≡◌, ◌⊎◌, inl, inr, ⊎_elim, ℕ, ◌+◌, ◌-◌, ◌*◌, ◌/◌, ◌%◌, ◌^◌, ◌<◌, ◌≤◌, List, ◌++◌, length, arith, sym, ◌∙◌, ap, subst, length-append}
 use Rattle.std.proofs.lemmas.Nat.{div-add-mod', mod_below, mul-le}
 use Rattle.std.proofs.lemmas.Bool.{cases_eq, cases_lt}
@@ -10,7 +10,6 @@ use Rattle.imago_storage.proofs.Wholes.{difference-whole}
 use Rattle.imago_storage.proofs.Range.{mul_whole}
 use Rattle.imago_storage.proofs.Pads.{pads-self, pads-both, pads-alone}
 
--- a multiple of a unit that is below the next one
 multiple-le : (unit a b : ℕ) → 0 < unit → a % unit ≡ 0 → b % unit ≡ 0 → a < b + unit → a ≤ b
 multiple-le unit a b positive first second lt = elim (cases_lt b a) [
   | inr le ↦ le
@@ -28,7 +27,7 @@ multiple-le unit a b positive first second lt = elim (cases_lt b a) [
       ]
 ]
 
--- what begins in a unit and is a multiple of it is its end at least
+-- A multiple of the unit at or after `at` is at or after the end of the unit that contains `at`.
 next-multiple : (unit at a : ℕ) → 0 < unit → at ≤ a → a % unit ≡ 0 → 0 < at % unit → at - at % unit + unit ≤ a
 next-multiple unit at a positive from whole part =
     let start : (at - at % unit) % unit ≡ 0 = start_whole unit at positive in
@@ -36,7 +35,7 @@ next-multiple unit at a positive from whole part =
     let end : (at - at % unit + unit) % unit ≡ 0 = sum_of_whole unit (at - at % unit) unit positive start (mod_self unit positive) in
     multiple-le unit (at - at % unit + unit) a positive end whole (omega (arith, from, part, low))
 
--- the lengths of a range's parts, and of what is written for the first and the last
+-- Works with the lengths of the three parts, and of the buffers for the first and the last.
 module _ (unit at h m t f l : ℕ) (positive : 0 < unit) (some : 0 < h + m + t) (parts : Parts unit at (h + m + t) h m) (is-first : IsEdge unit h f) (is-last : IsEdge unit t l) where
   start : ℕ
   start = at - at % unit
@@ -47,7 +46,7 @@ module _ (unit at h m t f l : ℕ) (positive : 0 < unit) (some : 0 < h + m + t) 
   tail-is : h + m + t - h - m ≡ t
   tail-is = omega arith
 
-  -- The first part ends with the unit that is written for it, or the range has no other.
+  -- The first part ends with the unit that is written for it, or it is the whole range.
   pub joined : (at + h ≡ at - at % unit + f) ⊎ ((0 < h) × ((m ≡ 0) × (t ≡ 0)))
   joined = ⊎_elim
       (λ (none, whole). let e = is-first.none none in inl (omega (arith, none, whole, e)))
@@ -89,7 +88,7 @@ module _ (unit at h m t f l : ℕ) (positive : 0 < unit) (some : 0 < h + m + t) 
   third-whole : (at - at % unit + f + m) % unit ≡ 0
   third-whole = sum_of_whole unit (at - at % unit + f) m positive second-whole mid-whole
 
-  -- what is written ends with the range's last unit
+  -- The written bytes end with the range's last unit.
   pub end-is : at - at % unit + f + m + l ≡ round_up unit (at + (h + m + t))
   end-is = ⊎_elim
       (λ joint.
@@ -119,7 +118,7 @@ module _ (unit at h m t f l : ℕ) (positive : 0 < unit) (some : 0 < h + m + t) 
     pub last-units : IsUnitRange unit (at - at % unit + f + m) l
     last-units = record { start = third-whole; size = last-whole; fits = omega (arith, end-is, fits) }
 
-  -- the middle has all whole units of the range
+  -- The middle contains all whole units of the range.
   pub middle-holds : (a b : ℕ) → at ≤ a → a < b → b ≤ at + (h + m + t) → a % unit ≡ 0 → b % unit ≡ 0 → (at - at % unit + f ≤ a) × (b ≤ at - at % unit + f + m)
   middle-holds a b from lt to a-whole b-whole = (
     elim (cases_eq h 0) [
@@ -135,7 +134,7 @@ module _ (unit at h m t f l : ℕ) (positive : 0 < unit) (some : 0 < h + m + t) 
         joined,
   )
 
-  -- whole units have no other part
+  -- A range of whole units only has a middle part.
   pub middle-alone : IsUnitAligned unit at (h + m + t) → (f ≡ 0) × ((l ≡ 0) × (m ≡ h + m + t))
   middle-alone units =
       let head : h ≡ 0 = ⊎_elim (λ (none, _). none) (λ (part, _). absurd (omega (arith, part, units.0))) parts.edge in
@@ -143,7 +142,7 @@ module _ (unit at h m t f l : ℕ) (positive : 0 < unit) (some : 0 < h + m + t) 
       let tail : t ≡ 0 = omega (arith, head, all) in
       (is-first.none head, (is-last.none tail, omega (arith, head, tail)))
 
--- what is written, byte by byte
+-- Works with the written bytes one by one.
 module _ (unit : ℕ) (bytes : List ℕ) (at : ℕ) (head mid tail first last : List ℕ) (positive : 0 < unit) (some : 0 < length head + length mid + length tail)
     (parts : Parts unit at (length head + length mid + length tail) (length head) (length mid)) (is-first : IsEdge unit (length head) (length first)) (is-last : IsEdge unit (length tail) (length last)) where
   abbrev begin : ℕ
@@ -188,7 +187,7 @@ module _ (unit : ℕ) (bytes : List ℕ) (at : ℕ) (head mid tail first last : 
       (pads-alone bytes at head begin first mid mid (pads-first more) none none) nothing (is-last.none nothing))
       (joined unit at (length head) (length mid) (length tail) (length first) (length last) positive some parts is-first is-last)
 
--- the parts of a range, by the lengths of what the code has of them
+-- Works with the lengths as the code computes them.
 module _ (unit at n i j h m t f g l k : ℕ) (some : 0 < n) (parts : Parts unit at n i j) (is-first : IsEdge unit i g) (is-last : IsEdge unit (n - i - j) k)
     (h-is : h ≡ i) (m-is : m ≡ j) (t-is : t ≡ n - i - j) (f-is : f ≡ g) (l-is : l ≡ k) where
   pub all-is : h + m + t ≡ n

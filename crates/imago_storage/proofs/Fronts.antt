@@ -1,4 +1,4 @@
--- Two parts of a padded call, the second before the first.
+-- Two parts of a padded call. The second part is written first.
 use Rattle.std.proofs.Common.{◌≡◌, refl, inl, inr, ⊎_elim, ℕ, ◌+◌, ◌-◌, ◌<◌, ◌≤◌, max, List, ◌++◌, length, get_or, arith, sym, ◌∙◌, ap, subst, length-append}
 use Rattle.std.proofs.lemmas.List.{get_or_append_left, get_or-append_right}
 use Rattle.std.proofs.lemmas.List.Elements.{All-weaker}
@@ -14,11 +14,11 @@ module _ (at : ℕ) (xs ys : List ℕ) where
   long : length (xs ++ ys) ≡ length xs + length ys
   long = length-append xs ys
 
-  -- a byte of the first part
+  -- A byte of the first part.
   left : (k : ℕ) → k < at + length xs → at ≤ k → get_or xs (k - at) 0 ≡ get_or (xs ++ ys) (k - at) 0
   left k lt from = sym (get_or_append_left xs ys 0 (k - at) (omega arith))
 
-  -- and of the second
+  -- A byte of the second part.
   right : (k : ℕ) → at + length xs ≤ k → get_or ys (k - (at + length xs)) 0 ≡ get_or (xs ++ ys) (k - at) 0
   right k ge = ap (λ (j : ℕ). get_or ys j 0) (let e : k - (at + length xs) ≡ k - at - length xs = omega arith in e) ∙ sym (get_or-append_right xs ys (length xs) (k - at) 0 refl (omega arith))
 
@@ -32,7 +32,7 @@ module _ (at : ℕ) (xs ys : List ℕ) where
     after = λ k from. second.after k (omega (arith, long)) ∙ first.after k (omega (arith, long));
   }
 
-  -- a range that was spliced in its second part, and mixed in its first
+  -- The second part is spliced, the first has old or new bytes.
   pub mixed_front : (a b c : List ℕ) → Spliced a (at + length xs) ys b → OldOrNewBytes b at xs c → OldOrNewBytes a at (xs ++ ys) c
   mixed_front a b c first second = record {
     before = λ k lt. second.before k lt ∙ first.before k (omega arith);
@@ -43,7 +43,7 @@ module _ (at : ℕ) (xs ys : List ℕ) where
     after = λ k from. second.after k (omega (arith, long)) ∙ first.after k (omega (arith, long));
   }
 
-  -- the range may begin before what was written
+  -- The range may begin before the written bytes.
   pub mixed_before : (a b : List ℕ) → OldOrNewBytes a (at + length xs) ys b → OldOrNewBytes a at (xs ++ ys) b
   mixed_before a b first = record {
     before = λ k lt. first.before k (omega arith);
@@ -58,7 +58,7 @@ module _ (unit : ℕ) (positive : 0 < unit) (a b c : StorageState) (at : ℕ) (x
   both : length (xs ++ ys) ≡ length xs + length ys
   both = length-append xs ys
 
-  -- the end of the first part lies in the range
+  -- The end of the first part is inside the padded range.
   inner : round_up unit (at + length xs) ≤ round_up unit (at + length (xs ++ ys))
   inner = round_up-le unit (at + length xs) (at + length (xs ++ ys)) positive (omega (arith, both))
 
@@ -93,7 +93,7 @@ module _ (unit : ℕ) (positive : 0 < unit) (a b c : StorageState) (at : ℕ) (x
     as_long = as_long_both a b c first.shape first.crash_image_is_bytes (through_longer unit a b (at + length xs) ys first) first.as_long second.as_long;
   }
 
-  -- refused in the part in front
+  -- The first part failed.
   pub not_front : (fault : Fault) → PaddedWrite unit a b (at + length xs) ys → PaddedWriteFailed unit b c at xs fault → PaddedWriteFailed unit a c at (xs ++ ys) fault
   not_front fault first second =
       let size : length b.bytes ≤ max (length a.bytes) (round_up unit (at + length xs + length ys)) = elim (cases_eq (length ys) 0) [
@@ -117,7 +117,7 @@ module _ (unit : ℕ) (positive : 0 < unit) (a b c : StorageState) (at : ℕ) (x
       }
 
 module _ (unit : ℕ) (a b : StorageState) (at : ℕ) (xs ys : List ℕ) (fault : Fault) where
-  -- refused before the part in front
+  -- The second part failed, and the first was never written.
   pub not_before : PaddedWriteFailed unit a b (at + length xs) ys fault → PaddedWriteFailed unit a b at (xs ++ ys) fault
   not_before first =
       let end : round_up unit (at + length xs + length ys) ≡ round_up unit (at + length (xs ++ ys)) = ap (round_up unit) (let e : at + length xs + length ys ≡ at + length (xs ++ ys) = omega (arith, length-append xs ys) in e) in

@@ -1,4 +1,4 @@
--- What a storage with a fuse does, from what its inner storage does.
+-- The effect of a call of a `FuseStorage`, from that of the inner storage.
 use Rattle.std.proofs.Common.{◌≡◌, refl, ℕ, ◌+◌, ◌-◌, List, [], length, arith, sym, ap, subst}
 use Rattle.std.specs.Prelude.{◌≢◌, ◌^◌, min, Result, Ok, Err, OnOk, IfErr}
 use Rattle.imago_storage.specs.State.{StorageState, HasRisen}
@@ -9,7 +9,7 @@ use Rattle.imago_storage.specs.declared.fault.Fault.TheVariants.{Memory, Storage
 use Rattle.imago_storage.specs.declared.fuse.FuseStorage.{FuseStorage}
 use Rattle.imago_storage.proofs.Composing.{same-mixed}
 
--- the state of an inner storage, with the faults and refusals of the fuse itself
+-- The inner storage's state, with the faults and refused changes of the fuse added.
 abbrev pub fused : ℕ → ℕ → StorageState → StorageState
 fused n m s = record {
   shape = s.shape;
@@ -22,7 +22,7 @@ fused n m s = record {
 
 -- The call that the fuse fails.
 
--- a part of a sum that rose
+-- A sum has risen if one of its summands has.
 rose_part : (a a' k k' : ℕ) → a' ≡ a → HasRisen k k' → HasRisen (a + k) (a' + k')
 rose_part a a' k k' same rose = record { not_fallen = omega (arith, same, rose.not_fallen); rose = λ fits. omega (arith, same, rose.rose (omega (arith, same))) }
 
@@ -37,7 +37,7 @@ module _ (n n' m m' : ℕ) (s s' : StorageState) (same : s' ≡ s) (faults : Has
   }
 
   pub tripped-later : CountsNotFallen (fused n m s) (fused n' m' s')
-  tripped-later = record { faults = tripped.cause.kept; refusals = tripped.refusals.not_fallen }
+  tripped-later = record { faults = tripped.cause.not_fallen; refusals = tripped.refusals.not_fallen }
 
   pub tripped-once : (s'.crash_image ≡ s.crash_image) × (s'.past_crash_images ≡ s.past_crash_images)
   tripped-once = (tripped.crash_image, tripped.past_crash_images)
@@ -119,7 +119,7 @@ module _ (n m : ℕ) (s s' : StorageState) where
   once (Err e) h = h
 
 module _ (n n' m m' : ℕ) (s s0 s' : StorageState) (same : s0 ≡ s) (faults : n' ≡ n) (refusals : m' ≡ m) where
-  -- what follows from the inner storage's states for those of the fuse
+  -- A relation between states of the inner storage gives one between states of the `FuseStorage`.
   passed : (P Q : StorageState → StorageState → Type 0) → (P s s' → Q (fused n m s) (fused n m s')) → P s0 s' → Q (fused n m s) (fused n' m' s')
   passed P Q lift holds =
       subst (λ (k : ℕ). Q (fused n m s) (fused k m' s')) (sym faults)
@@ -161,15 +161,15 @@ module _ (n n' m m' : ℕ) (s s0 s' : StorageState) (same : s0 ≡ s) (faults : 
     passed-resize_refused = passed (λ a b. IfErr r (ResizeRefused a b)) (λ a b. IfErr r (ResizeRefused a b))
         (err n m s s' r _ _ (unless n m s s' _ _ (not_resized n m s s')))
 
--- What the fuse counts.
+-- The counts of the fuse.
 
 module _ {S T : Type 0} (old new : FuseStorage S) (count : new.count ≡ min (old.count + 1) (2 ^ 64 - 1)) (call : new.n ≡ old.n) where
-  -- the call that the fuse fails
+  -- The call that the fuse fails.
   pub counted-trip : old.count + 1 ≡ old.n → new.inner ≡ old.inner → Counted {S = S} {T = T} old new (Err Storage)
   unfolding fuse_call fuse_count fuse_faults fuse_inner fuse_refusals
   counted-trip nth inner = record { count = count; call = call; fails = λ _. (refl, inner); passes = λ other. absurd (other nth) }
 
-  -- another call
+  -- Any other call.
   pub counted-pass : (r : Result T Fault) → old.count + 1 ≢ old.n → new.faults ≡ old.faults → new.refusals ≡ old.refusals → Counted old new r
   unfolding fuse_call fuse_count fuse_faults fuse_inner fuse_refusals
   counted-pass r other faults refusals = record { count = count; call = call; fails = λ nth. absurd (other nth); passes = λ _. (faults, refusals) }

@@ -1,4 +1,4 @@
--- The stops of a discard.
+-- The crash images of a discard.
 use Rattle.std.proofs.Common.{◌≡◌, ⊎_elim, ℕ, ◌≤◌, List, length, arith, ap, sym, subst}
 use Rattle.std.specs.Prelude.{Result, Ok, Err, OnOk, IfErr}
 use Rattle.imago_storage.specs.State.{StorageState}
@@ -12,11 +12,11 @@ module _ (old new : StorageState) (at n : ℕ) where
   abbrev Outside : List ℕ → Type 0
   Outside = SameOutside old.bytes (whole_start old at) (whole_size old at n)
 
-  -- nothing has changed
+  -- Nothing has changed.
   same-stops : new ≡ old → EachCrashImage Outside old new
   same-stops same = no_stops Outside old new (ap (λ (s : StorageState). s.crash_image) same) (ap (λ (s : StorageState). s.past_crash_images) same)
 
-  -- or one request has given up the whole units
+  -- One request has discarded the whole units.
   one-discard : Discarded old new (whole_start old at) (whole_size old at n) → EachCrashImage Outside old new
   one-discard discarded = one_stop Outside old new discarded.changed.mark
       (λ in_step tells keeps. subst Outside (sym (discarded.changed.crash_image_is_bytes in_step (tells_on old new discarded.changed.shape tells) (keeps_on old new discarded.changed.shape keeps))) (discarded.content keeps))
@@ -28,7 +28,7 @@ module _ (old new : StorageState) (at n : ℕ) where
   refused-stops RangeOverflow refused = same-stops refused.1
   refused-stops fault refused = no_stops Outside old new refused.1.refused.crash_image refused.1.refused.past_crash_images
 
-  -- The length is kept.
+  -- The length is unchanged.
   same-long : new ≡ old → CrashImagesNoShorter old new
   same-long same = no_stops (λ f. length old.bytes ≤ length f) old new (ap (λ (s : StorageState). s.crash_image) same) (ap (λ (s : StorageState). s.past_crash_images) same)
 
@@ -43,7 +43,7 @@ module _ (old new : StorageState) (at n : ℕ) where
   discard-long (Ok x) ok err = given-long ok
   discard-long (Err fault) ok err = refused-long fault err
 
-  -- Whatever the answer, a stop leaves the rest as it was.
+  -- In every case, a crash image is unchanged outside the whole units.
   pub discard-stops : {T : Type 0} (result : Result T Fault) → OnOk result (GivenUp old new at n) → IfErr result (NotGivenUp old new at n) → EachCrashImage Outside old new
   discard-stops (Ok x) ok err = given-stops ok
   discard-stops (Err fault) ok err = refused-stops fault err

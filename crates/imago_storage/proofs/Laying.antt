@@ -1,4 +1,4 @@
--- What is laid to zero a range.
+-- The prepared buffers for zeroing a range, and the effect of writing them.
 use Rattle.std.proofs.Common.{◌≡◌, refl, ℕ, ◌+◌, ◌-◌, ◌%◌, ◌^◌, ◌<◌, ◌≤◌, max, min, List, ◌++◌, length, replicate, take, arith, sym, ◌∙◌, ap, subst, length-append}
 use Rattle.std.specs.Prelude.{slice_index, Result, Ok, Err, OnOk}
 use Rattle.std.proofs.lemmas.List.{replicate-append-replicate, take-append-le, take_all}
@@ -16,7 +16,7 @@ use Rattle.imago_storage.proofs.Zeroes.{length_of_zeroes}
 use Rattle.imago_storage.proofs.ZeroSteps.{zeroes-taken}
 use Rattle.imago_storage.proofs.Edges.{some-here, parts-here, first-here, last-here, first-laid, mid-laid, last-laid, end-is, middle-holds, middle-alone, edges-pad}
 
--- a list that was written over as a whole
+-- A list that was overwritten completely.
 pub written-back : (xs ys : List ℕ) (n : ℕ) → length xs ≡ n → take n (xs ++ ys) ≡ xs
 written-back xs ys n long = take-append-le n xs ys (omega (arith, long)) ∙ take_all n xs (omega (arith, long))
 
@@ -52,14 +52,14 @@ module _ (unit : ℕ) (bytes : List ℕ) (at n i j : ℕ) (first last zeroes : L
   all-zeroes : head ++ mid ++ tail ≡ replicate n 0
   all-zeroes = ap (λ (l : List ℕ). l ++ tail) (replicate-append-replicate i j 0) ∙ (replicate-append-replicate (i + j) (n - i - j) 0 ∙ ap (λ (m : ℕ). replicate {A = ℕ} m 0) sum)
 
-  -- the zeroes that are put over the ends
+  -- The zeroes that are copied over the edges.
   head-is : take i zeroes ≡ head
   head-is = zeroes-taken zeroes i none (omega (arith, room, parts.within, parts.first))
 
   tail-is : take (n - i - j) zeroes ≡ tail
   tail-is = zeroes-taken zeroes (n - i - j) none (omega (arith, room, parts.tail_below_unit))
 
-  -- what is written, as long as it is
+  -- The end of the written bytes.
   end-laid : at - at % unit + length (first ++ replicate j 0 ++ last) ≡ round_up unit (at + n)
   end-laid =
       let parts-n : Parts unit at (i + j + (n - i - j)) i j = subst (λ (m : ℕ). Parts unit at m i j) (sym sum) parts in
@@ -96,12 +96,12 @@ module _ (unit : ℕ) (bytes : List ℕ) (at n i j : ℕ) (first last zeroes : L
         room = room;
       }
 
--- what two clauses say of a success
+-- Combines two clauses on success.
 pub both-ok : {T : Type 0} (result : Result T Fault) (A B C : Type 0) → (A → B → C) → OnOk result A → OnOk result B → OnOk result C
 both-ok (Ok x) A B C both first second = both first second
 both-ok (Err fault) A B C both first second = first
 
--- a range that was zeroed as it was laid
+-- The range was zeroed by writing the prepared buffers.
 module _ (unit : ℕ) (positive : 0 < unit) (s a b : StorageState) (same : a ≡ s) (at n : ℕ) (first last zeroes : List ℕ) (mid : ℕ) (some : 0 < n) (prepared_zeroes : ZeroesPrepared unit s.bytes at n first last zeroes mid) where
   pads-here : IsPaddedPart a.bytes at (replicate n 0) (at - at % unit) (first ++ replicate mid 0 ++ last)
   pads-here = subst (λ (f : StorageState). IsPaddedPart f.bytes at (replicate n 0) (at - at % unit) (first ++ replicate mid 0 ++ last)) (sym same) prepared_zeroes.pads
@@ -122,7 +122,7 @@ module _ (unit : ℕ) (positive : 0 < unit) (s a b : StorageState) (same : a ≡
       subst (λ (f : StorageState). PaddedWriteRefused unit f b at (replicate n 0) fault) same
       (halted-not unit a b at (replicate n 0) fault (halted-narrow unit positive a b at (replicate n 0) (at - at % unit) (first ++ replicate mid 0 ++ last) pads-here some-zeroes end-here fault halted))
 
-  -- by the ends of the whole units between
+  -- Works with the ends of the whole units in the middle.
   module _ (low high : ℕ) (low-is : low ≡ at - at % unit + length first) (high-is : high ≡ low + mid) where
     start-is : low - length first ≡ at - at % unit
     start-is = omega (arith, low-is)
@@ -145,7 +145,7 @@ module _ (unit : ℕ) (positive : 0 < unit) (s a b : StorageState) (same : a ≡
     wholes-left Allocated Unsupported left = left ∙ same
     wholes-left Allocated fault halted = wholes-not fault halted
 
--- the buffers, as they are handed on
+-- Replaces the buffers by equal ones.
 pub laid-as : (unit : ℕ) (bytes : List ℕ) (at n : ℕ) (first last zeroes first' last' zeroes' : List ℕ) (mid : ℕ) → first' ≡ first → last' ≡ last → zeroes' ≡ zeroes → ZeroesPrepared unit bytes at n first last zeroes mid → ZeroesPrepared unit bytes at n first' last' zeroes' mid
 laid-as unit bytes at n first last zeroes first' last' zeroes' mid f l z prepared_zeroes =
     subst (λ (x : List ℕ). ZeroesPrepared unit bytes at n x last' zeroes' mid) (sym f)

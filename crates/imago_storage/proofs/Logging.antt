@@ -1,4 +1,4 @@
--- What a call of a storage with a log does, from what its inner storage does.
+-- The effect of a call of a `LogStorage`, from that of the inner storage.
 use Rattle.std.proofs.Common.{◌≡◌, ◌⊎◌, refl, inl, inr, ℕ, List, [], ◌∷◌, ◌++◌, arith, sym, ◌∙◌, ap, subst}
 use Rattle.std.specs.Prelude.{◌+◌, true, length, Result, Ok, Err, OnOk, IfErr, IsErrAnd}
 use Rattle.imago_storage.specs.State.{Shape, StorageState, HasRisen}
@@ -10,7 +10,7 @@ use Rattle.imago_storage.specs.declared.log.LogStorage.{LogStorage}
 use Rattle.imago_storage.specs.declared.log.Request.{Request}
 use Rattle.imago_storage.proofs.Composing.{same-mixed}
 
--- the fault of a call that `?` hands on
+-- The fault that `?` returns.
 pub handed-on : {T : Type 0} (r : Result T Fault) (e fault : Fault) → IsErrAnd r (λ w. w ≡ e) → e ≡ fault → r ≡ Err fault
 handed-on (Ok x) e fault told is = absurd told
 handed-on (Err w) e fault told is = ap (λ (f : Fault). Err f) (told ∙ is)
@@ -18,7 +18,7 @@ handed-on (Err w) e fault told is = ap (λ (f : Fault). Err f) (told ∙ is)
 pub handed-ok : {T : Type 0} (r : Result T Fault) (fault : Fault) (P : Type 0) → r ≡ Err fault → OnOk r P
 handed-ok r fault P is = subst (λ z. OnOk z P) (sym is) tt
 
--- The request had no room in the log: nothing was passed on.
+-- Memory for the log entry ran out: nothing was passed on.
 module _ (base base' : List ℕ) (requests requests' : List Request) (n n' : ℕ) (s s' : StorageState) (same_base : base' ≡ base) (same_requests : requests' ≡ requests) (rose : HasRisen n n') (same : s' ≡ s) where
   full : Refused (logged base requests n s) (logged base' requests' n' s') Memory
   full =
@@ -59,7 +59,7 @@ module _ (base base' : List ℕ) (requests requests' : List Request) (n n' : ℕ
     pub full-once : RequestsOne (logged base requests n s) (logged base' requests' n' s') r
     full-once = subst (λ (z : Result T Fault). RequestsOne (logged base requests n s) (logged base' requests' n' s') z) (sym is) (full.crash_image, full.past_crash_images)
 
--- The call was passed on: s0 is the inner storage's state before it, s' after it.
+-- The call was passed on. `s0` is the state of the inner storage before the call, and `s'` the state after it.
 pub logged-later : (base base' : List ℕ) (requests requests' : List Request) (n n' : ℕ) (s s0 s' s'' : StorageState) → n' ≡ n → s0 ≡ s → s'' ≡ s' → CountsNotFallen s0 s' → CountsNotFallen (logged base requests n s) (logged base' requests' n' s'')
 logged-later base base' requests requests' n n' s s0 s' s'' same_n before after later = record {
   faults = omega (arith, later.faults, ap (λ (z : StorageState). z.faults) before, ap (λ (z : StorageState). z.faults) after);
@@ -69,7 +69,7 @@ logged-later base base' requests requests' n n' s s0 s' s'' same_n before after 
 pub rose-from : (a b k : ℕ) → b ≡ a → HasRisen b k → HasRisen a k
 rose-from a b k same rose = subst (λ (z : ℕ). HasRisen z k) same rose
 
--- The inner storage refused the change, and the log has forgotten the request.
+-- The inner storage refused the change, and the request was removed from the log.
 module _ (base : List ℕ) (requests : List Request) (n : ℕ) (s s' : StorageState) where
   refused : (fault : Fault) → Refused s s' fault → Refused (logged base requests n s) (logged base requests n s') fault
   refused fault h = record {
@@ -114,7 +114,7 @@ replayed-same base base' requests requests' same_base same_requests = (
   ap (λ (b : List ℕ). files_before b requests') same_base ∙ ap (files_before base) same_requests,
 )
 
--- What a refusal of the inner storage counts.
+-- The count of refused changes after the inner storage refused one.
 
 pub rose-zeroing : (a b : StorageState) (at k : ℕ) (fault : Fault) → ZeroingRefused a b at k fault → HasRisen a.refusals b.refusals ⊎ (b ≡ a)
 rose-zeroing a b at k Unsupported h = inr h
@@ -124,7 +124,7 @@ pub rose-resize : (a b : StorageState) (fault : Fault) → ResizeRefused a b fau
 rose-resize a b Unsupported h = inr h
 rose-resize a b fault h = inl h.refused.refusals
 
--- nothing but the count of refusals has changed
+-- Only the count of refused changes differs.
 only_refusals : {S : Type 0} (state : S → StorageState) (old new : LogStorage S) → new.base ≡ old.base → new.requests.items ≡ old.requests.items → state new.inner ≡ state old.inner
     → logged new.base.items new.requests.items new.refusals (state new.inner) ≡ record (logged old.base.items old.requests.items old.refusals (state old.inner)) { refusals = (state new.inner).refusals + new.refusals }
 only_refusals state old new same_base requests stays = λ i. record {
@@ -137,12 +137,12 @@ only_refusals state old new same_base requests stays = λ i. record {
 }
 
 module _ {S T : Type 0} (state : S → StorageState) (IsSo : Request → Type 0) (old new : LogStorage S) (same_base : new.base ≡ old.base) where
-  -- the request is the last one
+  -- The request is the last one of the log.
   pub noted-ok : (x : T) (request : Request) → IsSo request → new.requests.items ≡ old.requests.items ++ request ∷ [] → Noted {S = S} {T = T} state IsSo old new (Ok x)
   unfolding log_base log_inner log_requests log_state
   noted-ok x request so pushed = record { base = ap (λ b. b.items) same_base; requests = (request, so, pushed); refused = tt }
 
-  -- the inner storage refused the change
+  -- The inner storage refused the change.
   pub noted-refused : (s0 s' : StorageState) (fault : Fault) → s0 ≡ state old.inner → state new.inner ≡ s' → new.requests.items ≡ old.requests.items → (HasRisen s0.refusals s'.refusals ⊎ (s' ≡ s0))
       → Noted {S = S} {T = T} state IsSo old new (Err fault)
   unfolding log_base log_inner log_requests log_state
@@ -155,6 +155,6 @@ module _ {S T : Type 0} (state : S → StorageState) (IsSo : Request → Type 0)
     ];
   }
 
-  -- the request had no room in the log
+  -- Memory for the log entry ran out.
   pub noted-full : (r : Result T Fault) → r ≡ Err Memory → new.inner ≡ old.inner → new.requests.items ≡ old.requests.items → Noted {S = S} {T = T} state IsSo old new r
   noted-full r is inner requests = subst (λ (z : Result T Fault). Noted {S = S} {T = T} state IsSo old new z) (sym is) (noted-refused (state old.inner) (state new.inner) Memory refl refl requests (inr (ap state inner)))

@@ -1,4 +1,4 @@
--- Bytes written over whole units, as the part of them that a call was asked for.
+-- A write of whole units as a padded write of a part of them.
 use Rattle.std.proofs.Common.{◌≡◌, refl, inl, inr, ⊎_elim, ℕ, ◌+◌, ◌-◌, ◌<◌, ◌≤◌, max, List, ◌++◌, length, get_or, arith, sym, ◌∙◌, ap, length-append}
 use Rattle.std.proofs.lemmas.Bool.{cases_lt}
 use Rattle.std.proofs.lemmas.List.{get_or_append_left, get_or-append_right}
@@ -38,7 +38,7 @@ module _ (old : List ℕ) (at : ℕ) (bytes : List ℕ) (start : ℕ) (put : Lis
     ];
   }
 
--- a padded call, by the whole units that it wrote
+-- Derives a padded call from the whole units that it wrote.
 module _ (unit : ℕ) (positive : 0 < unit) (a b : StorageState) (at : ℕ) (bytes : List ℕ) (start : ℕ) (put : List ℕ)
     (pads : IsPaddedPart a.bytes at bytes start put) (some : 0 < length bytes) (end : start + length put ≡ round_up unit (at + length bytes)) where
   end-same : round_up unit (start + length put) ≡ round_up unit (at + length bytes)
@@ -69,7 +69,7 @@ module _ (unit : ℕ) (positive : 0 < unit) (a b : StorageState) (at : ℕ) (byt
     as_long = halted.as_long;
   }
 
--- bytes that pad themselves
+-- A part without padding.
 pub pads-self : (bytes : List ℕ) (at : ℕ) (xs : List ℕ) → IsPaddedPart bytes at xs at xs
 pads-self bytes at xs = record {
   low = omega arith;
@@ -86,7 +86,7 @@ module _ (bytes : List ℕ) (at : ℕ) (xs : List ℕ) (start : ℕ) (p ys q : L
   long-put : length (p ++ q) ≡ length p + length q
   long-put = length-append p q
 
-  -- a place in the first part, and one in the second
+  -- The bytes of the first part and those of the second.
   left : (k : ℕ) → start ≤ k → k < start + length p → get_or (p ++ q) (k - start) 0 ≡ get_or p (k - start) 0
   left k from lt = get_or_append_left p q 0 (k - start) (omega arith)
 
@@ -99,7 +99,7 @@ module _ (bytes : List ℕ) (at : ℕ) (xs : List ℕ) (start : ℕ) (p ys q : L
   of-right : (k : ℕ) → at + length xs ≤ k → get_or ys (k - (at + length xs)) 0 ≡ get_or (xs ++ ys) (k - at) 0
   of-right k ge = ap (λ (j : ℕ). get_or ys j 0) (let e : k - (at + length xs) ≡ k - at - length xs = omega arith in e) ∙ sym (get_or-append_right xs ys (length xs) (k - at) 0 refl (omega arith))
 
-  -- a part right behind another
+  -- Two consecutive parts.
   pub pads-both : at + length xs ≡ start + length p → IsPaddedPart bytes (at + length xs) ys (start + length p) q → IsPaddedPart bytes at (xs ++ ys) start (p ++ q)
   pads-both joint second = record {
     low = first.low;
@@ -112,7 +112,7 @@ module _ (bytes : List ℕ) (at : ℕ) (xs : List ℕ) (start : ℕ) (p ys q : L
     after = λ k from lt. right k (omega (arith, joint, long)) ∙ second.after k (omega (arith, long)) (omega (arith, long-put));
   }
 
-  -- nothing behind it
+  -- The second part is empty.
   pub pads-alone : length ys ≡ 0 → length q ≡ 0 → IsPaddedPart bytes at (xs ++ ys) start (p ++ q)
   pads-alone none none-put = record {
     low = first.low;

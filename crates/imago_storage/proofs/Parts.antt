@@ -1,4 +1,4 @@
--- Two parts of a padded call, the second behind the first.
+-- Two parts of a padded call, the second after the first.
 use Rattle.std.proofs.Common.{◌≡◌, ◌⊎◌, inl, inr, ⊎_elim, ℕ, ◌+◌, ◌<◌, ◌≤◌, max, List, ◌∷◌, ◌++◌, length, arith, sym, ◌∙◌, ap, subst, length-append}
 use Rattle.std.specs.Prelude.{Result, Ok, Err, OnOk, IfErr, IsErrAnd, MatchResult}
 use Rattle.std.proofs.lemmas.Result.{on_ok_weaker, IfErr-weaker, err_from_is_err_and}
@@ -51,7 +51,7 @@ module _ (unit : ℕ) (positive : 0 < unit) (a b c : StorageState) (at : ℕ) (x
         as_long = as_long_both a b c first.shape first.crash_image_is_bytes (through_longer unit a b at xs first) first.as_long second.as_long;
       }
 
-  -- refused in the second part
+  -- The second part failed.
   pub not_behind : (fault : Fault) → PaddedWrite unit a b at xs → PaddedWriteFailed unit b c (at + length xs) ys fault → PaddedWriteFailed unit a c at (xs ++ ys) fault
   not_behind fault first second =
       let long = both in
@@ -90,7 +90,7 @@ module _ (unit : ℕ) (positive : 0 < unit) (a b c : StorageState) (at : ℕ) (x
       }
 
 module _ (unit : ℕ) (positive : 0 < unit) (a b : StorageState) (at : ℕ) (xs ys : List ℕ) (fault : Fault) where
-  -- refused before the rest
+  -- The first part failed, and the rest was never written.
   pub not_longer : PaddedWriteFailed unit a b at xs fault → PaddedWriteFailed unit a b at (xs ++ ys) fault
   not_longer first =
       let long = length-append xs ys in
@@ -107,7 +107,7 @@ module _ (unit : ℕ) (positive : 0 < unit) (a b : StorageState) (at : ℕ) (xs 
         as_long = first.as_long;
       }
 
--- three parts
+-- Three parts.
 module _ (unit : ℕ) (positive : 0 < unit) (a b c d : StorageState) (at : ℕ) (head mid tail : List ℕ) where
   third : (T : ℕ → Type 0) → T (at + length head + length mid) → T (at + length (head ++ mid))
   third T h = let e : at + length head + length mid ≡ at + length (head ++ mid) = omega (arith, length-append head mid) in subst T e h
@@ -130,18 +130,18 @@ module _ (unit : ℕ) (positive : 0 < unit) (a b c d : StorageState) (at : ℕ) 
   head_not fault one =
       not_longer unit positive a b at (head ++ mid) tail fault (not_longer unit positive a b at head mid fault one.halted)
 
--- what a `?` passes on
+-- The error that `?` returns.
 pub passed : {T : Type 0} (result : Result T Fault) (Q : Fault → Type 0) (fault : Fault) → IsErrAnd result (λ e. e ≡ fault) → Q fault → IfErr result Q
 passed result Q fault is_err holds = let p = err_from_is_err_and result is_err in subst (λ r. IfErr r Q) (sym p.1) (subst Q (sym p.2) holds)
 
--- what a `map_err` passes on
+-- The error after `map_err`.
 pub mapped : {T E F : Type 0} (was : Result T E) (result : Result T F) (f : E → F) (P : T → Type 0) (Q : E → Type 0) (R : F → Type 0)
     → MatchResult was (λ x. result ≡ Ok x) (λ e. IsErrAnd result (λ y. y ≡ f e)) → ((e : E) → Q e → R (f e)) → MatchResult was P Q → MatchResult result P R
 mapped (Ok x) result f P Q R is give holds = subst (λ r. MatchResult r P R) (sym is) holds
 mapped (Err e) result f P Q R is give holds =
     let p = err_from_is_err_and result is in subst (λ r. MatchResult r P R) (sym p.1) (subst R (sym p.2) (give e holds))
 
--- three parts, each over the unit of the storage as the one before left it
+-- Three parts, each with the unit of the storage's state after the part before it.
 module _ (unit : ℕ) (positive : 0 < unit) (a b c d : StorageState) (same : unit ≡ unit_of a.shape) (at : ℕ) (head mid tail : List ℕ) where
   first-of : OneRequest (unit_of a.shape) a b at head → OneRequest unit a b at head
   first-of one = subst (λ (u : ℕ). OneRequest u a b at head) (sym same) one
@@ -176,7 +176,7 @@ module _ (unit : ℕ) (positive : 0 < unit) (a b c d : StorageState) (same : uni
       passed result (PaddedWriteFailed unit a b at (head ++ mid ++ tail)) fault is_err
       (head_not unit positive a b c d at head mid tail fault (subst (λ (u : ℕ). NoRequest u a b at head fault) (sym same) one))
 
--- the stops of a call, whatever it answered
+-- The crash images of a call, in every case.
 refused_stops : (unit : ℕ) (a b : StorageState) (at : ℕ) (xs : List ℕ) (P : Type 0) (fault : Fault) → UnlessOverflow P a b (PaddedWriteRefused unit a b at xs) fault → EachCrashImage (OldOrNewBytes a.bytes at xs) a b
 refused_stops unit a b at xs P RangeOverflow h = no_stops (OldOrNewBytes a.bytes at xs) a b (ap (λ (s : StorageState). s.crash_image) h.1) (ap (λ (s : StorageState). s.past_crash_images) h.1)
 refused_stops unit a b at xs P _ h = h.crash_images
@@ -193,7 +193,7 @@ pub as_long_of : {T : Type 0} (unit : ℕ) (a b : StorageState) (at : ℕ) (xs :
 as_long_of unit a b at xs P (Ok x) ok err = ok.as_long
 as_long_of unit a b at xs P (Err fault) ok err = refused_long unit a b at xs P fault err
 
--- the shape and the counts after a call, whatever it answered
+-- The fixed properties and the counts after a call, in every case.
 refused_shape : (unit : ℕ) (a b : StorageState) (at : ℕ) (xs : List ℕ) (P : Type 0) (fault : Fault) → UnlessOverflow P a b (PaddedWriteRefused unit a b at xs) fault → b.shape ≡ a.shape
 refused_shape unit a b at xs P RangeOverflow h = ap (λ (s : StorageState). s.shape) h.1
 refused_shape unit a b at xs P _ h = h.shape
@@ -210,7 +210,7 @@ pub later_of : {T : Type 0} (unit : ℕ) (a b : StorageState) (at : ℕ) (xs : L
 later_of unit a b at xs P (Ok x) ok err = record { faults = omega (arith, ok.faults); refusals = omega (arith, ok.refusals) }
 later_of unit a b at xs P (Err fault) ok err = refused_later unit a b at xs P fault err
 
--- the count of faults after a read, whatever it answered
+-- The fault count after a read, in every case.
 not_read_later : (old new : StorageState) (at n : ℕ) (fault : Fault) → NotRead old new at n fault → old.faults ≤ new.faults
 not_read_later old new at n RangeOverflow h = omega (arith, ap (λ (s : StorageState). s.faults) h.1)
 not_read_later old new at n fault h = cause_later old.faults new.faults fault h

@@ -11,7 +11,7 @@ one_of_one (suc zero) q is = refl
 one_of_one (suc (suc d)) zero is = absurd (omega arith)
 one_of_one (suc (suc d)) (suc q) is = absurd (omega arith)
 
--- a divisor of a power of two is one
+-- A divisor of a power of two is a power of two.
 pub power_of : (k d q : ℕ) → d * q ≡ 2 ^ k → (e : ℕ) × (e ≤ k) × (d ≡ 2 ^ e)
 power_of zero d q is = (0, omega arith, one_of_one d q is)
 power_of (suc k) d q is =
@@ -48,7 +48,7 @@ alignment_power n alignment =
     let found = power_of 20 n (2 ^ 20 / n) whole in
     (found.0, found.2)
 
--- of two alignments the lesser divides the larger
+-- The smaller of two alignments divides the larger.
 pub divides_larger : (a b : ℕ) → IsAlignment a → IsAlignment b → a ≤ b → b % a ≡ 0
 divides_larger a b first second le =
     let x = alignment_power a first in

@@ -1,4 +1,4 @@
--- A log's state after a request.
+-- The state of a log after a request.
 use Rattle.std.proofs.Common.{◌≡◌, refl, inl, inr, ℕ, ◌+◌, ◌-◌, ◌<◌, max, List, [], ◌∷◌, ◌++◌, length, take, drop, replicate, get_or, arith, sym, ◌∙◌, ap, subst, length-append, length-drop}
 use Rattle.std.specs.Prelude.{IsTrue, true, Some, slice_get, zero, suc, ◌≤◌}
 use Rattle.std.proofs.lemmas.Bool.{cases_lt}
@@ -58,7 +58,7 @@ resized_at file n k lt = elim (cases_lt k (length file)) [
       ∙ zero_at (n - length file) (k - length (take n file)) ∙ sym (get_or_past file k 0 past)
 ]
 
--- one request more
+-- Replaying one more request.
 pub replay-push : (file : List ℕ) (requests : List Request) (request : Request) → replay file (requests ++ request ∷ []) ≡ apply request (replay file requests)
 replay-push file [] request = refl
 replay-push file (first ∷ requests) request = replay-push (apply first file) requests request
@@ -98,7 +98,7 @@ module _ (base : List ℕ) (requests after : List Request) (n : ℕ) (s s' : Sto
     size = done.size;
   }
 
--- a change that the inner storage refused
+-- The inner storage refused the change.
 module _ (base : List ℕ) (requests : List Request) (n : ℕ) (s s' : StorageState) where
   log_refused : (fault : Fault) → Refused s s' fault → Refused (logged base requests n s) (logged base requests n s') fault
   log_refused fault refused = record {
@@ -109,7 +109,7 @@ module _ (base : List ℕ) (requests : List Request) (n : ℕ) (s s' : StorageSt
     past_crash_images = refl;
   }
 
--- the same, for what a call of the log knows
+-- Works with the equations that a call of the log knows.
 module _ (base base' : List ℕ) (requests after : List Request) (n n' : ℕ) (s s0 s' : StorageState) (request : Request) (same_base : base' ≡ base) (same_n : n' ≡ n) (same : s0 ≡ s) (pushed : after ≡ requests ++ request ∷ []) where
   pub wrote : (at : ℕ) (bytes : List ℕ) → ((file : List ℕ) → apply request file ≡ splice file at bytes) → Written s0 s' at bytes → Written (logged base requests n s) (logged base' after n' s') at bytes
   wrote at bytes is written =
@@ -123,21 +123,21 @@ module _ (base base' : List ℕ) (requests after : List Request) (n n' : ℕ) (s
       (subst (λ (m : ℕ). Resized (logged base requests n s) (logged base after m s') size) (sym same_n)
       (log_resized base requests after n s s' request pushed size is (subst (λ (z : StorageState). Resized z s' size) same done)))
 
--- an edit that does what a request asks
+-- An edit that has the effect of a request.
 pub splice_is : (old : List ℕ) (at : ℕ) (bytes new : List ℕ) → Spliced old at bytes new → length new ≡ max (length old) (at + length bytes) → new ≡ splice old at bytes
 splice_is old at bytes new spliced long = spliced_same old at bytes new (splice old at bytes) spliced (splice-spliced old at bytes) (long ∙ sym (length-splice old at bytes))
 
--- one step of a replay
+-- One step of a replay.
 pub replay_more : (file : List ℕ) (requests : List Request) (i : ℕ) (request : Request) → i < length requests → request ≡ get_or requests i request → replay file (take (i + 1) requests) ≡ apply request (replay file (take i requests))
 replay_more file requests i request lt is =
     ap (replay file) (take_more requests i request lt) ∙ replay-push file (take i requests) (get_or requests i request) ∙ ap (λ (r : Request). apply r (replay file (take i requests))) (sym is)
 
--- the mark of a log that was given a request
+-- The past crash images of a log after one more request.
 pub request_pushed : (base base' : List ℕ) (requests after : List Request) (request : Request) → base' ≡ base → after ≡ requests ++ request ∷ [] → files_before base' after ≡ replay base requests ∷ files_before base requests
 request_pushed base base' requests after request same pushed =
     ap (λ (b : List ℕ). files_before b after) same ∙ ap (files_before base) pushed ∙ files_before-push base requests request
 
--- The files that a log tells.
+-- The crash images of a log.
 
 slice_get_last : (files : List (List ℕ)) (file : List ℕ) (i : ℕ) → i ≡ length files → slice_get (files ++ file ∷ []) i ≡ Some file
 slice_get_last [] file zero is = refl
@@ -150,7 +150,7 @@ slice_get_front [] more i lt = absurd (omega (arith, lt))
 slice_get_front (first ∷ files) more zero lt = refl
 slice_get_front (first ∷ files) more (suc i) lt = slice_get_front files more i (omega (arith, lt))
 
--- the file that a stop after the first k requests leaves is told
+-- The crash image after the first `k` requests is among them.
 pub files_at : (base : List ℕ) (requests : List Request) (k : ℕ) → k ≤ length requests → slice_get (replay base requests ∷ files_before base requests) (length requests - k) ≡ Some (replay base (take k requests))
 files_at base [] zero le = refl
 files_at base [] (suc k) le = absurd (omega (arith, le))
@@ -167,7 +167,7 @@ files_at base (first ∷ requests) (suc k) le =
 pub file_told : (base : List ℕ) (requests : List Request) (k : ℕ) (file : List ℕ) → k ≤ length requests → file ≡ replay base (take k requests) → slice_get (replay base requests ∷ files_before base requests) (length requests - k) ≡ Some file
 file_told base requests k file le is = files_at base requests k le ∙ ap (λ (f : List ℕ). Some f) (sym is)
 
--- a log that was just made
+-- A log that was just made.
 pub log_begun : (s s' : StorageState) (base : List ℕ) (requests : List Request) → s' ≡ s → base ≡ s.bytes → requests ≡ [] → logged base requests 0 s' ≡ telling s
 log_begun s s' base requests same is none =
     let refusals : s'.refusals + 0 ≡ s.refusals = omega (arith, ap (λ (z : StorageState). z.refusals) same) in

@@ -22,14 +22,14 @@ pub round_up_is_whole : (unit n : ℕ) → round_up unit n % unit ≡ 0
 unfolding round_up
 round_up_is_whole unit n = mul-mod_left ((n + (unit - 1)) / unit) unit
 
--- no whole unit where the first begins past 64 bits
+-- If the rounded start doesn't fit 64 bits, the range has no whole unit.
 pub no-start : (align at n : ℕ) → at + n < 2 ^ 64 → (round_up align (at + 0) < 2 ^ 64 → ⊥) → HasWholeUnits align at n → ⊥
 no-start align at n fits far has =
     let same : round_up align (at + 0) ≡ round_up align at = ap (round_up align) (let e : at + 0 ≡ at = omega arith in e) in
     let down : round_down align (at + n) ≤ at + n = round_down-le align (at + n) in
     far (omega (arith, same, down, has, fits))
 
--- where it begins, and its end
+-- The start and the end of the whole units, as the code computes them.
 pub whole-found : (align at n start end : ℕ) → start ≡ round_up align (at + 0) → end ≡ (at + n) / align * align → start < end → HasWholeUnits align at n × (◌≡◌ {A = ℕ × ℕ} (start, end) (round_up align at, round_down align (at + n)))
 whole-found align at n start end start-is end-is lt =
     let first : start ≡ round_up align at = start-is ∙ ap (round_up align) (let e : at + 0 ≡ at = omega arith in e) in
@@ -42,7 +42,7 @@ none-found align at n start start-is le has =
     let last : (at + n) / align * align ≡ round_down align (at + n) = sym (round_down_is align (at + n)) in
     omega (arith, first, last, le, has)
 
--- what is a multiple of an alignment is one of each that divides it
+-- A multiple of an alignment is a multiple of each number that divides the alignment.
 pub whole-of : (align unit n : ℕ) → align % unit ≡ 0 → n % align ≡ 0 → n % unit ≡ 0
 whole-of align unit n divides whole =
     let a : n ≡ n / align * align = omega (arith, div-add-mod' n align, whole) in
@@ -50,21 +50,21 @@ whole-of align unit n divides whole =
     let c : n ≡ n / align * (align / unit) * unit = a ∙ (ap (λ m. n / align * m) b ∙ grind arith) in
     ap (λ m. m % unit) c ∙ mul-mod_left (n / align * (align / unit)) unit
 
--- the bytes between two multiples of a unit
+-- The difference of two multiples of a unit is a multiple of it.
 pub difference-whole : (unit a b : ℕ) → a ≤ b → a % unit ≡ 0 → b % unit ≡ 0 → (b - a) % unit ≡ 0
 difference-whole unit a b le first second =
     let same : b - a + a / unit * unit ≡ b = omega (arith, div-add-mod' a unit, first, le) in
     sym (add-mul-mod_self_right (b - a) (a / unit) unit) ∙ (ap (λ m. m % unit) same ∙ second)
 
--- whole units between two multiples of a unit
+-- The range between two multiples of a unit is a valid range of a request.
 pub between-whole : (unit a b : ℕ) → a ≤ b → a % unit ≡ 0 → b % unit ≡ 0 → b < 2 ^ 64 → IsUnitRange unit a (b - a)
 between-whole unit a b le first second fits = record { start = first; size = difference-whole unit a b le first second; fits = omega (arith, le, fits) }
 
--- the end of whole units
+-- The end of whole units is a multiple of the unit.
 pub behind-whole : (unit a b : ℕ) → 0 < unit → a < b → IsUnitRange unit a (b - a) → b % unit ≡ 0
 behind-whole unit a b positive lt whole = ap (λ m. m % unit) (let e : b ≡ a + (b - a) = omega (arith, lt) in e) ∙ sum_of_whole unit a (b - a) positive whole.start whole.size
 
--- no units
+-- The empty range is a valid range of a request.
 pub none-whole : (unit a : ℕ) → 0 < unit → a % unit ≡ 0 → a < 2 ^ 64 → IsUnitRange unit a 0
 none-whole unit a positive whole fits = record { start = whole; size = ap (λ m. m % unit) (let e : 0 ≡ a - a = omega arith in e) ∙ difference-whole unit a a (omega arith) whole whole; fits = omega (arith, fits) }
 
@@ -84,14 +84,14 @@ module _ (align at n : ℕ) (w : ℕ × ℕ) (positive : 0 < align) (has : HasWh
   pub whole-inside : w.1 ≤ at + n
   whole-inside = omega (arith, end-is, round_down-le align (at + n))
 
-  -- They are whole units of each alignment that divides this one.
+  -- They are whole units of each alignment that divides `align`.
   pub whole-units : (unit : ℕ) → align % unit ≡ 0 → at + n < 2 ^ 64 → IsUnitRange unit w.0 (w.1 - w.0)
   whole-units unit divides fits =
       let first : w.0 % unit ≡ 0 = whole-of align unit w.0 divides (ap (λ m. m % align) start-is ∙ round_up_is_whole align at) in
       let last : w.1 % unit ≡ 0 = whole-of align unit w.1 divides (ap (λ m. m % align) end-is ∙ round_down_whole align (at + n)) in
       record { start = first; size = difference-whole unit w.0 w.1 (omega (arith, whole-some)) first last; fits = omega (arith, whole-some, whole-inside, fits) }
 
--- a range of whole units, which isn't empty, has no other part
+-- A nonempty range of whole units has no other part.
 module _ (align at n : ℕ) (positive : 0 < align) (some : 0 < n) (units : IsUnitAligned align at n) where
   units-start : round_up align at ≡ at
   units-start = round_up_whole align at positive units.0

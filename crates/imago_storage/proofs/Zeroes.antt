@@ -1,4 +1,4 @@
--- Files of zeroes.
+-- Files and buffers of zeroes.
 use Rattle.std.proofs.Common.{◌≡◌, refl, inl, inr, ℕ, zero, suc, ◌+◌, ◌-◌, ◌<◌, ◌≤◌, min, List, length, replicate, get_or, arith, ◌∙◌, ap, sym}
 use Rattle.std.proofs.lemmas.Bool.{cases_lt}
 use Rattle.std.proofs.lemmas.List.{length-replicate, get_or_past}
@@ -14,7 +14,7 @@ zero_at (suc n) (suc k) = zero_at n k
 pub length_of_zeroes : (n : ℕ) → length {A = ℕ} (replicate n 0) ≡ n
 length_of_zeroes n = length-replicate {A = ℕ} n 0
 
--- the part of a range that is there, zeroed
+-- The part of a range inside the file is zeroed.
 module _ (old new : List ℕ) (at n m : ℕ) (spliced : Spliced old at (replicate m 0) new) (there : at + m ≡ min (at + n) (length old)) where
   pub cleared_outside : SameOutside old at n new
   cleared_outside = record { before = spliced.before; after = λ k from. spliced.after k (omega (arith, length_of_zeroes m)) }
@@ -28,7 +28,7 @@ module _ (old new : List ℕ) (at n m : ℕ) (spliced : Spliced old at (replicat
 minus_none : (k : ℕ) → k - 0 ≡ k
 minus_none k = omega arith
 
--- a part of the bytes written into a buffer of n bytes, and zeroes behind it
+-- A buffer of `n` bytes is filled with a part of `bytes`, and zeroes after it.
 module _ (bytes buf part mid new : List ℕ) (at n from to rest : ℕ)
     (from_is : from ≡ min at (length bytes)) (to_is : to ≡ min (at + n) (length bytes)) (rest_is : rest ≡ n - (to - from))
     (part_is : part ≡ between from to bytes) (written : Spliced buf 0 part mid) (zeroed : Spliced mid (to - from) (replicate rest 0) new) where

@@ -1,9 +1,9 @@
--- Why a call of a disk may be refused, and what a refusal leaves.
+-- Specifies calls on a guest disk that fail: the range of each call, and what its bytes are after an error.
 use Rattle.std.specs.Prelude.{◌≡◌, ◌⊎◌, ℕ, ◌<◌, true, length, IsTrue, IsFalse}
 use Rattle.imago_storage.specs.Disk.{Value, Disk}
 use Rattle.imago_storage.specs.Steps.{Call, read, write, write_zeroes, discard_to_zero, discard_to_any, discard_to_backing, prepare, commit, cancel, ensure, write_mapped, lookup, grow, shrink, IsOut, ToBytes, ToZero, ToAny, ToBelow}
 
--- the range of a call, in bytes; none for calls that have none
+-- The range of a call in bytes. It is empty for calls without a range.
 abbrev pub offset_of : Call → ℕ
 offset_of (read offset n) = offset
 offset_of (write offset bytes) = offset
@@ -30,8 +30,8 @@ length_of (write_mapped offset bytes) = length bytes
 length_of (lookup offset n) = n
 length_of _ = 0
 
--- The call has something to change: its range isn't empty, its mapping has state, its size is another. A call that has nothing to
--- change is never refused for what the image is.
+-- The call has something to change: its range isn't empty, its prepared mapping has state (something to commit), or its size differs. A
+-- call without a change never fails because of the image's state.
 abbrev pub Alters : Disk → Call → Type 0
 Alters disk (write offset bytes) = 0 < length bytes
 Alters disk (write_zeroes offset n) = 0 < n
@@ -46,13 +46,13 @@ Alters disk (grow size fill) = disk.size < size
 Alters disk (shrink size) = size < disk.size
 Alters disk _ = ⊥
 
--- a mapping with state is spent by a chain of another number
+-- The call commits or cancels a mapping with state that another chain prepared: the numbers of the chains differ.
 abbrev pub IsForeign : Call → Type 0
 IsForeign (commit true own) = IsFalse own
 IsForeign (cancel true own) = IsFalse own
 IsForeign _ = ⊥
 
--- what a write, a zeroing or a discard gives at a place of its range
+-- The value that a write, a zeroing or a discard may give to a byte of its range.
 abbrev pub Gives : (ℕ → Value) → Call → ℕ → Value → Value → Type 0
 Gives below (write offset bytes) p was is = ToBytes offset bytes p was is
 Gives below (write_zeroes offset n) p was is = ToZero p was is
@@ -61,8 +61,8 @@ Gives below (discard_to_any offset n) p was is = ToAny p was is
 Gives below (discard_to_backing offset n) p was is = ToBelow below p was is
 Gives below call p was is = ⊥
 
--- A refused write, zeroing or discard, for another cause than memory or a storage, leaves each place of the range old or as the call
--- gives it, and every other as it was.
+-- A write, zeroing or discard failed with an error other than `Memory` and `Storage`. Each byte of the range is old or as the call sets it,
+-- and all other bytes are unchanged.
 pub record PartlyDone (below : ℕ → Value) (call : Call) (old new : Disk) : Type 0 where
   pub size : new.size ≡ old.size
   pub value : (p : ℕ) → p < old.size → (new.value p ≡ old.value p) ⊎ Gives below call p (old.value p) (new.value p)

@@ -1,4 +1,4 @@
--- What contracts see of how a storage is created.
+-- The value of `StorageCreateOptions` in contracts: one field for each option.
 use Rattle.std.specs.Prelude.{ℕ, Bool}
 use Rattle.imago_storage.specs.Options.{OpenOptions}
 use Rattle.imago_storage.specs.declared.storage.PreallocateMode.{PreallocateMode}

@@ -7,7 +7,7 @@ use Rattle.imago_storage.specs.declared.padding.WriteFault.TheVariants.{Before, 
 use Rattle.imago_storage.specs.declared.fault.FaultKind.{FaultKind}
 use Rattle.imago_storage.specs.declared.fault.FaultKind.TheVariants as kind
 
--- the number of a fault, which its text names
+-- The number of a fault, which is in its text.
 abbrev pub number_of : Fault → ℕ
 number_of ReadOnly = 1
 number_of PastEnd = 2
@@ -32,7 +32,7 @@ number_of Memory = 20
 number_of Storage = 21
 number_of BadCommand = 22
 
--- the kind of a fault
+-- The kind of a fault.
 abbrev pub kind_of : Fault → FaultKind
 kind_of ReadOnly = kind.Other
 kind_of PastEnd = kind.UnexpectedEof
@@ -57,7 +57,7 @@ kind_of Memory = kind.OutOfMemory
 kind_of Storage = kind.Other
 kind_of BadCommand = kind.InvalidInput
 
--- the fault of a refused write, whether it had begun or not
+-- The fault of a failed write.
 abbrev pub cause_of : WriteFault → Fault
 cause_of (Before fault) = fault
 cause_of (Within fault) = fault

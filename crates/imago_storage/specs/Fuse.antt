@@ -1,31 +1,32 @@
--- What a storage with a fuse is: the inner one, with more faults and refusals.
+-- The state of a `FuseStorage` (the wrapper that fails one request): that of the inner storage, with the wrapper's own faults and refused
+-- changes added.
 use Rattle.std.specs.Prelude.{◌≡◌, ◌≢◌, ℕ, ◌+◌, ◌-◌, ◌^◌, min, IsTrue, Result, IsErrOf}
 use Rattle.imago_storage.specs.State.{StorageState, IsAligned}
 use Rattle.imago_storage.specs.declared.fault.Fault.{Fault}
 use Rattle.imago_storage.specs.declared.fault.Fault.TheVariants.{Storage}
 use Rattle.imago_storage.specs.declared.fuse.FuseStorage.{FuseStorage}
 
--- the storage that calls are passed on to
+-- The inner storage.
 unfoldable pub fuse_inner : {S : Type 0} → FuseStorage S → S
 fuse_inner f = f.inner
 
--- how many calls were counted; it stays at the greatest `u64`
+-- The number of counted calls. It stops at the greatest `u64`.
 unfoldable pub fuse_count : {S : Type 0} → FuseStorage S → ℕ
 fuse_count f = f.count
 
--- the number of the call that fails, counted from 1
+-- The number of the call that fails, counted from 1.
 unfoldable pub fuse_call : {S : Type 0} → FuseStorage S → ℕ
 fuse_call f = f.n
 
--- how many calls the fuse itself has failed
+-- The number of calls that the wrapper itself has failed.
 unfoldable pub fuse_faults : {S : Type 0} → FuseStorage S → ℕ
 fuse_faults f = f.faults
 
--- how many changes the fuse itself has refused
+-- The number of changes that the wrapper itself has refused.
 unfoldable pub fuse_refusals : {S : Type 0} → FuseStorage S → ℕ
 fuse_refusals f = f.refusals
 
--- what contracts see of a storage with a fuse
+-- The state of a `FuseStorage`, from that of the inner storage.
 unfoldable pub fuse_state : {S : Type 0} → (S → StorageState) → FuseStorage S → StorageState
 fuse_state state f = record {
   shape = (state f.inner).shape;
@@ -36,26 +37,26 @@ fuse_state state f = record {
   past_crash_images = (state f.inner).past_crash_images;
 }
 
--- its alignments are the inner one's
+-- The alignments are those of the inner storage.
 pub fuse_aligned : {S : Type 0} (state : S → StorageState) → ((s : S) → IsAligned (state s).shape) → (f : FuseStorage S)
     → IsAligned (fuse_state state f).shape
 unfolding fuse_state
 fuse_aligned state aligned f = aligned f.inner
 
--- it tells its stops where the inner one does
+-- The storage exposes its crash images if the inner storage does.
 pub fuse_tells : {S : Type 0} (state : S → StorageState) → ((s : S) → IsTrue (state s).shape.tells) → (f : FuseStorage S)
     → IsTrue (fuse_state state f).shape.tells
 unfolding fuse_state
 fuse_tells state tells f = tells f.inner
 
--- A counted call: the one whose number is the fuse's fails and passes nothing on. The fuse itself fails and refuses no other.
+-- A counted call. The call with the number `fuse_call` fails, and isn't passed on. The wrapper itself fails and refuses no other call.
 pub record Counted {S T : Type 0} (old new : FuseStorage S) (result : Result T Fault) : Type 0 where
   pub count : fuse_count new ≡ min (fuse_count old + 1) (2 ^ 64 - 1)
   pub call : fuse_call new ≡ fuse_call old
   pub fails : fuse_count old + 1 ≡ fuse_call old → IsErrOf result Storage × (fuse_inner new ≡ fuse_inner old)
   pub passes : fuse_count old + 1 ≢ fuse_call old → (fuse_faults new ≡ fuse_faults old) × (fuse_refusals new ≡ fuse_refusals old)
 
--- a call that isn't counted, and that the fuse itself doesn't fail
+-- A call that isn't counted, and that the wrapper itself doesn't fail.
 pub record Uncounted {S : Type 0} (old new : FuseStorage S) : Type 0 where
   pub count : fuse_count new ≡ fuse_count old
   pub call : fuse_call new ≡ fuse_call old

@@ -1,10 +1,10 @@
--- What a storage that holds nothing is.
+-- The state of a storage that keeps no data.
 use Rattle.std.specs.Prelude.{None, [], false, replicate, ℕ}
 use Rattle.std.proofs.Common.{lit<, lit≤, refl}
 use Rattle.imago_storage.specs.State.{Shape, StorageState, IsAlignment, IsAligned}
 use Rattle.imago_storage.specs.declared.null.Null.{Null}
 
--- the shape of a storage that keeps nothing
+-- The fixed properties of a storage that keeps no data.
 abbrev pub null_shape : Shape
 null_shape = record {
   keeps = false;
@@ -16,7 +16,7 @@ null_shape = record {
   filename = None;
 }
 
--- a state of this length whose bytes are 0
+-- The state with `size` bytes that are all 0.
 abbrev pub zeroes : ℕ → StorageState
 zeroes size = record {
   shape = null_shape;
@@ -27,14 +27,14 @@ zeroes size = record {
   past_crash_images = [];
 }
 
--- what contracts see of a storage that holds nothing
+-- The state of a `Null`.
 unfoldable pub null_state : Null → StorageState
 null_state n = zeroes n.size
 
 pub one_aligned : IsAlignment 1
 one_aligned = record { positive = lit< tt; small = lit≤ tt; divides = refl }
 
--- its alignments are 1
+-- All alignments are 1.
 pub null_aligned : (n : Null) → IsAligned (null_state n).shape
 unfolding null_state
 null_aligned n = record { memory = one_aligned; requests = one_aligned; zeroes = one_aligned; discards = one_aligned }

@@ -1,4 +1,4 @@
--- What contracts see of how a storage is opened.
+-- The value of `StorageOpenOptions` in contracts: one field for each option.
 use Rattle.std.specs.Prelude.{Bool, List, ℕ, Option}
 use Rattle.std.specs.Option.{option_map}
 use Rattle.std.specs.String.{string_bytes}

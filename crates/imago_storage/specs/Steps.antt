@@ -1,14 +1,14 @@
--- What a call that succeeds makes of a disk.
+-- Specifies each successful call on a guest disk: its result, and the bytes of the disk before and after.
 use Rattle.std.specs.Prelude.{◌≡◌, ◌⊎◌, ◌↔◌, ℕ, ◌+◌, ◌-◌, ◌<◌, ◌≤◌, Bool, true, false, Some, None, List, length, slice_index, IsTrue}
 use Rattle.imago_storage.specs.Disk.{Value, byte, barred, Hold, free, held, Disk, IsFree}
 
--- how a growth fills the new places
+-- The contents of the new bytes after a growth.
 pub data Growth : Type 0 where
   anything : Growth
   zeroes : Growth
 
--- The calls of a disk, with offsets and lengths in bytes. A mapping is spent with whether it has state, and if it has, whether it
--- was prepared under this chain's number.
+-- The calls of a disk, with offsets and lengths in bytes. A commit or a cancel says if the prepared mapping has state (something to
+-- commit), and if so, if it was prepared under this chain's number.
 pub data Call : Type 0 where
   read : (offset n : ℕ) → Call
   write : (offset : ℕ) (bytes : List ℕ) → Call
@@ -27,7 +27,8 @@ pub data Call : Type 0 where
   grow : (size : ℕ) (fill : Growth) → Call
   shrink : (size : ℕ) → Call
 
--- What a lookup finds: bytes of a storage, zeroes, a part that can't be read as bytes, the layer below, or the end of the disk.
+-- The result of a lookup: bytes of a storage, zeroes, a part that can't be read as bytes, the layer below (a backing file), or the end of
+-- the disk.
 pub data Kind : Type 0 where
   stored : Kind
   zero_run : Kind
@@ -35,8 +36,7 @@ pub data Kind : Type 0 where
   indirect : Kind
   at_end : Kind
 
--- What a call answers, as far as it speaks of the disk alone: which bytes, how long a run and of which kind, and whether its mapping
--- has state.
+-- The result of a call, as far as it concerns only the disk: the bytes, the length and kind of a run, and if a mapping has state.
 pub data Answer : Type 0 where
   done : Answer
   bytes_read : (bytes : List ℕ) → Answer
@@ -44,21 +44,22 @@ pub data Answer : Type 0 where
   found : (kind : Kind) (n : ℕ) → Answer
   prepared : (n : ℕ) (state : Bool) → Answer
 
--- the place lies in the range
+-- `p` is in the range.
 abbrev pub IsIn : ℕ → ℕ → ℕ → Type 0
 IsIn offset n p = (offset ≤ p) × (p < offset + n)
 
--- the place lies outside of it
+-- `p` is outside the range.
 abbrev pub IsOut : ℕ → ℕ → ℕ → Type 0
 IsOut offset n p = (p < offset) ⊎ (offset + n ≤ p)
 
--- the disk stays
+-- The disk is unchanged.
 pub record Stays (old new : Disk) : Type 0 where
   pub size : new.size ≡ old.size
   pub value : (p : ℕ) → p < old.size → new.value p ≡ old.value p
   pub hold : (p : ℕ) → p < old.size → new.hold p ≡ old.hold p
 
--- The range lies inside, each of its places becomes what Becomes allows, from its place and its old value, and nothing else changes.
+-- The range is inside the disk, and nothing outside it changes. Each byte of it becomes a value that `Becomes` allows for its offset and
+-- old value.
 pub record Changes (Becomes : ℕ → Value → Value → Type 0) (old new : Disk) (offset n : ℕ) : Type 0 where
   pub inside : offset + n ≤ old.size
   pub size : new.size ≡ old.size
@@ -66,11 +67,11 @@ pub record Changes (Becomes : ℕ → Value → Value → Type 0) (old new : Dis
   pub others : (p : ℕ) → p < old.size → IsOut offset n p → new.value p ≡ old.value p
   pub hold : (p : ℕ) → p < old.size → new.hold p ≡ old.hold p
 
--- any byte
+-- The value is any byte.
 abbrev pub IsByte : Value → Type 0
 IsByte v = (b : ℕ) × (b < 256) × (v ≡ byte b)
 
--- what the places of a range may become
+-- The values that a byte of a range may become.
 abbrev pub ToBytes : ℕ → List ℕ → ℕ → Value → Value → Type 0
 ToBytes offset bytes p was is = is ≡ byte (slice_index bytes (p - offset))
 
@@ -83,18 +84,18 @@ ToAny p was is = (is ≡ was) ⊎ IsByte is
 abbrev pub ToBelow : (ℕ → Value) → ℕ → Value → Value → Type 0
 ToBelow below p was is = (is ≡ was) ⊎ (is ≡ below p)
 
--- the buffer holds the range's places below the size, which are bytes, and then 0
+-- The buffer has the bytes of the range below the size, and 0 past the size.
 pub record HoldsRange (disk : Disk) (offset : ℕ) (buffer : List ℕ) : Type 0 where
   pub below : (i : ℕ) → i < length buffer → offset + i < disk.size → disk.value (offset + i) ≡ byte (slice_index buffer i)
-  pub past_crash_images : (i : ℕ) → i < length buffer → disk.size ≤ offset + i → slice_index buffer i ≡ 0
+  pub past_size : (i : ℕ) → i < length buffer → disk.size ≤ offset + i → slice_index buffer i ≡ 0
 
--- values stay
+-- All values are unchanged.
 pub record SameValues (old new : Disk) : Type 0 where
   pub size : new.size ≡ old.size
   pub value : (p : ℕ) → p < old.size → new.value p ≡ old.value p
 
--- A run of 1 byte to the length asked, from the offset on, is prepared: values stay, and some of its places become held, with no
--- byte written yet; none exactly if the mapping has no state.
+-- A run of `n` bytes from `offset` on is prepared, where `n` is at least 1 and at most `asked`. Values are unchanged. Some bytes of the run
+-- become held (they only change at the commit), with nothing written yet. If the mapping has no state, none is held.
 pub record Prepares (old new : Disk) (offset asked : ℕ) (overwrite : Bool) (n : ℕ) (state : Bool) : Type 0 where
   pub was_free : IsFree old
   pub values : SameValues old new
@@ -105,8 +106,8 @@ pub record Prepares (old new : Disk) (offset asked : ℕ) (overwrite : Bool) (n 
   pub stateless : state ≡ false → IsFree new
   pub stateful : state ≡ true → (p : ℕ) × IsIn offset n p × (new.hold p ≡ held None overwrite)
 
--- What becomes of a place when its mapping is committed: the byte written to it, else its old value or, where that was announced,
--- any byte.
+-- The value of a byte after its mapping is committed: the byte written to it, or else its old value. If a write was announced and none was
+-- made, it may be any byte.
 abbrev pub CommitsValue : Hold → Value → Value → Type 0
 CommitsValue free was is = is ≡ was
 CommitsValue (held (Some b) announced) was is = is ≡ byte b
@@ -122,7 +123,8 @@ pub record Cancels (old new : Disk) : Type 0 where
   pub values : SameValues old new
   pub is_free : IsFree new
 
--- a prepared mapping is written: a held place notes its byte, another takes it
+-- A byte is written through a prepared mapping. If the byte is held, the value is noted for the commit. Otherwise the byte becomes the
+-- value.
 abbrev pub TakesByte : ℕ → Hold → Value → Hold → Value → Type 0
 TakesByte b free was hold is = (is ≡ byte b) × (hold ≡ free)
 TakesByte b (held written announced) was hold is = (is ≡ was) × (hold ≡ held (Some b) announced)
@@ -134,7 +136,7 @@ pub record WritesMapped (old new : Disk) (offset : ℕ) (bytes : List ℕ) : Typ
       (new.hold (offset + i)) (new.value (offset + i))
   pub others : (p : ℕ) → p < old.size → IsOut offset (length bytes) p → (new.value p ≡ old.value p) × (new.hold p ≡ old.hold p)
 
--- the old values stay; new places are 0, or anything
+-- The value of a new byte: 0, or anything.
 abbrev pub IsFilled : Growth → Value → Type 0
 IsFilled anything v = Unit {0}
 IsFilled zeroes v = v ≡ byte 0
@@ -150,11 +152,11 @@ pub record Shrinks (old new : Disk) (size : ℕ) : Type 0 where
   pub prefix_unchanged : (p : ℕ) → p < size → new.value p ≡ old.value p
   pub is_free : IsFree new
 
--- P where the call has nothing to do, and else Q
+-- `P` if the call has nothing to do, and `Q` otherwise.
 abbrev pub Unless : Type 0 → Type 0 → Type 0 → Type 0
 Unless Idle P Q = (Idle × P) ⊎ ((Idle → ⊥) × Q)
 
--- what a kind says of a place of its run
+-- The value of a byte in a run of this kind.
 abbrev pub IsOfKind : (ℕ → Value) → Kind → ℕ → Value → Type 0
 IsOfKind below stored p v = (b : ℕ) × (v ≡ byte b)
 IsOfKind below zero_run p v = v ≡ byte 0
@@ -162,7 +164,7 @@ IsOfKind below special p v = v ≡ barred
 IsOfKind below indirect p v = v ≡ below p
 IsOfKind below at_end p v = ⊥
 
--- The run that a lookup answers: of no length at or past the size, and else at least 1 byte of one kind.
+-- The run that a lookup returns. It is empty at or past the size. Otherwise it has at least 1 byte, and all bytes have one kind.
 pub record IsRun (below : ℕ → Value) (disk : Disk) (offset asked : ℕ) (kind : Kind) (n : ℕ) : Type 0 where
   pub most : n ≤ asked
   pub end : (kind ≡ at_end) ↔ (disk.size ≤ offset)
@@ -171,8 +173,8 @@ pub record IsRun (below : ℕ → Value) (disk : Disk) (offset asked : ℕ) (kin
   pub inside : offset < disk.size → offset + n ≤ disk.size
   pub range : (p : ℕ) → IsIn offset n p → IsOfKind below kind p (disk.value p)
 
--- Calls of length 0 leave the disk as it is, and so do those that only look. Which places of storages a
--- lookup or a prepared run names is told by the layers of a chain.
+-- The effect of each call. Calls of length 0 and calls that only read leave the disk unchanged. The storage locations of a lookup or a
+-- prepared run are specified with the layers of a chain.
 abbrev pub Step : (ℕ → Value) → Disk → Call → Answer → Disk → Type 0
 Step below old (read offset n) (bytes_read buffer) new = (length buffer ≡ n) × HoldsRange old offset buffer × Stays old new
 Step below old (write offset bytes) done new = Unless (length bytes ≡ 0) (Stays old new)

@@ -1,5 +1,5 @@
-// Discards of any range, as far as it is whole units. A unit is the request alignment
-// in qemu, or the alignment of discards where that is larger.
+// Discards of any range of a storage. Only the aligned units that the range covers completely are discarded. Here a unit is the larger of
+// the storage's unit of requests and `discard_align`.
 ghost use Rattle.std.specs.Prelude.{◌≡◌, ℕ, ◌-◌, max, IsOk, OnOk, IfErr, IsErrOf};
 ghost use Rattle.imago_storage.specs.State.{unit_of, IsAlignment};
 ghost use Rattle.imago_storage.specs.Through.{Overflows, GivenUp, NotGivenUp};
@@ -7,7 +7,14 @@ ghost use Rattle.imago_storage.specs.Through.{Overflows, GivenUp, NotGivenUp};
 use crate::ext::{larger_alignment, padded_end, unit_size, whole_part};
 use crate::{Fault, Storage};
 
-/// Gives up what is whole units of a range, by one request. A storage that can't has given up nothing.
+/// Discards the units that a range covers completely, in one request. If the storage doesn't support discards, nothing changes and the call
+/// succeeds.
+///
+/// # Errors
+///
+/// - `Fault::RangeOverflow` exactly if the range isn't empty, and its end, rounded up to the unit of requests, doesn't fit 64 bits. Nothing
+///   changes.
+/// - `Fault::Memory`, `Fault::Storage`. Bytes of the covered units may be discarded, and no others.
 pub fn discard_whole<S: Storage>(storage: &mut S, offset: u64, n: u64) -> Result<(), Fault>
     ensures ok { OnOk result (GivenUp (S.state storage.old) (S.state storage.new) offset n) }
     ensures err { IfErr result (NotGivenUp (S.state storage.old) (S.state storage.new) offset n) }

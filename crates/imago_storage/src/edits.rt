@@ -1,10 +1,10 @@
-// Edits of bytes, by ranges.
+// Helpers of this crate that copy, zero or extend a range of bytes in memory.
 ghost use Rattle.std.specs.Prelude.{◌≡◌, ℕ, ◌+◌, ◌<◌, ◌≤◌, ◌^◌, length, slice_index, replicate, max, EachIndex, OnOk, OnErr};
 ghost use Rattle.imago_storage.specs.Calls.{Reads, Spliced, SameOutside};
 
 use std::alloc::AllocError;
 
-// How many bytes there are.
+// Returns the number of bytes.
 pub(crate) fn byte_count(bytes: &[u8]) -> u64
     ensures value { result ≡ length bytes.now }
     ensures bytes { EachIndex bytes.now (λ k. slice_index bytes.now k < 256) }
@@ -12,7 +12,7 @@ pub(crate) fn byte_count(bytes: &[u8]) -> u64
     bytes.len() as u64
 }
 
-// Writes over what is there.
+// Copies `data` over the bytes from `at` on.
 pub(crate) fn copy_in(bytes: &mut [u8], at: usize, data: &[u8])
     requires { at + length «data».now ≤ length bytes.old }
     ensures { Spliced bytes.old at «data».now bytes.new }
@@ -20,7 +20,7 @@ pub(crate) fn copy_in(bytes: &mut [u8], at: usize, data: &[u8])
     bytes[at..at + data.len()].copy_from_slice(data);
 }
 
-// Writes zeroes over what is there.
+// Writes zeroes over `n` bytes from `at` on.
 pub(crate) fn zero_in(bytes: &mut [u8], at: usize, n: usize)
     requires { at + n ≤ length bytes.old }
     ensures { Spliced bytes.old at (replicate n 0) bytes.new }
@@ -28,7 +28,7 @@ pub(crate) fn zero_in(bytes: &mut [u8], at: usize, n: usize)
     bytes[at..at + n].fill(0);
 }
 
-// The same, in a growing list.
+// Writes zeroes over `n` bytes of a vector, from `at` on.
 fn zero_part(bytes: &mut Vec<u8>, at: usize, n: usize)
     requires { at + n ≤ length bytes.old.items }
     ensures spliced { Spliced bytes.old.items at (replicate n 0) bytes.new.items }
@@ -37,7 +37,7 @@ fn zero_part(bytes: &mut Vec<u8>, at: usize, n: usize)
     zero_in(bytes, at, n);
 }
 
-// Makes the bytes at least this long.
+// Extends the vector with zeroes to at least `n` bytes.
 fn lengthen(bytes: &mut Vec<u8>, n: usize) -> Result<(), AllocError>
     ensures same { OnOk result ((k : ℕ) → slice_index bytes.new.items k ≡ slice_index bytes.old.items k) }
     ensures len { OnOk result (length bytes.new.items ≡ max (length bytes.old.items) n) }
@@ -49,13 +49,13 @@ fn lengthen(bytes: &mut Vec<u8>, n: usize) -> Result<(), AllocError>
     Ok(())
 }
 
-// Writes over what is there, and past the end.
+// Writes `data` at `at`, and extends the vector if the range ends past its end.
 pub(crate) fn splice(bytes: &mut Vec<u8>, at: usize, data: &[u8]) -> Result<(), AllocError>
     ensures ok { OnOk result (Spliced bytes.old.items at «data».now bytes.new.items) }
     ensures len { OnOk result (length bytes.new.items ≡ max (length bytes.old.items) (at + length «data».now)) }
     ensures err { OnErr result (bytes.new.items ≡ bytes.old.items) }
 {
-    // At the end nothing is blanked first.
+    // At the end, extending with zeroes first isn't necessary.
     if at == bytes.len() {
         return bytes.extend_from_slice(data);
     }
@@ -65,7 +65,7 @@ pub(crate) fn splice(bytes: &mut Vec<u8>, at: usize, data: &[u8]) -> Result<(), 
     Ok(())
 }
 
-// Writes zeroes over what is there, and past the end.
+// Writes `n` zeroes at `at`, and extends the vector if the range ends past its end.
 pub(crate) fn splice_zeroes(bytes: &mut Vec<u8>, at: usize, n: usize) -> Result<(), AllocError>
     ensures ok { OnOk result (Spliced bytes.old.items at (replicate n 0) bytes.new.items) }
     ensures len { OnOk result (length bytes.new.items ≡ max (length bytes.old.items) (at + n)) }
@@ -77,7 +77,7 @@ pub(crate) fn splice_zeroes(bytes: &mut Vec<u8>, at: usize, n: usize) -> Result<
     Ok(())
 }
 
-// Zeroes the part of the range that is there.
+// Zeroes the part of the range that is inside the vector.
 pub(crate) fn clear(bytes: &mut Vec<u8>, at: usize, n: usize)
     requires { at + n < 2 ^ 64 }
     ensures outside { SameOutside bytes.old.items at n bytes.new.items }
@@ -90,7 +90,7 @@ pub(crate) fn clear(bytes: &mut Vec<u8>, at: usize, n: usize)
     }
 }
 
-// Reads the range. Past the end it reads zeroes.
+// Fills `buf` with the bytes from `at` on. Bytes past the end read as 0.
 pub(crate) fn copy_out(bytes: &[u8], at: usize, buf: &mut [u8])
     requires { at + length buf.old < 2 ^ 64 }
     ensures { Reads bytes.now at buf.new }
@@ -102,7 +102,7 @@ pub(crate) fn copy_out(bytes: &[u8], at: usize, buf: &mut [u8])
     zero_in(buf, there, buf.len() - there);
 }
 
-// Fills the buffer with the bytes from a place on.
+// Fills the buffer with the bytes from `at` on.
 pub(crate) fn take_part(bytes: &[u8], at: usize, buf: &mut [u8])
     requires { at + length buf.old ≤ length bytes.now }
     ensures { Reads bytes.now at buf.new }

@@ -1,4 +1,5 @@
-// Calls on any range, padded to whole units. A unit is the request alignment in qemu.
+// The `StorageExt` trait: reads, writes, zeroing and discards of any range of a storage, aligned or not. Ranges are padded to whole units
+// of requests. Definitions: specs/Through.antt.
 ghost use Rattle.std.specs.Prelude.{◌≡◌, ℕ, ◌+◌, ◌-◌, ◌%◌, ◌<◌, ◌≤◌, ◌^◌, max, ◌++◌, length, slice_index, replicate, IsOk, OnOk, OnErr, IfErr, IsErrOf, IsTrue};
 ghost use Rattle.std.specs.Option.{SomeIff};
 ghost use Rattle.imago_storage.specs.State.{unit_of, IsAlignment, IsUnitRange};
@@ -12,10 +13,14 @@ use crate::zeroing::{Zeroing, zero_padded};
 use crate::{Fault, Storage};
 use std::alloc::Global;
 
-/// The end of a range of `n` bytes at an offset in bytes, rounded up to a multiple of `unit` bytes, which is above 0; or none
-/// where that passes the greatest `u64`.
+/// Returns the end of a range of `n` bytes at `offset`, rounded up to a multiple of `unit` bytes. Returns `None` if the rounded end doesn't
+/// fit `u64`.
 ///
-/// Calls on ranges that aren't empty are refused with `Fault::RangeOverflow` exactly where there is none.
+/// A `StorageExt` call on a nonempty range fails with `Fault::RangeOverflow` exactly if the result for its storage's unit is `None`.
+///
+/// # Preconditions
+///
+/// `unit` is above 0.
 #[tactic(auto, using(crate::proofs::Rounding::round_up_whole, crate::proofs::Rounding::round_up_part))]
 pub fn padded_end(offset: u64, n: u64, unit: u64) -> Option<u64>
     requires { 0 < unit }
@@ -30,7 +35,7 @@ pub fn padded_end(offset: u64, n: u64, unit: u64) -> Option<u64>
     }
 }
 
-// Of a range, the part that is whole units of an alignment, if there is one: where it begins, and its end.
+// Returns the start and the end of the whole aligned units inside the range, if it has any.
 pub fn whole_part(offset: u64, n: u64, align: u64) -> Option<(u64, u64)>
     requires positive { 0 < align }
     requires fits { offset + n < 2 ^ 64 }
@@ -45,7 +50,7 @@ pub fn whole_part(offset: u64, n: u64, align: u64) -> Option<(u64, u64)>
     }
 }
 
-// The unit of a storage's requests, in bytes.
+// Returns the unit of a storage's requests, in bytes.
 pub fn unit_size<S: Storage>(storage: &S) -> usize
     ensures unit { result ≡ unit_of (S.state storage.now).shape }
     ensures alignment { IsAlignment result }
@@ -82,7 +87,7 @@ fn write_padded<S: Storage>(
     write_around(storage, alloc, unit, data, offset)
 }
 
-// Reads whole units into the first buffer, and of these the range into the second.
+// Reads whole units into `padded`, and copies the range from there to `buf`.
 fn read_around<S: Storage>(
     storage: &mut S,
     padded: &mut [u8],
@@ -134,7 +139,7 @@ fn read_padded<S: Storage>(
     read_around(storage, &mut padded, buf, offset, within)
 }
 
-/// The larger of two alignments, in bytes, which is a multiple of both: what is aligned to it is aligned to each.
+/// Returns the larger of two alignments, in bytes. It is a multiple of both.
 pub fn larger_alignment(a: usize, b: usize) -> usize
     requires first { IsAlignment a }
     requires second { IsAlignment b }
@@ -148,19 +153,28 @@ pub fn larger_alignment(a: usize, b: usize) -> usize
 
 /// Reads, writes, zeroing and discards of any range of bytes, for every storage.
 ///
-/// A range is padded to whole units of the storage, where the unit is the larger of `req_align` and `mem_align`. Buffers
-/// that this takes are taken before anything is asked of the storage, and what is read for it is read before anything changes.
-/// So a write or a zeroing that is refused where the storage refused no change has changed nothing.
+/// A range is padded to whole units of the storage. The unit is the larger of `req_align` and `mem_align`. Each call allocates its buffers
+/// before its first request, and reads the padding before it changes anything. So if a write or a zeroing fails and the storage refused no
+/// change (no request to write, zero or discard failed), nothing has changed.
 ///
-/// An empty range is never refused, and makes no request. Each file that a stop in a write, a zeroing or a discard leaves is at least as
-/// long as the file was.
+/// An empty range never fails, and makes no request.
+///
+/// # Crash safety
+///
+/// Each crash image (the file after a crash between two requests) of a write, a zeroing or a discard is at least as long as the file was.
 pub trait StorageExt: Storage {
-    /// Fills the buffer with the bytes from the offset on. Past the end it reads zeroes. A range of whole units takes no
-    /// buffer of its own; an empty one asks nothing of the storage.
+    /// Fills the buffer with the bytes from `offset` on. Bytes past the end read as 0.
     ///
-    /// It refuses with `Fault::RangeOverflow` where the range's end, rounded up to the unit, passes `u64`, before it asks
-    /// anything of the storage; else with `Fault::Memory` and `Fault::Storage`. A refusal leaves the storage as it was,
-    /// and the buffer open.
+    /// A range of whole units needs no extra buffer. An empty range makes no request.
+    ///
+    /// # Errors
+    ///
+    /// - `Fault::RangeOverflow` if the range's end, rounded up to the unit, doesn't fit `u64`. No request is made.
+    /// - `Fault::Memory`, `Fault::Storage`.
+    ///
+    /// # On error
+    ///
+    /// The storage is unchanged except for its fault count. The contents of the buffer are unspecified.
     fn read(&mut self, alloc: Global, buf: &mut [u8], offset: u64) -> Result<(), Fault>
         ensures ok { OnOk result (Reads (Self.state self.old).bytes offset buf.new) }
         ensures unchanged_but_faults { UnchangedButFaults (Self.state self.old) (Self.state self.new) }
@@ -168,42 +182,52 @@ pub trait StorageExt: Storage {
         ensures err { IfErr result (NotRead (Self.state self.old) (Self.state self.new) offset (length buf.old)) }
         ensures overflow { Overflows (unit_of (Self.state self.old).shape) offset (length buf.old) → IsErrOf result Fault.RangeOverflow }
         ensures counts_not_fallen { CountsNotFallen (Self.state self.old) (Self.state self.new) }
-        // An empty range is never refused, and nothing is asked of the storage.
+        // An empty range never fails, and makes no request.
         ensures empty { length buf.old ≡ 0 → IsOk result × (Self.state self.new ≡ Self.state self.old) }
-        // What is known of each storage: so a range below 2^63, say, never overflows.
+        // This bounds the unit. So a range below 2^63, for example, never overflows.
         ensures unit { IsAlignment (unit_of (Self.state self.old).shape) };
 
-    /// Writes the bytes at the offset, padded to whole units by what is there, and by zeroes past the old end. So the
-    /// length reaches the range's end, rounded up to the unit; an empty range changes nothing.
+    /// Writes `data` at `offset`, padded to whole units with the current bytes, and with zeroes past the old end.
     ///
-    /// A range of whole units is one request, and so is one in a single unit, which is read before. Any other is up to
-    /// three requests, rising: its first unit, whole units, and its last unit; the first and the last are read before.
+    /// The length becomes at least the range's end, rounded up to the unit. An empty range changes nothing. A range of whole units is one
+    /// request. A range inside a single unit is one request too, and that unit is read first. Any other range is up to three requests in
+    /// rising order: its first unit, whole units, and its last unit. The first and the last unit are read first.
     ///
-    /// It refuses with `Fault::RangeOverflow` where the range's end, rounded up to the unit, passes `u64`, before it
-    /// changes anything; else with `Fault::Memory` and `Fault::Storage`, which leave each byte of the range old or new,
-    /// and none changed outside, and all as it was where the storage refused no change.
+    /// # Errors
+    ///
+    /// - `Fault::RangeOverflow` if the range's end, rounded up to the unit, doesn't fit `u64`. Nothing changes.
+    /// - `Fault::Memory`, `Fault::Storage`.
+    ///
+    /// # On error
+    ///
+    /// Each byte of the range is old or new, and no byte outside the range changes. If the storage refused no request for a change, nothing
+    /// changes except the fault count.
     fn write(&mut self, alloc: Global, data: &[u8], offset: u64) -> Result<(), Fault>
         ensures ok { OnOk result (WriteSucceeded (Self.state self.old) (Self.state self.new) offset «data».now) }
         ensures err { IfErr result (WriteFailed (Self.state self.old) (Self.state self.new) offset «data».now) }
         ensures overflow { Overflows (unit_of (Self.state self.old).shape) offset (length «data».now) → IsErrOf result Fault.RangeOverflow }
         ensures shape { (Self.state self.new).shape ≡ (Self.state self.old).shape }
         ensures counts_not_fallen { CountsNotFallen (Self.state self.old) (Self.state self.new) }
-        // Whatever the answer: each file that a stop inside the call leaves has old or new bytes in the range,
-        // and outside what was there, and it is no shorter.
+        // In every case: each crash image of the call has old or new bytes in the range and old bytes outside. It is no shorter than the
+        // file was.
         ensures crash_images { EachCrashImage (OldOrNewBytes (Self.state self.old).bytes offset «data».now) (Self.state self.old) (Self.state self.new) }
         ensures as_long { CrashImagesNoShorter (Self.state self.old) (Self.state self.new) }
-        // A range of whole units, or one in a single unit, is one request.
+        // A range of whole units, or one inside a single unit, is one request.
         ensures single_request { WritesInOneRequest (Self.state self.old) (Self.state self.new) offset (length «data».now) result }
-        // An empty range is never refused, and nothing is asked of the storage.
+        // An empty range never fails, and makes no request.
         ensures empty { length «data».now ≡ 0 → IsOk result × (Self.state self.new ≡ Self.state self.old) }
-        // What is known of each storage: so the range of a power of two bytes at a multiple of it is one request.
+        // This bounds the unit. So a range of a power of two bytes, at a multiple of that power, is one request.
         ensures unit { IsAlignment (unit_of (Self.state self.old).shape) };
 
-    /// The same as `write`, and where it is refused it tells whether it had begun: `WriteFault::Before` where it had asked for
-    /// no change, as for want of a buffer or of what is read before, and `WriteFault::Within` where the storage refused one.
+    /// Like `write`, but the error says whether the write had begun.
+    ///
+    /// # Errors
+    ///
+    /// - `WriteFault::Before` if no change was requested, for example because memory for a buffer ran out, or reading the padding failed.
+    /// - `WriteFault::Within` if the storage refused a request for a change.
     fn try_write(&mut self, alloc: Global, data: &[u8], offset: u64) -> Result<(), WriteFault>
         ensures ok { OnOk result (WriteSucceeded (Self.state self.old) (Self.state self.new) offset «data».now) }
-        // Before it had begun only the count of faults may have risen.
+        // Before the write has begun, only the fault count may have risen.
         ensures err { IfErr result (WriteRefused (Self.state self.old) (Self.state self.new) offset «data».now) }
         ensures overflow { Overflows (unit_of (Self.state self.old).shape) offset (length «data».now)
             → IsErrOf result (WriteFault.Before Fault.RangeOverflow) }
@@ -215,13 +239,16 @@ pub trait StorageExt: Storage {
         ensures empty { length «data».now ≡ 0 → IsOk result × (Self.state self.new ≡ Self.state self.old) }
         ensures unit { IsAlignment (unit_of (Self.state self.old).shape) };
 
-    /// Zeroes the range, padded to whole units by what is there, and by zeroes past the old end; the storage may give up what it
-    /// has allocated there. The length reaches the range's end, rounded up to the unit; an empty range changes nothing.
+    /// Zeroes the range, padded to whole units with the current bytes, and with zeroes past the old end. The storage may deallocate the
+    /// range.
     ///
-    /// What is whole units of the larger of the unit and `zero_align` is one `pure_write_zeroes`, or is written where the
-    /// storage doesn't have that call. The rest is written, as `write_full_zeroes` does.
+    /// The length becomes at least the range's end, rounded up to the unit. An empty range changes nothing. Whole units of the larger of
+    /// the unit and `zero_align` are zeroed by one `pure_write_zeroes`, or written if the storage doesn't support that call. The rest is
+    /// written as by `write_full_zeroes`.
     ///
-    /// It is refused as `write` is, and leaves then what `write` leaves.
+    /// # Errors
+    ///
+    /// The errors are those of `write`. On error each byte of the range is old or 0, and no byte outside the range changes.
     fn write_zeroes(&mut self, alloc: Global, offset: u64, length: u64) -> Result<(), Fault>
         ensures ok { OnOk result (WriteSucceeded (Self.state self.old) (Self.state self.new) offset (replicate length 0)) }
         ensures err { IfErr result (WriteFailed (Self.state self.old) (Self.state self.new) offset (replicate length 0)) }
@@ -233,11 +260,15 @@ pub trait StorageExt: Storage {
         ensures empty { length ≡ 0 → IsOk result × (Self.state self.new ≡ Self.state self.old) }
         ensures unit { IsAlignment (unit_of (Self.state self.old).shape) };
 
-    /// The same, but the range stays allocated: its whole units are one `pure_write_allocated_zeroes`. So a range of whole units
-    /// of the larger of the unit and `zero_align` is one request.
+    /// Like `write_zeroes`, but the range stays allocated: its whole units are zeroed by one `pure_write_allocated_zeroes`.
     ///
-    /// It refuses with `Fault::Unsupported` where the storage doesn't have that call and the range has such units: then nothing
-    /// has changed. Else it is refused as `write` is, and leaves then what `write` leaves.
+    /// A range of whole units of the larger of the unit and `zero_align` is one request.
+    ///
+    /// # Errors
+    ///
+    /// - `Fault::Unsupported` if the range has whole units to zero and the storage doesn't support `pure_write_allocated_zeroes`. Nothing
+    ///   changes.
+    /// - The errors of `write`. Each byte of the range is then old or 0, and no byte outside the range changes.
     fn write_allocated_zeroes(
         &mut self,
         alloc: Global,
@@ -251,24 +282,28 @@ pub trait StorageExt: Storage {
         ensures counts_not_fallen { CountsNotFallen (Self.state self.old) (Self.state self.new) }
         ensures crash_images { EachCrashImage (OldOrNewBytes (Self.state self.old).bytes offset (replicate length 0)) (Self.state self.old) (Self.state self.new) }
         ensures as_long { CrashImagesNoShorter (Self.state self.old) (Self.state self.new) }
-        // A range of whole units of the alignment of zeroing is one request.
+        // A range of whole units of the larger of the unit and `zero_align` is one request.
         ensures single_request { ZeroesInOneRequest (Self.state self.old) (Self.state self.new) offset length result }
         ensures empty { length ≡ 0 → IsOk result × (Self.state self.new ≡ Self.state self.old) }
         ensures unit { IsAlignment (unit_of (Self.state self.old).shape) };
 
-    /// Gives up what of the range is whole units of the larger of the unit and `discard_align`, by one request: its bytes are open
-    /// then. The edges of the range are left alone, and the length is kept. Where the storage doesn't have that call, or the
-    /// range has no such units, it succeeds and changes nothing.
+    /// Discards the whole units of the range, in one request. Their bytes are unspecified afterwards.
     ///
-    /// It refuses with `Fault::RangeOverflow` where the range's end, rounded up to the unit, passes `u64`, before it changes
-    /// anything; else with `Fault::Memory` and `Fault::Storage`, after which the bytes of these units are open, too.
+    /// Here a unit is the larger of the storage's unit and `discard_align`. Bytes of the range outside whole units don't change, and the
+    /// length doesn't change. If the storage doesn't support discards, or the range has no whole unit, the call succeeds and changes
+    /// nothing.
+    ///
+    /// # Errors
+    ///
+    /// - `Fault::RangeOverflow` if the range's end, rounded up to the unit of requests, doesn't fit `u64`. Nothing changes.
+    /// - `Fault::Memory`, `Fault::Storage`. The bytes of the whole units are unspecified.
     fn discard(&mut self, offset: u64, length: u64) -> Result<(), Fault>
         ensures ok { OnOk result (GivenUp (Self.state self.old) (Self.state self.new) offset length) }
         ensures err { IfErr result (NotGivenUp (Self.state self.old) (Self.state self.new) offset length) }
         ensures overflow { Overflows (unit_of (Self.state self.old).shape) offset length → IsErrOf result Fault.RangeOverflow }
         ensures shape { (Self.state self.new).shape ≡ (Self.state self.old).shape }
         ensures counts_not_fallen { CountsNotFallen (Self.state self.old) (Self.state self.new) }
-        // Each file that a stop inside the call leaves is the old one but for these units.
+        // Each crash image of the call equals the old file outside the discarded units.
         ensures crash_images { CrashImagesOfDiscard (Self.state self.old) (Self.state self.new) offset length }
         ensures as_long { CrashImagesNoShorter (Self.state self.old) (Self.state self.new) }
         ensures empty { length ≡ 0 → IsOk result × (Self.state self.new ≡ Self.state self.old) }

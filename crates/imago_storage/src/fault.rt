@@ -1,4 +1,4 @@
-// What a call is refused with: in qemu a negative error number, in imago an `io::Error`.
+// The error type of every call of the library, with its numbers and kinds.
 ghost use Rattle.std.specs.Prelude.{◌≡◌};
 ghost use Rattle.imago_storage.specs.Fault.{number_of, kind_of};
 ghost use Rattle.imago_storage.specs.declared.fault.Fault.TheVariants.{Memory};
@@ -7,74 +7,74 @@ use std::alloc::{AllocError, AllocFailed};
 use std::error::Error;
 use std::fmt;
 
-/// Why a call was refused. It is displayed as `error N`, where N is its number.
+/// The reason why a call failed. It is displayed as `error N`, where N is its number.
 #[derive(Clone, Copy, Debug, PartialEq, Eq)]
 pub enum Fault {
-    /// A changing call on an image that was opened without writing.
+    /// A changing call on an image that was opened read-only.
     ReadOnly,
-    /// The range of a changing call passes the disk's size.
+    /// The range of a changing call ends past the disk's size.
     PastEnd,
-    /// The end of a range, or that end rounded up to the alignment, passes `u64`.
+    /// The end of a range doesn't fit `u64`, before or after it is rounded up to the alignment.
     RangeOverflow,
-    /// A header that breaks the format.
+    /// The header violates the format.
     DamagedHeader,
-    /// A table that breaks the format, or a freed cluster without counters.
+    /// A table violates the format, or a cluster to free has no refcount block.
     DamagedTable,
-    /// A descriptor that breaks the format.
+    /// The descriptor violates the format.
     DamagedDescriptor,
-    /// A feature, format or preallocation that isn't carried.
+    /// A feature, format or preallocation mode that isn't supported.
     Unsupported,
-    /// A compressed or inaccessible place would have to be read.
+    /// A read touches a compressed or inaccessible range.
     Barred,
-    /// A write to a mapping whose guest range isn't mapped there, writable, any more.
+    /// A write to a storage location where the guest range isn't mapped for writing, or isn't any longer.
     Outdated,
-    /// A mapping that another image prepared.
+    /// A prepared mapping (a run that is written before it is committed) of another image.
     Foreign,
-    /// Format version 2 where version 3 is needed.
+    /// A version 2 image, where the call needs version 3.
     VersionLimit,
-    /// A stated limit, with the size, offset, index or count that passed it.
+    /// A documented limit was exceeded. The value is the size, offset, index or count that exceeds it.
     Limit(u64),
-    /// An empty chain, or a named backing file that wasn't handed in.
+    /// The chain (an image and its backing files) is empty, or a backing file that an image names wasn't supplied.
     MissingBelow,
-    /// A file below one that takes none.
+    /// A file was supplied below an image that has no backing file.
     ExtraLayer,
-    /// An extent or data file that is needed and wasn't handed in.
+    /// An extent or data file that the image needs wasn't supplied.
     MissingData,
     /// Every entry of a cache is pinned.
     CacheFull,
-    /// A counter would pass its width or fall below 0.
+    /// A refcount would exceed its width or fall below 0.
     Counter,
-    /// A builder's value that can't be, unequal sizes, or a read that is too long.
+    /// An invalid builder option, unequal sizes, or a read that is too long.
     BadArgument,
-    /// An earlier fault: the image has to be opened again.
+    /// An earlier call failed: the image must be opened again.
     Failed,
-    /// Want of memory: a growth was refused.
+    /// Memory ran out.
     Memory,
-    /// A storage failed, and has counted it.
+    /// A request failed in a storage, which has counted a fault.
     Storage,
-    /// A script line that is no command.
+    /// A script line that isn't a command.
     BadCommand,
 }
 
-/// The kinds of faults, named as those of errors of input and output.
+/// The kinds of faults. Their names are those of I/O error kinds.
 #[derive(Clone, Copy, Debug, PartialEq, Eq)]
 pub enum FaultKind {
-    /// A range passes an end.
+    /// A range ends past the end.
     UnexpectedEof,
-    /// An argument can't be taken.
+    /// An argument isn't valid.
     InvalidInput,
-    /// A file or table breaks its format.
+    /// A file or table violates its format.
     InvalidData,
-    /// What was asked for isn't carried.
+    /// The request isn't supported.
     Unsupported,
-    /// Want of memory.
+    /// Memory ran out.
     OutOfMemory,
     /// Any other cause.
     Other,
 }
 
 impl Fault {
-    /// The fault's number, from 1 to 22.
+    /// Returns the fault's number, from 1 to 22.
     pub fn number(&self) -> u8
         ensures { result ≡ number_of self.now }
     {
@@ -104,7 +104,7 @@ impl Fault {
         }
     }
 
-    /// The fault's kind.
+    /// Returns the fault's kind.
     pub fn kind(&self) -> FaultKind
         ensures { result ≡ kind_of self.now }
     {

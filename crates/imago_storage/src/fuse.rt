@@ -1,4 +1,4 @@
-// A storage that fails once: in qemu `blkdebug` injects such errors. imago has none.
+// A wrapper that fails one request of a storage, for tests of error handling. Definitions: specs/Fuse.antt.
 ghost use Rattle.std.specs.Prelude.{◌≡◌, ◌≢◌, ◌+◌, ◌^◌, ◌-◌, min, length, replicate, OnOk, IfErr, MatchBool};
 ghost use Rattle.imago_storage.specs.State.{HasRisen, IsUnitRange, unit_of};
 ghost use Rattle.imago_storage.specs.Calls.{CountsFaults, DiscardRefused, Discarded, UnchangedButFaults, CountsNotFallen, NotWritten, Reads, RequestsOne, ResizeRefused, Resized, Written, ZeroingRefused};
@@ -6,10 +6,10 @@ ghost use Rattle.imago_storage.specs.Calls.{CountsFaults, DiscardRefused, Discar
 use crate::{Fault, PreallocateMode, StopStorage, Storage};
 use std::alloc::Global;
 
-/// A storage that passes calls on to another, but for one call that fails: for tests of what a fault leaves.
+/// A storage that passes calls to another storage, except one call that fails. It lets tests look at the state after an error.
 ///
-/// Pure calls, `resize`, `flush` and `sync` are counted, whatever they answer; `invalidate_cache` isn't. The call whose number
-/// was given to `new` answers `Fault::Storage` and passes nothing on; this happens once.
+/// The `pure_` calls, `resize`, `flush` and `sync` are counted, whether they succeed or fail. `invalidate_cache` isn't. The call with the
+/// number that was given to `new` returns `Fault::Storage`, and isn't passed on. This happens once.
 #[derive(Drop)]
 pub struct FuseStorage<S> {
     inner: S,
@@ -23,7 +23,7 @@ pub struct FuseStorage<S> {
 impl<S: Storage> FuseStorage<S> {
     ghost use Rattle.imago_storage.specs.Fuse.{fuse_state, fuse_count, fuse_call, fuse_inner};
 
-    /// A storage over `inner` whose nth counted call fails, counted from 1. None does where `n` is 0.
+    /// Creates a storage over `inner` whose `n`th counted call fails, counted from 1. If `n` is 0, no call fails.
     pub fn new(inner: S, n: u64) -> Self
         ensures state { fuse_state S.state result ≡ S.state inner }
         ensures inner { fuse_inner result ≡ inner }
@@ -39,14 +39,14 @@ impl<S: Storage> FuseStorage<S> {
         }
     }
 
-    /// How many calls were counted. It stays at the greatest `u64`.
+    /// Returns the number of counted calls. It stops at the greatest `u64`.
     pub fn count(&self) -> u64
         ensures { result ≡ fuse_count self.now }
     {
         self.count
     }
 
-    // Counts a call, and says whether it is the one that fails.
+    // Counts a call, and returns true if it is the one that fails.
     fn fails_this_call(&mut self) -> bool
         ensures inner { self.new.inner ≡ self.old.inner }
         ensures call { self.new.n ≡ self.old.n }
@@ -63,7 +63,7 @@ impl<S: Storage> FuseStorage<S> {
         fails_this_call
     }
 
-    // Counts a change, and says whether it is the one that fails, and is refused.
+    // Counts a call that changes the storage, and returns true if this call must fail. It then also counts a refused change.
     fn refuses(&mut self) -> bool
         ensures inner { self.new.inner ≡ self.old.inner }
         ensures call { self.new.n ≡ self.old.n }

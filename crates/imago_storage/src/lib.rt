@@ -1,10 +1,10 @@
-//! Storages: lists of bytes that are read and written by requests of whole, aligned units. In qemu a storage is a protocol
-//! node, and the unit its request alignment; in imago the unit is the larger of `req_align` and `mem_align`.
+//! Storages: growable arrays of bytes that are read and written by requests of whole, aligned units. The unit is the larger of `req_align`
+//! and `mem_align`.
 //!
-//! `Storage` is what a storage promises, and `StorageExt` adds reads and writes of any range. `MemStorage` holds its bytes
-//! in memory, `MemoryView` reads bytes that are lent, and `Null` holds none. `FuseStorage` and `LogStorage` are for tests of
-//! what a fault or a stop of the machine leaves behind. `Fault` is what every call of this crate, and of those above it, is
-//! refused with.
+//! `Storage` is the trait of a backend, and `StorageExt` adds calls for any range. `MemStorage` holds its bytes in memory, `MemoryView`
+//! borrows bytes that are only read, and `Null` drops what is written. `FuseStorage` and `LogStorage` are wrappers for tests: the first
+//! fails one request, the second returns crash images (the file after a crash between two requests). `Fault` is the error of every call of
+//! this crate and of the crates above it. Terms are explained in docs/GLOSSARY.md.
 #![tactic(auto)]
 
 mod discarding;

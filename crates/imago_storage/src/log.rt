@@ -1,4 +1,5 @@
-// A storage that keeps a log of its requests: `blklogwrites` in qemu. imago has none.
+// A wrapper that logs the changes of a storage, so that a test can rebuild the file after a crash between any two requests. Definitions:
+// specs/Log.antt.
 ghost use Rattle.std.specs.Prelude.{◌≡◌, ◌≤◌, ◌-◌, ◌∷◌, ◌++◌, [], List, length, take, replicate, true, OnOk, IfOk, IfErr, IsErrOf, IsOkUnless, IsTrue};
 ghost use Rattle.imago_storage.specs.State.{CrashImageIsBytes, IsUnitRange, HasRisen, unit_of};
 ghost use Rattle.imago_storage.specs.Calls.{CountsFaults, UnchangedButFaults, CountsNotFallen, NotWritten, Reads, RequestsOne, ResizeRefused, Resized, Written, ZeroingRefused};
@@ -8,10 +9,10 @@ use crate::edits::{splice, splice_zeroes};
 use crate::{Fault, PreallocateMode, Storage, StorageExt};
 use std::alloc::Global;
 
-/// A change that a storage was asked for. Offsets, lengths and sizes are in bytes.
+/// A change that was requested of a storage. Offsets, lengths and sizes are in bytes.
 #[derive(Debug, Drop)]
 pub enum Request {
-    /// These bytes were written from the offset on.
+    /// The bytes were written from `offset` on.
     Write { offset: u64, bytes: Vec<u8> },
     /// Zeroes were written over the range.
     Zeroes { offset: u64, length: u64 },
@@ -19,11 +20,12 @@ pub enum Request {
     Resize { size: u64 },
 }
 
-/// A storage that passes calls on to another, and keeps a log of the changes: for tests of what a stop leaves.
+/// A storage that passes calls to another storage, and logs the changes. It lets tests look at crash images: the file after a crash between
+/// two requests.
 ///
-/// Room in the log is taken before a change is passed on. Where there is none the call answers `Fault::Memory`, and
-/// passes nothing on. A change that the inner storage refuses isn't kept. A discard is refused with
-/// `Fault::Unsupported`, since the bytes that it leaves are open.
+/// Memory for the log entry is allocated before a change is passed on. If memory runs out, the call returns `Fault::Memory` and passes
+/// nothing on. A change that the inner storage refuses isn't logged. A discard fails with `Fault::Unsupported`, because the bytes after a
+/// discard are unspecified.
 #[derive(Drop)]
 pub struct LogStorage<S> {
     inner: S,
@@ -37,7 +39,7 @@ impl<S: Storage> LogStorage<S> {
     ghost use Rattle.imago_storage.specs.declared.log.Request.{Request};
     ghost use Rattle.imago_storage.specs.Log.{log_requests, log_state};
 
-    /// The requests that were not refused, the oldest first.
+    /// Returns the requests that succeeded, the oldest first.
     #[tactic(auto, using(crate::proofs::Marks::length_of_past), unfolding(crate::specs::Log::log_requests, crate::specs::Log::log_state))]
     pub fn requests(&self) -> &[Request]
         ensures requests { result.now ≡ log_requests self.now }
@@ -46,7 +48,7 @@ impl<S: Storage> LogStorage<S> {
         self.requests.as_slice()
     }
 
-    /// The storage that the log was made over, as it is now.
+    /// Returns the inner storage in its current state.
     #[tactic(auto, unfolding(crate::specs::Log::log_state))]
     pub fn into_inner(self) -> S
         ensures shape { (log_state S.state self).shape ≡ record (S.state result).shape { tells = true } }
@@ -57,7 +59,7 @@ impl<S: Storage> LogStorage<S> {
         inner
     }
 
-    // Makes a request the last one.
+    // Appends a request to the log.
     fn keep(&mut self, request: Request) -> Result<(), Fault>
         ensures inner { self.new.inner ≡ self.old.inner }
         ensures base { self.new.base ≡ self.old.base }
@@ -76,7 +78,7 @@ impl<S: Storage> LogStorage<S> {
         }
     }
 
-    // A copy of bytes that are to be written.
+    // Copies the bytes of a write.
     fn copy_of(&mut self, bytes: &[u8]) -> Result<Vec<u8>, Fault>
         ensures inner { self.new.inner ≡ self.old.inner }
         ensures base { self.new.base ≡ self.old.base }
@@ -95,7 +97,7 @@ impl<S: Storage> LogStorage<S> {
         }
     }
 
-    // Takes the last request away.
+    // Removes the last request.
     fn forget(&mut self)
         ensures inner { self.new.inner ≡ self.old.inner }
         ensures base { self.new.base ≡ self.old.base }
@@ -109,10 +111,16 @@ impl<S: Storage> LogStorage<S> {
 impl<S: Storage> LogStorage<S> {
     ghost use Rattle.imago_storage.specs.Log.{log_state, log_base, log_requests, telling, replay};
 
-    /// A log over a storage, whose bytes it copies. It has no requests yet.
+    /// Creates a log over a storage, and copies the storage's bytes. The log has no requests yet.
     ///
-    /// It refuses with `Fault::Memory` where the copy has no room, and with `Fault::Storage` where the storage failed;
-    /// either drops the storage.
+    /// # Errors
+    ///
+    /// - `Fault::Memory` if memory for the copy runs out.
+    /// - `Fault::Storage` if the storage failed.
+    ///
+    /// # On error
+    ///
+    /// The storage is dropped.
     #[tactic(auto, unfolding(crate::specs::Log::log_state, crate::specs::Log::log_base, crate::specs::Log::log_requests))]
     pub fn new(alloc: Global, inner: S) -> Result<Self, Fault>
         ensures state { IfOk result (λ log. log_state S.state log ≡ telling (S.state inner)) }
@@ -131,18 +139,24 @@ impl<S: Storage> LogStorage<S> {
         })
     }
 
-    /// The file that a stop after the first k requests leaves: these requests, over the bytes that the log was made over.
+    /// Returns the crash image after the first `k` requests: these requests, applied to the bytes at the time of `new`.
     ///
-    /// Its only refusal is `Fault::Memory`; the log stays as it is.
+    /// # Preconditions
+    ///
+    /// The log has at least `k` requests.
+    ///
+    /// # Errors
+    ///
+    /// - `Fault::Memory` if memory runs out. The log doesn't change.
     #[tactic(auto, unfolding(crate::specs::Log::log_state, crate::specs::Log::log_base, crate::specs::Log::log_requests))]
     pub fn stop_at(&mut self, k: usize) -> Result<Vec<u8>, Fault>
         requires { k ≤ length (log_requests self.old) }
         ensures ok { IfOk result (λ file. file.items ≡ replay (log_base self.old) (take k (log_requests self.old))) }
         ensures first { k ≡ 0 → IfOk result (λ file. file.items ≡ log_base self.old) }
         ensures last { k ≡ length (log_requests self.old) → IfOk result (λ file. file.items ≡ (log_state S.state self.old).crash_image) }
-        // While no change was refused, the last stop has the bytes.
+        // While no change was refused, the last crash image equals the bytes.
         ensures now { k ≡ length (log_requests self.old) → IfOk result (λ file. ShowsBytes (log_state S.state self.old) file.items) }
-        // It is the file that the log's state has for this stop.
+        // The file is the crash image that the log's state has for the moment after `k` requests.
         ensures told { IfOk result (λ file. IsStop (log_state S.state self.old) (length (log_requests self.old) - k) file.items) }
         ensures err { IsOkUnless result Fault.Memory }
         ensures same { self.new ≡ self.old }
@@ -153,7 +167,7 @@ impl<S: Storage> LogStorage<S> {
     }
 }
 
-// A copy of all bytes of a storage.
+// Copies all bytes of a storage.
 #[tactic(auto, using(crate::proofs::Composing::kept_same))]
 fn copy_of_bytes<S: Storage>(storage: &mut S, alloc: Global) -> Result<Vec<u8>, Fault>
     ensures ok { IfOk result (λ copy. copy.items ≡ (S.state storage.old).bytes) }
@@ -164,12 +178,12 @@ fn copy_of_bytes<S: Storage>(storage: &mut S, alloc: Global) -> Result<Vec<u8>, 
     match storage.read(alloc, &mut copy, 0) {
         Ok(()) => Ok(copy),
         Err(Fault::Storage) => Err(Fault::Storage),
-        // The range ends where the bytes of a buffer do that is in memory: so this is want of memory.
+        // The range fits a buffer in memory, so it can't overflow. Memory ran out.
         Err(_) => Err(Fault::Memory),
     }
 }
 
-// Does to a file what a request asks.
+// Applies a request to a file.
 fn apply_request(file: &mut Vec<u8>, request: &Request) -> Result<(), Fault>
     ensures ok { OnOk result (file.new.items ≡ apply request.now file.old.items) }
     ensures err { IfErr result (λ e. e ≡ Fault.Memory) }
@@ -184,9 +198,9 @@ fn apply_request(file: &mut Vec<u8>, request: &Request) -> Result<(), Fault>
     Ok(())
 }
 
-/// A storage that tells its stops: which file is left where the machine stops after each request.
+/// A storage that exposes its crash images: the file that a crash after each request leaves.
 pub trait StopStorage: Storage {
-    /// How many requests it has made so far.
+    /// Returns the number of requests that have changed the storage. Pass it to `LogStorage::stop_at` for the crash image of this moment.
     fn mark(&self) -> usize
         ensures { result ≡ length (Self.state self.now).past_crash_images };
 
@@ -368,7 +382,7 @@ impl<S: Storage> Storage for LogStorage<S> {
     }
 }
 
-// Does to a file what requests ask, one behind the other.
+// Applies requests to a file, the oldest first.
 fn apply_all(file: &mut Vec<u8>, requests: &[Request]) -> Result<(), Fault>
     ensures ok { OnOk result (file.new.items ≡ replay file.old.items requests.now) }
     ensures err { IfErr result (λ e. e ≡ Fault.Memory) }

@@ -1,4 +1,4 @@
-// A storage in memory. A storage is a protocol node in qemu.
+// `MemStorage`: a storage that keeps its bytes in a vector in memory.
 ghost use Rattle.std.specs.Prelude.{◌≡◌, [], length, replicate, IsOk, OnOk, IfOk, IfErr, IsOkUnless};
 ghost use Rattle.imago_storage.specs.State.{IsAlignment, IsUnitRange, unit_of};
 ghost use Rattle.imago_storage.specs.Calls.{CountsFaults, DiscardRefused, Discarded, UnchangedButFaults, CountsNotFallen, NotWritten, Reads, RequestsOne, ResizeRefused, Resized, Written, ZeroingRefused};
@@ -7,11 +7,11 @@ use crate::edits::{clear, copy_out, splice, splice_zeroes};
 use crate::{Fault, PreallocateMode, Storage};
 use std::alloc::Global;
 
-/// A storage whose bytes are in memory.
+/// A storage that keeps its bytes in memory.
 ///
-/// A request of it is refused with `Fault::Memory` alone, where a change needs room that isn't there; each byte of the change's range is
-/// then old or new. It counts no faults, so it never answers `Fault::Storage`. A discard makes the bytes of its range 0. Its file has no
-/// name, so `resolve_relative_path` answers `Fault::Unsupported`.
+/// A request only fails with `Fault::Memory`, if a change needs more memory than there is. Each byte of the change's range is then old or
+/// new. No fault is counted, so no call returns `Fault::Storage`. A discard sets the bytes of its range to 0. The storage has no file name,
+/// so `resolve_relative_path` returns `Fault::Unsupported`.
 #[derive(Drop)]
 pub struct MemStorage {
     bytes: Vec<u8>,
@@ -24,7 +24,7 @@ pub struct MemStorage {
 impl MemStorage {
     ghost use Rattle.imago_storage.specs.MemStorage.{memory, mem_shape, mem_state};
 
-    /// An empty storage of alignment 1. It takes no memory.
+    /// Creates an empty storage with alignment 1. It allocates no memory.
     pub fn new(alloc: Global) -> Self
         ensures { mem_state result ≡ memory [] 1 0 }
     {
@@ -35,9 +35,11 @@ impl MemStorage {
         }
     }
 
-    /// A storage of these bytes, of alignment 1.
+    /// Creates a storage with these bytes and alignment 1.
     ///
-    /// Its only refusal is `Fault::Memory`, which drops the bytes.
+    /// # Errors
+    ///
+    /// - `Fault::Memory`. The bytes are dropped.
     pub fn from_bytes(bytes: Vec<u8>) -> Result<Self, Fault>
         ensures ok { IfOk result (λ m. mem_state m ≡ memory bytes.items 1 0) }
         ensures err { IsOkUnless result Fault.Memory }
@@ -47,7 +49,11 @@ impl MemStorage {
         Ok(storage)
     }
 
-    /// The same storage with all four alignments set, in bytes.
+    /// Returns the storage with all four alignments (of buffers, requests, zeroing and discards) set to `align` bytes.
+    ///
+    /// # Preconditions
+    ///
+    /// `align` is a power of two, and at most 2^20.
     pub fn with_align(self, align: usize) -> Self
         requires { IsAlignment align }
         ensures { mem_state result ≡ record (mem_state self) { shape = mem_shape align } }
@@ -64,11 +70,15 @@ impl MemStorage {
         }
     }
 
-    /// A copy of the bytes. Its only refusal is `Fault::Memory`.
+    /// Returns a copy of the bytes.
+    ///
+    /// # Errors
+    ///
+    /// - `Fault::Memory` if memory runs out.
     pub fn bytes(&self) -> Result<Vec<u8>, Fault>
         ensures ok { IfOk result (λ copy. copy.items ≡ (mem_state self.now).bytes) }
         ensures err { IsOkUnless result Fault.Memory }
-        // It never fails: with this, no call's clause on the cause of a refusal allows `Fault::Storage`.
+        // The storage never fails. So no call's error clause allows `Fault::Storage`.
         ensures faults { (mem_state self.now).faults ≡ 0 }
     {
         let mut copy = Vec::new(*self.bytes.allocator());
@@ -76,14 +86,18 @@ impl MemStorage {
         Ok(copy)
     }
 
-    /// The bytes as they stand, lent.
+    /// Borrows the current bytes.
     pub fn as_bytes(&self) -> &[u8]
         ensures { result.now ≡ (mem_state self.now).bytes }
     {
         self.bytes.as_slice()
     }
 
-    /// The bytes. Its only refusal is `Fault::Memory`, which drops them.
+    /// Consumes the storage and returns its bytes.
+    ///
+    /// # Errors
+    ///
+    /// - `Fault::Memory`. The bytes are dropped.
     pub fn into_bytes(self) -> Result<Vec<u8>, Fault>
         ensures ok { IfOk result (λ bytes. bytes.items ≡ (mem_state self).bytes) }
         ensures err { IsOkUnless result Fault.Memory }

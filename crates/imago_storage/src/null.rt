@@ -1,14 +1,14 @@
-// A storage that holds nothing: `null-co` in qemu, where that reads zeroes.
+// `Null`: a storage that has a length and keeps no data.
 ghost use Rattle.std.specs.Prelude.{◌≡◌, length, replicate, IsOk, OnOk, IfErr};
 ghost use Rattle.imago_storage.specs.State.{IsUnitRange, unit_of};
 ghost use Rattle.imago_storage.specs.Calls.{CountsFaults, DiscardRefused, Discarded, UnchangedButFaults, CountsNotFallen, NotWritten, Reads, RequestsOne, ResizeRefused, Resized, Written, ZeroingRefused};
 
 use crate::{Fault, PreallocateMode, Storage};
 
-/// A storage that has a length and holds no bytes: it reads as zeroes, and drops what is written.
+/// A storage that has a length and no data: it reads as zeroes and drops what is written.
 ///
-/// Writing and zeroing extend the length and never lower it. It refuses no request. All its alignments are 1. It has no name, so
-/// `resolve_relative_path` answers `Fault::Unsupported`.
+/// Writing and zeroing may extend the length, and never lower it. No request fails. All alignments are 1. The storage has no name, so
+/// `resolve_relative_path` returns `Fault::Unsupported`.
 #[derive(Drop)]
 pub struct Null {
     size: u64,
@@ -18,7 +18,7 @@ pub struct Null {
 impl Null {
     ghost use Rattle.imago_storage.specs.Null.{zeroes, null_state};
 
-    /// A storage of this length in bytes.
+    /// Creates a storage of `size` bytes.
     pub fn new(size: u64) -> Self
         ensures { null_state result ≡ zeroes size }
     {

@@ -1,4 +1,4 @@
-// How a storage is opened or created. Past the host's cache is `cache.direct` in qemu.
+// Builders for the options that open or create a storage.
 ghost use Rattle.std.specs.Prelude.{◌≡◌, false, Some, None};
 ghost use Rattle.std.specs.Option.{option_copied};
 ghost use Rattle.std.specs.String.{string_bytes};
@@ -7,7 +7,7 @@ ghost use Rattle.imago_storage.specs.declared.storage.PreallocateMode.TheVariant
 use crate::PreallocateMode;
 use std::marker::Model;
 
-/// How a storage is opened: by which name, for reading alone or also for writing, and whether past the host's cache.
+/// Options for opening a storage: its name, whether it is writable, and whether the host's page cache is bypassed.
 #[derive(Drop)]
 pub struct StorageOpenOptions {
     filename: Option<String>,
@@ -24,7 +24,7 @@ impl Model for StorageOpenOptions {
 }
 
 impl StorageOpenOptions {
-    /// No name, for reading alone, and through the host's cache.
+    /// Returns the default options: no name, read-only, and through the host's page cache.
     pub fn new() -> Self
         ensures { result ≡ record { filename = None; writable = false; direct = false } }
     {
@@ -35,7 +35,7 @@ impl StorageOpenOptions {
         }
     }
 
-    /// By this name.
+    /// Sets the name of the file.
     pub fn filename(mut self, filename: String) -> Self
         ensures { result ≡ record self { filename = Some (string_bytes filename) } }
     {
@@ -43,7 +43,7 @@ impl StorageOpenOptions {
         self
     }
 
-    /// Whether also for writing.
+    /// Sets whether the storage is opened for writing too.
     pub fn write(mut self, write: bool) -> Self
         ensures { result ≡ record self { writable = write } }
     {
@@ -51,7 +51,7 @@ impl StorageOpenOptions {
         self
     }
 
-    /// Whether past the host's cache.
+    /// Sets whether the host's page cache is bypassed.
     pub fn direct(mut self, direct: bool) -> Self
         ensures { result ≡ record self { direct = direct } }
     {
@@ -59,21 +59,21 @@ impl StorageOpenOptions {
         self
     }
 
-    /// The name, where there is one.
+    /// Returns the name, if it is set.
     pub fn get_filename(&self) -> Option<&str>
         ensures { option_copied result ≡ self.now.filename }
     {
         self.filename.as_deref()
     }
 
-    /// Whether also for writing.
+    /// Returns true if the storage is opened for writing too.
     pub fn get_writable(&self) -> bool
         ensures { result ≡ self.now.writable }
     {
         self.writable
     }
 
-    /// Whether past the host's cache.
+    /// Returns true if the host's page cache is bypassed.
     pub fn get_direct(&self) -> bool
         ensures { result ≡ self.now.direct }
     {
@@ -89,8 +89,8 @@ impl Default for StorageOpenOptions {
     }
 }
 
-/// How a storage is created: how it is opened then, how long it is in bytes, how room for it is made, and whether it may take the
-/// place of one that is there.
+/// Options for creating a storage: how it is opened afterwards, its length in bytes, its preallocation mode, and whether an existing file
+/// is replaced.
 #[derive(Drop)]
 pub struct StorageCreateOptions {
     opening: StorageOpenOptions,
@@ -108,7 +108,7 @@ impl Model for StorageCreateOptions {
 }
 
 impl StorageCreateOptions {
-    /// No name, no bytes, nothing prepared, and in the place of none.
+    /// Returns the default options: no name, a length of 0 bytes, nothing preallocated, and no file is replaced.
     pub fn new() -> Self
         ensures { result ≡ record {
           opening = record { filename = None; writable = false; direct = false };
@@ -125,14 +125,14 @@ impl StorageCreateOptions {
         }
     }
 
-    /// By this name.
+    /// Sets the name of the file.
     pub fn filename(self, filename: String) -> Self
         ensures { result ≡ record self { opening = record self.opening { filename = Some (string_bytes filename) } } }
     {
         self.modify_open_opts(|opening| opening.filename(filename))
     }
 
-    /// This many bytes long.
+    /// Sets the length in bytes.
     pub fn size(mut self, size: u64) -> Self
         ensures { result ≡ record self { size = size } }
     {
@@ -140,7 +140,7 @@ impl StorageCreateOptions {
         self
     }
 
-    /// How room is made for its bytes, which read as 0.
+    /// Sets the preallocation mode. The bytes read as 0 in each mode.
     pub fn preallocate(mut self, preallocate: PreallocateMode) -> Self
         ensures { result ≡ record self { preallocate = preallocate } }
     {
@@ -148,7 +148,7 @@ impl StorageCreateOptions {
         self
     }
 
-    /// Whether in the place of one that is there.
+    /// Sets whether an existing file is replaced.
     pub fn overwrite(mut self, overwrite: bool) -> Self
         ensures { result ≡ record self { overwrite = overwrite } }
     {
@@ -156,7 +156,7 @@ impl StorageCreateOptions {
         self
     }
 
-    /// With other options for opening it: those that `f` makes of its own.
+    /// Changes the options for opening the storage by `f`.
     pub fn modify_open_opts<F: FnOnce(StorageOpenOptions) -> StorageOpenOptions>(self, f: F) -> Self
         requires { F.pre f self.opening }
         ensures { F.post f self.opening result.opening × (result ≡ record self { opening = result.opening }) }
@@ -175,35 +175,35 @@ impl StorageCreateOptions {
         }
     }
 
-    /// The name, where there is one.
+    /// Returns the name, if it is set.
     pub fn get_filename(&self) -> Option<&str>
         ensures { option_copied result ≡ self.now.opening.filename }
     {
         self.opening.get_filename()
     }
 
-    /// The length in bytes.
+    /// Returns the length in bytes.
     pub fn get_size(&self) -> u64
         ensures { result ≡ self.now.size }
     {
         self.size
     }
 
-    /// How room is made for its bytes.
+    /// Returns the preallocation mode.
     pub fn get_preallocate(&self) -> PreallocateMode
         ensures { result ≡ self.now.preallocate }
     {
         self.preallocate
     }
 
-    /// Whether in the place of one that is there.
+    /// Returns true if an existing file is replaced.
     pub fn get_overwrite(&self) -> bool
         ensures { result ≡ self.now.overwrite }
     {
         self.overwrite
     }
 
-    /// How it is opened then.
+    /// Returns the options for opening the storage.
     pub fn get_open_options(&self) -> &StorageOpenOptions
         ensures { result.now ≡ self.now.opening }
     {

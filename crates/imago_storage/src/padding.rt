@@ -1,5 +1,5 @@
-// Writes of any range as whole units: the units that it has only a part of are read before the first of them is written. In
-// qemu they are a `BdrvRequestPadding`, and a unit the request alignment.
+// Writes of any range as whole units. If the range covers only a part of its first or last unit, that unit is read before anything is
+// written.
 ghost use Rattle.std.specs.Prelude.{◌≡◌, ℕ, ◌+◌, ◌-◌, ◌%◌, ◌<◌, ◌≤◌, ◌^◌, ◌++◌, length, OnOk, IfOk, IfErr, IsOkUnless};
 ghost use Rattle.imago_storage.specs.State.{unit_of, IsUnitRange};
 ghost use Rattle.imago_storage.specs.Calls.{CountsFaults, UnchangedButFaults};
@@ -12,17 +12,17 @@ use crate::edits::copy_in;
 use crate::{Fault, Storage};
 use std::alloc::Global;
 
-/// Why a write was refused, and whether it had begun.
+/// The error of `try_write`: the fault, and whether the write had begun.
 #[derive(Clone, Copy, Debug, PartialEq, Eq)]
 pub enum WriteFault {
-    /// Before it asked for a change: nothing has changed.
+    /// The call failed before it requested a change: nothing has changed.
     Before(Fault),
-    /// The storage refused a change: a part may be written.
+    /// The storage refused a change: a part of the data may have been written.
     Within(Fault),
 }
 
 impl WriteFault {
-    /// The fault alone.
+    /// Returns the fault.
     pub fn fault(self) -> Fault
         ensures { result ≡ cause_of self }
     {
@@ -33,7 +33,7 @@ impl WriteFault {
     }
 }
 
-/// So `?` passes on what comes before the first change is asked for.
+/// Converts a fault to `WriteFault::Before`, so that `?` can return an error from before the first change.
 impl From<Fault> for WriteFault {
     ghost from_gives = { λ fault e. e ≡ Before fault };
 
@@ -42,7 +42,8 @@ impl From<Fault> for WriteFault {
     }
 }
 
-// The lengths of the first two of a range's three parts: bytes in one unit, whole units, and bytes in one unit.
+// Splits a range into a head inside one unit, whole units, and a tail inside one unit. Returns the lengths of the head and of the whole
+// units.
 pub fn parts_of_range(offset: u64, n: usize, unit: usize) -> (usize, usize)
     requires { 0 < unit }
     ensures { Parts unit offset n result.0 result.1 }
@@ -57,7 +58,7 @@ pub fn parts_of_range(offset: u64, n: usize, unit: usize) -> (usize, usize)
     (head, mid)
 }
 
-// A buffer of a unit for a part of that many bytes, and one of no bytes where there is no part.
+// Allocates a buffer of one unit for a part of `n` bytes, or an empty buffer if `n` is 0.
 fn edge_buffer(alloc: Global, unit: usize, n: usize) -> Result<Vec<u8>, Fault>
     ensures ok { IfOk result (λ buf. IsEdge unit n (length buf.items)) }
     ensures err { IsOkUnless result Fault.Memory }
@@ -66,7 +67,7 @@ fn edge_buffer(alloc: Global, unit: usize, n: usize) -> Result<Vec<u8>, Fault>
     Ok(vec![in alloc; 0u8; len]?)
 }
 
-// Two such buffers.
+// Allocates the buffers for the head and the tail of a range.
 pub fn edge_buffers(
     alloc: Global,
     unit: usize,
@@ -82,7 +83,7 @@ pub fn edge_buffers(
     Ok((first, last))
 }
 
-// Fills a buffer of a unit with the unit that a part begins in, and puts the part over it. For no part it asks nothing.
+// Reads the unit in which `part` begins into the buffer, and copies `part` over it. An empty part makes no request.
 fn pad_edge<S: Storage>(
     storage: &mut S,
     unit: usize,
@@ -108,7 +109,7 @@ fn pad_edge<S: Storage>(
     Ok(())
 }
 
-// The same for the first and the last part of a range.
+// Calls `pad_edge` for the head and the tail of a range.
 pub fn pad_edges<S: Storage>(
     storage: &mut S,
     unit: usize,
@@ -137,7 +138,7 @@ pub fn pad_edges<S: Storage>(
     pad_edge(storage, unit, last, tail, behind)
 }
 
-// Writes whole units, by one request.
+// Writes whole units, in one request.
 pub fn write_whole<S: Storage>(storage: &mut S, data: &[u8], offset: u64) -> Result<(), Fault>
     requires positive { 0 < unit_of (S.state storage.old).shape }
     requires whole { 0 < length «data».now → IsUnitRange (unit_of (S.state storage.old).shape) offset (length «data».now) }
@@ -152,7 +153,7 @@ pub fn write_whole<S: Storage>(storage: &mut S, data: &[u8], offset: u64) -> Res
     storage.pure_write(data, offset)
 }
 
-// Writes three parts in a row, each of them whole units and by one request, the lowest first.
+// Writes three consecutive parts of whole units, each in one request, in rising order.
 fn write_units<S: Storage>(
     storage: &mut S,
     unit: usize,
@@ -177,7 +178,7 @@ fn write_units<S: Storage>(
     write_whole(storage, last, middle + mid.len() as u64)
 }
 
-// Writes any range, by up to three requests. The buffers hold the units of which it has only a part at its two ends.
+// Writes any range in up to three requests. The buffers hold the first and the last unit if the range covers only a part of them.
 fn write_in_parts<S: Storage>(
     storage: &mut S,
     unit: usize,
@@ -214,7 +215,7 @@ fn write_in_parts<S: Storage>(
     .map_err(WriteFault::Within)
 }
 
-// Takes the buffers that a range needs, and writes it.
+// Allocates the buffers for the edges of a range, and writes the range.
 pub fn write_around<S: Storage>(
     storage: &mut S,
     alloc: Global,

@@ -1,4 +1,5 @@
-// A storage as its users see it: a list of bytes under aligned requests. In qemu it is a protocol node.
+// The `Storage` trait: a growable array of bytes that is read and written by aligned requests. Every other crate reaches files through it.
+// Implement it to add a backend; `null.rt` is the shortest example.
 ghost use Rattle.std.specs.Prelude.{◌≡◌, ◌≢◌, ℕ, ◌+◌, ◌%◌, ◌<◌, ◌^◌, List, length, slice_index, replicate, max, OnOk, IfErr, IsErrOf, EachIndex};
 ghost use Rattle.std.specs.Option.{option_map, option_copied};
 ghost use Rattle.imago_storage.specs.State.{StorageState, IsAlignment, IsAligned, IsUnitRange, unit_of};
@@ -7,77 +8,86 @@ ghost use Rattle.imago_storage.specs.Calls.{CountsFaults, DiscardRefused, Discar
 use crate::Fault;
 use std::alloc::Global;
 
-/// How `Storage::resize` makes room for new bytes, which read as 0 in each mode.
+/// The preallocation mode of `Storage::resize`. New bytes read as 0 in each mode.
 #[derive(Clone, Copy, Debug, PartialEq, Eq)]
 pub enum PreallocateMode {
-    /// Sets the length, and prepares nothing.
+    /// Sets the length, and allocates nothing.
     None,
-    /// Makes sure that the new bytes read as 0, by zeroing where that takes work.
+    /// Makes sure that the new bytes read as 0. It zeroes them if the storage doesn't guarantee that by itself.
     Zero,
-    /// Allocates room for the new bytes, and writes none.
+    /// Allocates space for the new bytes, and writes none of them.
     Allocate,
     /// Writes zeroes over the new bytes.
     WriteData,
 }
 
-/// Something that holds bytes: a file, memory or a wrapper of another storage.
+/// A growable array of bytes: a file, memory, or a wrapper around another storage.
 ///
-/// Offsets, lengths and alignments are in bytes. The unit of requests is the larger of `req_align` and `mem_align`:
-/// the calls named `pure_` take ranges of whole units only, whose end fits `u64`. `StorageExt` has calls for any range.
+/// Offsets, lengths and alignments are in bytes. The unit of requests is the larger of `req_align` and `mem_align`. The calls that start
+/// with `pure_` only take ranges of whole units whose end fits `u64`. `StorageExt` has calls for any range.
 ///
-/// A call that answers `Fault::Storage` has counted a fault of the storage; one that answers `Fault::Memory` has not.
-/// `Fault::Unsupported` leaves all as it was. Reads, too, take `&mut self`, since faults are counted.
+/// A call that returns `Fault::Storage` has counted a fault of the storage. A call that returns `Fault::Memory` has not.
+/// `Fault::Unsupported` changes nothing. Reads take `&mut self` too, because they may count a fault.
 ///
-/// Contracts see a storage as a `StorageState`: its bytes, what never changes of it, its counts of faults and of
-/// refused changes and, where it tells its stops, the files that a stop of the machine leaves.
+/// Contracts describe a storage by a `StorageState`: its bytes, its fixed properties, and its counts of faults and of refused changes
+/// (writes, discards and resizes that failed with `Fault::Memory` or `Fault::Storage`). If the storage exposes its crash images, the state
+/// also has the file that a crash leaves now, and those from before each request.
 ///
-/// This crate implements it for `MemStorage`, `MemoryView`, `Null`, `FuseStorage` and `LogStorage`.
+/// This crate implements the trait for `MemStorage`, `MemoryView`, `Null`, `FuseStorage` and `LogStorage`.
 pub trait Storage: Drop {
-    /// What contracts see of it.
+    /// The state that contracts describe the storage by.
     ghost state: { Self → StorageState };
 
-    /// The alignment of the buffers that it takes, a power of two of at most 2^20.
+    /// Returns the required alignment of buffers, a power of two of at most 2^20.
     fn mem_align(&self) -> usize
         ensures value { result ≡ (state self.now).shape.mem_align }
         ensures alignment { IsAlignment result };
 
-    /// The alignment of the offsets and lengths that it takes, a power of two of at most 2^20.
+    /// Returns the required alignment of offsets and lengths, a power of two of at most 2^20.
     fn req_align(&self) -> usize
         ensures value { result ≡ (state self.now).shape.req_align }
         ensures alignment { IsAlignment result };
 
-    /// The alignment of ranges that are zeroed, a power of two of at most 2^20.
+    /// Returns the required alignment of ranges to zero, a power of two of at most 2^20.
     fn zero_align(&self) -> usize
         ensures value { result ≡ (state self.now).shape.zero_align }
         ensures alignment { IsAlignment result };
 
-    /// The alignment of ranges that are discarded, a power of two of at most 2^20.
+    /// Returns the required alignment of ranges to discard, a power of two of at most 2^20.
     fn discard_align(&self) -> usize
         ensures value { result ≡ (state self.now).shape.discard_align }
         ensures alignment { IsAlignment result };
 
-    /// The length in bytes.
+    /// Returns the length in bytes.
     fn size(&self) -> u64
         ensures value { result ≡ length (state self.now).bytes }
         ensures bytes { EachIndex (state self.now).bytes (λ k. slice_index (state self.now).bytes k < 256) };
 
-    /// The name of its file, where it has one.
+    /// Returns the name of the file, or `None` if the storage has no name.
     fn get_filename(&self) -> Option<&str>
         ensures { option_copied result ≡ (state self.now).shape.filename };
 
-    /// A name as seen from this storage: a relative one is taken from where its own file lies.
+    /// Resolves a file name. A relative name is resolved against the directory of the storage's own file.
     ///
-    /// It refuses with `Fault::Unsupported` where the storage has no such place, as by default, and with
-    /// `Fault::Memory`.
+    /// # Errors
+    ///
+    /// - `Fault::Unsupported` if the storage has no directory. The default implementation always returns this.
+    /// - `Fault::Memory` if memory runs out.
     fn resolve_relative_path(&self, _alloc: Global, _name: &str) -> Result<String, Fault>
         ensures { IfErr result NotResolved }
     {
         Err(Fault::Unsupported)
     }
 
-    /// Fills the buffer with the bytes from the offset on. Past the end it reads zeroes.
+    /// Fills the buffer with the bytes from `offset` on. Bytes past the end read as 0.
     ///
-    /// It refuses with `Fault::Memory` and `Fault::Storage`. A refusal leaves the storage as it was, and the buffer open.
+    /// # Errors
+    ///
+    /// - `Fault::Memory`, `Fault::Storage`.
+    ///
+    /// # On error
+    ///
+    /// The storage is unchanged except for its fault count. The contents of the buffer are unspecified.
     fn pure_read(&mut self, buf: &mut [u8], offset: u64) -> Result<(), Fault>
         requires { IsUnitRange (unit_of (state self.old).shape) offset (length buf.old) }
         ensures read { OnOk result (Reads (state self.old).bytes offset buf.new) }
@@ -85,10 +95,15 @@ pub trait Storage: Drop {
         ensures faults { CountsFaults (state self.old).faults (state self.new).faults result }
         ensures counts_not_fallen { CountsNotFallen (state self.old) (state self.new) };
 
-    /// Writes the bytes at the offset. The length reaches the range's end; a gap past the old end is 0.
+    /// Writes `data` at `offset`. If the range ends past the old end, the length becomes the range's end, and a gap before the range is 0.
     ///
-    /// It refuses with `Fault::Memory` and `Fault::Storage`. A refusal leaves each byte of the range old or new, and none
-    /// changed outside; it is counted as a refused change.
+    /// # Errors
+    ///
+    /// - `Fault::Memory`, `Fault::Storage`. Both count as refused changes.
+    ///
+    /// # On error
+    ///
+    /// Each byte of the range is old or new, and no byte outside the range changes.
     fn pure_write(&mut self, data: &[u8], offset: u64) -> Result<(), Fault>
         requires { IsUnitRange (unit_of (state self.old).shape) offset (length «data».now) }
         ensures ok { OnOk result (Written (state self.old) (state self.new) offset «data».now) }
@@ -97,10 +112,17 @@ pub trait Storage: Drop {
         ensures counts_not_fallen { CountsNotFallen (state self.old) (state self.new) }
         ensures single_request { RequestsOne (state self.old) (state self.new) result };
 
-    /// Writes zeroes over the range, which may give up what it has allocated. The length reaches the range's end.
+    /// Writes zeroes over the range. The storage may deallocate the range. If the range ends past the old end, the length becomes the
+    /// range's end.
+    ///
+    /// # Preconditions
+    ///
     /// Offset and length are multiples of `zero_align`, too.
     ///
-    /// It refuses with `Fault::Unsupported`, which leaves all as it was, and as `pure_write` does.
+    /// # Errors
+    ///
+    /// - `Fault::Unsupported`. Nothing changes.
+    /// - `Fault::Memory`, `Fault::Storage`. Both count as refused changes. Each byte of the range is then old or 0.
     fn pure_write_zeroes(&mut self, offset: u64, length: u64) -> Result<(), Fault>
         requires whole { IsUnitRange (unit_of (state self.old).shape) offset length }
         requires zeroes { IsUnitRange (state self.old).shape.zero_align offset length }
@@ -110,10 +132,16 @@ pub trait Storage: Drop {
         ensures counts_not_fallen { CountsNotFallen (state self.old) (state self.new) }
         ensures single_request { RequestsOne (state self.old) (state self.new) result };
 
-    /// Writes zeroes over the range, which stays allocated. The length reaches the range's end.
+    /// Writes zeroes over the range, and keeps the range allocated. If the range ends past the old end, the length becomes the range's end.
+    ///
+    /// # Preconditions
+    ///
     /// Offset and length are multiples of `zero_align`, too.
     ///
-    /// It refuses with `Fault::Unsupported`, which leaves all as it was, and as `pure_write` does.
+    /// # Errors
+    ///
+    /// - `Fault::Unsupported`. Nothing changes.
+    /// - `Fault::Memory`, `Fault::Storage`. Both count as refused changes. Each byte of the range is then old or 0.
     fn pure_write_allocated_zeroes(&mut self, offset: u64, length: u64) -> Result<(), Fault>
         requires whole { IsUnitRange (unit_of (state self.old).shape) offset length }
         requires zeroes { IsUnitRange (state self.old).shape.zero_align offset length }
@@ -123,11 +151,20 @@ pub trait Storage: Drop {
         ensures counts_not_fallen { CountsNotFallen (state self.old) (state self.new) }
         ensures single_request { RequestsOne (state self.old) (state self.new) result };
 
-    /// Gives the range up: its bytes are open, and the length is kept. Offset and length are
-    /// multiples of `discard_align`, too.
+    /// Discards the range: its bytes are unspecified afterwards. The length doesn't change.
     ///
-    /// It refuses with `Fault::Unsupported`, which leaves all as it was, and with `Fault::Memory` and `Fault::Storage`.
-    /// Then, too, the bytes of the range are open, and none is changed outside; it is counted as a refused change.
+    /// # Preconditions
+    ///
+    /// Offset and length are multiples of `discard_align`, too.
+    ///
+    /// # Errors
+    ///
+    /// - `Fault::Unsupported`. Nothing changes.
+    /// - `Fault::Memory`, `Fault::Storage`. Both count as refused changes.
+    ///
+    /// # On error
+    ///
+    /// After `Fault::Memory` or `Fault::Storage`, the bytes of the range are unspecified, and no byte outside the range changes.
     fn pure_discard(&mut self, offset: u64, length: u64) -> Result<(), Fault>
         requires whole { IsUnitRange (unit_of (state self.old).shape) offset length }
         requires discards { IsUnitRange (state self.old).shape.discard_align offset length }
@@ -137,10 +174,16 @@ pub trait Storage: Drop {
         ensures counts_not_fallen { CountsNotFallen (state self.old) (state self.new) }
         ensures single_request { RequestsOne (state self.old) (state self.new) result };
 
-    /// Sets the length, in bytes. Bytes below both lengths are kept, and new ones are 0.
+    /// Sets the length to `size` bytes. Bytes below both lengths stay, and new bytes are 0.
     ///
-    /// It refuses with `Fault::Unsupported`, also for a mode that it doesn't have, with `Fault::Memory` and with
-    /// `Fault::Storage`. A refusal changes no byte; the latter two are counted as refused changes.
+    /// # Errors
+    ///
+    /// - `Fault::Unsupported`, also if the storage doesn't have the mode.
+    /// - `Fault::Memory`, `Fault::Storage`. Both count as refused changes.
+    ///
+    /// # On error
+    ///
+    /// No byte changes.
     fn resize(&mut self, size: u64, mode: PreallocateMode) -> Result<(), Fault>
         ensures ok { OnOk result (Resized (state self.old) (state self.new) size) }
         ensures err { IfErr result (ResizeRefused (state self.old) (state self.new)) }
@@ -148,30 +191,42 @@ pub trait Storage: Drop {
         ensures counts_not_fallen { CountsNotFallen (state self.old) (state self.new) }
         ensures single_request { RequestsOne (state self.old) (state self.new) result };
 
-    /// Hands what it holds back to what is below it, which keeps it if the process ends.
+    /// Passes on data that the process has buffered, for example to the host's page cache. The data then survives the end of the process.
     ///
-    /// It refuses with `Fault::Memory` and `Fault::Storage`. It changes no byte, refused or not.
+    /// # Errors
+    ///
+    /// - `Fault::Memory`, `Fault::Storage`.
+    ///
+    /// No byte changes, whether the call succeeds or fails.
     fn flush(&mut self) -> Result<(), Fault>
         ensures unchanged_but_faults { UnchangedButFaults (state self.old) (state self.new) }
         ensures faults { CountsFaults (state self.old).faults (state self.new).faults result }
         ensures counts_not_fallen { CountsNotFallen (state self.old) (state self.new) };
 
-    /// Makes all that was written durable: it is kept if the machine stops.
+    /// Makes all written data durable: it survives a crash of the machine.
     ///
-    /// It refuses with `Fault::Memory` and `Fault::Storage`. It changes no byte, refused or not.
+    /// # Errors
+    ///
+    /// - `Fault::Memory`, `Fault::Storage`.
+    ///
+    /// No byte changes, whether the call succeeds or fails.
     fn sync(&mut self) -> Result<(), Fault>
         ensures unchanged_but_faults { UnchangedButFaults (state self.old) (state self.new) }
         ensures faults { CountsFaults (state self.old).faults (state self.new).faults result }
         ensures counts_not_fallen { CountsNotFallen (state self.old) (state self.new) };
 
-    /// Drops what it has cached, so that reads see what others wrote to what is below it.
+    /// Drops cached data, so that later reads see what others wrote to the file.
     ///
-    /// It refuses with `Fault::Memory` and `Fault::Storage`. It changes no byte, refused or not.
+    /// # Errors
+    ///
+    /// - `Fault::Memory`, `Fault::Storage`.
+    ///
+    /// No byte changes, whether the call succeeds or fails.
     fn invalidate_cache(&mut self) -> Result<(), Fault>
         ensures unchanged_but_faults { UnchangedButFaults (state self.old) (state self.new) }
         ensures faults { CountsFaults (state self.old).faults (state self.new).faults result }
         ensures counts_not_fallen { CountsNotFallen (state self.old) (state self.new) };
 
-    /// Its alignments are powers of two.
+    /// All alignments are powers of two of at most 2^20.
     ghost aligned: { (s : Self) → IsAligned (state s).shape };
 }

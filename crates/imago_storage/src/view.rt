@@ -1,4 +1,4 @@
-// Bytes in memory that are lent as a storage, which is a protocol node in qemu.
+// `MemoryView`: a read-only storage over borrowed bytes.
 ghost use Rattle.std.specs.Prelude.{◌≡◌, length, replicate, IsOk, OnOk, IfErr, IsErrOf};
 ghost use Rattle.imago_storage.specs.State.{IsUnitRange, unit_of};
 ghost use Rattle.imago_storage.specs.Calls.{CountsFaults, DiscardRefused, Discarded, UnchangedButFaults, CountsNotFallen, NotWritten, Reads, RequestsOne, ResizeRefused, Resized, Written, ZeroingRefused};
@@ -6,10 +6,10 @@ ghost use Rattle.imago_storage.specs.Calls.{CountsFaults, DiscardRefused, Discar
 use crate::edits::{byte_count, copy_out};
 use crate::{Fault, PreallocateMode, Storage};
 
-/// Bytes in memory that are lent, as a storage that is only read. All its alignments are 1.
+/// Borrowed bytes as a read-only storage. All its alignments are 1.
 ///
-/// A read never fails, and copies what it reads alone. There is no room for a change: a write is refused with `Fault::Memory`, and
-/// zeroing, discarding and a new length with `Fault::Unsupported`. Each leaves the bytes as they were.
+/// A read never fails, and copies only the bytes that it returns. A write fails with `Fault::Memory`. Zeroing, discarding and resizing fail
+/// with `Fault::Unsupported`. No call changes the bytes.
 #[derive(Drop)]
 pub struct MemoryView<'a> {
     bytes: &'a [u8],
@@ -21,7 +21,7 @@ impl<'a> MemoryView<'a> {
     ghost use Rattle.imago_storage.specs.MemStorage.{memory};
     ghost use Rattle.imago_storage.specs.View.{view_state};
 
-    /// These bytes as a storage.
+    /// Creates a storage over `bytes`.
     pub fn new(bytes: &'a [u8]) -> Self
         ensures { view_state result ≡ memory «bytes».now 1 0 }
     {

@@ -1,4 +1,5 @@
-// Zeroing of any range, padded to whole units. A unit is the request alignment in qemu.
+// Zeroing of any range, padded to whole units. If the range covers only a part of its first or last unit, that unit is read before anything
+// is written.
 ghost use Rattle.std.specs.Prelude.{◌≡◌, ℕ, ◌+◌, ◌-◌, ◌%◌, ◌<◌, ◌≤◌, ◌^◌, ◌++◌, max, min, length, slice_index, replicate, IsOk, OnOk, IfOk, IfErr, IsErrOf, IsOkUnless};
 ghost use Rattle.imago_storage.specs.State.{unit_of, IsAlignment, IsUnitRange};
 ghost use Rattle.imago_storage.specs.Calls.{CountsFaults, UnchangedButFaults, CountsNotFallen, OldOrNewBytes, RequestsOne};
@@ -11,20 +12,20 @@ use crate::padding::{edge_buffers, pad_edges, parts_of_range, write_whole};
 use crate::{Fault, Storage};
 use std::alloc::Global;
 
-/// The length of a buffer of zeroes, in bytes, where a unit isn't longer.
+/// The length of a buffer of zeroes in bytes, unless a unit is larger.
 const PIECE: usize = 65_536;
 
-/// Which call zeroes the whole units of a range.
+/// The call that zeroes the whole units of a range.
 #[derive(Clone, Copy, Debug, PartialEq, Eq)]
 pub enum Zeroing {
-    /// `pure_write_zeroes`, or writing where the storage doesn't have it.
+    /// `pure_write_zeroes`, or a write if the storage doesn't support that call.
     Any,
-    /// `pure_write_allocated_zeroes` alone.
+    /// Only `pure_write_allocated_zeroes`.
     Allocated,
 }
 
-// What is written to zero a range: the units that it has only a part of at its two ends, and zeroes for a piece of those between,
-// or for the range where that is shorter; and how many bytes lie between.
+// The buffers for zeroing a range. `first` and `last` are the first and the last unit of the range, if the range covers only a part of
+// them. `zeroes` is long enough for one piece, or for a shorter range. `mid` is the number of bytes between `first` and `last`.
 #[derive(Drop)]
 struct PreparedZeroes {
     first: Vec<u8>,
@@ -33,8 +34,8 @@ struct PreparedZeroes {
     mid: u64,
 }
 
-// Writes zeroes over whole units, in rising pieces: each ends at a multiple of the piece's length, or with the range. There are
-// zeroes for a piece, or for the range.
+// Writes zeroes over whole units, in pieces of rising offset. Each piece ends at a multiple of the piece's length, or with the range.
+// `zeroes` is long enough for one piece or for the range.
 fn write_pieces<S: Storage>(
     storage: &mut S,
     unit: usize,
@@ -62,7 +63,7 @@ fn write_pieces<S: Storage>(
     Ok(())
 }
 
-// Writes a unit, zeroes over whole units, and a unit. Each of the two units may be none.
+// Writes a unit, zeroes over whole units, and a unit. Each of the two units may be empty.
 fn write_edged<S: Storage>(
     storage: &mut S,
     unit: usize,
@@ -89,7 +90,7 @@ fn write_edged<S: Storage>(
     write_whole(storage, last, middle + n)
 }
 
-// Zeroes whole units, by one request where the storage has it.
+// Zeroes whole units, in one request if the storage supports it.
 fn zero_whole<S: Storage>(
     storage: &mut S,
     unit: usize,
@@ -122,8 +123,8 @@ fn zero_whole<S: Storage>(
     }
 }
 
-// Zeroes the whole units from `whole.0` to `whole.1`, and then writes what lies before and behind them: a unit and zeroes over
-// whole units that begin at `middle.0`, and zeroes over whole units that end at `middle.1` and a unit.
+// Zeroes the whole units from `whole.0` to `whole.1`, and then writes the rest. The rest before the whole units is `first`, and zeroes from
+// `middle.0` on. The rest after the whole units is zeroes up to `middle.1`, and `last`.
 fn zero_around<S: Storage>(
     storage: &mut S,
     unit: usize,
@@ -162,7 +163,7 @@ fn zero_around<S: Storage>(
     write_edged(storage, unit, &[], last, zeroes, end, middle.1 - end)
 }
 
-// A buffer of zeroes.
+// Allocates a buffer of zeroes.
 fn zero_buffer(alloc: Global, len: usize) -> Result<Vec<u8>, Fault>
     ensures zeroes { IfOk result (λ buf. (k : ℕ) → slice_index buf.items k ≡ 0) }
     ensures len { IfOk result (λ buf. length buf.items ≡ len) }
@@ -171,7 +172,7 @@ fn zero_buffer(alloc: Global, len: usize) -> Result<Vec<u8>, Fault>
     Ok(vec![in alloc; 0u8; len]?)
 }
 
-// Fills the buffers of a range's two ends: what is there, and zeroes over what is of the range.
+// Fills the buffers for a range's first and last unit: the current bytes, with zeroes over those of the range.
 fn prepare_edges<S: Storage>(
     storage: &mut S,
     unit: usize,
@@ -201,7 +202,7 @@ fn prepare_edges<S: Storage>(
     pad_edges(storage, unit, first, last, head, tail, offset, behind)
 }
 
-// Takes the buffers for zeroing a range that isn't empty, and fills those of its two ends.
+// Allocates the buffers for zeroing a range that isn't empty, and fills those for its first and last unit.
 fn prepare_zeroes<S: Storage>(
     storage: &mut S,
     alloc: Global,
@@ -267,7 +268,7 @@ fn write_zeroed<S: Storage>(
     )
 }
 
-// Zeroes a range that has whole units of the alignment of zeroing, which begin at `whole.0` and end at `whole.1`.
+// Zeroes a range that contains the aligned units from `whole.0` to `whole.1`.
 fn zero_wholes<S: Storage>(
     storage: &mut S,
     alloc: Global,
@@ -305,8 +306,8 @@ fn zero_wholes<S: Storage>(
     )
 }
 
-/// Zeroes any range, padded to whole units. `Zeroing::Allocated` refuses with `Fault::Unsupported` where the storage does, and
-/// then nothing has changed.
+/// Zeroes any range, padded to whole units. With `Zeroing::Allocated`, if the range has whole units and the storage doesn't support
+/// `pure_write_allocated_zeroes`, the call fails with `Fault::Unsupported` and changes nothing.
 pub fn zero_padded<S: Storage>(
     storage: &mut S,
     alloc: Global,
@@ -336,11 +337,14 @@ pub fn zero_padded<S: Storage>(
     }
 }
 
-/// Writes zeroes over the range, as `StorageExt::write` does, and by no other call of the storage: in pieces of at most 65,536
-/// bytes, or of a unit where that is larger. So no buffer is larger than that. The buffers are taken, and the range's two ends
-/// read, before it changes anything.
+/// Writes zeroes over the range by `pure_write` only.
 ///
-/// It is refused as `StorageExt::write` is, and leaves then what that leaves.
+/// The zeroes are written in pieces of at most 65,536 bytes, or of one unit if a unit is larger. No buffer is larger than one piece. The
+/// buffers are allocated, and the range's first and last unit are read, before anything changes.
+///
+/// # Errors
+///
+/// The errors are those of `StorageExt::write`. On error each byte of the range is old or 0, and no byte outside the range changes.
 pub fn write_full_zeroes<S: Storage>(
     storage: &mut S,
     alloc: Global,
@@ -352,7 +356,7 @@ pub fn write_full_zeroes<S: Storage>(
     ensures overflow { Overflows (unit_of (S.state storage.old).shape) offset n → IsErrOf result Fault.RangeOverflow }
     ensures shape { (S.state storage.new).shape ≡ (S.state storage.old).shape }
     ensures counts_not_fallen { CountsNotFallen (S.state storage.old) (S.state storage.new) }
-    // Whatever the answer: each file that a stop inside the call leaves has old bytes or zeroes in the range, and outside what was there.
+    // In every case: each crash image of the call has old bytes or zeroes in the range, and old bytes outside.
     ensures crash_images { EachCrashImage (OldOrNewBytes (S.state storage.old).bytes offset (replicate n 0)) (S.state storage.old) (S.state storage.new) }
     ensures as_long { CrashImagesNoShorter (S.state storage.old) (S.state storage.new) }
     ensures empty { n ≡ 0 → IsOk result × (S.state storage.new ≡ S.state storage.old) }

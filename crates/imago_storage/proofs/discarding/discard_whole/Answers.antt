@@ -1,4 +1,4 @@
--- The whole units of the alignment of discards are a request of the storage.
+-- The whole units are a valid range of a request.
 use Rattle.std.proofs.Common.{rules, arith, ◌+◌, ◌-◌, ◌<◌, ◌^◌, subst}
 use Rattle.imago_storage.specs.State.{IsUnitRange}
 use Rattle.imago_storage.specs.Through.{round_up}

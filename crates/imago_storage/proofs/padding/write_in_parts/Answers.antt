@@ -1,4 +1,4 @@
--- The two ends are read, and then each part is written as whole units.
+-- The first and the last unit are read, and then each part is written as whole units.
 use Rattle.std.proofs.Common.{rules, arith, ◌≡◌, ◌+◌, ◌-◌, length, ◌++◌}
 use Rattle.std.proofs.lemmas.Result.{on_ok_weaker}
 use Rattle.imago_storage.proofs.Rounding.{le_round_up}

@@ -1,4 +1,4 @@
--- The ends are read into their buffers, and zeroes put over their parts.
+-- The first and the last unit are read into their buffers, and zeroes are copied over the range's part of them.
 use Rattle.std.proofs.Common.{rules, arith, ◌≡◌, ◌+◌, ◌-◌, length, subst, sym}
 use Rattle.imago_storage.specs.Edges.{IsEdge}
 use Rattle.imago_storage.proofs.Rounding.{le_round_up}

@@ -1,4 +1,4 @@
--- The buffers, as they were filled.
+-- The buffers are those that `prepare_edges` has filled.
 use Rattle.std.proofs.Common.{rules, ◌≡◌, length, drop, sym}
 use Rattle.imago_storage.proofs.Laying.{written-back, laid-as}
 use Rattle.imago_storage.proofs.zeroing.prepare_zeroes.Goals as goal

@@ -1,4 +1,4 @@
--- A unit, pieces of zeroes, and a unit.
+-- Writes a unit, pieces of zeroes, and a unit.
 use Rattle.std.proofs.lemmas.Result.{on_ok_weaker, IfErr-weaker}
 use Rattle.imago_storage.proofs.Parts.{passed}
 use Rattle.imago_storage.proofs.ZeroSteps.{edged-through, last-refused, zeroes-refused, first-refused}

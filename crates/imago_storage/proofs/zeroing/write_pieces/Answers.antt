@@ -1,4 +1,4 @@
--- Each piece is written behind those before.
+-- Each piece is written after the one before it.
 use Rattle.std.proofs.Common.{arith, ◌≡◌, ℕ, ◌+◌, ◌≤◌, length, take, replicate, ap, sym, ◌∙◌, subst}
 use Rattle.imago_storage.specs.State.{IsUnitRange, unit_of}
 use Rattle.imago_storage.specs.Through.{PaddedWrite, OneRequest, NoRequest}

@@ -1,4 +1,4 @@
--- The pieces so far are whole units, and are written.
+-- The pieces up to `done` are whole units, and are written.
 use Rattle.std.proofs.Common.{◌≡◌, ◌-◌, ◌%◌, ◌≤◌, replicate}
 use Rattle.imago_storage.specs.Through.{PaddedWrite}
 use Rattle.imago_storage.proofs.zeroing.write_pieces.Given as goal

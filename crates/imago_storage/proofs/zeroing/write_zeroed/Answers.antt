@@ -1,4 +1,4 @@
--- What was laid is written, the lowest first.
+-- The prepared buffers are written in rising order.
 use Rattle.std.proofs.Common.{rules}
 use Rattle.std.proofs.lemmas.Result.{on_ok_weaker, IfErr-weaker}
 use Rattle.imago_storage.specs.Edges.{ZeroesPrepared}

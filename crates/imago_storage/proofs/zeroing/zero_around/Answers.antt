@@ -1,4 +1,4 @@
--- The whole units first, then what lies before and behind them.
+-- The whole units are zeroed first, then the parts before and after them are written.
 use Rattle.std.proofs.Common.{arith, ◌≡◌, ◌+◌, ◌-◌, ◌++◌, ℕ, length, replicate, subst}
 use Rattle.std.proofs.lemmas.Result.{on_ok_weaker, IfErr-weaker}
 use Rattle.imago_storage.specs.State.{IsUnitRange}

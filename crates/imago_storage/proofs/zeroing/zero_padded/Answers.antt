@@ -1,4 +1,4 @@
--- The whole units of the alignment of zeroing, and what lies around them.
+-- The whole units of the larger alignment, and the bytes around them.
 use Rattle.std.proofs.Common.{rules, arith, ◌≡◌, ◌+◌, ◌-◌, ◌<◌, ◌^◌, max, subst, sym}
 use Rattle.imago_storage.specs.State.{unit_of, IsUnitRange}
 use Rattle.imago_storage.specs.Through.{round_up, IsUnitAligned}

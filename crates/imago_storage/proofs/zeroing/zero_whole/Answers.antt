@@ -1,4 +1,4 @@
--- One request is the bytes written.
+-- One request has the effect of writing the bytes.
 use Rattle.std.proofs.Common.{replicate, ℕ, subst, sym}
 use Rattle.std.specs.Prelude.{IfErr}
 use Rattle.std.proofs.lemmas.Result.{on_ok_weaker, IfErr-weaker}

@@ -1,4 +1,4 @@
--- What was laid is written: the whole units first, then what lies around them.
+-- The prepared buffers are written: the whole units first, then the parts around them.
 use Rattle.std.proofs.Common.{rules, arith, ◌≡◌, ◌+◌, ◌-◌, ◌%◌, length}
 use Rattle.std.proofs.lemmas.Result.{on_ok_weaker, IfErr-weaker}
 use Rattle.imago_storage.specs.Edges.{ZeroesPrepared}
