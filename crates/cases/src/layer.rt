@@ -1,27 +1,28 @@
-// What a program of cases gives: its values and its calls.
+// The `Layer` trait, which a program of cases implements for `run`: its values, and the calls on them. `Trouble` says why a call has no
+// answer of its own.
 use imago_storage::Fault;
 use std::alloc::{AllocError, AllocFailed, Global};
 
-/// The values of a layer, which each case begins anew, and the calls that a script may make of them.
+/// The values of a program of cases, and the calls that a script can make on them.
 pub trait Layer {
-    /// Lets go of all that the case before has made.
+    /// Drops all values of the previous case.
     fn begin(&mut self);
 
-    /// Makes the call of these words, and returns its answer.
+    /// Makes the call that `words` describe, and returns the text of its answer.
     ///
     /// # Errors
     ///
-    /// [`Trouble::Refused`] where the call was refused, which is an answer, too: the fault's text. [`Trouble::NoCall`] where the words are
-    /// no call, which no script may want.
+    /// - [`Trouble::Refused`] if the call failed. The text of the fault is then the answer, and a script can require it.
+    /// - [`Trouble::NoCall`] if the words aren't a possible call. No answer in a script allows this.
     fn answer(&mut self, alloc: Global, words: &[&str]) -> Result<String, Trouble>;
 }
 
-/// Why a call has no answer of its own.
+/// The reason why a call has no answer of its own.
 #[derive(Clone, Copy, Debug, PartialEq, Eq)]
 pub enum Trouble {
-    /// It was refused, with this fault.
+    /// The call failed with this fault.
     Refused(Fault),
-    /// The words are no call, or ask for what can't be asked there.
+    /// The words aren't a call, or the call isn't possible in this state.
     NoCall,
 }
 

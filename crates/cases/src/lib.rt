@@ -1,7 +1,7 @@
-//! Cases as scripts: each line is a call and the answer that it must have.
+//! Test cases as scripts: each line is a call and the answer that it must have.
 //!
-//! A program gives the meaning of its words by a [`Layer`], and [`run`] reads the scripts, makes each call, and prints each answer that
-//! differs. `docs/CASES.md` has the format.
+//! A program implements [`Layer`] to give its words a meaning. [`run`] reads the scripts, makes each call, and prints each wrong answer.
+//! `docs/CASES.md` describes the format. Terms are explained in docs/GLOSSARY.md.
 #![tactic(auto)]
 
 mod layer;

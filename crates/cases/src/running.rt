@@ -1,4 +1,4 @@
-// Runs scripts, and prints each answer that differs.
+// Runs the cases of scripts, and prints each wrong answer. A case is run again if memory ran out in its first run.
 use crate::layer::{Layer, Trouble};
 use crate::script::{Case, Each, Line, cases_of};
 use std::alloc::{AllocError, AllocFailed, Global};
@@ -7,10 +7,10 @@ use std::fs::Files;
 use std::process::ExitCode;
 use std::{env, fmt, fs, io};
 
-/// The most runs of a case with another number each.
+/// The greatest number of runs of one `each` case.
 const MOST_RUNS: u64 = 4096;
 
-/// Why a run ended early.
+/// The reason why the program ended early.
 #[derive(Debug, Drop)]
 enum Ended {
     Memory,
@@ -45,7 +45,7 @@ impl From<io::Error> for Ended {
     }
 }
 
-/// What a run counts.
+/// The counts that the last line of the output reports.
 #[derive(Clone, Copy)]
 struct Counts {
     cases: u64,
@@ -53,30 +53,30 @@ struct Counts {
     wrong: u64,
 }
 
-/// What a call came to.
+/// The outcome of a line.
 #[derive(Clone, Copy, PartialEq, Eq)]
 enum Outcome {
     Right,
-    /// It was refused by a storage, as it may be.
+    /// The storage refused the call, and the script allows this answer.
     Faulted,
-    /// It was refused for want of memory, and should not have been.
+    /// Memory ran out in the first run, and the script doesn't allow this answer.
     Starved,
     Wrong,
 }
 
-/// What an answer is compared under.
+/// The circumstances of one run of a case.
 #[derive(Clone, Copy)]
 struct Round<'a> {
     file: &'a str,
-    /// What the case says of itself.
+    /// The sentence that describes the case.
     name: &'a str,
-    /// The word that stands for a number in this run of a case, and the number.
+    /// The word that this run replaces, and the number that replaces it.
     each: Option<(&'a str, &'a str)>,
-    /// Whether the case is run once more, since an allocation was refused.
+    /// Set if this is the second run, after memory ran out in the first.
     is_again: bool,
 }
 
-// The words of a text, with the number of this run in the place of its word.
+// Splits a text into words, and replaces the word of `each` by its number.
 fn words_of<'a>(
     alloc: Global,
     text: &'a str,
@@ -93,7 +93,7 @@ fn words_of<'a>(
     Ok(words)
 }
 
-// Whether an answer is one of those wanted.
+// Returns true if an answer is one of the allowed answers, which ` | ` separates.
 fn is_wanted(
     alloc: Global,
     got: &str,
@@ -109,7 +109,7 @@ fn is_wanted(
     Ok(false)
 }
 
-// Makes a call, and returns the text of its answer, and whether it was one.
+// Makes a call. Returns the text of its answer, and false if the words aren't a call.
 fn make<L: Layer>(
     alloc: Global,
     layer: &mut L,
@@ -124,7 +124,7 @@ fn make<L: Layer>(
     }
 }
 
-// What an answer comes to, beside what is wanted.
+// Compares an answer with the allowed answers.
 fn judge(
     alloc: Global,
     got: &(String, bool),
@@ -180,7 +180,8 @@ fn run_line<L: Layer>(
     Ok(outcome)
 }
 
-// The lines of a case, from the beginning, up to one that is starved. Returns whether a call was refused by a storage.
+// Runs the lines of a case from the beginning. Returns true if a storage refused a call. The run ends with `Ended::Memory` at a line that
+// unexpectedly runs out of memory.
 fn run_lines<L: Layer>(
     rt: &impl Print,
     alloc: Global,
@@ -204,7 +205,7 @@ fn run_lines<L: Layer>(
     Ok(is_faulted)
 }
 
-// A run of a case, once more where an allocation was refused.
+// Runs a case, and runs it again if memory ran out in the first run. The counts of the first run are then discarded.
 fn run_twice<L: Layer>(
     rt: &impl Print,
     alloc: Global,
@@ -227,7 +228,7 @@ fn run_twice<L: Layer>(
     }
 }
 
-// Prints what is wrong with a case as a whole, and counts it.
+// Prints and counts an error of a case as a whole.
 fn tell_case(
     rt: &impl Print,
     file: &str,
@@ -241,8 +242,8 @@ fn tell_case(
     Ok(())
 }
 
-// A case with the number `n`, in which a call is to be refused by a storage or none is, where the script says so. Returns whether the
-// case goes on with the next number.
+// Runs a case with the number `n`. If the script gives the number of faults, a storage must refuse a call in each run up to this number.
+// In a later run no storage may refuse one. Returns true if the case continues with the next number.
 fn run_number<'x, L: Layer>(
     rt: &impl Print,
     alloc: Global,
@@ -272,8 +273,9 @@ fn run_number<'x, L: Layer>(
     }
     Ok(n <= faults)
 }
+// Runs a case with the numbers from 1 on. The last number is the one after `faults`. If the script doesn't give `faults`, the last number
+// is the first one with which no storage refuses a call.
 
-// A case with each number from 1 on, up to the first one with which no call is to be refused by a storage.
 fn run_each<'x, L: Layer>(
     rt: &impl Print,
     alloc: Global,
@@ -335,7 +337,7 @@ fn run_script<'x, L: Layer>(
     Ok(())
 }
 
-// The text of a file.
+// Reads the text of a file. If that fails, the error is printed, too.
 fn script_of<R: Files + Print + AllocGlobal>(rt: &R, file: &str) -> Result<String, Ended> {
     let script = fs::read_to_string(rt, file);
     if let Err(error) = &script {
@@ -344,7 +346,7 @@ fn script_of<R: Files + Print + AllocGlobal>(rt: &R, file: &str) -> Result<Strin
     Ok(script?)
 }
 
-// The scripts that the arguments name, or that on standard input. Returns how many they are.
+// Runs the scripts that are given as arguments. Without arguments it runs the script on standard input. Returns the number of scripts.
 fn run_files<R: Files + Env + Input + Print + AllocGlobal, L: Layer>(
     rt: &R,
     layer: &mut L,
@@ -371,14 +373,17 @@ fn run_files<R: Files + Env + Input + Print + AllocGlobal, L: Layer>(
     Ok(files)
 }
 
-/// Runs the scripts that the program's arguments name, or that on standard input where there are none.
+/// Runs the scripts whose paths are the program's arguments. Without arguments it runs the script on standard input.
 ///
-/// Each wrong answer is printed, with file, line, call, what came, what was wanted and its case. A file without a case and a case
-/// without a line are wrong, too. The last line counts scripts, cases, answers and wrong ones. A case in which a call answers `error 20`
-/// where it should not is run once more.
+/// Each wrong answer is printed, with file, line, call, answer, required answer and case. A file without a case is wrong, and so is a case
+/// without a line. The last line of the output counts scripts, cases, answers and wrong answers. If a call answers `error 20` (out of
+/// memory) and that is wrong, the case is run once more.
 ///
-/// The status is 0 where no answer is wrong, 1 where one is, and 2 where the run ended early, for want of memory or since a script
-/// can't be read.
+/// The status is:
+///
+/// - 0 if no answer is wrong.
+/// - 1 if an answer is wrong, or the counts can't be printed.
+/// - 2 if the run ended early, because memory ran out, a script can't be read or the output failed.
 pub fn run<R: Files + Env + Input + Print + AllocGlobal, L: Layer>(
     rt: &R,
     layer: &mut L,

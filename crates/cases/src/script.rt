@@ -1,39 +1,42 @@
-// The cases of a script.
+// Splits a script into its cases, and the cases into their lines. The texts borrow from the script.
 use crate::words::number;
 use std::alloc::{AllocError, AllocFailed, Global};
 
-/// A line: a call and the answer that it must have.
+/// A line: a call and its allowed answers.
 #[derive(Clone, Copy)]
 pub struct Line<'a> {
-    /// Its number in the file, from 1 on.
+    /// The number of the line in the file, from 1 on.
     pub number: u64,
+    /// The words of the call.
     pub call: &'a str,
-    /// The answers of which it must have one, apart by ` | `.
+    /// The allowed answers, separated by ` | `.
     pub wanted: &'a str,
 }
 
-/// The numbers that a case is run with.
+/// The numbers of an `each` line. The case is run once with each of them.
 #[derive(Clone, Copy)]
 pub struct Each<'a> {
-    /// The word that stands for them.
+    /// The word that a number replaces.
     pub word: &'a str,
-    /// How many there are, from 1 on, of which each has a storage refuse a call; the next one has none refused. Where the script doesn't
-    /// say it, the first one with which none is refused is the last.
+    /// The number of runs, from 1 on, in which a storage must refuse a call. In the next run none may be refused. If the script doesn't
+    /// give it, the last run is the first in which no call is refused.
     pub faults: Option<u64>,
 }
 
-/// A case: lines over values that begin anew.
+/// A case: lines that are run without any value of the previous case.
 #[derive(Drop)]
 pub struct Case<'a> {
-    /// The number of its first line in the file.
+    /// The number of the case's first line in the file.
     pub number: u64,
-    /// What it says of itself; nothing where it begins the file without.
+    /// The sentence after `case`, or `none` for the lines before the first `case`.
     pub name: &'a str,
+    /// The lines of the case, in order.
     pub lines: Vec<Line<'a>>,
+    /// The last valid `each` line, if the case has one.
     pub each: Option<Each<'a>>,
 }
 
-// What the words behind `each` say: `N`, or `N to 5`.
+// Parses the words after `each`: `N`, or `N to 5`.
 fn each_of(words: &str) -> Option<Each<'_>> {
     let Some((word, faults)) = words.split_once(" to ") else {
         return Some(Each {
@@ -60,7 +63,7 @@ impl<'a> Case<'a> {
         }
     }
 
-    // Takes a line of the script that begins no case.
+    // Adds a line of the script that doesn't begin a case.
     fn take(&mut self, number: u64, text: &'a str) -> Result<(), AllocFailed<Line<'a>>> {
         if let Some(each) = text.strip_prefix("each ").and_then(each_of) {
             self.each = Some(each);
@@ -75,11 +78,11 @@ impl<'a> Case<'a> {
     }
 }
 
-/// The cases of a script in their order. Lines before the first `case` are one, too.
+/// Returns the cases of a script in their order. Lines before the first `case` are a case of their own.
 ///
 /// # Errors
 ///
-/// `AllocError` for want of memory.
+/// - `AllocError` if memory runs out.
 pub fn cases_of<'a>(alloc: Global, script: &'a str) -> Result<Vec<Case<'a>>, AllocError> {
     let mut cases = Vec::new(alloc);
     let mut number = 0u64;

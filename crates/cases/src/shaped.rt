@@ -1,5 +1,5 @@
-// A storage in memory of any four alignments, with or without the calls for zeroes and discards, which notes what it was
-// asked.
+// A storage in memory with any four alignments, with or without support for zeroes and discards. It notes the calls that it gets, so that a
+// script can require them.
 ghost use Rattle.std.specs.Prelude.{◌≡◌, IsTrue};
 ghost use Rattle.imago_storage.specs.State.{IsAlignment};
 ghost use Rattle.imago_storage.specs.MemStorage.{mem_shape, mem_state};
@@ -12,10 +12,10 @@ use std::alloc::{AllocError, Global};
 use std::cell::Cell;
 use std::fmt;
 
-/// The most calls that are noted between two lines that tell them.
+/// The greatest number of calls that `Notes` keeps.
 const MOST_NOTES: usize = 32;
 
-/// A call that reached a storage.
+/// A call that a storage got. Offsets, lengths and sizes are in bytes.
 #[derive(Clone, Copy)]
 pub enum Asked {
     Nothing,
@@ -53,7 +53,7 @@ impl fmt::Display for Asked {
     }
 }
 
-/// The first calls since they were last told, and how many there were.
+/// The first calls since the notes were last cleared, and the number of all calls since then.
 #[derive(Clone, Copy)]
 pub struct Notes {
     calls: [Asked; MOST_NOTES],
@@ -61,6 +61,7 @@ pub struct Notes {
 }
 
 impl Notes {
+    /// Returns notes without a call.
     pub fn none() -> Self {
         Notes {
             calls: [Asked::Nothing; MOST_NOTES],
@@ -90,7 +91,7 @@ pub struct Alignments {
     ghost discard_is: { IsAlignment discard },
 }
 
-/// Whether a number is a power of two of at most 2^20.
+/// Returns true if `n` is a power of two of at most 2^20.
 pub fn is_alignment(n: usize) -> bool
     ensures { IsTrue result → IsAlignment n }
 {
@@ -98,7 +99,7 @@ pub fn is_alignment(n: usize) -> bool
 }
 
 impl Alignments {
-    /// These alignments, where each is one.
+    /// Returns these alignments, in bytes, or `None` if `is_alignment` is false for one of them.
     pub fn new(mem: usize, req: usize, zero: usize, discard: usize) -> Option<Self> {
         if is_alignment(mem) && is_alignment(req) && is_alignment(zero) && is_alignment(discard) {
             Some(Alignments {
@@ -113,7 +114,7 @@ impl Alignments {
     }
 }
 
-/// The storage.
+/// A storage in memory that has the given alignments and notes each call.
 #[derive(Drop)]
 pub struct Shaped<'a> {
     inner: MemStorage,
@@ -126,6 +127,7 @@ pub struct Shaped<'a> {
 }
 
 impl<'a> Shaped<'a> {
+    /// Creates a storage with these bytes. Without `has_zeroes` or `has_discards` these calls fail with `Fault::Unsupported`.
     pub fn new(
         bytes: Vec<u8>,
         alignments: Alignments,
@@ -143,18 +145,21 @@ impl<'a> Shaped<'a> {
         })
     }
 
-    /// The same storage, which resolves each name, to one that begins with `below/`.
+    /// Makes the storage resolve each relative path, to one that begins with `below/`. Otherwise that fails with `Fault::Unsupported`.
     pub fn resolving(mut self) -> Self {
         self.resolves = true;
         self
     }
 
-    /// The storage of these words: four for its alignments, one for what it has (`z` zeroes, `d` discards, `zd` both, `-` neither), and
-    /// its bytes.
+    /// Creates a storage from words.
+    ///
+    /// The first four are the alignments of memory, requests, zeroes and discards, in bytes. The fifth is `z` if the storage supports
+    /// zeroes, `d` for discards, `zd` for both, and `-` for neither. The others are its bytes, as in `bytes`.
     ///
     /// # Errors
     ///
-    /// [`Trouble::NoCall`] where they are no such words; [`Trouble::Refused`] for want of memory.
+    /// - [`Trouble::NoCall`] if the words don't have this form.
+    /// - [`Trouble::Refused`] if memory runs out.
     pub fn of_words(
         alloc: Global,
         words: &[&str],
@@ -282,11 +287,13 @@ impl<'a> Storage for Shaped<'a> {
     }
 }
 
-/// The calls that storages were asked for since this was last told, each behind a blank but the first, with `;` at its end.
+/// Returns the noted calls as text, separated by blanks and each with `;` at its end, and clears the notes.
+///
+/// At most 32 calls are listed. `more;` stands for the others. Without a call the text is `nothing`.
 ///
 /// # Errors
 ///
-/// `AllocError` for want of memory.
+/// - `AllocError` if memory runs out. The notes are cleared in this case, too.
 pub fn told(alloc: Global, notes: &Cell<Notes>) -> Result<String, AllocError> {
     let found = notes.replace(Notes::none());
     let mut text = String::new(alloc);

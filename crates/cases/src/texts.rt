@@ -1,16 +1,16 @@
-// The texts of answers.
+// Helpers for the texts of answers: words with one blank between them, and runs of equal bytes.
 use std::alloc::{AllocError, Global};
 
-/// The answer of a call that succeeds and gives nothing.
+/// Returns `ok`, the answer of a call that succeeds without a value.
 ///
 /// # Errors
 ///
-/// `AllocError` for want of memory.
+/// - `AllocError` if memory runs out.
 pub fn ok(alloc: Global) -> Result<String, AllocError> {
     "ok".to_string(alloc)
 }
 
-// Puts the text of `count` equal bytes at the end.
+// Appends the text of `count` equal bytes.
 fn push_run(alloc: Global, text: &mut String, value: u8, count: u64) -> Result<(), AllocError> {
     if count == 0 {
         return Ok(());
@@ -23,11 +23,11 @@ fn push_run(alloc: Global, text: &mut String, value: u8, count: u64) -> Result<(
     joined(text, run.as_str())
 }
 
-/// Puts a word at the end of a text, behind a blank where the text has words.
+/// Appends a word to a text, after a blank if the text isn't empty.
 ///
 /// # Errors
 ///
-/// `AllocError` for want of memory.
+/// - `AllocError` if memory runs out.
 pub fn joined(text: &mut String, word: &str) -> Result<(), AllocError> {
     if !text.is_empty() {
         text.push_str(" ")?;
@@ -35,11 +35,11 @@ pub fn joined(text: &mut String, word: &str) -> Result<(), AllocError> {
     text.push_str(word)
 }
 
-/// Bytes as runs, `aa*3 00` for `aa aa aa 00`, and `-` for none.
+/// Returns bytes as text, in runs: `aa*3 00` for `aa aa aa 00`, and `-` for no bytes.
 ///
 /// # Errors
 ///
-/// `AllocError` for want of memory.
+/// - `AllocError` if memory runs out.
 pub fn runs(alloc: Global, bytes: &[u8]) -> Result<String, AllocError> {
     if bytes.is_empty() {
         return "-".to_string(alloc);

@@ -1,16 +1,16 @@
-// The words of a script's lines.
+// Parses the words of a script's lines: numbers, bytes and preallocation modes.
 use crate::layer::Trouble;
 use imago_storage::PreallocateMode;
 use std::alloc::Global;
 
-/// The most bytes that a word stands for.
+/// The greatest number of bytes that one word can stand for: 16 MiB.
 const MOST: u64 = 16_777_216;
 
-/// The number that a word is, in decimal digits, or in hexadecimal ones behind `0x`.
+/// Parses a number in decimal digits, or in hexadecimal digits after `0x`.
 ///
 /// # Errors
 ///
-/// [`Trouble::NoCall`] where it is none, or passes 64 bits.
+/// - [`Trouble::NoCall`] if the word isn't a number, or the number doesn't fit `u64`.
 pub fn number(word: &str) -> Result<u64, Trouble> {
     let parsed = match word.strip_prefix("0x") {
         Some(digits) => u64::from_str_radix(digits, 16),
@@ -19,20 +19,20 @@ pub fn number(word: &str) -> Result<u64, Trouble> {
     parsed.map_err(|_| Trouble::NoCall)
 }
 
-/// The number that a word is, as a count of bytes in memory.
+/// Parses a number of bytes in memory, or an index.
 ///
 /// # Errors
 ///
-/// As [`number`].
+/// The errors of [`number`].
 pub fn size(word: &str) -> Result<usize, Trouble> {
     Ok(number(word)? as usize)
 }
 
-/// The byte that two hexadecimal digits are.
+/// Parses a byte, which is two hexadecimal digits.
 ///
 /// # Errors
 ///
-/// [`Trouble::NoCall`] where the word is anything else.
+/// - [`Trouble::NoCall`] if the word is anything else.
 pub fn hex(word: &str) -> Result<u8, Trouble> {
     if word.len() != 2 || word.starts_with("+") {
         return Err(Trouble::NoCall);
@@ -40,7 +40,7 @@ pub fn hex(word: &str) -> Result<u8, Trouble> {
     u8::from_str_radix(word, 16).map_err(|_| Trouble::NoCall)
 }
 
-// Puts the bytes of one word at the end: `0a`, or `0a*3` for three of them.
+// Appends the bytes of one word: `0a`, or `0a*3` for three bytes.
 fn push_word(bytes: &mut Vec<u8>, word: &str) -> Result<(), Trouble> {
     let (value, count) = match word.split_once("*") {
         Some((value, count)) => (hex(value)?, number(count)?),
@@ -53,11 +53,12 @@ fn push_word(bytes: &mut Vec<u8>, word: &str) -> Result<(), Trouble> {
     Ok(bytes.resize(end as usize, value)?)
 }
 
-/// The bytes that words stand for: `0a` one byte, `0a*3` three of them, in hexadecimal digits.
+/// Parses bytes: the word `0a` is one byte, and `0a*3` is three, in hexadecimal digits.
 ///
 /// # Errors
 ///
-/// [`Trouble::NoCall`] where a word is none of these, or they are more than 32 MiB; [`Trouble::Refused`] for want of memory.
+/// - [`Trouble::NoCall`] if a word has another form, stands for more than 16 MiB, or follows more than 16 MiB.
+/// - [`Trouble::Refused`] if memory runs out.
 pub fn bytes(alloc: Global, words: &[&str]) -> Result<Vec<u8>, Trouble> {
     let mut bytes = Vec::new(alloc);
     for word in words.iter() {
@@ -66,11 +67,11 @@ pub fn bytes(alloc: Global, words: &[&str]) -> Result<Vec<u8>, Trouble> {
     Ok(bytes)
 }
 
-/// How a storage is resized, by `none`, `zero`, `allocate` or `data`.
+/// Parses the preallocation mode of a storage: `none`, `zero`, `allocate` or `data`.
 ///
 /// # Errors
 ///
-/// [`Trouble::NoCall`] where the word is anything else.
+/// - [`Trouble::NoCall`] if the word is anything else.
 pub fn mode(word: &str) -> Result<PreallocateMode, Trouble> {
     match word {
         "none" => Ok(PreallocateMode::None),
@@ -81,7 +82,7 @@ pub fn mode(word: &str) -> Result<PreallocateMode, Trouble> {
     }
 }
 
-/// The word of a mode.
+/// Returns the word of a preallocation mode.
 pub fn mode_word(mode: PreallocateMode) -> &'static str {
     match mode {
         PreallocateMode::None => "none",
