@@ -1,11 +1,11 @@
--- What a call tells by its answer.
+-- Lemmas on results: success, errors, and errors other than resource errors.
 use Rattle.std.proofs.Common.{◌≡◌, ◌∙◌, ap, refl, sym, subst}
 use Rattle.std.proofs.lemmas.Result.{err_from_is_err_and}
 use Rattle.std.specs.Prelude.{Result, Ok, Err, IsErrAnd, IsOk, IfOk, OnOk, IfErr}
 use Rattle.imago_storage.specs.declared.fault.Fault.{Fault}
 use Rattle.imago_access.specs.Files.{IsNotResourceError, HadNoResourceError}
 
--- what a `?` hands on
+-- The fault that `?` returns.
 pub handed_on : {T : Type 0} (result : Result T Fault) (fault : Fault) → IsErrAnd result (λ e. e ≡ fault) → result ≡ Err fault
 handed_on result fault is_err = let p = err_from_is_err_and result is_err in p.1 ∙ ap Err p.2
 
@@ -13,7 +13,7 @@ pub ok_holds : {T : Type 0} (r : Result T Fault) (P : Type 0) → IsOk r → OnO
 ok_holds (Ok v) P is h = h
 ok_holds (Err e) P is h = absurd (cc is)
 
--- told of a value, of a success alone, and of a refusal that wasn't cut off
+-- A fact follows from the value of a success, from a fact for any success, or from one for an error other than a resource error.
 pub whole_holds : {T : Type 0} (r : Result T Fault) (Q : T → Type 0) (P : Type 0) → HadNoResourceError r → ((v : T) → r ≡ Ok v → Q v → P) → IfOk r Q → IfErr r (λ e. IsNotResourceError e → P) → P
 whole_holds (Ok v) Q P is from h refused = from v refl h
 whole_holds (Err e) Q P is from h refused = refused is

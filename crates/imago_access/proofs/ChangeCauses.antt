@@ -1,4 +1,4 @@
--- A cause for which a change of a part of a range is refused is one for the whole.
+-- An error of a call on a part of a range is an error of the call on the whole range.
 use Rattle.std.proofs.Common.{◌≡◌, refl, inl, inr, ℕ, ◌+◌, ◌-◌, ◌<◌, ◌≤◌, List, [], ◌∷◌, ◌++◌, arith, sym, ◌∙◌, ap, subst}
 use Rattle.std.specs.Prelude.{false, IsFalse}
 use Rattle.imago_storage.specs.State.{StorageState}
@@ -15,14 +15,14 @@ use Rattle.imago_access.specs.Refusals.{ChangeCause, unusable_fault, SomeUnusabl
 use Rattle.imago_access.proofs.FilePairs.{pairs_append, some_rose_behind, some_rose_left}
 use Rattle.imago_access.proofs.ReadCauses.{part_overflows}
 
--- what bars a layer that has not failed
+-- An image that has not failed can be used at both moments, or at neither.
 pub barrier_on : (entry mid : Layer) → mid.fixed ≡ entry.fixed → entry.failed ≡ false → mid.failed ≡ false → unusable_fault mid ≡ unusable_fault entry
 barrier_on entry mid fixed ran runs = rw (runs, ran, fixed) refl
 
 unusable_on : (entry mid : Layer) (below : List Layer) (fault : Fault) → unusable_fault mid ≡ unusable_fault entry → SomeUnusable (mid ∷ below) fault → SomeUnusable (entry ∷ below) fault
 unusable_on entry mid below fault same h = elim h [ inl here ↦ inl (sym same ∙ here) | inr rest ↦ inr rest ]
 
--- A part's cause at a later moment, seen from the entry: the image has not failed by then, and the layers below are the same.
+-- An error of a part at a later moment, seen from the entry. The image has not failed by then, and the layers below are the same.
 module _ (below : List Layer) (entry mid : Layer) (offset n offset' n' : ℕ) (olds mids news : List StorageState) (fixed : mid.fixed ≡ entry.fixed) (size : mid.size ≡ entry.size) (ran : entry.failed ≡ false) (runs : mid.failed ≡ false)
     (positive : 0 < unit_of_layer entry) (start : offset ≤ offset') (end : offset' + n' ≤ offset + n) (later : Pairs IsLater olds mids) (causes causes' : Fault → Type 0) where
   pub part_cause_later : (e : Fault) → (causes' e → causes e) → PartCause below mid offset' n' causes' mids news e → PartCause below entry offset n causes olds news e
@@ -44,13 +44,11 @@ module _ (below : List Layer) (entry mid : Layer) (offset n offset' n' : ℕ) (o
   part_cause_later Storage more h = some_rose_behind olds mids news later h
   part_cause_later _ more h = more h
 
--- a zeroing or a discard that isn't declined
 pub undeclined_cause : (below : List Layer) (layer : Layer) (offset n : ℕ) (causes : Fault → Type 0) (olds news : List StorageState) (e : Fault) → (IsDeclined e → ⊥) → DeclinableCause below layer offset n causes olds news e → PartCause below layer offset n causes olds news e
 undeclined_cause below layer offset n causes olds news Unsupported none h = absurd (none tt)
 undeclined_cause below layer offset n causes olds news VersionLimit none h = absurd (none tt)
 undeclined_cause below layer offset n causes olds news _ none h = h
 
--- where more layers are below
 pub part_cause_deeper : (below : List Layer) (layer : Layer) (offset n : ℕ) (causes : Fault → Type 0) (olds news : List StorageState) (e : Fault) → PartCause [] layer offset n causes olds news e → PartCause below layer offset n causes olds news e
 part_cause_deeper below layer offset n causes olds news ReadOnly h = h
 part_cause_deeper below layer offset n causes olds news PastEnd h = h
@@ -61,7 +59,6 @@ part_cause_deeper below layer offset n causes olds news Memory h = h
 part_cause_deeper below layer offset n causes olds news Storage h = h
 part_cause_deeper below layer offset n causes olds news _ h = h
 
--- where there are more storages
 pub part_cause_left : (below : List Layer) (layer : Layer) (offset n : ℕ) (causes : Fault → Type 0) (olds news us vs : List StorageState) (e : Fault) → PartCause below layer offset n causes olds news e → PartCause below layer offset n causes (olds ++ us) (news ++ vs) e
 part_cause_left below layer offset n causes olds news us vs ReadOnly h = h
 part_cause_left below layer offset n causes olds news us vs PastEnd h = h
@@ -72,7 +69,7 @@ part_cause_left below layer offset n causes olds news us vs Memory h = h
 part_cause_left below layer offset n causes olds news us vs Storage h = some_rose_left olds news us vs h
 part_cause_left below layer offset n causes olds news us vs _ h = h
 
--- A cause of the driver alone in a part, behind a call that also looked at the layers below, is one of the whole.
+-- An error of the driver's own call on a part is an error of the whole call, which also read the layers below before.
 pub part_cause_alone : (below : List Layer) (entry mid : Layer) (offset n offset' n' : ℕ) (olds mids news us vs : List StorageState) → mid.fixed ≡ entry.fixed → mid.size ≡ entry.size → entry.failed ≡ false → mid.failed ≡ false
     → 0 < unit_of_layer entry → offset ≤ offset' → offset' + n' ≤ offset + n → Pairs IsLater olds mids → Pairs IsLater us vs → (causes causes' : Fault → Type 0) (e : Fault) → (causes' e → causes e)
     → PartCause below mid offset' n' causes' mids news e → PartCause below entry offset n causes (olds ++ us) (news ++ vs) e
@@ -80,12 +77,11 @@ part_cause_alone below entry mid offset n offset' n' olds mids news us vs fixed 
     part_cause_later below entry mid offset n offset' n' (olds ++ us) (mids ++ vs) (news ++ vs) fixed size ran runs positive start end (pairs_append IsLater olds mids us vs later later') causes causes' e more
     (part_cause_left below mid offset' n' causes' mids news vs vs e h)
 
--- a write to a range that is mapped there isn't refused as outdated
 pub mapped_cause : (below : List Layer) (layer : Layer) (guest place n : ℕ) (olds news : List StorageState) (e : Fault) → (0 < n → IsMappedAt layer guest place n) → MappedCause layer guest place n olds news e → PartCause below layer guest n (λ _. ⊥) olds news e
 mapped_cause below layer guest place n olds news Outdated mapped h = absurd (h.1 (mapped h.0))
 mapped_cause below layer guest place n olds news e mapped h = part_cause_deeper below layer guest n (λ _. ⊥) olds news e h
 
--- A cause of the driver, in the whole of a call, is one of the chain.
+-- An error of the driver's call on the whole range is an error of the chain's call.
 pub change_cause : (below : List Layer) (layer : Layer) (call : Call) (causes : Fault → Type 0) (olds news : List StorageState) → (0 < length_of call → Alters (disk_of below layer) call)
     → (Overflows (unit_of_layer layer) (offset_of call) (length_of call) → Overflows (unit_of_chain (layer ∷ below)) (offset_of call) (length_of call)) → (e : Fault) → PartCause below layer (offset_of call) (length_of call) causes olds news e
     → ChangeCause below layer call causes olds news e

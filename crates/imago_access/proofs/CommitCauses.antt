@@ -1,4 +1,4 @@
--- Why a commit is refused.
+-- The errors of a commit.
 use Rattle.std.proofs.Common.{◌≡◌, ◌⊎◌, refl, List, ◌++◌, inl, inr}
 use Rattle.std.specs.Prelude.{Option, Some, None, IfSome, IsSome, IsTrue, is_some}
 use Rattle.std.proofs.lemmas.Bool.Decides.{eqb_tells}
@@ -17,7 +17,7 @@ module _ {D St : Type 0} (g : Ghosts D St) (layer new : Layer) (below : List Lay
   abbrev pub Cause : Option St → Fault → Type 0
   Cause state e = ChangeCause below layer (commit (is_some state) (is_own g.tag state layer)) (λ _. ⊥) (olds ++ us) (news ++ vs) e
 
-  -- of a mapping that was given back
+  -- The mapping was returned.
   pub back_cause : (state : Option St) (e : Fault) → GivenBack g.tag state layer e → Cause state e
   back_cause state Failed h = inl h
   back_cause state MissingData h = inl h
@@ -26,14 +26,13 @@ module _ {D St : Type 0} (g : Ghosts D St) (layer new : Layer) (below : List Lay
   back_cause (Some s) _ h = absurd h
   back_cause None _ h = absurd h
 
-  -- of one that is spent
+  -- The mapping was spent.
   pub spent_cause : (state : Option St) (e : Fault) → IsMine g state layer ⊎ IsForeignTo g.tag state layer → IsSome state → Spends g state layer new (IsFree new × (IsNotResourceError e → ⊥)) → ImageCause olds news e → Cause state e
   spent_cause None e whose some spends rose = absurd (cc some)
   spent_cause (Some s) Memory whose some spends rose = tt
   spent_cause (Some s) Storage whose some spends rose = some_rose_left olds news us vs rose
   spent_cause (Some s) _ whose some spends rose = elim whose [ inl mine ↦ absurd ((spends.1 mine.1).1 tt) | inr other ↦ absurd (other spends.0) ]
 
-  -- told of only what a refusal of a safe image means
   fewer : (state : Option St) (e : Fault) (well_formed : Type 0) → well_formed → Spends g state layer new (IsFree new × (well_formed → IsNotResourceError e → ⊥)) → Spends g state layer new (IsFree new × (IsNotResourceError e → ⊥))
   fewer None e well_formed s h = h
   fewer (Some x) e well_formed s h = (h.0, λ mine. ((h.1 mine).0, (h.1 mine).1 s))

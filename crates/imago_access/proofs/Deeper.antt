@@ -1,4 +1,4 @@
--- A lookup that goes on below.
+-- A lookup that continues in the layers below: its result, its errors and its run.
 use Rattle.std.proofs.Common.{◌≡◌, refl, inl, inr, ℕ, ◌+◌, ◌<◌, ◌≤◌, List, ◌∷◌, ◌++◌, arith, add-one, sym, ◌∙◌, ap, subst}
 use Rattle.std.specs.Prelude.{Bool, true, false, ◌&&◌, IsTrue, IsSome, Option, Some, None}
 use Rattle.imago_storage.specs.State.{StorageState}
@@ -51,7 +51,7 @@ there_lower g d ds above (Special depth place) h = tt
 there_lower g d ds above (Zero explicit) h = tt
 there_lower g d ds above Eof h = tt
 
--- the top layer states none of the places of an answer that goes on below
+-- The top layer has no explicit zero in the run that the layers below report.
 pub unstated_below : (explicit_zero : ℕ → Type 0) (offset asked n : ℕ) (m : Mapping) → AreExplicitZeroes explicit_zero offset asked false → IsRunBelow asked m n → AreExplicitZeroes explicit_zero offset n false
 unstated_below explicit_zero offset asked n (Raw depth storage place writable) none run = λ i lt. none i (omega (arith, lt, run.0))
 unstated_below explicit_zero offset asked n (Special depth place) none run = λ i lt. none i (omega (arith, lt, run.0))
@@ -61,7 +61,7 @@ unstated_below explicit_zero offset asked n Eof none run = absurd run
 pub indirect_unstated : (explicit_zero : ℕ → Type 0) (offset n place : ℕ) (writable : Bool) (mapping : ShallowMapping) → mapping ≡ shallow.Indirect place writable → ReportsExplicitZero explicit_zero offset (mapping, n) → AreExplicitZeroes explicit_zero offset n false
 indirect_unstated explicit_zero offset n place writable mapping is states = subst (λ (m : ShallowMapping). ReportsExplicitZero explicit_zero offset (m, n)) is states
 
--- Causes.
+-- Errors.
 pub deep_look_top : (layer : Layer) (below : List Layer) (offset n : ℕ) (olds news us vs : List StorageState) (e : Fault)
     → LookCause layer offset n olds news e → DeepLookCause (layer ∷ below) (at (layer ∷ below)) offset n (olds ++ us) (news ++ vs) e
 deep_look_top layer below offset n olds news us vs Failed h = inl h
@@ -88,21 +88,18 @@ not_end size offset asked n (Special a b) is low most inside some = (low, most, 
 not_end size offset asked n (Zero a) is low most inside some = (low, most, inside, some)
 not_end size offset asked n Eof is low most inside some = absurd (cc is)
 
--- a run inside the layer above
 pub run_inside : (size offset asked part n : ℕ) (m lowered : Mapping) → IsRunBelow part m n → is_deep_end lowered ≡ is_deep_end m → offset < size → offset + part ≤ size → part ≤ asked → (0 < asked → 0 < part) → IsDeepRun size offset asked lowered n
 run_inside size offset asked part n (Raw a b c d) lowered run end low inside fits some = not_end size offset asked n lowered end low (omega (arith, run.0, fits)) (omega (arith, run.0, inside)) (λ h. run.1 (some h))
 run_inside size offset asked part n (Special a b) lowered run end low inside fits some = not_end size offset asked n lowered end low (omega (arith, run.0, fits)) (omega (arith, run.0, inside)) (λ h. run.1 (some h))
 run_inside size offset asked part n (Zero a) lowered run end low inside fits some = not_end size offset asked n lowered end low (omega (arith, run.0, fits)) (omega (arith, run.0, inside)) (λ h. run.1 (some h))
 run_inside size offset asked part n Eof lowered run end low inside fits some = absurd run
 
--- what the run of an answer that goes on below is
 pub indirect_run : (layer : Layer) (offset asked n place : ℕ) (writable : Bool) (mapping : ShallowMapping) → mapping ≡ shallow.Indirect place writable → IsRun layer offset asked mapping n → (offset < layer.size) × (n ≤ asked) × (offset + n ≤ layer.size) × (0 < asked → 0 < n)
 indirect_run layer offset asked n place writable mapping is run = subst (λ (m : ShallowMapping). IsRun layer offset asked m n) is run
 
 pub indirect_writable : (layer : Layer) (stored : ℕ → ℕ → ℕ) (offset n place : ℕ) (writable : Bool) (mapping : ShallowMapping) → mapping ≡ shallow.Indirect place writable → Names layer stored offset n mapping → IsTrue writable → IsTrue layer.fixed.writable × IsTrue layer.fixed.lets_through
 indirect_writable layer stored offset n place writable mapping is names = λ said. let says = subst (Names layer stored offset n) is names in (says.3 said, subst IsTrue says.2 said)
 
--- that places which can be written are answered as such, from what the top layer answers
 pub writable_here : (layer : Layer) (below : List Layer) (offset asked storage place : ℕ) (writable : Bool) → ReportsWritable layer offset asked (shallow.Raw storage place writable) → DeepNamesWritable (layer ∷ below) offset asked (Raw 0 storage place writable)
 writable_here layer below offset asked storage place writable writable_locations some can = from (layer.writable_location offset) refl can.1 where
   from : (home : Option (ℕ × ℕ)) → layer.writable_location offset ≡ home → IsSome home → IsTrue writable

@@ -1,4 +1,4 @@
--- Discards, one behind the other.
+-- Consecutive discards of parts of a range.
 use Rattle.std.proofs.Common.{◌≡◌, ◌∙◌, ◌⊎◌, inl, inr, refl, ℕ, ◌+◌, ◌^◌, ◌<◌, ◌≤◌, List, ◌∷◌, arith, sym, subst, map}
 use Rattle.std.specs.Prelude.{⊤, Result, Ok, Err, OnOk, IfErr, None}
 use Rattle.std.proofs.lemmas.Bool.{cases_lt}
@@ -28,7 +28,6 @@ use Rattle.imago_access.proofs.Running.{holds_loose, ran_driver, ran_both, went_
 use Rattle.imago_access.proofs.Units.{overflows_chain}
 use Rattle.imago_access.specs.declared.driver_model.DriverModel.{Ghosts}
 
--- a discard of a part gives what that of the whole may
 pub discarded_wider : (discarding : Discarding) (below : List Layer) (offset n start m : ℕ) → offset ≤ start → start + m ≤ offset + n
     → (p : ℕ) (v : Value) → GivesDiscarded discarding below start m p v → GivesDiscarded discarding below offset n p v
 discarded_wider ToAny below offset n start m from to p v gave = ((omega (arith, from, gave.0.0), omega (arith, to, gave.0.1)), gave.1)
@@ -41,20 +40,18 @@ discarded_there ToBacking below offset n p v gave = gave.0
 pub like_both : (a b c : Layer) → KeepsLayerState a b → KeepsLayerState b c → KeepsLayerState a c
 like_both a b c first second = record { fixed = second.fixed ∙ first.fixed; size = second.size ∙ first.size; unspent = second.unspent ∙ first.unspent; failed = λ f. second.failed (first.failed f) }
 
--- a call that was declined was not cut off
 pub declined_mild : (e : Fault) → IsDeclined e → IsNotResourceError e
 declined_mild Unsupported h = tt
 declined_mild VersionLimit h = tt
 declined_mild _ h = absurd h
 
--- a driver that has no cause to decline doesn't
 pub undeclined : (below : List Layer) (layer : Layer) (offset n : ℕ) (causes : Fault → Type 0) (olds news : List StorageState) (e : Fault) → IsUndeclined causes → IsDeclined e → DeclinableCause below layer offset n causes olds news e → ⊥
 undeclined below layer offset n causes olds news Unsupported none declined h = none.0 h
 undeclined below layer offset n causes olds news VersionLimit none declined h = none.1 h
 undeclined below layer offset n causes olds news _ none declined h = absurd declined
 
 module _ {D St : Type 0} (g : Ghosts D St) (free_loose : (d : D) → IsFree (g.layer d) → (p : ℕ) → (g.layer d).held p ≡ loose) where
-  -- what is promised where the image is sound and the layers below are shown, of an image that has nothing prepared
+  -- The effect of a driver's call on an image without a prepared mapping, which reads through to the layers below.
   pub ran_alone : (whole : Type 0) (gives : ℕ → Value → Type 0) (below : List Layer) (a b : D) → IsFree (g.layer a) → KeepsLayerState (g.layer a) (g.layer b) → MutatingCall g whole whole a b
       → (g.well_formed a → IsBacked below (g.layer a) → whole → IsBetween gives below (g.layer a) (g.layer b))
       → (g.well_formed a → IsBacked below (g.layer a) → KeepsCrashImages g below gives a b)
@@ -64,14 +61,13 @@ module _ {D St : Type 0} (g : Ghosts D St) (free_loose : (d : D) → IsFree (g.l
       (λ w i. values i.is_well_formed i.backed w)
       (λ i. stops i.is_well_formed i.backed)
 
-  -- such an image is intact
   pub intact_alone : (below : List Layer) (a : D) → IsFree (g.layer a) → g.well_formed a → IsBacked below (g.layer a) → IsIntact g alone_ghosts a below
   intact_alone below a free is_well_formed backed = record { is_well_formed = is_well_formed; is_coherent = tt; backed = backed; held = holds_loose (at below) (g.layer a) (free_loose a free) }
 
   pub went_alone : (whole : Type 0) (gives : ℕ → Value → Type 0) (below : List Layer) (a b : D) → DriverRangeChange g whole gives below a b → MutatingCall g whole whole a b
   went_alone whole gives below a b h = went_weaker g whole (whole × ⊤) whole whole a b (λ x. x) (λ x. (x, tt)) h.mutating_call
 
-  -- a discard of a part behind others
+  -- The discard of one more part.
   pub then_discarded : (whole : Type 0) (discarding : Discarding) (below : List Layer) (offset n start m : ℕ) (a b c : D) → offset ≤ start → start + m ≤ offset + n → IsFree (g.layer b)
       → DriverRangeChange g ⊤ (GivesDiscarded discarding below offset n) below a b → KeepsLayerState (g.layer b) (g.layer c) → MutatingCall g whole whole b c
       → (g.well_formed b → (under : List Layer) → IsBacked under (g.layer b) → whole → IsBetween (GivesDiscarded discarding under start m) under (g.layer b) (g.layer c))
@@ -82,11 +78,10 @@ module _ {D St : Type 0} (g : Ghosts D St) (free_loose : (d : D) → IsFree (g.l
       (λ p v gave. gave) (discarded_wider discarding below offset n start m from to) first
       (ran_alone whole (GivesDiscarded discarding below start m) below b c free like mutating_call (λ s backed w. values s below backed w) (λ s backed. stops s below backed))
 
--- a range that a change isn't refused for ends within 64 bits
 pub allowed_fits : (unit : ℕ) (layer : Layer) (offset n : ℕ) → 0 < unit → offset < 2 ^ 64 → change_refusal unit layer offset n ≡ None → offset + n < 2 ^ 64
 allowed_fits unit layer offset n positive low allowed = let up = le_round_up unit (offset + n) positive in elim (cases_lt 0 n) [ inl some ↦ grind (arith) | inr none ↦ omega (arith, none, low) ]
 
--- What a discard of all of a range does to a chain.
+-- The effect on a chain of a discard of the whole range.
 module _ {D St : Type 0} (g : Ghosts D St) (free_loose : (d : D) → IsFree (g.layer d) → (p : ℕ) → (g.layer d).held p ≡ loose)
     (d d' : D) (ds : List D) (discarding : Discarding) (offset n : ℕ) (is_free : IsFree (g.layer d)) (like : KeepsLayerState (g.layer d) (g.layer d')) where
   was_loose : (p : ℕ) → (g.layer d).held p ≡ loose
@@ -124,7 +119,6 @@ module _ {D St : Type 0} (g : Ghosts D St) (free_loose : (d : D) → IsFree (g.l
       (λ p v gave. subst (λ (o : ℕ). IsIn o (length_of call) p) (sym from) (subst (λ (m : ℕ). IsIn offset m p) (sym long) (discarded_there discarding (map g.layer ds) offset n p v gave)))
       (λ p v. given p (at (map g.layer (d ∷ ds)) p) v)
 
--- a cause in the top layer is one of the chain's call
 pub chain_cause : {D St : Type 0} (g : Ghosts D St) (aligned : (d : D) → IsAlignment (g.layer d).fixed.req_align × IsAlignment (g.layer d).fixed.mem_align) (d d' : D) (ds : List D) (result : Result (Unit {0}) Fault) (call : Call) (causes : Fault → Type 0)
     → (0 < length_of call → Alters (chain_disk g.layer (d, ds)) call)
     → IfErr result (PartCause (map g.layer ds) (g.layer d) (offset_of call) (length_of call) causes (files g d) (files g d'))

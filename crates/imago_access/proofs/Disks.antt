@@ -1,4 +1,4 @@
--- What a change of a range does to the disk of a chain.
+-- The effect of a change of a range on the disk of a chain.
 use Rattle.std.proofs.Common.{◌≡◌, refl, inl, inr, ℕ, ◌+◌, ◌<◌, ◌≤◌, List, ◌∷◌, arith, ◌∙◌, ap, sym}
 use Rattle.std.specs.Prelude.{None, Result, Ok, Err, OnOk}
 use Rattle.std.proofs.lemmas.Bool.{cases_lt}
@@ -14,7 +14,6 @@ use Rattle.imago_access.proofs.Holding.{out_or_in, at_inside}
 use Rattle.imago_access.specs.Resizes.{Grown}
 use Rattle.imago_storage.specs.declared.fault.Fault.{Fault}
 
--- a range that a change isn't refused for lies in the disk
 pub allowed_inside : (unit : ℕ) (layer : Layer) (offset n : ℕ) → change_refusal unit layer offset n ≡ None → 0 < n → offset + n ≤ layer.size
 allowed_inside unit layer offset n allowed some = grind (arith)
 
@@ -24,7 +23,6 @@ unless_empty n P Q empty some = elim (cases_lt 0 n) [
   | inr le ↦ let none : n ≡ 0 = omega (arith, le) in inl (none, empty none)
 ]
 
--- places outside of the range in which a call gives something show what they did
 pub others_same : (gives : ℕ → Value → Type 0) (below : List Layer) (old new : Layer) (offset n : ℕ) → ((p : ℕ) (v : Value) → gives p v → IsIn offset n p) → IsBetween gives below old new
     → (p : ℕ) → p < old.size → IsOut offset n p → at (new ∷ below) p ≡ at (old ∷ below) p
 others_same gives below old new offset n within between p lt out = elim (between p lt) [
@@ -34,7 +32,7 @@ others_same gives below old new offset n within between p lt out = elim (between
       elim out [ inl low ↦ absurd (omega (arith, low, into.0)) | inr past ↦ absurd (omega (arith, past, into.1)) ]
 ]
 
--- A call before and after which nothing is prepared, and that leaves the layers below.
+-- A call that leaves the layers below unchanged, with no byte held before or after it.
 module _ (below below' : List Layer) (old new : Layer) (same : below' ≡ below) (size : new.size ≡ old.size) (was_loose : (p : ℕ) → old.held p ≡ loose) (is_loose : (p : ℕ) → new.held p ≡ loose) where
   hold_same : (p : ℕ) → hold_of (new.held p) ≡ hold_of (old.held p)
   hold_same p = rw (was_loose p, is_loose p) refl
@@ -55,7 +53,7 @@ module _ (below below' : List Layer) (old new : Layer) (same : below' ≡ below)
     hold = λ p lt. hold_same p;
   }
 
-  -- the disk stays where the range is empty, and else its places become what the call makes of them
+  -- If the range is empty the disk is unchanged. Otherwise its bytes become what the call makes of them.
   pub disk_step : (gives : ℕ → Value → Type 0) (Becomes : ℕ → Value → Value → Type 0) (offset n : ℕ) → (0 < n → offset + n ≤ old.size) → ((p : ℕ) (v : Value) → gives p v → IsIn offset n p) → IsBetween gives below old new
       → ((p : ℕ) → IsIn offset n p → Becomes p (at (old ∷ below) p) (at (new ∷ below) p))
       → Unless (n ≡ 0) (Stays (disk_of below old) (disk_of below' new)) (Changes Becomes (disk_of below old) (disk_of below' new) offset n)
@@ -65,7 +63,7 @@ module _ (below below' : List Layer) (old new : Layer) (same : below' ≡ below)
       (λ none. disk_stays (λ p lt. others p lt (elim (out_or_in offset n p) [ inl out ↦ out | inr into ↦ absurd (omega (arith, into.0, into.1, none)) ])))
       (λ some. disk_changes Becomes offset n (inside some) range others)
 
-  -- a refused call
+  -- A call that failed.
   pub disk_partly : (gives : ℕ → Value → Type 0) (call : Call) → IsBetween gives below old new → ((p : ℕ) (v : Value) → gives p v → IsIn (offset_of call) (length_of call) p)
       → ((p : ℕ) (v : Value) → gives p v → Gives (at below) call p (at (old ∷ below) p) v) → PartlyDone (at below) call (disk_of below old) (disk_of below' new)
   disk_partly gives call between within given = record {
@@ -75,12 +73,12 @@ module _ (below below' : List Layer) (old new : Layer) (same : below' ≡ below)
     hold = λ p lt. hold_same p;
   }
 
--- a place that was there before a growth
+-- A byte of the old disk after a growth.
 pub shows_grown : (old new : Layer) (below : List Layer) (p : ℕ) → p < old.size → p < new.size → through (new.cell p) (at below p) ≡ through (old.cell p) (at below p)
     → at (new ∷ below) p ≡ at (old ∷ below) p
 shows_grown old new below p was is same = at_inside new below p is ∙ same ∙ sym (at_inside old below p was)
 
--- a growth of a driver is one of the disk, whose layers below stay
+-- A driver's growth is one of the disk, if the layers below are unchanged.
 pub grown_step : (under later : List Layer) (old new : Layer) (size : ℕ) (fill : Growth) (r : Result Unit Fault) → ((p : ℕ) → new.held p ≡ loose)
     → (size ≤ old.size → OnOk r (new ≡ old)) → (old.size < size → OnOk r (Grown (at under) old new size fill)) → (HadNoResourceError r → later ≡ under)
     → OnOk r (Step (at under) (disk_of under old) (grow size fill) done (disk_of later new))

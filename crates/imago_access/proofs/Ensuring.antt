@@ -1,4 +1,4 @@
--- A mapping that is prepared and committed at once.
+-- A mapping that is prepared and committed by one call.
 use Rattle.std.proofs.Common.{◌≡◌, refl, inl, inr, ℕ, ◌<◌, ◌≤◌, Bool, true, false, Option, Some, None, List, ◌∷◌, arith, sym, ◌∙◌, ap, subst}
 use Rattle.std.specs.Prelude.{⊤, if◌then◌else◌}
 use Rattle.imago_storage.specs.Disk.{Value, Hold, Disk, IsFree}
@@ -17,7 +17,7 @@ use Rattle.imago_access.proofs.Running.{ran_both, ran_gives_intact}
 use Rattle.imago_access.specs.declared.driver_model.DriverModel.{Ghosts}
 use Rattle.imago_access.specs.declared.driver_model.LayersBelowModel.{Ghosts as GhostsBelow}
 
--- what a committed place shows
+-- The value of a committed byte.
 value_settles : (below : ℕ → Value) (layer : Layer) (p : ℕ) (h : Held) (c : Cell) → IsTruly below layer p h → CommitsPlace h (layer.cell p) c → SettlesValue (hold_of h) (through (layer.cell p) (below p)) (through c (below p))
 value_settles below layer p loose c truly settles = ap (λ (x : Cell). through x (below p)) settles
 value_settles below layer p (beside b) c truly settles = ap (λ (x : Cell). through x (below p)) settles ∙ sym truly.0
@@ -41,12 +41,11 @@ settled_commits g state below below' mid new same size truly mine stateless is_l
   is_free = λ p low. ap hold_of (is_loose p);
 })
 
--- places that could be written are where they were
 pub settled_home : {D St : Type 0} (g : Ghosts D St) (state : Option St) (mid new : Layer) → IsMine g state mid → Spends g state mid new (Committed mid new) → (p : ℕ) (place : ℕ × ℕ) → mid.writable_location p ≡ Some place → new.writable_location p ≡ Some place
 settled_home g None mid new mine spends p place home = rw spends home
 settled_home g (Some s) mid new mine spends p place home = (spends.1 mine.1).writable_location p place home
 
--- a byte that a commit may give to a place of a run just prepared was announced
+-- A byte that the commit of a fresh mapping may give was promised.
 may_announced : (below : ℕ → Value) (layer : Layer) (offset n : ℕ) (overwrite : Bool) (p : ℕ) (h : Held) (v : Value) → IsHolding below layer offset n overwrite p h → MayTake h v → IsIn offset n p × (overwrite ≡ true) × IsByte v
 may_announced below layer offset n overwrite p loose v holding may = absurd may
 may_announced below layer offset n overwrite p (beside b) v holding may = absurd may
@@ -61,7 +60,7 @@ announced_gives : (overwrite : Bool) (offset n : ℕ) (p : ℕ) (v : Value) → 
 announced_gives overwrite offset n p v is gives = rw is gives
 
 module _ {D St B : Type 0} (g : Ghosts D St) (u : GhostsBelow B) where
-  -- prepared, and then spent
+  -- The mapping is prepared, and then spent.
   pub ran_ensured : (whole : Type 0) (a b c : D) (x y : B) (offset asked : ℕ) (overwrite : Bool) (storage place n : ℕ) (mapping_id : Option ℕ) → n ≤ asked
       → (IsIntact g u a x → Prepared (at (u.layers_below x)) (g.layer a) (g.layer b) (asking offset asked overwrite) (run_at storage place n mapping_id))
       → RangeChange g u ⊤ GivesNone (a, x) (b, y) → RangeChange g u whole (GivesHeld (g.layer b)) (b, y) (c, y)
@@ -73,7 +72,6 @@ module _ {D St B : Type 0} (g : Ghosts D St) (u : GhostsBelow B) where
       announced_gives overwrite offset asked p v it.1 ((it.0.0, omega (arith, it.0.1, most)), it.2))
       (ran_both g u whole GivesNone (GivesHeld (g.layer b)) (GivesHeld (g.layer b)) a b c x y y (λ p v none. absurd none) (λ p v may. may) first second)
 
--- a free disk that is kept and then committed is kept
 pub stays_committed : (a b c : Disk) → IsFree b → Stays a b → Commits b c → Stays a c
 stays_committed a b c is_free stays commits = record {
   size = commits.size ∙ stays.size;
@@ -85,7 +83,7 @@ stays_committed a b c is_free stays commits = record {
       commits.is_free p (rw commits.size low') ∙ sym (is_free p low') ∙ stays.hold p low;
 }
 
--- what bars a change bars it first
+-- A failed image and a missing file are checked first.
 barrier_first : (failed missing : Bool) (rest : Option Fault) → (if failed then Some Failed else if missing then Some MissingData else rest) ≡ None → (if failed then Some Failed else if missing then Some MissingData else None) ≡ None
 barrier_first true missing rest h = absurd (cc h)
 barrier_first false true rest h = absurd (cc h)

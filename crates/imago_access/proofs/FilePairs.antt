@@ -1,4 +1,4 @@
--- Storages before and after calls, pair by pair.
+-- Pairs of storages before and after calls.
 use Rattle.std.proofs.Common.{refl, inl, inr, List, [], ◌∷◌, ◌++◌, arith, ◌∙◌}
 use Rattle.imago_storage.specs.Calls.{IsFaultless}
 use Rattle.imago_storage.specs.State.{StorageState}
@@ -62,7 +62,6 @@ faultless_all_same = pairs_same IsFaultless (λ s. (refl, refl))
 pub faultless_all_both : (xs ys zs : List StorageState) → Pairs IsFaultless xs ys → Pairs IsFaultless ys zs → Pairs IsFaultless xs zs
 faultless_all_both = pairs_both IsFaultless (λ a b c first second. (second.0 ∙ first.0, second.1 ∙ first.1))
 
--- a storage that failed in a later call failed
 pub some_rose_behind : (xs ys zs : List StorageState) → Pairs IsLater xs ys → SomeRose ys zs → SomeRose xs zs
 some_rose_behind (x ∷ xs) (y ∷ ys) (z ∷ zs) later rose = elim rose [
   | inl one ↦ inl (rose_behind x.faults y.faults z.faults later.0.1.faults one)
@@ -73,7 +72,6 @@ some_rose_behind [] (y ∷ ys) zs later rose = absurd later
 some_rose_behind (x ∷ xs) [] zs later rose = absurd later
 some_rose_behind (x ∷ xs) (y ∷ ys) [] later rose = absurd rose
 
--- a storage of a part failed
 pub some_rose_left : (xs ys us vs : List StorageState) → SomeRose xs ys → SomeRose (xs ++ us) (ys ++ vs)
 some_rose_left (x ∷ xs) (y ∷ ys) us vs rose = elim rose [ inl one ↦ inl one | inr rest ↦ inr (some_rose_left xs ys us vs rest) ]
 some_rose_left [] ys us vs rose = absurd rose

@@ -1,4 +1,4 @@
--- Reads of the files of layers, one behind the other, and what they are as looks.
+-- Consecutive reads of the files of layers, and why each is also a lookup call.
 use Rattle.std.proofs.Common.{◌≡◌, refl, ℕ, zero, suc, ◌+◌, ◌-◌, ◌<◌, ◌≤◌, ◌^◌, List, [], ◌∷◌, ◌++◌, length, arith, ap, subst, sym, ◌∙◌, inl, inr}
 use Rattle.std.specs.Prelude.{⊤, IsTrue}
 use Rattle.std.proofs.lemmas.Nat.{div-add-mod'}
@@ -18,7 +18,6 @@ use Rattle.imago_access.proofs.FilePairs.{pairs_append, kept_all_same, kept_all_
 use Rattle.imago_access.proofs.Room.{room_same, takes_both}
 use Rattle.imago_access.proofs.Stopping.{passes_none}
 
--- storages that were kept haven't gone back
 pub kept_later : (xs ys : List StorageState) → Pairs UnchangedButMoreFaults xs ys → Pairs IsLater xs ys
 kept_later [] [] kept = tt
 kept_later [] (y ∷ ys) kept = absurd kept
@@ -26,7 +25,6 @@ kept_later (x ∷ xs) [] kept = absurd kept
 kept_later (x ∷ xs) (y ∷ ys) kept =
     ((kept.0.0.shape, record { faults = kept.0.1; refusals = omega (arith, kept.0.0.refusals) }), kept_later xs ys kept.1)
 
--- they have the bytes that they had
 pub kept_bytes : (xs ys : List StorageState) (number : ℕ) → Pairs UnchangedButMoreFaults xs ys → file_bytes_in ys number ≡ file_bytes_in xs number
 kept_bytes [] [] number kept = refl
 kept_bytes [] (y ∷ ys) number kept = absurd kept
@@ -34,7 +32,6 @@ kept_bytes (x ∷ xs) [] number kept = absurd kept
 kept_bytes (x ∷ xs) (y ∷ ys) zero kept = kept.0.0.bytes
 kept_bytes (x ∷ xs) (y ∷ ys) (suc number) kept = kept_bytes xs ys number kept.1
 
--- the bytes of a storage by its number
 pub bytes_there : (ss : List StorageState) (index : ℕ) (s : StorageState) → IsStorageAt ss index s → file_bytes_in ss index ≡ s.bytes
 bytes_there [] index s is = absurd is
 bytes_there (t ∷ ts) zero s is = ap (λ (u : StorageState). u.bytes) (sym is)
@@ -74,7 +71,6 @@ module _ {D St : Type 0} (g : Ghosts D St) where
     stays_begun = λ x call begun. second.stays_begun x call (first.stays_begun x call begun);
   }
 
-  -- such a read is a look
   pub read_looked : (whole : Type 0) (a b : D) → FilesRead g whole a b → LookupCall g whole a b
   read_looked whole a b r = record {
     keeps_layer_state = record {
@@ -95,7 +91,7 @@ module _ {D St : Type 0} (g : Ghosts D St) where
         passes_none (Left below (g.layer a) (g.image a).bytes g.sound (g.layer a).size (g.layer a).size GivesNone) (g.image a) (g.image b) k.shape (k.crash_image, k.past_crash_images, k.bytes, k.refusals);
   }
 
-  -- The same of every layer of a chain.
+  -- Reads of the files of each layer of a chain.
   pub all_read_same : (whole : Type 0) (ds : List D) → Pairs (FilesRead g whole) ds ds
   all_read_same whole [] = tt
   all_read_same whole (d ∷ ds) = (read_same whole d, all_read_same whole ds)
@@ -114,7 +110,6 @@ module _ {D St : Type 0} (g : Ghosts D St) where
   all_read_looked whole [] (y ∷ ys) h = absurd h
   all_read_looked whole (x ∷ xs) [] h = absurd h
 
-  -- each file of each layer has the bytes that it had
   pub bytes_at_kept : (whole : Type 0) (xs ys : List D) (layer file : ℕ) → Pairs (FilesRead g whole) xs ys → file_bytes_in (files_at g ys layer) file ≡ file_bytes_in (files_at g xs layer) file
   bytes_at_kept whole [] [] layer file h = refl
   bytes_at_kept whole (x ∷ xs) (y ∷ ys) zero file h = kept_bytes (files g x) (files g y) file h.0.unchanged_but_faults
@@ -122,7 +117,7 @@ module _ {D St : Type 0} (g : Ghosts D St) where
   bytes_at_kept whole [] (y ∷ ys) layer file h = absurd h
   bytes_at_kept whole (x ∷ xs) [] layer file h = absurd h
 
--- Why a read of one layer's files is refused is why one of the chain's is: among more storages.
+-- An error of a read of one layer's files is an error of the chain's read.
 pub cause_left : (overflows : Type 0) (olds news us : List StorageState) (e : Fault)
     → FileReadCause overflows olds news e → FileReadCause overflows (olds ++ us) (news ++ us) e
 cause_left overflows olds news us RangeOverflow why = why
@@ -143,7 +138,7 @@ cause_more less more olds news Memory over why = why
 cause_more less more olds news Storage over why = why
 cause_more less more olds news e over why = absurd why
 
--- why a read of a storage is refused is why one of the first of several is
+-- An error of a read of the first storage is an error of a read of all storages.
 pub cause_of_first : (s t : StorageState) (ss : List StorageState) (offset n : ℕ) (e : Fault) → UnchangedButFaults s t → NotRead s t offset n e
     → FileReadCause (Overflows (unit_of s.shape) offset n) (s ∷ ss) (t ∷ ss) e
 cause_of_first s t ss offset n RangeOverflow kept why = why.0
@@ -151,9 +146,9 @@ cause_of_first s t ss offset n Memory kept why = ((why, kept.refusals), faultles
 cause_of_first s t ss offset n Storage kept why = inl why
 cause_of_first s t ss offset n e kept why = absurd why
 
--- ---- Where a range overflows.
+-- ---- Overflow of a range.
 
--- no range from the start on overflows a unit that isn't great, where it ends below 2^63
+-- A range that starts at 0 and ends at most at 2^63 doesn't overflow.
 from_start : (unit n : ℕ) → unit ≤ 2 ^ 20 → n ≤ 2 ^ 63 → Overflows unit 0 n → ⊥
 unfolding round_up
 from_start unit n small low over = let end = 0 + n + (unit - 1) in omega (arith, div-add-mod' end unit, small, low, over.1)
@@ -165,7 +160,7 @@ from_start_in s [] (suc file) n requests memory low over = over
 from_start_in s (t ∷ ts) zero n requests memory low over = from_start (unit_of s.shape) n (omega (arith, requests, memory)) low over
 from_start_in s (t ∷ ts) (suc file) n requests memory low over = from_start_in t ts file n (omega (arith, requests)) (omega (arith, memory)) low over
 
--- so of no file of a chain
+-- The same for the files of a chain.
 module _ {D St : Type 0} (g : Ghosts D St) (aligned : (d : D) → IsAlignment (g.layer d).fixed.req_align × IsAlignment (g.layer d).fixed.mem_align) (storages : (d : D) → IsOfStorages (g.layer d) (g.image d) (g.extras d)) where
   pub fits_at : (ds : List D) (layer file n : ℕ) → n ≤ 2 ^ 63 → OverflowsIn (files_at g ds layer) file 0 n → ⊥
   fits_at [] layer file n low over = over
@@ -173,7 +168,7 @@ module _ {D St : Type 0} (g : Ghosts D St) (aligned : (d : D) → IsAlignment (g
       (omega (arith, (storages d).requests, (aligned d).0.small)) (omega (arith, (storages d).memory, (aligned d).1.small)) low over
   fits_at (d ∷ ds) (suc layer) file n low over = fits_at ds layer file n low over
 
--- the files of a layer by its number, and those of the ones below by theirs
+-- The files of the top layer and of the layers below, by number.
 module _ {D St : Type 0} (g : Ghosts D St) (d : D) (ds : List D) where
   pub at_top : (layer : ℕ) → layer ≤ 0 → files_at g (d ∷ ds) layer ≡ files g d
   at_top zero top = refl
@@ -183,7 +178,6 @@ module _ {D St : Type 0} (g : Ghosts D St) (d : D) (ds : List D) where
   at_below zero below = absurd (omega (arith, below))
   at_below (suc layer) below = let less : layer ≡ suc layer - 1 = omega arith in ap (files_at g ds) less
 
-  -- a further file of the top
   pub further_at : (layer file : ℕ) → layer ≤ 0 → (file ≡ 0 → ⊥) → file_bytes_in (files_at g (d ∷ ds) layer) file ≡ file_bytes_in (g.extras d) (file - 1)
   further_at layer zero top further = absurd (further refl)
   further_at layer (suc file) top further =

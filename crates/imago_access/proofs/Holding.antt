@@ -1,4 +1,4 @@
--- What a prepared mapping holds, from where it is prepared to where it is spent.
+-- The bytes of a prepared mapping, from its preparation to its commit or cancel.
 use Rattle.std.proofs.Common.{◌≡◌, ◌⊎◌, refl, inl, inr, ℕ, ◌+◌, ◌-◌, ◌<◌, Bool, true, false, Option, Some, None, List, ◌∷◌, length, slice_index, IsTrue, arith, sym, ◌∙◌, ap, subst}
 use Rattle.std.proofs.lemmas.Bool.{cases_lt, lt-ltb}
 use Rattle.imago_storage.specs.Disk.{Value, byte}
@@ -15,18 +15,16 @@ use Rattle.imago_access.specs.declared.driver_model.DriverModel.{Ghosts}
 pub at_inside : (layer : Layer) (below : List Layer) (p : ℕ) → p < layer.size → at (layer ∷ below) p ≡ through (layer.cell p) (at below p)
 at_inside layer below p lt = rw (lt-ltb p layer.size lt) refl
 
--- layers as long that show the same at a place
 pub at_alike : (a b : Layer) (below : List Layer) (p : ℕ) → b.size ≡ a.size → through (b.cell p) (at below p) ≡ through (a.cell p) (at below p) → at (b ∷ below) p ≡ at (a ∷ below) p
 at_alike a b below p size same = rw (size, same) refl
 
--- a place is outside a range, or in it
 pub out_or_in : (offset n p : ℕ) → IsOut offset n p ⊎ IsIn offset n p
 out_or_in offset n p = elim (cases_lt p offset) [
   | inl low ↦ inl (inl low)
   | inr from ↦ elim (cases_lt p (offset + n)) [ inl to ↦ inr (from, to) | inr past ↦ inl (inr past) ]
 ]
 
--- Prepared.
+-- Preparation.
 
 holding_truly : (below : ℕ → Value) (layer : Layer) (offset n : ℕ) (overwrite : Bool) (p : ℕ) (h : Held) → IsHolding below layer offset n overwrite p h → IsTruly below layer p h
 holding_truly below layer offset n overwrite p loose holding = tt
@@ -34,11 +32,10 @@ holding_truly below layer offset n overwrite p (beside b) holding = (holding.1, 
 holding_truly below layer offset n overwrite p (inside (Some b) written announced) holding = holding.3
 holding_truly below layer offset n overwrite p (inside None written announced) holding = tt
 
--- what a preparation has copied is what the places show
 pub truly_prepared : (below : ℕ → Value) (old new : Layer) (offset asked : ℕ) (overwrite : Bool) (storage place n : ℕ) (mapping_id : Option ℕ) → Prepared below old new (asking offset asked overwrite) (run_at storage place n mapping_id) → HoldsTrue below new
 truly_prepared below old new offset asked overwrite storage place n mapping_id prepared p = holding_truly below new offset n overwrite p (new.held p) (prepared.holds p)
 
--- Written.
+-- Writes.
 
 truly_same : (below : ℕ → Value) (old new : Layer) (p : ℕ) (h : Held) → new.cell p ≡ old.cell p → new.writable_location p ≡ old.writable_location p → IsTruly below old p h → IsTruly below new p h
 truly_same below old new p loose cell home truly = tt
@@ -52,7 +49,7 @@ takes_truly below old new p b (beside copied) held mapped truly takes = absurd (
 takes_truly below old new p b (inside (Some copied) written announced) held mapped truly takes = subst (IsTruly below new p) (sym takes.1) (ap (λ (c : Cell). through c (below p)) takes.0 ∙ truly)
 takes_truly below old new p b (inside None written announced) held mapped truly takes = subst (IsTruly below new p) (sym takes.1) tt
 
--- a write through a mapping leaves what was copied true
+-- A write to the mapping keeps the copied bytes true.
 pub truly_wrote : (below : ℕ → Value) (old new : Layer) (guest place : ℕ) (bytes : List ℕ) → (0 < length bytes → IsMappedAt old guest place (length bytes)) → Wrote old new guest bytes → HoldsTrue below old → HoldsTrue below new
 truly_wrote below old new guest place bytes mapped wrote truly p = elim (out_or_in guest (length bytes) p) [
   | inl out ↦
@@ -67,7 +64,6 @@ truly_wrote below old new guest place bytes mapped wrote truly p = elim (out_or_
       (takes_truly below old new (guest + i) (slice_index bytes i) (old.held (guest + i)) (new.held (guest + i)) (λ none. cc (none, there.1 i lt)) (truly (guest + i)) (wrote.range i lt))
 ]
 
--- its place has the byte, or notes it
 takes_cell : (b : ℕ) (h : Held) (was : Cell) (held : Held) (is : Cell) → TakesByte b h was held is → (is ≡ own (byte b)) ⊎ (is ≡ was)
 takes_cell b loose was held is takes = inl takes.0
 takes_cell b (beside copied) was held is takes = inl takes.0
@@ -86,9 +82,9 @@ between_wrote below old new guest bytes wrote p lt_size = elim (out_or_in guest 
       ]
 ]
 
--- Spent.
+-- Commit and cancel.
 
--- a place whose mapping is committed shows what it did, or what may have been written to it
+-- A committed byte reads as before, or as a byte that may have been written to it.
 settled_value : (below : ℕ → Value) (layer : Layer) (p : ℕ) (h : Held) (is : Cell) → IsTruly below layer p h → CommitsPlace h (layer.cell p) is
     → (through is (below p) ≡ through (layer.cell p) (below p)) ⊎ MayTake h (through is (below p))
 settled_value below layer p loose is truly settles = inl (ap (λ (c : Cell). through c (below p)) settles)
@@ -107,19 +103,18 @@ between_settled below old new size truly settles p lt_size = elim (settled_value
   | inr took ↦ inr (subst (MayTake (old.held p)) (sym (at_inside new below p (rw size lt_size))) took)
 ]
 
--- what a place may become is what it shows, or what may have been written to it
+-- A byte that a crash image of a commit may give is the old one, or one that may have been written.
 pub settled_given : (below : List Layer) (layer : Layer) → HoldsTrue (at below) layer → (p : ℕ) (v : Value) → p < layer.size → GivesSettled below layer p v → (v ≡ at (layer ∷ below) p) ⊎ GivesHeld layer p v
 settled_given below layer truly p v lt_size gives = elim (settled_value (at below) layer p (layer.held p) gives.0 (truly p) gives.1) [
   | inl same ↦ inl (gives.2 ∙ same ∙ sym (at_inside layer below p lt_size))
   | inr took ↦ inr (subst (MayTake (layer.held p)) (sym gives.2) took)
 ]
 
--- a mapping of the image stays its own while nothing is spent
 pub mine_on : {D St : Type 0} (g : Ghosts D St) (state : Option St) (old new : Layer) → KeepsLayerState old new → IsMine g state old → IsMine g state new
 mine_on g None old new like mine = tt
 mine_on g (Some s) old new like mine = (mine.0 ∙ ap (λ (x : Fixed). x.number) (sym like.fixed), like.unspent ∙ mine.1)
 
--- what a spent mapping without state has done: nothing, as it holds no place
+-- A mapping without state holds no byte, so spending it changes nothing.
 pub spent_settles : {D St : Type 0} (g : Ghosts D St) (state : Option St) (old new : Layer) → IsMine g state old → (state ≡ None → (p : ℕ) → old.held p ≡ loose) → Spends g state old new (Committed old new)
     → (p : ℕ) → CommitsPlace (old.held p) (old.cell p) (new.cell p)
 spent_settles g None old new mine none spends p = subst (λ (h : Held). CommitsPlace h (old.cell p) (new.cell p)) (sym (none refl p)) (ap (λ (l : Layer). l.cell p) spends)
@@ -129,7 +124,7 @@ pub spends_more : {D St : Type 0} (g : Ghosts D St) (state : Option St) (old new
 spends_more g None old new P Q more spends = spends
 spends_more g (Some s) old new P Q more spends = (spends.0, λ is. more (spends.1 is))
 
--- a mapping that is given up leaves each place as it was
+-- A cancelled mapping changes no byte.
 pub given_up_fixed : {D St : Type 0} (g : Ghosts D St) (state : Option St) (old new : Layer) → IsMine g state old → Spends g state old new (Cancelled old new) → new.fixed ≡ old.fixed
 given_up_fixed g None old new mine spends = ap (λ (l : Layer). l.fixed) spends
 given_up_fixed g (Some s) old new mine spends = (spends.1 mine.1).fixed
@@ -150,7 +145,7 @@ pub given_up_free : {D St : Type 0} (g : Ghosts D St) (state : Option St) (old n
 given_up_free g None old new mine stateless spends = ap (λ (l : Layer). l.unspent) spends ∙ stateless refl
 given_up_free g (Some s) old new mine stateless spends = (spends.1 mine.1).is_free
 
--- Prepared and written to its end.
+-- Preparation and writes together.
 
 holding_takes : (below : ℕ → Value) (layer : Layer) (offset n : ℕ) (overwrite : Bool) (p : ℕ) (h : Held) (v : Value) → IsHolding below layer offset n overwrite p h → IsOut offset n p → MayTake h v → ⊥
 holding_takes below layer offset n overwrite p loose v holding out takes = takes
@@ -163,7 +158,7 @@ took_byte b loose was held is v takes may = absurd (subst (λ (x : Held). MayTak
 took_byte b (beside copied) was held is v takes may = absurd (subst (λ (x : Held). MayTake x v) takes.1 may)
 took_byte b (inside copied written announced) was held is v takes may = subst (λ (x : Held). MayTake x v) takes.1 may
 
--- what a commit may give at a place that is held are the bytes of its run
+-- The bytes that a commit may give are the written bytes of the run.
 pub held_written : (below : ℕ → Value) (old mid new : Layer) (offset asked : ℕ) (overwrite : Bool) (storage place : ℕ) (bytes : List ℕ) (mapping_id : Option ℕ)
     → Prepared below old mid (asking offset asked overwrite) (run_at storage place (length bytes) mapping_id) → Wrote mid new offset bytes → (p : ℕ) (v : Value) → GivesHeld new p v → GivesBytes offset bytes p v
 held_written below old mid new offset asked overwrite storage place bytes mapping_id prepared wrote p v gives = elim (out_or_in offset (length bytes) p) [

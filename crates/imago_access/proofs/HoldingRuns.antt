@@ -1,4 +1,4 @@
--- What a prepared mapping does to a chain: its preparation, the writes to it, and how it is spent.
+-- The effect of a prepared mapping on a chain: its preparation, the writes to it, and its commit or cancel.
 use Rattle.std.proofs.Common.{◌≡◌, refl, ◌⊎◌, inl, inr, ℕ, ◌<◌, ◌≤◌, Bool, true, Option, None, List, ◌∷◌, length, take, slice_index, arith, sym, ◌∙◌, ap, subst, ◌+◌}
 use Rattle.std.specs.Prelude.{⊤, Result, Ok, IfOk, IfErr}
 use Rattle.std.proofs.lemmas.Grind.{common_steps}
@@ -22,7 +22,6 @@ use Rattle.imago_access.proofs.Stopping.{passes_on, passes_weaker, left_weaker}
 use Rattle.imago_access.specs.declared.driver_model.DriverModel.{Ghosts}
 use Rattle.imago_access.specs.declared.driver_model.LayersBelowModel.{Ghosts as GhostsBelow}
 
--- a run's byte is one of all the bytes
 pub gives_prefix : (offset n : ℕ) (bytes : List ℕ) → n ≤ length bytes → (p : ℕ) (v : Value) → GivesBytes offset (take n bytes) p v → GivesBytes offset bytes p v
 gives_prefix offset n bytes most p v gives =
     let long : length (take n bytes) ≡ n = grind (arith, common_steps) in
@@ -30,27 +29,25 @@ gives_prefix offset n bytes most p v gives =
     let same : slice_index (take n bytes) gives.0 ≡ slice_index bytes gives.0 = grind (arith, common_steps) in
     (gives.0, omega (arith, lt, most), gives.2, gives.3 ∙ ap byte same)
 
--- what a commit may give are the bytes of the run that was written
+-- The bytes that a commit may give are the written bytes of the run.
 pub held_run : (below : ℕ → Value) (old mid new : Layer) (offset asked : ℕ) (overwrite : Bool) (storage place n : ℕ) (bytes : List ℕ) (mapping_id : Option ℕ) → n ≤ length bytes
     → Prepared below old mid (asking offset asked overwrite) (run_at storage place n mapping_id) → Wrote mid new offset (take n bytes) → (p : ℕ) (v : Value) → GivesHeld new p v → GivesBytes offset (take n bytes) p v
 held_run below old mid new offset asked overwrite storage place n bytes mapping_id most prepared =
     let long : length (take n bytes) ≡ n = grind (arith, common_steps) in
     held_written below old mid new offset asked overwrite storage place (take n bytes) mapping_id (subst (λ (k : ℕ). Prepared below old mid (asking offset asked overwrite) (run_at storage place k mapping_id)) (sym long) prepared)
 
--- the run that was prepared is mapped where it says
 pub prepared_mapped : (below : ℕ → Value) (old mid : Layer) (offset asked : ℕ) (overwrite : Bool) (storage place n : ℕ) (bytes : List ℕ) (mapping_id : Option ℕ) → n ≤ length bytes
     → Prepared below old mid (asking offset asked overwrite) (run_at storage place n mapping_id) → IsMappedAt mid offset place (length (take n bytes))
 prepared_mapped below old mid offset asked overwrite storage place n bytes mapping_id most prepared =
     let long : length (take n bytes) ≡ n = grind (arith, common_steps) in
     (storage, λ i lt. prepared.writable_location i (omega (arith, lt, long)))
 
--- a byte that was written to a run is the place's, once the run is spent
 settles_byte : (b : ℕ) (was_held : Held) (was : Cell) (held : Held) (mid new : Cell) → ((copied : ℕ) → was_held ≡ beside copied → ⊥) → TakesByte b was_held was held mid → CommitsPlace held mid new → new ≡ own (byte b)
 settles_byte b loose was held mid new inside_run takes settles = subst (λ (h : Held). CommitsPlace h mid new) takes.1 settles ∙ takes.0
 settles_byte b (beside copied) was held mid new inside_run takes settles = absurd (inside_run copied refl)
 settles_byte b (inside copied written announced) was held mid new inside_run takes settles = subst (λ (h : Held). CommitsPlace h mid new) takes.1 settles
 
--- what a run shows that was prepared, written and spent
+-- The run reads as written, once it is prepared, written and spent.
 pub run_shows : {D St : Type 0} (g : Ghosts D St) (state : Option St) (below : List Layer) (old mid wrote_to new : Layer) (offset asked : ℕ) (overwrite : Bool) (storage place n : ℕ) (bytes : List ℕ) (mapping_id : Option ℕ)
     → n ≤ length bytes → offset + n ≤ new.size
     → Prepared (at below) old mid (asking offset asked overwrite) (run_at storage place n mapping_id) → Wrote mid wrote_to offset (take n bytes)
@@ -65,7 +62,6 @@ run_shows g state below old mid wrote_to new offset asked overwrite storage plac
     ∙ ap (λ (c : Cell). through c (at below p)) (settles_byte (slice_index (take n bytes) i) (mid.held p) (mid.cell p) (wrote_to.held p) (wrote_to.cell p) (new.cell p) not_beside (wrote.range i (omega (arith, long, lt))) (spent_settles g state wrote_to new mine stateless spends p))
     ∙ ap byte same
 
--- what a commit may give at a stop
 pub held_stops : {D St : Type 0} (g : Ghosts D St) (below : List Layer) (old new : D) → HoldsTrue (at below) (g.layer old) → KeepsCrashImages g below (GivesSettled below (g.layer old)) old new → KeepsCrashImages g below (GivesHeld (g.layer old)) old new
 held_stops g below old new holds =
     let layer = g.layer old in
@@ -75,7 +71,7 @@ held_stops g below old new holds =
     (λ p v lt gives. elim (settled_given below layer holds p v lt gives) [ inl same ↦ inr (inl same) | inr gave ↦ inr (inr gave) ]))
 
 module _ {D St B : Type 0} (g : Ghosts D St) (u : GhostsBelow B) where
-  -- a preparation changes no value, whatever its answer
+  -- A preparation changes no value, whether it succeeds or fails.
   pub ran_prepared : (r : Result (PreparedDataMapping St) Fault) (a b : D) (x y : B) (offset asked : ℕ) (overwrite : Bool) → ((p : ℕ) → (g.layer a).held p ≡ loose) → (g.layer b).size ≡ (g.layer a).size
       → MutatingCall g (HadNoResourceError r) (HadNoResourceError r × u.coherent_below x) a b → LookupCallBelow u (HadNoResourceError r) x y
       → (g.well_formed a → u.coherent_below x → IfOk r (λ m. Prepared (at (u.layers_below x)) (g.layer a) (g.layer b) (asking offset asked overwrite) (run_at m.storage m.offset m.length (mapping_id_of g.mapping_id m.state))))
@@ -93,7 +89,7 @@ module _ {D St B : Type 0} (g : Ghosts D St) (u : GhostsBelow B) where
       (λ w i p lt. inl (at_alike (g.layer a) (g.layer b) (u.layers_below x) p size (ap (λ (c : ℕ → Cell). through (c p) (at (u.layers_below x) p)) (held_on w i).1)))
       (λ i. stops i.is_well_formed i.is_coherent)
 
-  -- a run that is mapped, from one place of a storage on
+  -- The preparation of a run has succeeded.
   pub ran_mapped : (state : Option St) (a b : D) (x y : B) (offset asked : ℕ) (overwrite : Bool) (storage place n : ℕ) → ((p : ℕ) → (g.layer a).held p ≡ loose) → (g.layer b).size ≡ (g.layer a).size
       → MutatingCall g ⊤ (⊤ × u.coherent_below x) a b → LookupCallBelow u ⊤ x y
       → (g.well_formed a → u.coherent_below x → Prepared (at (u.layers_below x)) (g.layer a) (g.layer b) (asking offset asked overwrite) (run_at storage place n (mapping_id_of g.mapping_id state)))
@@ -103,7 +99,7 @@ module _ {D St B : Type 0} (g : Ghosts D St) (u : GhostsBelow B) where
       let mapping : PreparedDataMapping St = record { storage = storage; offset = place; length = n; state = state } in
       ran_prepared (Ok mapping) a b x y offset asked overwrite was_loose size mutating_call looked made (λ safely see. tt) stops
 
-  -- a write to a mapped range
+  -- A write to a mapped range.
   pub ran_wrote : (whole : Type 0) (a b : D) (x : B) (guest place : ℕ) (bytes : List ℕ) → KeepsLayerState (g.layer a) (g.layer b) → MutatingCall g whole whole a b
       → (whole → g.well_formed a → 0 < length bytes → IsMappedAt (g.layer a) guest place (length bytes))
       → (whole → g.well_formed a → Wrote (g.layer a) (g.layer b) guest bytes)
@@ -115,7 +111,7 @@ module _ {D St B : Type 0} (g : Ghosts D St) (u : GhostsBelow B) where
       (λ w i. between_wrote (u.layers_below x) (g.layer a) (g.layer b) guest bytes (wrote w i.is_well_formed))
       (λ i. stops i.is_well_formed (u.layers_below x))
 
-  -- one that is refused changes nothing, unless want of memory or a storage cut it off
+  -- The call failed. Nothing has changed, unless it was a resource error.
   pub ran_refused : (whole : Type 0) (gives : ℕ → Value → Type 0) (a b : D) (x : B) → KeepsLayerState (g.layer a) (g.layer b) → MutatingCall g whole whole a b
       → (whole → g.well_formed a → g.layer b ≡ g.layer a)
       → (g.well_formed a → (below : List Layer) → KeepsCrashImages g below gives a b)
@@ -126,7 +122,7 @@ module _ {D St B : Type 0} (g : Ghosts D St) (u : GhostsBelow B) where
       (λ w i p lt. inl (ap (λ (l : Layer). at (l ∷ u.layers_below x) p) (stayed w i.is_well_formed)))
       (λ i. stops i.is_well_formed (u.layers_below x))
 
-  -- a mapping of the image that is committed, and then nothing is prepared
+  -- The mapping is committed, and no mapping is prepared then.
   pub ran_settled : (state : Option St) (whole : Type 0) (a b : D) (x : B) → (free_loose : (d : D) → IsFree (g.layer d) → (p : ℕ) → (g.layer d).held p ≡ loose)
       → (g.layer b).size ≡ (g.layer a).size → MutatingCall g whole whole a b → IsMine g state (g.layer a) → (state ≡ None → IsFree (g.layer a)) → IsFree (g.layer b)
       → (whole → g.well_formed a → Spends g state (g.layer a) (g.layer b) (Committed (g.layer a) (g.layer b)))
@@ -138,7 +134,7 @@ module _ {D St B : Type 0} (g : Ghosts D St) (u : GhostsBelow B) where
       (λ w i. between_settled (u.layers_below x) (g.layer a) (g.layer b) size i.held (spent_settles g state (g.layer a) (g.layer b) mine (λ none. free_loose a (stateless none)) (spends w i.is_well_formed)))
       (λ i. held_stops g (u.layers_below x) a b i.held (stops i.is_well_formed (u.layers_below x)))
 
-  -- one that could not be committed and is given up
+  -- The commit failed, and the mapping is cancelled.
   pub ran_unsettled : (state : Option St) (whole : Type 0) (a b : D) (x : B) → (free_loose : (d : D) → IsFree (g.layer d) → (p : ℕ) → (g.layer d).held p ≡ loose)
       → (g.layer b).size ≡ (g.layer a).size → MutatingCall g whole whole a b → IsMine g state (g.layer a) → IsFree (g.layer b)
       → (whole → g.well_formed a → Spends g state (g.layer a) (g.layer b) (Cancelled (g.layer a) (g.layer b)))
@@ -150,7 +146,7 @@ module _ {D St B : Type 0} (g : Ghosts D St) (u : GhostsBelow B) where
       (λ w i p lt. inl (at_alike (g.layer a) (g.layer b) (u.layers_below x) p size (ap (λ (c : ℕ → Cell). through (c p) (at (u.layers_below x) p)) (given_up_cell g state (g.layer a) (g.layer b) mine (spends w i.is_well_formed)))))
       (λ i. held_stops g (u.layers_below x) a b i.held (stops i.is_well_formed (u.layers_below x)))
 
-  -- a refused write to a mapping that is given up then
+  -- A write to the mapping failed, and the mapping is cancelled.
   pub ran_given_up : (state : Option St) (whole : Type 0) (gives : ℕ → Value → Type 0) (a b c : D) (x : B) → (free_loose : (d : D) → IsFree (g.layer d) → (p : ℕ) → (g.layer d).held p ≡ loose)
       → KeepsLayerState (g.layer a) (g.layer b) → MutatingCall g whole whole a b → IsMine g state (g.layer b) → (state ≡ None → IsFree (g.layer b))
       → (whole → g.well_formed a → g.layer b ≡ g.layer a)
@@ -165,7 +161,7 @@ module _ {D St B : Type 0} (g : Ghosts D St) (u : GhostsBelow B) where
       (ap (λ (f : ℕ → Cell). through (f p) (at (u.layers_below x) p)) (given_up_cell g state (g.layer b) (g.layer c) mine spends ∙ ap (λ (l : Layer). l.cell) (stayed w i.is_well_formed)))))
       (λ i. passes_on (Left (u.layers_below x) (g.layer a) (g.image a).bytes g.sound (g.layer a).size (g.layer a).size gives) (g.image a) (g.image b) (g.image c) same (stops i.is_well_formed (u.layers_below x)))
 
-  -- writes to a mapping that is given up then
+  -- Writes to a mapping that is then cancelled.
   pub ran_abandoned : (state : Option St) (whole : Type 0) (gives : ℕ → Value → Type 0) (a b c : D) (x : B) → (free_loose : (d : D) → IsFree (g.layer d) → (p : ℕ) → (g.layer d).held p ≡ loose)
       → IsMine g state (g.layer b) → (state ≡ None → IsFree (g.layer b)) → Spends g state (g.layer b) (g.layer c) (Cancelled (g.layer b) (g.layer c)) → (g.well_formed b → g.well_formed c) → (g.stable b → g.stable c) → (g.well_formed b → KeepsExcessRefcounts g b c) → g.image c ≡ g.image b → g.extras c ≡ g.extras b
       → RangeChange g u whole gives (a, x) (b, x) → RangeChange g u whole gives (a, x) (c, x)
@@ -179,7 +175,6 @@ module _ {D St B : Type 0} (g : Ghosts D St) (u : GhostsBelow B) where
       (λ w i p lt. elim (ran.values w i p lt) [ inl was ↦ inl (alike p ∙ was) | inr gave ↦ inr (subst (gives p) (sym (alike p)) gave) ])
       (λ i. passes_on (Left (u.layers_below x) (g.layer a) (g.image a).bytes g.sound (g.layer a).size (g.layer a).size gives) (g.image a) (g.image b) (g.image c) same (ran.crash_images i))
 
-  -- what a call does to a driver alone, seen over the layers below
   pub ran_seen_over : (whole : Type 0) (gives : ℕ → Value → Type 0) (a b : D) (x : B) → DriverRangeChange g whole gives (u.layers_below x) a b
       → RangeChange g u whole gives (a, x) (b, x)
   ran_seen_over whole gives a b x ran =
@@ -189,7 +184,7 @@ module _ {D St B : Type 0} (g : Ghosts D St) (u : GhostsBelow B) where
       (λ w i. ran.values w (alone i))
       (λ i. ran.crash_images (alone i))
 
-  -- A run that is prepared, written and spent.
+  -- A run is prepared, written and spent.
   pub ran_run : (whole : Type 0) (a b c e : D) (x y : B) (offset n : ℕ) (bytes : List ℕ) → n ≤ length bytes
       → (IsIntact g u a x → (p : ℕ) (v : Value) → GivesHeld (g.layer c) p v → GivesBytes offset (take n bytes) p v)
       → RangeChange g u ⊤ GivesNone (a, x) (b, y)
@@ -203,7 +198,7 @@ module _ {D St B : Type 0} (g : Ghosts D St) (u : GhostsBelow B) where
       (ran_both g u ⊤ GivesNone (GivesBytes offset (take n bytes)) (GivesBytes offset (take n bytes)) a b c x y y (λ p v none. absurd none) (λ p v gave. gave) first second)
       third)
 
-  -- The same of a run that is mapped for bytes of which it takes the first.
+  -- Like `ran_run`, for a run that takes the first `n` bytes of a longer write.
   pub ran_spent : (state : Option St) (whole : Type 0) (a b c e : D) (x y : B) (offset asked storage place n : ℕ) (bytes : List ℕ) → n ≤ length bytes
       → ((p : ℕ) → (g.layer a).held p ≡ loose) → (g.layer b).size ≡ (g.layer a).size
       → MutatingCall g ⊤ (⊤ × u.coherent_below x) a b → LookupCallBelow u ⊤ x y

@@ -1,4 +1,4 @@
--- A lookup that tells the truth is a step of the disk.
+-- A lookup with a true result is a step of the disk.
 use Rattle.std.proofs.Common.{◌≡◌, ℕ, ◌+◌, ◌-◌, ◌<◌, ◌≤◌, ◌∷◌, List, refl, arith, subst, ap, ◌∙◌}
 use Rattle.std.specs.Prelude.{Result, Ok, Err, IfOk}
 use Rattle.imago_storage.specs.Disk.{Value, Disk}
@@ -15,17 +15,15 @@ use Rattle.imago_access.specs.declared.mapping.Mapping.{Mapping}
 use Rattle.imago_access.specs.declared.mapping.Mapping.TheVariants as deep
 use Rattle.imago_access.proofs.Holding.{at_inside}
 
--- a disk whose layers are what they were stays
 stays_same : (layer layer' : Layer) (below below' : List Layer) → layer' ≡ layer → below' ≡ below → Stays (disk_of below layer) (disk_of below' layer')
 stays_same layer layer' below below' same same_below = rw (same, same_below) (record { size = refl; value = λ p lt. refl; hold = λ p lt. refl })
 
--- a place of a range is one of its offset on
 place_of : (P : ℕ → Type 0) (offset n : ℕ) → ((i : ℕ) → i < n → P (offset + i)) → (p : ℕ) → IsIn offset n p → P p
 place_of P offset n each p inside =
     let back : offset + (p - offset) ≡ p = omega (arith, inside.0) in
     subst P back (each (p - offset) (omega (arith, inside.0, inside.1)))
 
--- a run inside the disk, of a kind that isn't its end
+-- A run inside the disk.
 run_inside : (below : ℕ → Value) (disk : Disk) (offset asked n : ℕ) (kind : Kind) → (kind ≡ at_end → ⊥) → offset < disk.size → n ≤ asked → offset + n ≤ disk.size → (0 < asked → 0 < n)
     → ((i : ℕ) → i < n → IsOfKind below kind (offset + i) (disk.value (offset + i))) → IsDiskRun below disk offset asked kind n
 run_inside below disk offset asked n kind other low most inside some each = record {
@@ -37,7 +35,7 @@ run_inside below disk offset asked n kind other low most inside some each = reco
   range = place_of (λ p. IsOfKind below kind p (disk.value p)) offset n each;
 }
 
--- the end of the disk
+-- The end of the disk.
 run_at_end : (below : ℕ → Value) (disk : Disk) (offset asked n : ℕ) → n ≡ 0 → disk.size ≤ offset → IsDiskRun below disk offset asked at_end n
 run_at_end below disk offset asked n none past = record {
   most = omega (arith, none);

@@ -1,4 +1,4 @@
--- Looks one behind the other, at one layer and at a chain.
+-- Consecutive reads and lookups, in one layer and in a chain.
 use Rattle.std.proofs.Common.{◌≡◌, refl, ℕ, List, [], ◌∷◌, arith, ◌∙◌, ap, subst, inl, inr}
 use Rattle.std.specs.Prelude.{⊤, map, ◌⊎◌}
 use Rattle.imago_storage.specs.Calls.{IsFaultless}
@@ -85,7 +85,6 @@ module _ {D St : Type 0} (g : Ghosts D St) where
           (subst (λ (n : ℕ). KeepsCrashImagesTo g below n n GivesNone b c) first.keeps_layer_state.size (second.crash_images (first.safely tt s) below));
     }
 
-  -- the same of every layer of a chain
   pub all_looked_same : (whole : Type 0) (ds : List D) → Pairs (LookupCall g whole) ds ds
   all_looked_same whole [] = tt
   all_looked_same whole (d ∷ ds) = (looked_same whole d, all_looked_same whole ds)
@@ -104,7 +103,7 @@ module _ {D St : Type 0} (g : Ghosts D St) where
   all_looked_both well_formed_is_coherent whole (x ∷ xs) [] zs first second = absurd first
   all_looked_both well_formed_is_coherent whole (x ∷ xs) (y ∷ ys) [] first second = absurd second
 
-  -- What follows for a chain.
+  -- Consequences for a chain.
   pub chain_like : (whole : Type 0) (xs ys : List D) → Pairs (LookupCall g whole) xs ys → KeepLayerStates (map g.layer xs) (map g.layer ys)
   chain_like whole [] [] h = tt
   chain_like whole (x ∷ xs) (y ∷ ys) h = (h.0.keeps_layer_state, chain_like whole xs ys h.1)
@@ -156,7 +155,6 @@ module _ {D St : Type 0} (g : Ghosts D St) where
   chain_kept whole [] (y ∷ ys) guest_unchanged h = absurd h
   chain_kept whole (x ∷ xs) [] guest_unchanged h = absurd h
 
-  -- a layer of it has failed, or what reads and changes of it rest on is what it was
   pub chain_cut : (whole : Type 0) (xs ys : List D) → Pairs (LookupCall g whole) xs ys → SomeFailed (map g.layer ys) ⊎ IsKnownUnder (below_ghosts g) xs ys
   chain_cut whole [] [] h = inr (record { seen = λ see. (refl, tt); safely = λ s. tt })
   chain_cut whole (x ∷ xs) (y ∷ ys) h = elim h.0.cut [
@@ -175,7 +173,7 @@ module _ {D St : Type 0} (g : Ghosts D St) where
   chain_cut whole [] (y ∷ ys) h = absurd h
   chain_cut whole (x ∷ xs) [] h = absurd h
 
--- the layers below, seen as those of another type
+-- The layers below, through a function to another type.
 abbrev pub seen_by : {B C : Type 0} → (B → C) → GhostsBelow C → GhostsBelow B
 seen_by f u = record {
   layers_below = λ b. u.layers_below (f b);
@@ -186,7 +184,7 @@ seen_by f u = record {
   stable_below = λ b. u.stable_below (f b);
 }
 
--- looks at the layers below one
+-- Reads and lookups in the layers below.
 module _ {B : Type 0} (u : GhostsBelow B) where
   pub looked_under_same : (whole : Type 0) (b : B) → LookupCallBelow u whole b b
   looked_under_same whole b = record {

@@ -1,4 +1,4 @@
--- Calls of a chain on mappings, from what they do to its driver.
+-- A chain's calls on mappings, from the effects on its driver.
 use Rattle.std.proofs.Common.{◌≡◌, ◌⊎◌, refl, inl, inr, ℕ, ◌+◌, ◌<◌, ◌≤◌, Bool, true, false, Option, Some, None, List, ◌∷◌, ◌++◌, length, map, arith, sym, ◌∙◌, ap, subst}
 use Rattle.std.specs.Prelude.{Result, OnOk, IfErr, is_some}
 use Rattle.std.proofs.lemmas.Bool.{cases_lt}
@@ -44,9 +44,8 @@ write_mapped_cause layer aligned d ds guest place bytes olds news us vs Memory h
 write_mapped_cause layer aligned d ds guest place bytes olds news us vs Storage h = some_rose_left olds news us vs h
 write_mapped_cause layer aligned d ds guest place bytes olds news us vs _ h = absurd h
 
--- Preparations.
+-- Preparation.
 
--- where layers say and hold the same, the disk stays
 pub not_prepared_stays : (below below' : List Layer) (old new : Layer) → below' ≡ below → NotPrepared old new → Stays (disk_of below old) (disk_of below' new)
 not_prepared_stays below below' old new same refused = rw same (record {
   size = refused.keeps_layer_state.size;
@@ -54,14 +53,13 @@ not_prepared_stays below below' old new same refused = rw same (record {
   hold = λ p low. ap (λ (h : ℕ → Held). hold_of (h p)) refused.held;
 })
 
--- a place of a prepared run is held for it, or free
 holds_or_free : (below : ℕ → Value) (layer : Layer) (offset n : ℕ) (overwrite : Bool) (p : ℕ) (h : Held) → IsHolding below layer offset n overwrite p h → (hold_of h ≡ free) ⊎ (IsIn offset n p × (hold_of h ≡ held None overwrite))
 holds_or_free below layer offset n overwrite p loose holding = inl refl
 holds_or_free below layer offset n overwrite p (beside b) holding = inl refl
 holds_or_free below layer offset n overwrite p (inside (Some b) written announced) holding = inr (holding.0, rw (holding.1, holding.2) refl)
 holds_or_free below layer offset n overwrite p (inside None written announced) holding = inr (holding.0, rw (holding.1, holding.2) refl)
 
--- what a mapping without state has, and one with state
+-- The state of a mapping, by `is_some`.
 pub stateless_is : {S : Type 0} (state : Option S) → is_some state ≡ false → state ≡ None
 stateless_is None h = refl
 stateless_is (Some s) h = absurd (cc h)
@@ -107,7 +105,7 @@ prepared_step below below' old new offset asked overwrite storage place n mappin
     ])
 
 module _ {D St B : Type 0} (g : Ghosts D St) (u : GhostsBelow B) where
-  -- a write to a mapped range, by its answer
+  -- A write to a mapped range, by its result.
   pub ran_mapped : {T : Type 0} (r : Result T Fault) (a b : D) (x : B) (guest place : ℕ) (bytes : List ℕ) → KeepsLayerState (g.layer a) (g.layer b) → MutatingCall g (HadNoResourceError r) (HadNoResourceError r) a b
       → (g.well_formed a → OnOk r (Wrote (g.layer a) (g.layer b) guest bytes)) → (g.well_formed a → OnOk r (0 < length bytes → IsMappedAt (g.layer a) guest place (length bytes)))
       → (g.well_formed a → IfErr r (λ e. IsNotResourceError e → g.layer b ≡ g.layer a))

@@ -1,4 +1,4 @@
--- What refusals leave of an image of a format that marks failures, from a part of a change to the whole of it.
+-- The failed state after an error, from a part of a change to the whole change.
 use Rattle.std.proofs.Common.{◌≡◌, [], inl, inr, refl, ℕ, List, ◌∷◌, sym, subst}
 use Rattle.std.specs.Prelude.{Option, Some, None, IsTrue, Bool, true, false, if◌then◌else◌}
 use Rattle.imago_storage.specs.Calls.{IsFaultless}
@@ -20,7 +20,6 @@ use Rattle.imago_access.proofs.FilePairs.{some_rose_behind}
 use Rattle.imago_access.proofs.Looking.{seen_by}
 use Rattle.imago_access.proofs.Running.{intact_by}
 
--- a storage that has failed behind a call in which none did has failed since that call
 some_rose_since : (olds mids news : List StorageState) → Pairs IsFaultless olds mids → SomeRose olds news → SomeRose mids news
 some_rose_since (old ∷ olds) (mid ∷ mids) (new ∷ news) none rose = elim rose [
   | inl first ↦ inl (subst (λ (n : ℕ). HasRisen n new.faults) (sym none.0.0) first)
@@ -30,7 +29,6 @@ some_rose_since (old ∷ olds) (mid ∷ mids) [] none rose = absurd rose
 some_rose_since [] mids news none rose = absurd rose
 some_rose_since (old ∷ olds) [] news none rose = absurd none
 
--- nothing is given back for want of memory, nor by a storage that failed
 pub given_back_mild : {St : Type 0} (tag : St → ℕ) (state : Option St) (layer : Layer) (e : Fault) → GivenBack tag state layer e → IsNotResourceError e
 given_back_mild tag None layer Memory given = absurd given
 given_back_mild tag (Some s) layer Memory given = absurd given
@@ -38,7 +36,7 @@ given_back_mild tag None layer Storage given = absurd given
 given_back_mild tag (Some s) layer Storage given = absurd given
 given_back_mild tag state layer e given = tt
 
--- no storage that failed bars a layer
+-- A layer that can't be used has another fault than `Storage`.
 no_storage : (failed missing : Bool) → (if failed then Some Failed else if missing then Some MissingData else None) ≡ Some Storage → ⊥
 no_storage true missing is = cc is
 no_storage false true is = cc is
@@ -47,7 +45,7 @@ no_storage false false is = cc is
 pub unusable_by_none : (layer : Layer) (e : Fault) → unusable_fault layer ≡ Some e → e ≡ Storage → ⊥
 unusable_by_none layer e barred is = no_storage layer.failed layer.fixed.missing (subst (λ (f : Fault). unusable_fault layer ≡ Some f) is barred)
 
--- a layer that was refused because its files say something else than what was read of them could be used
+-- A layer whose files don't agree with what was read of them could be used before.
 unbarred : (failed missing : Bool) (e : Fault) → IsStale e → ((f : Fault) → (if failed then Some Failed else if missing then Some MissingData else None) ≡ Some f → e ≡ f)
     → (if failed then Some Failed else if missing then Some MissingData else None) ≡ None
 unbarred true missing e stale refused = absurd (subst IsStale (refused Failed refl) stale)
@@ -55,7 +53,7 @@ unbarred false true e stale refused = absurd (subst IsStale (refused MissingData
 unbarred false false e stale refused = refl
 
 module _ {D St : Type 0} (g : Ghosts D St) where
-  -- what the driver says at which a reload ends
+  -- The facts for the layer where a reload ended.
   pub ends_reload : (a b : D) (e : Fault) → RefusesReload g a b e → MarksFailed g a b e → (IsStale e → IsTrue (g.layer b).failed) → ((f : Fault) → unusable_fault (g.layer a) ≡ Some f → e ≡ f) → EndsReload g e a b
   ends_reload a b e cause marks failed refused = record {
     cause = cause;
@@ -63,7 +61,6 @@ module _ {D St : Type 0} (g : Ghosts D St) where
     failed = λ stale. (unbarred (g.layer a).failed (g.layer a).fixed.missing e stale refused, failed stale);
   }
 
-  -- what never changes of a driver
   marks_on : (a b : D) → (g.layer b).fixed ≡ (g.layer a).fixed → IsTrue (g.layer a).fixed.marks_failed → IsTrue (g.layer b).fixed.marks_failed
   marks_on a b fixed marks = subst (λ (f : Fixed). IsTrue f.marks_failed) (sym fixed) marks
 
@@ -97,7 +94,7 @@ module _ {D St : Type 0} (g : Ghosts D St) where
   alone_plain a b Memory marked = λ marks. elim (marked marks) [ inl failed ↦ inl failed | inr spared ↦ inr (λ well_formed. spared.known.safely well_formed) ]
   alone_plain a b e marked = tt
 
-  -- behind a call that left it safe, and before one that leaves it as it is
+  -- After a call that left the driver well-formed.
   pub alone_behind : (a b c : D) (e : Fault) → (g.layer b).fixed ≡ (g.layer a).fixed → (g.well_formed a → g.well_formed b) → DriverMarksFailed g b c e → DriverMarksFailed g a c e
   alone_behind a b c Storage fixed safely marked = λ marks. marked (marks_on a b fixed marks)
   alone_behind a b c Memory fixed safely marked = λ marks. elim (marked (marks_on a b fixed marks)) [ inl failed ↦ inl failed | inr on ↦ inr (λ well_formed. on (safely well_formed)) ]
@@ -108,7 +105,7 @@ module _ {D St : Type 0} (g : Ghosts D St) where
   alone_before a b c Memory same safely marked = λ marks. elim (marked marks) [ inl failed ↦ inl (subst (λ (f : Bool). IsTrue f) (sym same) failed) | inr on ↦ inr (λ well_formed. safely (on well_formed)) ]
   alone_before a b c e same safely marked = tt
 
-  -- of the layers that a call looks at: a storage of the top one failed, and one of any did behind looks
+  -- A storage of the top layer failed; below, one of any layer failed after lookups.
   pub marked_top : (a b : D) (olds news : List D) (e : Fault) → (e ≡ Storage → SomeRose (files g a) (files g b)) → MarksFailed g a b e → MarksSomeFailed g (a ∷ olds) (b ∷ news) e
   marked_top a b olds news e rose marked = λ is. inl (rose is, subst (MarksFailed g a b) is marked)
 
@@ -122,7 +119,7 @@ module _ {D St : Type 0} (g : Ghosts D St) where
   marked_behind whole [] (y ∷ ys) zs looked marked = absurd looked
   marked_behind whole (x ∷ xs) [] zs looked marked = absurd looked
 
--- the same over the layers below
+-- The failed state of the top layer, after calls that also read the layers below.
 module _ {D St B : Type 0} (g : Ghosts D St) (u : GhostsBelow B) where
   pub top_mild : (a b : D) (x y : B) (e : Fault) → IsNotResourceError e → MarksTopFailed g u (a, x) (b, y) e
   top_mild a b x y Memory not_resource_error = absurd not_resource_error
@@ -134,13 +131,13 @@ module _ {D St B : Type 0} (g : Ghosts D St) (u : GhostsBelow B) where
   top_over a b x y Memory marked = λ marks. elim (marked marks) [ inl failed ↦ inl failed | inr spared ↦ inr (λ i. spared.known.safely i.is_well_formed) ]
   top_over a b x y e marked = tt
 
-  -- a call of the driver alone, behind one that left an intact image safe
+  -- A call of the driver itself, after one that left it well-formed.
   pub top_alone : (a b c : D) (x y : B) (e : Fault) → (g.layer b).fixed ≡ (g.layer a).fixed → (IsIntact g u a x → g.well_formed b) → DriverMarksFailed g b c e → MarksTopFailed g u (a, x) (c, y) e
   top_alone a b c x y Storage fixed safely marked = λ marks. let failed = marked (marks_on g a b fixed marks) in ((λ rose. failed), inl failed)
   top_alone a b c x y Memory fixed safely marked = λ marks. elim (marked (marks_on g a b fixed marks)) [ inl failed ↦ inl failed | inr on ↦ inr (λ i. on (safely i)) ]
   top_alone a b c x y e fixed safely marked = tt
 
-  -- behind a call in which no storage failed
+  -- After a call in which no storage failed.
   pub top_behind : (a b c : D) (x y z : B) (e : Fault) → (g.layer b).fixed ≡ (g.layer a).fixed → Pairs IsFaultless (files g a) (files g b) → (IsIntact g u a x → IsIntact g u b y)
       → MarksTopFailed g u (b, y) (c, z) e → MarksTopFailed g u (a, x) (c, z) e
   top_behind a b c x y z Storage fixed none intact marked = λ marks. let told = marked (marks_on g a b fixed marks) in
@@ -148,7 +145,6 @@ module _ {D St B : Type 0} (g : Ghosts D St) (u : GhostsBelow B) where
   top_behind a b c x y z Memory fixed none intact marked = λ marks. elim (marked (marks_on g a b fixed marks)) [ inl failed ↦ inl failed | inr on ↦ inr (λ i. on (intact i)) ]
   top_behind a b c x y z e fixed none intact marked = tt
 
--- as a chain sees the layers below
 pub top_by : {D St B C : Type 0} (f : B → C) (g : Ghosts D St) (u : GhostsBelow C) (a b : D) (x y : B) (e : Fault) → MarksTopFailed g (seen_by f u) (a, x) (b, y) e → MarksTopFailed g u (a, f x) (b, f y) e
 top_by f g u a b x y Storage marked = λ marks. ((marked marks).0, elim (marked marks).1 [ inl failed ↦ inl failed | inr on ↦ inr (λ i. on (intact_by f g u a x i)) ])
 top_by f g u a b x y Memory marked = λ marks. elim (marked marks) [ inl failed ↦ inl failed | inr on ↦ inr (λ i. on (intact_by f g u a x i)) ]

@@ -1,4 +1,4 @@
--- A refusal's cause in a part of a range, or in a layer below, is one in the whole.
+-- An error in a part of a range, or in a layer below, is an error of the whole read or lookup.
 use Rattle.std.proofs.Common.{◌≡◌, inl, inr, ℕ, ◌+◌, ◌<◌, ◌≤◌, List, [], ◌∷◌, ◌++◌, arith, sym, ◌∙◌, ap, subst, add_assoc}
 use Rattle.std.specs.Prelude.{Bool}
 use Rattle.std.proofs.lemmas.Bool.{lt-ltb}
@@ -17,15 +17,12 @@ use Rattle.imago_access.specs.declared.mapping.ShallowMapping.TheVariants.{Raw, 
 use Rattle.imago_access.specs.Refusals.{unusable_fault, SomeIs, ReadCause, LookCause, ReadMappedCause, InvalidateCause}
 use Rattle.imago_access.proofs.FilePairs.{some_rose_behind, some_rose_left, some_rose_right}
 
--- where a layer maps nothing, the one below shows
 pub at_unmapped : (layer : Layer) (below : List Layer) (p : ℕ) → p < layer.size → layer.cell p ≡ unmapped → at (layer ∷ below) p ≡ at below p
 at_unmapped layer below p inside free = rw (lt-ltb p layer.size inside, free)
 
--- what a layer says itself shows
 pub at_own : (layer : Layer) (below : List Layer) (p : ℕ) (v : Value) → p < layer.size → layer.cell p ≡ own v → at (layer ∷ below) p ≡ v
 at_own layer below p v inside is = rw (lt-ltb p layer.size inside, is)
 
--- a part of a range that has a padded end in reach has one too
 pub part_overflows : (unit offset n done part : ℕ) → 0 < unit → done + part ≤ n → Overflows unit (offset + done) part → Overflows unit offset n
 part_overflows unit offset n done part positive fits h =
     let low : round_up unit (offset + done + part) ≤ round_up unit (offset + n) = round_up-le unit (offset + done + part) (offset + n) positive (omega arith) in
@@ -34,7 +31,7 @@ part_overflows unit offset n done part positive fits h =
 some_is_part : (value : ℕ → Value) (offset done n part : ℕ) (v : Value) → done + part ≤ n → SomeIs value (offset + done) part v → SomeIs value offset n v
 some_is_part value offset done n part v fits h = (done + h.0, omega (arith, h.1), ap value (sym (add_assoc offset done h.0)) ∙ h.2)
 
--- a cause met in a part of the range, after calls that went well
+-- An error in a part of the range, after calls that succeeded.
 pub read_cause_part : (chain : List Layer) (value : ℕ → Value) (unit offset done n part : ℕ) (olds mids news : List StorageState) (e : Fault)
     → ReadCause chain value unit (offset + done) part mids news e → 0 < unit → done + part ≤ n → Pairs IsLater olds mids → ReadCause chain value unit offset n olds news e
 read_cause_part chain value unit offset done n part olds mids news Failed h positive fits later = h
@@ -46,7 +43,6 @@ read_cause_part chain value unit offset done n part olds mids news Memory h posi
 read_cause_part chain value unit offset done n part olds mids news Storage h positive fits later = some_rose_behind olds mids news later h
 read_cause_part chain value unit offset done n part olds mids news _ h positive fits later = absurd h
 
--- a lookup's cause
 pub look_cause : (layer : Layer) (below : List Layer) (unit offset n : ℕ) (olds news us vs : List StorageState) (e : Fault)
     → LookCause layer offset n olds news e → ReadCause (layer ∷ below) (at (layer ∷ below)) unit offset n (olds ++ us) (news ++ vs) e
 look_cause layer below unit offset n olds news us vs Failed h = inl h
@@ -56,7 +52,7 @@ look_cause layer below unit offset n olds news us vs Memory h = h
 look_cause layer below unit offset n olds news us vs Storage h = some_rose_left olds news us vs h
 look_cause layer below unit offset n olds news us vs _ h = absurd h
 
--- a cause met below a layer that maps nothing there
+-- An error below a layer that has nothing there.
 pub read_cause_below : (layer : Layer) (below : List Layer) (unit less offset part n : ℕ) (olds news us vs : List StorageState) (e : Fault)
     → ReadCause below (at below) less offset part us vs e → (Overflows less offset part → ⊥) → EachIs layer.cell offset part (λ i. unmapped) → offset + part ≤ layer.size → part ≤ n
     → Pairs IsLater olds news → ReadCause (layer ∷ below) (at (layer ∷ below)) unit offset n (olds ++ us) (news ++ vs) e
@@ -71,7 +67,7 @@ read_cause_below layer below unit less offset part n olds news us vs Memory h no
 read_cause_below layer below unit less offset part n olds news us vs Storage h no_change_refused free inside fits later = some_rose_right olds news us vs later h
 read_cause_below layer below unit less offset part n olds news us vs _ h no_change_refused free inside fits later = absurd h
 
--- a cause met at the bytes of a storage that a lookup has named
+-- An error of a read at the location that a lookup returned.
 pub read_mapped_cause : (layer mid : Layer) (below : List Layer) (value : ℕ → Value) (unit offset n place part : ℕ) (olds mids news us vs : List StorageState) (e : Fault)
     → ReadMappedCause mid place part mids news e → mid ≡ layer → (Overflows (unit_of_layer mid) place part → ⊥) → Pairs IsLater olds mids → ReadCause (layer ∷ below) value unit offset n (olds ++ us) (news ++ vs) e
 read_mapped_cause layer mid below value unit offset n place part olds mids news us vs Failed h same no_change_refused later = inl (ap unusable_fault (sym same) ∙ h)
@@ -81,7 +77,7 @@ read_mapped_cause layer mid below value unit offset n place part olds mids news 
 read_mapped_cause layer mid below value unit offset n place part olds mids news us vs Storage h same no_change_refused later = some_rose_left olds news us vs (some_rose_behind olds mids news later h)
 read_mapped_cause layer mid below value unit offset n place part olds mids news us vs _ h same no_change_refused later = absurd h
 
--- What a lookup says, by the kind that it answers.
+-- The result of a lookup, by its kind.
 module _ (layer : Layer) (stored : ℕ → ℕ → ℕ) (offset asked : ℕ) (mapping : ShallowMapping) (n : ℕ) (looks : Looks layer stored offset asked mapping n) where
   pub indirect_free : (place : ℕ) (writable : Bool) → mapping ≡ Indirect place writable → EachIs layer.cell offset n (λ i. unmapped)
   indirect_free place writable is = (subst (Names layer stored offset n) is looks.names).0
@@ -95,14 +91,13 @@ module _ (layer : Layer) (stored : ℕ → ℕ → ℕ) (offset asked : ℕ) (ma
   pub indirect_inside : (place : ℕ) (writable : Bool) → mapping ≡ Indirect place writable → IsRun layer offset asked mapping n → offset + n ≤ layer.size
   indirect_inside place writable is run = (subst (λ (m : ShallowMapping). IsRun layer offset asked m n) is run).2
 
-  -- a read that meets a place that can't be read
   pub barred_there : (below : List Layer) (place : ℕ) → 0 < asked → mapping ≡ Special place → IsRun layer offset asked mapping n → SomeIs (at (layer ∷ below)) offset asked barred
   barred_there below place some is run =
       let here = subst (λ (m : ShallowMapping). IsRun layer offset asked m n) is run in
       let long = here.3 some in
       (0, some, at_own layer below (offset + 0) barred (omega (arith, here.0)) (special_barred place is 0 long))
 
--- what bars the top layer from being read again, in a chain
+-- An error of a reload of the top layer, and below one of a reload of the layers below.
 pub invalidate_top : (layer : Layer) (below : List Layer) (olds news us vs : List StorageState) (e : Fault) → InvalidateCause (layer ∷ []) olds news e → InvalidateCause (layer ∷ below) (olds ++ us) (news ++ vs) e
 invalidate_top layer below olds news us vs Failed h = elim h [ inl here ↦ inl here | inr none ↦ absurd none ]
 invalidate_top layer below olds news us vs MissingData h = elim h [ inl here ↦ inl here | inr none ↦ absurd none ]
@@ -110,7 +105,6 @@ invalidate_top layer below olds news us vs Memory h = h
 invalidate_top layer below olds news us vs Storage h = some_rose_left olds news us vs h
 invalidate_top layer below olds news us vs _ h = h
 
--- the same of the layers below
 pub invalidate_below : (layer : Layer) (below : List Layer) (olds news us vs : List StorageState) → Pairs IsLater olds news → (e : Fault) → InvalidateCause below us vs e → InvalidateCause (layer ∷ below) (olds ++ us) (news ++ vs) e
 invalidate_below layer below olds news us vs later Failed h = inr h
 invalidate_below layer below olds news us vs later MissingData h = inr h

@@ -21,7 +21,6 @@ use Rattle.imago_access.proofs.Units.{likes_unit, unit_aligned, overflows_late}
 use Rattle.imago_access.specs.declared.driver_model.DriverModel.{Ghosts}
 use Rattle.imago_storage.specs.declared.fault.Fault.TheVariants.{RangeOverflow}
 
--- a range in reach ends below 2 ^ 64
 pub ends_below : (unit offset n : ℕ) → 0 < unit → 0 < n → (Overflows unit offset n → ⊥) → offset + n < 2 ^ 64
 ends_below unit offset n positive some no_change_refused =
     let low : offset + n ≤ round_up unit (offset + n) = le_round_up unit (offset + n) positive in
@@ -35,14 +34,14 @@ pairs_length R (x ∷ xs) [] h = absurd h
 
 module _ {D St : Type 0} (g : Ghosts D St)
     (aligned : (d : D) → IsAlignment (g.layer d).fixed.req_align × IsAlignment (g.layer d).fixed.mem_align) where
-  -- the rest of a range is in reach of the chain as it is by then
+  -- The rest of a range doesn't overflow in the chain after the first reads.
   pub rest_calm : (xs ys : List D) (offset n done : ℕ) → Pairs (LookupCall g ⊤) xs ys → done ≤ n → (Overflows (unit_of_chain (map g.layer xs)) offset n → ⊥)
       → Overflows (unit_of_chain (map g.layer ys)) (offset + done) (n - done) → ⊥
   rest_calm xs ys offset n done looked le no_change_refused h =
       let same : unit_of_chain (map g.layer ys) ≡ unit_of_chain (map g.layer xs) = likes_unit (map g.layer xs) (map g.layer ys) (chain_like g ⊤ xs ys looked) in
       no_change_refused (part_overflows (unit_of_chain (map g.layer xs)) offset n done (n - done) (unit_aligned g.layer aligned xs).positive (omega (arith, le)) (subst (λ (u : ℕ). Overflows u (offset + done) (n - done)) same h))
 
-  -- a refusal on the way, seen from the begin
+  -- An error on the way, seen from the start of the read.
   pub rest_cause : (xs ys zs : List D) (offset n done : ℕ) (e : Fault) → Pairs (LookupCall g ⊤) xs ys → Each g.coherent xs → done ≤ n
       → (Each g.coherent ys → ReadCause (map g.layer ys) (at (map g.layer ys)) (unit_of_chain (map g.layer ys)) (offset + done) (n - done) (files_of g ys) (files_of g zs) e)
       → ReadCause (map g.layer xs) (at (map g.layer xs)) (unit_of_chain (map g.layer xs)) offset n (files_of g xs) (files_of g zs) e
@@ -53,7 +52,7 @@ module _ {D St : Type 0} (g : Ghosts D St)
       read_cause_part (map g.layer xs) (at (map g.layer xs)) (unit_of_chain (map g.layer xs)) offset done n (n - done) (files_of g xs) (files_of g ys) (files_of g zs) e moved
       (unit_aligned g.layer aligned xs).positive (omega (arith, le)) (chain_later g ⊤ xs ys looked)
 
-  -- a run behind others shows what the chain showed at the begin
+  -- A later run has the bytes that the chain had at the start.
   pub run_shown : (xs ys : List D) (offset done n : ℕ) (whole part : List ℕ) → Pairs (LookupCall g ⊤) xs ys → Each g.coherent xs
       → (Each g.coherent ys → (i : ℕ) → i < n → at (map g.layer ys) (offset + done + i) ≡ byte (slice_index part i))
       → ((i : ℕ) → i < n → slice_index whole (done + i) ≡ slice_index part i)
@@ -71,29 +70,27 @@ module _ {D St : Type 0} (g : Ghosts D St)
             ap (λ (ls : List Layer). at ls (offset + i)) (sym same) ∙ ap (at (map g.layer ys)) (sym place) ∙ now ∙ ap byte (sym (placed j (omega (arith, high, lt))) ∙ ap (λ (k : ℕ). slice_index whole k) index)
       ]
 
--- a longer range from the same place
 pub longer_overflows : (unit offset n longer : ℕ) → 0 < unit → n ≤ longer → Overflows unit offset n → Overflows unit offset longer
 longer_overflows unit offset n longer positive le h =
     let low : round_up unit (offset + n) ≤ round_up unit (offset + longer) = round_up-le unit (offset + n) (offset + longer) positive (omega (arith, le)) in
     (omega (arith, h.0, le), omega (arith, low, h.1))
 
--- the places that a lookup names are in reach where the range asked for is
+-- The location that a lookup returned doesn't overflow if the range doesn't.
 pub named_calm : (layer mid : Layer) (offset longer place n : ℕ) → mid ≡ layer → 0 < unit_of_layer layer → n ≤ longer → (Overflows (unit_of_layer layer) place n → Overflows (unit_of_layer layer) offset n)
     → (Overflows (unit_of_layer layer) offset longer → ⊥) → Overflows (unit_of_layer mid) place n → ⊥
 named_calm layer mid offset longer place n same positive le reach no_change_refused h =
     no_change_refused (longer_overflows (unit_of_layer layer) offset n longer positive le (reach (subst (λ (l : Layer). Overflows (unit_of_layer l) place n) same h)))
 
--- what is shown past the end of the top layer is 0
 past_end : (layer : Layer) (below : List Layer) (p b : ℕ) → layer.size ≤ p → at (layer ∷ below) p ≡ byte b → b ≡ 0
 past_end layer below p b past is = cc (sym (ap (λ (t : Bool). if t then through (layer.cell p) (at below p) else byte 0) (le-ltb p layer.size past)) ∙ is)
 
--- a read that succeeds is a step of the disk
+-- A successful read is a step of the disk.
 pub read_step : (below below' : List Layer) (layer layer' : Layer) (offset n : ℕ) (buf : List ℕ) → length buf ≡ n → Shows (at (layer ∷ below)) offset buf → layer' ∷ below' ≡ layer ∷ below
     → Step (at below) (disk_of below layer) (read offset n) (bytes_read buf) (disk_of below' layer')
 read_step below below' layer layer' offset n buf long shows same =
     let top : layer' ≡ layer = cc same in (
       long,
-      record { below = λ i lt inside. shows i lt; past_crash_images = λ i lt out. past_end layer below (offset + i) (slice_index buf i) out (shows i lt) },
+      record { below = λ i lt inside. shows i lt; past_size = λ i lt out. past_end layer below (offset + i) (slice_index buf i) out (shows i lt) },
       record {
         size = ap (λ (l : Layer). l.size) top;
         value = λ p inside. ap (λ (ls : List Layer). at ls p) same;
@@ -109,7 +106,7 @@ module _ {D St T : Type 0} (g : Ghosts D St) where
       read_step (map g.layer old.1) (map g.layer new.1) (g.layer old.0) (g.layer new.0) offset n buf long (shown see) (chain_same g ⊤ (chain old) (chain new) tt see looked)
   read_ok old new offset n buf (Err e) long shown looked see = tt
 
-  -- what a step says of a read that may go past the end
+  -- The bytes of a step that may read past the end of the disk.
   pub shown_of_step : (old new : D × List D) (offset n : ℕ) (buf : List ℕ) (result : Result T Fault)
       → OnOk result (Step (at (map g.layer old.1)) (disk_of (map g.layer old.1) (g.layer old.0)) (read offset n) (bytes_read buf) (disk_of (map g.layer new.1) (g.layer new.0)))
       → OnOk result (Shows (at (map g.layer (chain old))) offset buf)
@@ -117,12 +114,11 @@ module _ {D St T : Type 0} (g : Ghosts D St) where
     | inl inside ↦ step.1.below i lt inside
     | inr out ↦
         ap (λ (t : Bool). if t then through ((g.layer old.0).cell (offset + i)) (at (map g.layer old.1) (offset + i)) else byte 0) (le-ltb (offset + i) (g.layer old.0).size out)
-        ∙ ap byte (sym (step.1.past_crash_images i lt out))
+        ∙ ap byte (sym (step.1.past_size i lt out))
   ]
   shown_of_step old new offset n buf (Err e) step = tt
 
 module _ {D St B : Type 0} (view : B → List D) (g : Ghosts D St) where
-  -- the layers below, after a look
   pub looked_under : (whole : Type 0) (x y : B) → Pairs (LookupCall g whole) (view x) (view y)
       → LookupCallBelow (seen_by view (below_ghosts g)) whole x y
   looked_under whole x y looked = record {
@@ -136,7 +132,6 @@ module _ {D St B : Type 0} (view : B → List D) (g : Ghosts D St) where
     unchanged_but_faults = λ guest_unchanged. chain_kept g whole (view x) (view y) guest_unchanged looked;
   }
 
--- a read of what ends below 2^63 and a little more isn't refused for its end
 pub read_near : {T : Type 0} (r : Result T Fault) (layers : List Layer) (value : ℕ → Value) (unit offset n : ℕ) (olds news : List StorageState) → IsAlignment unit → offset + n ≤ 2 ^ 63 + 2 ^ 22
     → IfErr r (ReadCause layers value unit offset n olds news) → IsErrOf r RangeOverflow → ⊥
 read_near (Ok x) layers value unit offset n olds news aligned low cause is = absurd (cc is)

@@ -1,4 +1,4 @@
--- A change that is refused before anything is done is refused for a cause.
+-- An early error of a change is one of its listed errors.
 use Rattle.std.proofs.Common.{◌≡◌, ◌⊎◌, refl, inl, inr, ℕ, ◌+◌, ◌<◌, ◌^◌, List, ◌∷◌, arith, subst}
 use Rattle.std.specs.Prelude.{Bool, true, false, Option, Some, None, if◌then◌else◌, eqb, leb, ltb, not, IsFalse}
 use Rattle.std.proofs.lemmas.Bool.{cases_lt, ne_eqb}
@@ -13,7 +13,6 @@ use Rattle.imago_access.specs.Chain.{disk_of, unit_of_chain}
 use Rattle.imago_access.specs.Layer.{Layer}
 use Rattle.imago_access.specs.Refusals.{change_refusal, ChangeCause}
 
--- the first cause of a list, or a later one
 first_cause : (b : Bool) (fault e : Fault) (rest : Option Fault) → (if b then Some fault else rest) ≡ Some e → ((b ≡ true) × (fault ≡ e)) ⊎ ((b ≡ false) × (rest ≡ Some e))
 first_cause true fault e rest h = inl (refl, cc h)
 first_cause false fault e rest h = inr (refl, h)
@@ -22,7 +21,6 @@ not_true : (b : Bool) → not b ≡ true → IsFalse b
 not_true true h = absurd (cc h)
 not_true false h = refl
 
--- a range in which something is to be done
 some_range : (n : ℕ) (e : Fault) (rest : Option Fault) → (if eqb n 0 then None else rest) ≡ Some e → (0 < n) × (rest ≡ Some e)
 some_range n e rest h = elim (cases_lt 0 n) [
   | inl some ↦ (some, let other : eqb n 0 ≡ false = ne_eqb n 0 (λ is. omega (arith, is, some)) in rw other at h)

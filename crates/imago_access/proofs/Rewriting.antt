@@ -1,4 +1,4 @@
--- From what calls do to the places of a layer to what a chain shows.
+-- From the effect of a call on the bytes of a layer to what a chain reads.
 use Rattle.std.proofs.Common.{◌≡◌, ◌⊎◌, inl, inr, ℕ, ◌+◌, ◌<◌, ◌≤◌, List, [], ◌∷◌, arith, sym, ◌∙◌, ap, subst}
 use Rattle.std.specs.Prelude.{Result, Ok, Err, IfOk, IfErr}
 use Rattle.std.proofs.lemmas.Bool.{cases_lt, lt-ltb}
@@ -13,11 +13,10 @@ use Rattle.imago_access.specs.Running.{IsBetween}
 use Rattle.imago_access.specs.Stops.{GivesAny, GivesBelow}
 use Rattle.imago_access.specs.PartCalls.{IsPart}
 
--- below the end of a layer
 pub at_inside : (layer : Layer) (below : List Layer) (p : ℕ) → p < layer.size → at (layer ∷ below) p ≡ through (layer.cell p) (at below p)
 at_inside layer below p inside = rw (lt-ltb p layer.size inside)
 
--- What a call allows at a place of its range shows what was there, or a value that it gives.
+-- A byte that the call allows in its range reads as before, or as a value that the call gives.
 module _ (Q : ℕ → Cell → Cell → Type 0) (gives : ℕ → Value → Type 0) (below : List Layer) (old new : Layer) (offset n : ℕ)
     (shows : (p : ℕ) (was is : Cell) → IsIn offset n p → Q p was is → (is ≡ was) ⊎ gives p (through is (at below p))) where
   shown : new.size ≡ old.size → (p : ℕ) → p < old.size → (new.cell p ≡ old.cell p) ⊎ gives p (through (new.cell p) (at below p)) → (at (new ∷ below) p ≡ at (old ∷ below) p) ⊎ gives p (at (new ∷ below) p)
@@ -28,7 +27,7 @@ module _ (Q : ℕ → Cell → Cell → Type 0) (gives : ℕ → Value → Type 
         | inr gave ↦ inr (subst (gives p) (sym is) gave)
       ]
 
-  -- a part of the range was done
+  -- A part of the range was done.
   pub whole_between : (start done : ℕ) → offset ≤ start → (done ≡ 0) ⊎ (start + done ≤ offset + n) → Rewrites Q old new start done → IsBetween gives below old new
   whole_between start done from to h p inside = shown h.keeps_layer_state.size p inside (elim (cases_lt p start) [
     | inl before ↦ inl (h.others p (inl before))
@@ -47,7 +46,7 @@ module _ (Q : ℕ → Cell → Cell → Type 0) (gives : ℕ → Value → Type 
     ]
   ])
 
-  -- whatever the call answers
+  -- For every result of the call.
   pub result_between : (result : Result (ℕ × ℕ) Fault) → IfOk result (IsPart offset n)
       → IfOk result (λ r. Rewrites Q old new r.0 r.1) → IfErr result (λ e. IsNotResourceError e → PartRewrites Q old new offset n) → HadNoResourceError result → IsBetween gives below old new
   result_between (Ok r) part ok err whole = whole_between r.0 r.1 part.inside.0 part.inside.1 ok
@@ -59,7 +58,6 @@ any_shows below offset n p was is there how = elim how [
   | inr given ↦ inr (there, subst (λ (c : Cell). IsByte (through c (at below p))) (sym given.2) given.1)
 ]
 
--- a place that is given up to the layers below shows them
 blank_shows : (below : List Layer) (layer : Layer) (p : ℕ) → (layer.fixed.blank ≡ unmapped) ⊎ (layer.fixed.blank ≡ own (byte 0)) → IsBacked below layer → through layer.fixed.blank (at below p) ≡ at below p
 blank_shows [] layer p how backed = elim how [
   | inl is ↦ ap (λ (c : Cell). through c (byte 0)) is

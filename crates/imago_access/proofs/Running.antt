@@ -1,4 +1,4 @@
--- Calls that change, one behind the other.
+-- Consecutive calls that change a chain.
 use Rattle.std.proofs.Common.{◌≡◌, refl, ℕ, List, [], ◌∷◌, arith, sym, ◌∙◌, ap, subst, inl, inr}
 use Rattle.std.specs.Prelude.{⊤, IsTrue}
 use Rattle.imago_storage.specs.Disk.{Value}
@@ -14,20 +14,16 @@ use Rattle.imago_access.specs.Files.{files}
 use Rattle.imago_access.specs.declared.driver_model.DriverModel.{Ghosts}
 use Rattle.imago_access.specs.declared.driver_model.LayersBelowModel.{Ghosts as GhostsBelow}
 
--- a layer shows the same layers below while what never changes is the same
 pub backed_on : (below : List Layer) (old new : Layer) → new.fixed ≡ old.fixed → IsBacked below old → IsBacked below new
 backed_on [] old new fixed backed = tt
 backed_on (next ∷ below) old new fixed backed = ap (λ (x : Fixed). x.blank) fixed ∙ backed
 
--- where no place is held, what is copied is true
 pub holds_loose : (below : ℕ → Value) (layer : Layer) → ((p : ℕ) → layer.held p ≡ loose) → HoldsTrue below layer
 holds_loose below layer none p = subst (IsTruly below layer p) (sym (none p)) tt
 
--- the same of a driver that has nothing prepared
 pub intact_free : {D : Type 0} (layer : D → Layer) (free_loose : (d : D) → IsFree (layer d) → (p : ℕ) → (layer d).held p ≡ loose) (below : ℕ → Value) (d : D) → IsFree (layer d) → HoldsTrue below (layer d)
 intact_free layer free_loose below d free = holds_loose below (layer d) (free_loose d free)
 
--- each place shows what it did, or what one of two calls gives
 pub between_both : (gives gives' more : ℕ → Value → Type 0) (below : List Layer) (a b c : Layer) → b.size ≡ a.size → ((p : ℕ) (v : Value) → gives p v → more p v) → ((p : ℕ) (v : Value) → gives' p v → more p v)
     → IsBetween gives below a b → IsBetween gives' below b c → IsBetween more below a c
 between_both gives gives' more below a b c size from from' first second p inside = elim (second p (rw size inside)) [
@@ -50,7 +46,6 @@ module _ {D St : Type 0} (g : Ghosts D St) where
     excess_refcount = λ h s c. refl;
   }
 
-  -- a call that went on leaves what one that reads files anew does
   pub went_anew : (ok whole : Type 0) (a b : D) → MutatingCall g ok whole a b → ReloadingCall g ok whole a b
   went_anew ok whole a b h = record { fixed = h.fixed; failed = h.failed; counts_not_fallen = h.counts_not_fallen; faults = h.faults; safely = h.safely; stays_stable = h.stays_stable }
 
@@ -65,7 +60,7 @@ module _ {D St : Type 0} (g : Ghosts D St) where
     excess_refcount = λ x. h.excess_refcount (from' x);
   }
 
-  -- a call, and then one that makes no request
+  -- A call, and then one that makes no request.
   pub went_then : (ok whole : Type 0) (a b c : D) → (g.layer c).fixed ≡ (g.layer b).fixed → (IsTrue (g.layer b).failed → IsTrue (g.layer c).failed) → g.image c ≡ g.image b → g.extras c ≡ g.extras b → (g.well_formed b → g.well_formed c) → (g.stable b → g.stable c) → (g.well_formed b → KeepsExcessRefcounts g b c) → MutatingCall g ok whole a b → MutatingCall g ok whole a c
   went_then ok whole a b c fixed failing same same' safely lasting excess_refcount h = record {
     fixed = fixed ∙ h.fixed;
@@ -78,7 +73,6 @@ module _ {D St : Type 0} (g : Ghosts D St) where
   }
 
 module _ {D St B : Type 0} (g : Ghosts D St) (u : GhostsBelow B) where
-  -- nothing happened
   pub ran_same : (whole : Type 0) (gives : ℕ → Value → Type 0) (d : D) (b : B) → RangeChange g u whole gives (d, b) (d, b)
   ran_same whole gives d b = record {
     size = refl;
@@ -100,7 +94,7 @@ module _ {D St B : Type 0} (g : Ghosts D St) (u : GhostsBelow B) where
     crash_images = h.crash_images;
   }
 
-  -- what a call gives may be weakened, by what promises on values rest on
+  -- The values that a call gives can be weakened, by facts of a well-formed chain.
   pub ran_gives_intact : (whole : Type 0) (gives more : ℕ → Value → Type 0) (a b : D) (x y : B) → (IsIntact g u a x → (p : ℕ) (v : Value) → gives p v → more p v)
       → RangeChange g u whole gives (a, x) (b, y) → RangeChange g u whole more (a, x) (b, y)
   ran_gives_intact whole gives more a b x y from h = record {
@@ -117,7 +111,7 @@ module _ {D St B : Type 0} (g : Ghosts D St) (u : GhostsBelow B) where
       → RangeChange g u whole gives (a, x) (b, y) → RangeChange g u whole more (a, x) (b, y)
   ran_gives whole gives more a b x y from = ran_gives_intact whole gives more a b x y (λ i. from)
 
-  -- two calls, one behind the other
+  -- Two consecutive calls.
   pub ran_both : (whole : Type 0) (gives gives' more : ℕ → Value → Type 0) (a b c : D) (x y z : B) → ((p : ℕ) (v : Value) → gives p v → more p v) → ((p : ℕ) (v : Value) → gives' p v → more p v)
       → RangeChange g u ⊤ gives (a, x) (b, y) → RangeChange g u whole gives' (b, y) (c, z)
       → RangeChange g u whole more (a, x) (c, z)
@@ -148,7 +142,7 @@ module _ {D St B : Type 0} (g : Ghosts D St) (u : GhostsBelow B) where
         (subst (λ (n : ℕ). KeepsCrashImagesTo g (u.layers_below x) n n gives' b c) first.size later);
   }
 
-  -- a call that reads the layers below
+  -- A call that reads the layers below.
   pub ran_over : (whole : Type 0) (gives : ℕ → Value → Type 0) (a b : D) (x y : B) → (g.layer b).size ≡ (g.layer a).size → MutatingCall g whole (whole × u.coherent_below x) a b → LookupCallBelow u whole x y
       → (whole → IsIntact g u a x → HoldsTrue (at (u.layers_below x)) (g.layer b))
       → (whole → IsIntact g u a x → IsBetween gives (u.layers_below x) (g.layer a) (g.layer b))
@@ -170,7 +164,7 @@ module _ {D St B : Type 0} (g : Ghosts D St) (u : GhostsBelow B) where
     crash_images = stops;
   }
 
-  -- a call on the driver alone
+  -- A call of the driver itself.
   pub ran_driver : (whole : Type 0) (gives : ℕ → Value → Type 0) (a b : D) (x : B) → (g.layer b).size ≡ (g.layer a).size → MutatingCall g whole whole a b
       → (whole → IsIntact g u a x → HoldsTrue (at (u.layers_below x)) (g.layer b))
       → (whole → IsIntact g u a x → IsBetween gives (u.layers_below x) (g.layer a) (g.layer b))
@@ -179,7 +173,7 @@ module _ {D St B : Type 0} (g : Ghosts D St) (u : GhostsBelow B) where
   ran_driver whole gives a b x size mutating_call held values stops =
       ran_over whole gives a b x x size (went_weaker g whole whole whole (whole × u.coherent_below x) a b (λ h. h) (λ h. h.0) mutating_call) (looked_under_same u whole x) held values stops
 
--- The same layers below, seen as another type's.
+-- The same layers below, through a function to another type.
 module _ {D St B C : Type 0} (f : B → C) (g : Ghosts D St) (u : GhostsBelow C) where
   pub intact_seen : (a : D) (x : B) → IsIntact g (seen_by f u) a x → IsIntact g u a (f x)
   intact_seen a x i = record { is_well_formed = i.is_well_formed; is_coherent = i.is_coherent; backed = i.backed; held = i.held }

@@ -1,4 +1,4 @@
--- Stops of calls one behind the other.
+-- Crash images of consecutive calls.
 use Rattle.std.proofs.Common.{◌≡◌, ◌⊎◌, inl, inr, ℕ, ◌<◌, ◌≤◌, List, [], ◌∷◌, ◌++◌, arith, sym, ◌∙◌, ap, subst}
 use Rattle.std.specs.Prelude.{IsTrue, All}
 use Rattle.std.proofs.lemmas.List.Elements.{All-head}
@@ -12,19 +12,19 @@ use Rattle.imago_access.specs.Files.{IsLater}
 use Rattle.imago_storage.specs.Passing.{UnrefusedCrashImages}
 use Rattle.imago_access.specs.Stops.{shown, May, Left, MakesNone}
 
--- The file now is what the newest stop left, or there was none.
+-- The newest crash image has P, if any was added.
 pub newest : (P : List ℕ → Type 0) (a b : StorageState) (files : List (List ℕ)) → b.crash_image ∷ b.past_crash_images ≡ files ++ (a.crash_image ∷ a.past_crash_images) → All P files → (b.crash_image ≡ a.crash_image) ⊎ P b.crash_image
 newest P a b [] told each = inl (cc told)
 newest P a b (f ∷ fs) told each = let is : b.crash_image ≡ f = cc told in inr (subst P (sym is) (All-head P f fs each))
 
--- The file now is as it was, or what a stop between left.
+-- The file is unchanged, or has P as a crash image.
 pub here : (P : List ℕ → Type 0) (a b : StorageState) → IsLater a b → CrashImageIsBytes a → CrashImageIsBytes b → IsTrue a.shape.tells → IsTrue a.shape.keeps → EachCrashImageIn P a b → (b.bytes ≡ a.bytes) ⊎ P b.bytes
 here P a b later was is tells keeps stops =
     let now : b.crash_image ≡ b.bytes = is (tells_on a b later.0 tells) (keeps_on a b later.0 keeps) in
     let before : a.crash_image ≡ a.bytes = was tells keeps in
     elim (newest P a b stops.files stops.told stops.each) [ inl same ↦ inl (sym now ∙ same ∙ before) | inr holds ↦ inr (subst P now holds) ]
 
--- Two calls, one behind the other; what is said of the stops of the second may rest on the file between.
+-- Two consecutive calls. The second one's crash images may depend on the file between the calls.
 pub passes_both : (P Q R : List ℕ → Type 0) (a b c : StorageState) → IsLater a b → IsLater b c → ((f : List ℕ) → P f → R f) → (((b.bytes ≡ a.bytes) ⊎ P b.bytes) → (f : List ℕ) → Q f → R f)
     → UnrefusedCrashImages P a b → UnrefusedCrashImages Q b c → UnrefusedCrashImages R a c
 passes_both P Q R a b c ab bc from_first from_second first second no_change_refused =
@@ -37,19 +37,17 @@ passes_both P Q R a b c ab bc from_first from_second first second no_change_refu
 pub passes_weaker : (P Q : List ℕ → Type 0) (a b : StorageState) → ((f : List ℕ) → P f → Q f) → UnrefusedCrashImages P a b → UnrefusedCrashImages Q a b
 passes_weaker P Q a b more passes no_change_refused = let one = passes no_change_refused in (one.0, stops_weaker P Q a b (λ k f p. more f p) one.1)
 
--- a call that makes no request
 pub passes_none : (P : List ℕ → Type 0) (a b : StorageState) → b.shape ≡ a.shape → MakesNone a b → UnrefusedCrashImages P a b
 passes_none P a b shape none no_change_refused = (
   λ same tells keeps. none.0 ∙ same (subst (λ (s : _). IsTrue s.tells) shape tells) (subst (λ (s : _). IsTrue s.keeps) shape keeps) ∙ sym none.2,
   no_stops P a b none.0 none.1,
 )
 
--- a call behind another that leaves the file's state
 pub passes_on : (P : List ℕ → Type 0) (a b c : StorageState) → c ≡ b → UnrefusedCrashImages P a b → UnrefusedCrashImages P a c
 passes_on P a b c same passes = subst (UnrefusedCrashImages P a) (sym same) passes
 
--- A file left by a later call, seen from the entry of the first: the later one begins with a file that the first may show, and each
--- value that its own entry's disk has or that it gives is one that the whole may show.
+-- A file that a crash in a later call leaves, seen from the entry of the first call. The later call starts with a file that the first may
+-- leave. Each value of its disk at entry, and each that it gives, is one that the whole may show.
 module _ (below : List Layer) (sound : ℕ → List ℕ → Type 0) (entry mid : Layer) (file mid_file : List ℕ) (least most : ℕ) (gives later_gives : ℕ → Value → Type 0)
     (fixed : mid.fixed ≡ entry.fixed) (size : mid.size ≡ entry.size)
     (between : (p : ℕ) → p < entry.size → May below entry file gives p (shown below entry.fixed.means mid_file p))
@@ -73,7 +71,7 @@ module _ (below : List Layer) (sound : ℕ → List ℕ → Type 0) (entry mid :
         ]);
   }
 
--- A call behind another, both seen from the entry of the first; the first keeps the size of the disk.
+-- A later call, with both seen from the entry of the first, which doesn't change the size.
 pub then_left : (below : List Layer) (sound : ℕ → List ℕ → Type 0) (entry mid : Layer) (least most : ℕ) (gives later_gives : ℕ → Value → Type 0) (a b c : StorageState)
     → IsLater a b → IsLater b c → mid.fixed ≡ entry.fixed → mid.size ≡ entry.size → least ≤ entry.size → entry.size ≤ most
     → ((p : ℕ) → p < entry.size → May below entry a.bytes gives p (at (mid ∷ below) p))
@@ -92,7 +90,7 @@ then_left below sound entry mid least most gives later_gives a b c ab bc fixed s
     (λ how. left_from below sound entry mid a.bytes b.bytes least most gives later_gives fixed size (between how) disk given)
     first second
 
--- what a call gives may be weakened
+-- The values that a call gives can be weakened.
 pub left_weaker : (below : List Layer) (sound : ℕ → List ℕ → Type 0) (entry : Layer) (file : List ℕ) (least most : ℕ) (gives more : ℕ → Value → Type 0)
     → ((p : ℕ) (v : Value) → p < entry.size → gives p v → May below entry file more p v) → (f : List ℕ) → Left below entry file sound least most gives f → Left below entry file sound least most more f
 left_weaker below sound entry file least most gives more weaker f left = record {

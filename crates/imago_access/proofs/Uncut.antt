@@ -1,4 +1,4 @@
--- Parts of a call whose ends cut no unit that the call covers whole.
+-- Parts of a call whose ends aren't inside a unit that the call covers completely.
 use Rattle.std.proofs.Common.{◌≡◌, inl, inr, ℕ, ◌+◌, ◌-◌, ◌≤◌, arith, sym, subst}
 use Rattle.imago_storage.specs.Steps.{Call}
 use Rattle.imago_storage.specs.Causes.{offset_of, length_of}
@@ -14,14 +14,12 @@ module _ (unit size offset n : ℕ) where
   pub uncut_end : (at : ℕ) → offset + n ≤ at → IsUncutAt unit size offset n at
   uncut_end at over u whole = inr (omega (arith, whole.end, over))
 
-  -- behind a place that cuts none, a place that cuts none of the rest
   pub uncut_both : (at next : ℕ) → at ≤ next → IsUncutAt unit size offset n at → IsUncutAt unit size at (offset + n - at) next → IsUncutAt unit size offset n next
   uncut_both at next further first second u whole = elim (first u whole) [
     | inl from ↦ second u (whole_rest unit size offset n at u whole from)
     | inr done ↦ inr (omega (arith, done, further))
   ]
 
-  -- a place in a part whose ends cut none
   pub uncut_within : (start m at : ℕ) → start ≤ at → at ≤ start + m → IsUncutAt unit size offset n start → IsUncutAt unit size offset n (start + m) → IsUncutAt unit size start m at → IsUncutAt unit size offset n at
   uncut_within start m at from to begin end inner u whole = elim (begin u whole) [
     | inl behind ↦ elim (end u whole) [
@@ -31,7 +29,6 @@ module _ (unit size offset n : ℕ) where
     | inr done ↦ inr (omega (arith, done, from))
   ]
 
--- a call's own range
 pub own_part : (layer : Layer) (call : Call) → IsUncutPart layer call (offset_of call) (length_of call)
 own_part layer call = record {
   part = record { start = omega arith; end = omega arith };
@@ -39,7 +36,7 @@ own_part layer call = record {
   end = uncut_end layer.fixed.unit layer.size (offset_of call) (length_of call) (offset_of call + length_of call) (omega arith);
 }
 
--- a part of a part, at a later moment
+-- A part of a part, at a later moment.
 pub part_within : (entry mid : Layer) (call : Call) (offset n start m : ℕ) → mid.fixed ≡ entry.fixed → mid.size ≡ entry.size → offset ≤ start → start + m ≤ offset + n
     → IsUncutAt entry.fixed.unit entry.size offset n start → IsUncutAt entry.fixed.unit entry.size offset n (start + m) → IsUncutPart entry call offset n → IsUncutPart mid call start m
 part_within entry mid call offset n start m fixed size from to begin end whole =
@@ -52,7 +49,6 @@ part_within entry mid call offset n start m fixed size from to begin end whole =
       end = on (start + m) (within (start + m) (omega (arith, from)) to whole.start whole.end end);
     }
 
--- a place of the rest, seen from the entry
 pub uncut_later : (entry mid : Layer) (offset n at next : ℕ) → mid.fixed ≡ entry.fixed → mid.size ≡ entry.size → at ≤ next
     → IsUncutAt entry.fixed.unit entry.size offset n at → IsUncutAt mid.fixed.unit mid.size at (offset + n - at) next → IsUncutAt entry.fixed.unit entry.size offset n next
 uncut_later entry mid offset n at next fixed size further first second = uncut_both entry.fixed.unit entry.size offset n at next further first

@@ -1,4 +1,4 @@
--- The units of a chain and of its layers.
+-- The units of requests of a chain and of its layers.
 use Rattle.std.proofs.Common.{◌≡◌, refl, inl, inr, ℕ, ◌+◌, ◌-◌, ◌*◌, ◌/◌, ◌%◌, ◌<◌, ◌≤◌, max, List, [], ◌∷◌, arith, sym, ◌∙◌, ap, subst, ◌^◌}
 use Rattle.std.specs.Prelude.{map}
 use Rattle.std.proofs.Math.Nat.{mul-mod_left}
@@ -26,7 +26,7 @@ whole_of_larger small big k positive whole =
     let product : k * big ≡ k * (big / small) * small = ap (λ (n : ℕ). k * n) is ∙ omega arith in
     ap (λ (n : ℕ). n % small) product ∙ mul-mod_left (k * (big / small)) small
 
--- a range whose end, padded to a smaller unit, passes 64 bits, does so padded to a larger one
+-- A range that overflows with a smaller unit overflows with a larger one.
 pub overflows_more : (small big offset n : ℕ) → IsAlignment small → IsAlignment big → small ≤ big → Overflows small offset n → Overflows big offset n
 unfolding round_up
 overflows_more small big offset n first second le h =
@@ -35,7 +35,6 @@ overflows_more small big offset n first second le h =
     let low : round_up small (offset + n) ≤ round_up small (round_up big (offset + n)) = round_up-le small (offset + n) (round_up big (offset + n)) first.positive (le_round_up big (offset + n) second.positive) in
     (h.0, omega (arith, same, low, h.1))
 
--- no range overflows that ends below 2^63 and a little more
 pub overflows_late : (unit offset n : ℕ) → IsAlignment unit → offset + n ≤ 2 ^ 63 + 2 ^ 22 → Overflows unit offset n → ⊥
 overflows_late unit offset n aligned low over =
     let m = offset + n in
@@ -59,24 +58,21 @@ module _ {D : Type 0} (layer : D → Layer) (aligned : (d : D) → IsAlignment (
   pub layer_aligned : (d : D) → IsAlignment (unit_of_layer (layer d))
   layer_aligned d = alignment_max (layer d).fixed.req_align (layer d).fixed.mem_align (aligned d).0 (aligned d).1
 
-  -- a range that is in reach of a chain is in reach of the layers below
   pub calm_below : (d : D) (ds : List D) (offset n : ℕ) → (Overflows (unit_of_chain (map layer (d ∷ ds))) offset n → ⊥) → Overflows (unit_of_chain (map layer ds)) offset n → ⊥
   calm_below d ds offset n no_change_refused h =
       let le : unit_of_chain (map layer ds) ≤ unit_of_chain (map layer (d ∷ ds)) = omega arith in
       no_change_refused (overflows_more (unit_of_chain (map layer ds)) (unit_of_chain (map layer (d ∷ ds))) offset n (unit_aligned ds) (unit_aligned (d ∷ ds)) le h)
 
-  -- a range that isn't in reach of the top layer isn't in reach of the chain
   pub overflows_chain : (d : D) (ds : List D) (offset n : ℕ) → Overflows (unit_of_layer (layer d)) offset n → Overflows (unit_of_chain (map layer (d ∷ ds))) offset n
   overflows_chain d ds offset n h =
       let le : unit_of_layer (layer d) ≤ unit_of_chain (map layer (d ∷ ds)) = omega arith in
       overflows_more (unit_of_layer (layer d)) (unit_of_chain (map layer (d ∷ ds))) offset n (layer_aligned d) (unit_aligned (d ∷ ds)) le h
 
-  -- and of the top layer
   pub calm_top : (d : D) (ds : List D) (offset n : ℕ) → (Overflows (unit_of_chain (map layer (d ∷ ds))) offset n → ⊥) → Overflows (unit_of_layer (layer d)) offset n → ⊥
   calm_top d ds offset n no_change_refused h =
       no_change_refused (overflows_chain d ds offset n h)
 
--- layers that are like what they were have the same units
+-- Layers that keep their state have the same units.
 pub likes_same : (xs : List Layer) → KeepLayerStates xs xs
 likes_same [] = tt
 likes_same (x ∷ xs) = (record { fixed = refl; size = refl; unspent = refl; failed = λ f. f }, likes_same xs)

@@ -1,4 +1,4 @@
--- Layers that a call doesn't touch.
+-- Layers that a call doesn't change.
 use Rattle.std.proofs.Common.{◌≡◌, refl, sym, ap, subst, inl, ℕ, List, [], ◌∷◌, ◌∙◌}
 use Rattle.std.specs.Prelude.{⊤}
 use Rattle.imago_storage.specs.Disk.{Value}
@@ -13,7 +13,7 @@ use Rattle.imago_access.proofs.Running.{went_anew, went_same, ran_driver}
 use Rattle.imago_access.specs.declared.driver_model.DriverModel.{Ghosts}
 use Rattle.imago_access.specs.declared.driver_model.LayersBelowModel.{Ghosts as GhostsBelow}
 
--- all is as it was: where nothing is done, and in two calls
+-- Nothing has changed: after no call, and after two calls.
 pub unchanged_same : {D St : Type 0} (g : Ghosts D St) (d : D) → IsUnchanged g d d
 unchanged_same g d = record {
   layer = refl;
@@ -44,7 +44,7 @@ pub all_went_same : {D St : Type 0} (g : Ghosts D St) (whole : Type 0) (ds : Lis
 all_went_same g whole [] = tt
 all_went_same g whole (d ∷ ds) = (went_anew g whole whole d d (went_same g whole whole d), all_went_same g whole ds)
 
--- A call on the driver alone that leaves the layer as it was.
+-- A call of the driver itself that leaves the layer unchanged.
 pub ran_kept : {D St B : Type 0} (g : Ghosts D St) (u : GhostsBelow B)
     (whole : Type 0) (gives : ℕ → Value → Type 0) (a b : D) (x : B) → (g.layer b).size ≡ (g.layer a).size → MutatingCall g whole whole a b
     → (whole → IsIntact g u a x → g.layer b ≡ g.layer a)

@@ -1,4 +1,4 @@
--- What is left of room by calls one behind the other that take none at all, and by one that takes none out of a range.
+-- Allocations after a call that allocates nothing, and one that only allocates in its range.
 use Rattle.std.proofs.Common.{ℕ}
 use Rattle.std.specs.Prelude.{⊤}
 use Rattle.imago_storage.specs.Steps.{IsOut}

@@ -1,4 +1,4 @@
--- Bytes that are written run by run.
+-- Writes of bytes, run by run.
 use Rattle.std.proofs.Common.{◌≡◌, ℕ, ◌+◌, ◌-◌, ◌<◌, ◌≤◌, List, ◌∷◌, length, take, drop, slice_index, arith, sym, ◌∙◌, ap, inl, inr}
 use Rattle.std.specs.Prelude.{Result, Ok, Err, OnOk, IfErr, None, map}
 use Rattle.std.proofs.lemmas.Bool.{cases_lt}
@@ -17,7 +17,7 @@ use Rattle.imago_access.specs.Stops.{GivesBytes}
 use Rattle.imago_access.proofs.Disks.{allowed_inside, disk_step, disk_partly}
 use Rattle.imago_access.specs.declared.driver_model.DriverModel.{Ghosts}
 
--- the bytes behind the first, as the code takes them
+-- The bytes after the first `past`, as the code slices them.
 abbrev pub rest_of : ℕ → List ℕ → List ℕ
 rest_of past bytes = take (length bytes - past) (drop past bytes)
 
@@ -27,7 +27,6 @@ rest_long past bytes le = grind (arith, common_steps)
 pub rest_index : (past : ℕ) (bytes : List ℕ) (i : ℕ) → past + i < length bytes → slice_index (rest_of past bytes) i ≡ slice_index bytes (past + i)
 rest_index past bytes i lt = grind (arith, common_steps)
 
--- what a write of the rest gives
 pub gives_rest : (offset past : ℕ) (bytes : List ℕ) → past ≤ length bytes → (p : ℕ) (v : Value) → GivesBytes (offset + past) (rest_of past bytes) p v → GivesBytes offset bytes p v
 gives_rest offset past bytes le p v gives =
     let i = gives.0 in
@@ -35,17 +34,15 @@ gives_rest offset past bytes le p v gives =
     let lt : past + i < length bytes = omega (arith, gives.1, long, le) in
     (past + i, lt, omega (arith, gives.2), gives.3 ∙ ap byte (rest_index past bytes i lt))
 
--- a part of a call's range
 pub part_rest : (call : Call) (offset past : ℕ) (bytes : List ℕ) → past ≤ length bytes → IsPartOf call offset (length bytes) → IsPartOf call (offset + past) (length (rest_of past bytes))
 part_rest call offset past bytes le part =
     let long = rest_long past bytes le in
     record { start = omega (arith, part.start); end = omega (arith, part.end, long, le) }
 
--- before the first run
 pub shown_none : (below : List Layer) (layer : Layer) (offset : ℕ) (bytes : List ℕ) (i : ℕ) → i < 0 → at (layer ∷ below) (offset + i) ≡ byte (slice_index bytes i)
 shown_none below layer offset bytes i lt = absurd (omega (arith, lt))
 
--- what is shown behind one more run of n bytes
+-- The bytes that the chain reads after one more run.
 pub shown_more : (below : List Layer) (old new : Layer) (offset past n : ℕ) (bytes : List ℕ) → past + n ≤ length bytes → offset + length bytes ≤ old.size → IsBetween (GivesBytes (offset + past) (rest_of past bytes)) below old new
     → ((i : ℕ) → i < past → at (old ∷ below) (offset + i) ≡ byte (slice_index bytes i)) → ((i : ℕ) → i < n → at (new ∷ below) (offset + past + i) ≡ byte (slice_index (rest_of past bytes) i))
     → (i : ℕ) → i < past + n → at (new ∷ below) (offset + i) ≡ byte (slice_index bytes i)
@@ -68,7 +65,7 @@ gives_byte : (offset : ℕ) (bytes : List ℕ) (p : ℕ) (was v : Value) → Giv
 gives_byte offset bytes p was v gives = let is : gives.0 ≡ p - offset = omega (arith, gives.2) in gives.3 ∙ ap (λ (i : ℕ). byte (slice_index bytes i)) is
 
 module _ {D St T : Type 0} (g : Ghosts D St) (free_loose : (d : D) → IsFree (g.layer d) → (p : ℕ) → (g.layer d).held p ≡ loose) where
-  -- a write that succeeds is a step of the disk
+  -- A successful write is a step of the disk.
   pub write_ok : (old new : D × List D) (unit offset : ℕ) (bytes : List ℕ) (result : Result T Fault) → IsFree (g.layer old.0) → IsFree (g.layer new.0) → change_refusal unit (g.layer old.0) offset (length bytes) ≡ None
       → (IsIntactChain g old → OnOk result ((i : ℕ) → i < length bytes → at (g.layer new.0 ∷ map g.layer old.1) (offset + i) ≡ byte (slice_index bytes i)))
       → ChainRangeChange g (HadNoResourceError result) (GivesBytes offset bytes) old new
@@ -82,7 +79,7 @@ module _ {D St T : Type 0} (g : Ghosts D St) (free_loose : (d : D) → IsFree (g
       ap (at (g.layer new.0 ∷ map g.layer old.1)) (sym is) ∙ shown i k (omega (arith, into.0, into.1)))
   write_ok old new unit offset bytes (Err e) was_free is_free allowed shown ran i = tt
 
-  -- a refused one is done in part
+  -- A failed write is done in part.
   pub write_err : (old new : D × List D) (offset : ℕ) (bytes : List ℕ) (result : Result T Fault) → IsFree (g.layer old.0) → IsFree (g.layer new.0)
       → ChainRangeChange g (HadNoResourceError result) (GivesBytes offset bytes) old new
       → IsIntactChain g old → IfErr result (λ e. IsNotResourceError e → PartlyDone (below_of g.layer old) (write offset bytes) (chain_disk g.layer old) (chain_disk g.layer new))

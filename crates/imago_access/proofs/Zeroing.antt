@@ -1,4 +1,4 @@
--- Zeroes over a range, part by part.
+-- Zeroing of a range, part by part.
 use Rattle.std.proofs.Common.{◌≡◌, refl, [], inl, inr, ℕ, ◌+◌, ◌-◌, ◌<◌, ◌≤◌, List, ◌∷◌, ◌++◌, length, slice_index, arith, sym, ◌∙◌, ap, subst}
 use Rattle.std.specs.Prelude.{⊤, Bool, Option, Some, false, Result, Ok, Err, OnOk, IfErr, None, map, replicate, if◌then◌else◌}
 use Rattle.std.proofs.lemmas.Bool.{cases_lt, le-ltb}
@@ -30,22 +30,18 @@ use Rattle.imago_access.proofs.Units.{layer_aligned}
 use Rattle.imago_access.specs.declared.driver_model.DriverModel.{Ghosts}
 use Rattle.imago_access.specs.declared.driver_model.LayersBelowModel.{Ghosts as GhostsBelow}
 
--- a zeroing of a part gives what that of the whole may
 pub zero_wider : (offset n start m : ℕ) → offset ≤ start → start + m ≤ offset + n → (p : ℕ) (v : Value) → GivesZero start m p v → GivesZero offset n p v
 zero_wider offset n start m from to p v gave = ((omega (arith, from, gave.0.0), omega (arith, to, gave.0.1)), gave.1)
 
--- and so do zeroes that are written there
 pub bytes_zero : (offset n start : ℕ) (bytes : List ℕ) → ((i : ℕ) → i < length bytes → slice_index bytes i ≡ 0) → offset ≤ start → start + length bytes ≤ offset + n → (p : ℕ) (v : Value) → GivesBytes start bytes p v → GivesZero offset n p v
 bytes_zero offset n start bytes zeroes from to p v gave = ((omega (arith, from, gave.2), omega (arith, to, gave.1, gave.2)), gave.3 ∙ ap byte (zeroes gave.0 gave.1))
 
--- so many zeroes
 pub zeroes_long : (count : ℕ) (bytes : List ℕ) → bytes ≡ replicate count 0 → length bytes ≡ count
 zeroes_long count bytes is = ap (length {A = ℕ}) is ∙ length-replicate count 0
 
 pub zeroes_zero : (count : ℕ) (bytes : List ℕ) → bytes ≡ replicate count 0 → (i : ℕ) → i < length bytes → slice_index bytes i ≡ 0
 zeroes_zero count bytes is i lt = ap (λ (z : List ℕ). slice_index z i) is ∙ get_or-replicate count i 0 0 (omega (arith, lt, zeroes_long count bytes is))
 
--- Zeroes that are written to a mapping: of each place of the range it is a zero that is written.
 zero_taken : (old new : Layer) (guest n : ℕ) → Wrote old new guest (replicate n 0) → (i : ℕ) → i < n → TakesByte 0 (old.held (guest + i)) (old.cell (guest + i)) (new.held (guest + i)) (new.cell (guest + i))
 zero_taken old new guest n wrote i lt =
     let long : length (replicate n 0) ≡ n = zeroes_long n (replicate n 0) refl in
@@ -54,7 +50,6 @@ zero_taken old new guest n wrote i lt =
 pub wrote_none : (layer : Layer) (guest : ℕ) → Wrote layer layer guest (replicate 0 0)
 wrote_none layer guest = record { keeps_layer_state = record { fixed = refl; size = refl; unspent = refl; failed = λ f. f }; writable_location = refl; range = λ i lt. absurd (omega (arith, lt)); others = λ p out. (refl, refl) }
 
--- zeroes, and then more behind them
 pub wrote_more : (a b c : Layer) (guest k m : ℕ) → Wrote a b guest (replicate k 0) → Wrote b c (guest + k) (replicate m 0) → Wrote a c guest (replicate (k + m) 0)
 wrote_more a b c guest k m first second =
     let first_long : length (replicate k 0) ≡ k = zeroes_long k (replicate k 0) refl in
@@ -80,7 +75,6 @@ wrote_more a b c guest k m first second =
           (after.0 ∙ before.0, after.1 ∙ before.1);
     }
 
--- zeroes of a part are zeroes of the whole
 pub zeroes_wider : (offset n start m : ℕ) → offset ≤ start → start + m ≤ offset + n → (p : ℕ) (v : Value) → GivesBytes start (replicate m 0) p v → GivesBytes offset (replicate n 0) p v
 zeroes_wider offset n start m from to p v gave =
     let short : length (replicate m 0) ≡ m = zeroes_long m (replicate m 0) refl in
@@ -90,13 +84,12 @@ zeroes_wider offset n start m from to p v gave =
     let lt : i < length (replicate n 0) = omega (arith, from, to, short, long, gave.1, gave.2) in
     (i, lt, is, gave.3 ∙ ap byte (zeroes_zero m (replicate m 0) refl gave.0 gave.1 ∙ sym (zeroes_zero n (replicate n 0) refl i lt)))
 
--- places apart from a run that is prepared and zeroed aren't held
 pub zeroes_loose : (unit offset n k : ℕ) (mid new : Layer) → k ≤ n → ((p : ℕ) → IsApart unit offset n p → mid.held p ≡ loose) → Wrote mid new offset (replicate k 0) → (p : ℕ) → IsApart unit offset n p → new.held p ≡ loose
 zeroes_loose unit offset n k mid new most near wrote p apart =
     let long : length (replicate k 0) ≡ k = zeroes_long k (replicate k 0) refl in
     (wrote.others p (out_wider offset n offset (length (replicate k 0)) p (omega arith) (omega (arith, long, most)) (apart_out unit offset n p apart))).1 ∙ near p apart
 
--- why a piece of a write to a mapping is refused, seen from the entry
+-- An error of one piece of a write to a mapping, seen from the entry.
 pub mapped_later : (entry mid : Layer) (guest place n done m : ℕ) (olds mids news : List StorageState) → mid.fixed ≡ entry.fixed → mid.size ≡ entry.size → mid.writable_location ≡ entry.writable_location → entry.failed ≡ false → mid.failed ≡ false → 0 < unit_of_layer entry
     → done + m ≤ n → Pairs IsLater olds mids → (e : Fault) → MappedCause mid (guest + done) (place + done) m mids news e → MappedCause entry guest place n olds news e
 mapped_later entry mid guest place n done m olds mids news fixed size home ran runs positive inside later Outdated h = (
@@ -111,18 +104,16 @@ mapped_later entry mid guest place n done m olds mids news fixed size home ran r
 mapped_later entry mid guest place n done m olds mids news fixed size home ran runs positive inside later e h =
     part_cause_later [] entry mid guest n (guest + done) m olds mids news fixed size ran runs positive (omega arith) (omega (arith, inside)) later (λ _. ⊥) (λ _. ⊥) e (λ none. none) h
 
--- past the end of a layer the places are 0
 past_zero : (layer : Layer) (below : List Layer) (p : ℕ) → layer.size ≤ p → at (layer ∷ below) p ≡ byte 0
 past_zero layer below p past = ap (λ (t : Bool). if t then through (layer.cell p) (at below p) else byte 0) (le-ltb p layer.size past)
 
--- a place that is 0 stays so in a call that gives zeroes alone
 pub zero_stays : (below : List Layer) (old new : Layer) (offset n : ℕ) → new.size ≡ old.size → IsBetween (GivesZero offset n) below old new → (p : ℕ) → at (old ∷ below) p ≡ byte 0 → at (new ∷ below) p ≡ byte 0
 zero_stays below old new offset n size between p was = elim (cases_lt p old.size) [
   | inl inside ↦ elim (between p inside) [ inl same ↦ same ∙ was | inr gave ↦ gave.1 ]
   | inr past ↦ past_zero new below p (omega (arith, size, past))
 ]
 
--- zeroes that were there, and those of one more part
+-- Zeroes of the parts before, and those of one more part.
 pub zeroes_more : (below : List Layer) (old new : Layer) (offset done count gap n : ℕ) → new.size ≡ old.size → IsBetween (GivesZero gap n) below old new → ((p : ℕ) → IsIn offset done p → at (old ∷ below) p ≡ byte 0)
     → ((p : ℕ) → IsIn (offset + done) count p → at (new ∷ below) p ≡ byte 0) → (p : ℕ) → IsIn offset (done + count) p → at (new ∷ below) p ≡ byte 0
 zeroes_more below old new offset done count gap n size between before now p there = elim (cases_lt p (offset + done)) [
@@ -131,7 +122,7 @@ zeroes_more below old new offset done count gap n size between before now p ther
 ]
 
 module _ {D St B : Type 0} (g : Ghosts D St) (u : GhostsBelow B) where
-  -- a zeroing by the driver alone, of an image that has nothing prepared
+  -- A zeroing by the driver itself, on an image without a prepared mapping.
   pub ran_zeroed : (free_loose : (d : D) → IsFree (g.layer d) → (p : ℕ) → (g.layer d).held p ≡ loose) (whole : Type 0) (offset n : ℕ) (a b : D) (x : B) → IsFree (g.layer a) → KeepsLayerState (g.layer a) (g.layer b) → MutatingCall g whole whole a b
       → (g.well_formed a → (below : List Layer) → whole → IsBetween (GivesZero offset n) below (g.layer a) (g.layer b))
       → (g.well_formed a → (below : List Layer) → KeepsCrashImages g below (GivesZero offset n) a b)
@@ -141,7 +132,7 @@ module _ {D St B : Type 0} (g : Ghosts D St) (u : GhostsBelow B) where
       (λ w i. values i.is_well_formed (u.layers_below x) w)
       (λ i. stops i.is_well_formed (u.layers_below x))
 
-  -- a cause in a part, behind calls that went well, is one of the whole
+  -- An error of a part, after calls that succeeded, is an error of the whole.
   pub cause_behind : (well_formed_is_usable : (d : D) → g.well_formed d → (g.layer d).failed ≡ false) (aligned : (d : D) → IsAlignment (g.layer d).fixed.req_align × IsAlignment (g.layer d).fixed.mem_align) (gives : ℕ → Value → Type 0) (offset n start m : ℕ) (a b : D) (x y : B) (news : List StorageState) (own_cause : List Layer → Fault → Type 0) (e : Fault)
       → offset ≤ start → start + m ≤ offset + n → RangeChange g u ⊤ gives (a, x) (b, y) → IsIntact g u a x
       → PartCause (u.layers_below y) (g.layer b) start m (own_cause (u.layers_below y)) (files g b ++ u.files_of_layers_below y) news e → PartCause (u.layers_below x) (g.layer a) offset n (own_cause (u.layers_below x)) (files g a ++ u.files_of_layers_below x) news e
@@ -153,7 +144,7 @@ module _ {D St B : Type 0} (g : Ghosts D St) (u : GhostsBelow B) where
       (own_cause (u.layers_below x)) (own_cause (u.layers_below x)) e (λ c. c)
       (subst (λ (below : List Layer). PartCause below (g.layer b) start m (own_cause below) (files g b ++ u.files_of_layers_below y) news e) same h)
 
--- What a zeroing of all of a range does to a chain's disk.
+-- The effect on a chain's disk of a zeroing of the whole range.
 module _ {D St : Type 0} (g : Ghosts D St) (free_loose : (d : D) → IsFree (g.layer d) → (p : ℕ) → (g.layer d).held p ≡ loose)
     (old new : D × List D) (offset n : ℕ) (was_free : IsFree (g.layer old.0)) (is_free : IsFree (g.layer new.0)) where
   pub zero_ok : (unit : ℕ) (result : Result (Unit {0}) Fault) → change_refusal unit (g.layer old.0) offset n ≡ None
@@ -165,7 +156,6 @@ module _ {D St : Type 0} (g : Ghosts D St) (free_loose : (d : D) → IsFree (g.l
       (GivesZero offset n) Steps.ToZero offset n (allowed_inside unit (g.layer old.0) offset n allowed) (λ p v gave. gave.0) (ran.values tt i) (shown i)
   zero_ok unit (Err e) allowed shown ran i = tt
 
-  -- a refused one is done in part
   pub zero_err : (result : Result (Unit {0}) Fault) (call : Call) → offset_of call ≡ offset → length_of call ≡ n → ((p : ℕ) (was : Value) → Gives (at (map g.layer old.1)) call p was (byte 0))
       → ChainRangeChange g (HadNoResourceError result) (GivesZero offset n) old new → IsIntactChain g old
       → IfErr result (λ e. IsNotResourceError e → PartlyDone (below_of g.layer old) call (chain_disk g.layer old) (chain_disk g.layer new))

@@ -1,4 +1,4 @@
--- How the files that an image names are opened.
+-- Specifies builders that open and create images: the options of referenced files, and what a builder may return.
 use Rattle.std.specs.Prelude.{◌≡◌, ◌⊎◌, ℕ, Bool, Option, Some, None, Result, Ok, Err, IfErr, false, IsTrue}
 use Rattle.imago_storage.specs.Options.{OpenOptions}
 use Rattle.imago_storage.specs.State.{StorageState}
@@ -10,15 +10,15 @@ use Rattle.imago_access.specs.Files.{UnchangedButMoreFaults}
 use Rattle.imago_access.specs.Refusals.{unusable_fault}
 use Rattle.imago_access.specs.Stops.{IsCounted, IsWritten}
 
--- these options, or new ones, for writing or not
+-- These options, or default ones, with this setting for writing.
 abbrev pub options_with : Option OpenOptions → Bool → OpenOptions
 options_with None writable = record { filename = None; writable = writable; direct = false }
 options_with (Some options) writable = record options { writable = writable }
 
--- A driver just opened, of this format, for writing or not, and with this number, over an image file that was so before. It shows what the
--- file means, and is as long; opening has only read that; nothing is prepared or pending, nothing waits in memory, and it can be used:
--- it has not failed, and no file is missing. What lasts over each call holds from here on. Where the file is sound and its storage keeps
--- what is written, it is as an image that was found sound has to be.
+-- `d` is a driver that was just opened over an image file in state `before`. The driver has this format, this number and this setting for
+-- writing. It reads what the file says, and the file is unchanged except for fault counts. No mapping is prepared, nothing is dirty or
+-- pending (allocated and not yet linked, or on the free list), and the image can be used. If the file is consistent and its storage keeps
+-- what is written, the driver is well-formed.
 pub record IsOpened {D St : Type 0} (g : Ghosts D St) (format : Format) (writable : Bool)
     (number : ℕ) (before : StorageState) (d : D) : Type 0 where
   pub format_is : (g.layer d).fixed.format ≡ format
@@ -35,20 +35,19 @@ pub record IsOpened {D St : Type 0} (g : Ghosts D St) (format : Format) (writabl
   pub stays_stable : g.stable d
   pub well_formed : IsTrue (g.layer d).fixed.keeps → g.sound (g.layer d).fixed.kind (g.image d).bytes → g.well_formed d
 
--- Each driver that may be opened is one just opened.
+-- Each driver in `opens` was just opened.
 abbrev pub OpensOnly : {D St : Type 0} → Ghosts D St → (D → Type 0) → Format → Bool → ℕ → StorageState → Type 0
 OpensOnly {D} g opens format writable number before = (d : D) → opens d → IsOpened g format writable number before d
 
--- What was created is handed to the closure that makes the builder for it, and opened by that builder, or by another that was made for
--- that.
+-- The closure makes a builder for a created storage. That builder, or another one derived from it, satisfies `Opens`.
 abbrev pub OpensCreated : {S B : Type 0} → (S → Type 0) → (S → Result B Fault → Type 0) → (B → B → Type 0) → (B → Type 0) → Type 0
 OpensCreated {S} {B} hands makes opens_with Opens = (s : S) × (b b' : B) × hands s × makes s (Ok b) × opens_with b b' × Opens b'
 
--- The driver is one that may be opened then.
+-- The closure makes a builder for a created storage, and that builder, or another one derived from it, may open the driver.
 abbrev pub IsOpenedThen : {S B D : Type 0} → (S → Type 0) → (S → Result B Fault → Type 0) → (B → B → Type 0) → (B → D → Type 0) → D → Type 0
 IsOpenedThen hands makes opens_with opens d = OpensCreated hands makes opens_with (λ b. opens b d)
 
--- Why it isn't created and opened: by a cause of creation, of the closure, or of the builder.
+-- `e` is an error of creation, of the closure, or of the builder.
 abbrev pub NotOpened : {S B : Type 0} → (Fault → Type 0) → (S → Type 0) → (S → Result B Fault → Type 0)
     → (B → B → Type 0) → (B → Fault → Type 0) → Fault → Type 0
 NotOpened {S} {B} refuses hands makes opens_with refused e =

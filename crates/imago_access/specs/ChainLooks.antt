@@ -1,4 +1,5 @@
--- What calls that only look at a chain answer and are refused with, by its drivers before and after, the top first.
+-- Specifies reads, lookups and reloads of a chain of images: their results and errors, given its drivers before and after a call, the top
+-- first.
 use Rattle.std.specs.Prelude.{◌≡◌, ◌⊎◌, ℕ, ◌+◌, ◌<◌, ◌^◌, List, None, Result, OnOk, IfOk, IfErr, IsTrue, length, slice_index, map}
 use Rattle.imago_storage.specs.Disk.{byte}
 use Rattle.imago_storage.specs.Steps.{lookup, found, read, bytes_read}
@@ -16,27 +17,27 @@ use Rattle.imago_access.specs.Refusals.{unusable_fault, IsUnusable, ReadCause, D
 use Rattle.imago_access.specs.Failing.{RefusesReload}
 use Rattle.imago_access.specs.ChainCalls.{ChainSteps, AllUnchanged}
 
--- a read of this many bytes fills the buffer with those of the chain's disk
+-- A read of `n` bytes has filled the buffer with the bytes of the chain's disk.
 abbrev pub ChainReads : {D St : Type 0} → Ghosts D St → ℕ → ℕ → List ℕ → D × List D → D × List D → Type 0
 ChainReads g offset n buf old new = ChainSteps g (read offset n) (bytes_read buf) old new
 
--- a lookup of a range is answered with a run of this kind and length: by the top layer alone, and by the chain
+-- A lookup in the top layer has found a run of this kind and length. `ChainFinds` states this of a lookup through all layers.
 abbrev pub TopFinds : {D St : Type 0} → Ghosts D St → ℕ → ℕ → D × List D → D × List D → ShallowMapping × ℕ → Type 0
 TopFinds g offset asked old new answer = ChainSteps g (lookup offset asked) (found (kind_of answer.0) answer.1) old new
 
 abbrev pub ChainFinds : {D St : Type 0} → Ghosts D St → ℕ → ℕ → D × List D → D × List D → Mapping × ℕ → Type 0
 ChainFinds g offset asked old new answer = ChainSteps g (lookup offset asked) (found (deep_kind_of answer.0) answer.1) old new
 
--- the layers show these bytes, so many of them, from an offset on
+-- The first `n` of these bytes are those of the layers from `offset` on.
 abbrev pub ShowBytes : List Layer → ℕ → List ℕ → ℕ → Type 0
 ShowBytes layers offset bytes n = (i : ℕ) → i < n → at layers (offset + i) ≡ byte (slice_index bytes i)
 
--- P, where lookups in each of these layers are true, and they are fewer than depths can name
+-- If lookups in each layer agree with the files and the depth of each layer fits `u64`, P holds.
 abbrev pub WhereAllSee : {D St : Type 0} → Ghosts D St → List D → Type 0 → Type 0
 WhereAllSee g ds P = length ds < 2 ^ 64 → Each g.coherent ds → P
 
--- The answer says what the places of its run are, by the bytes that the files hold then, and which places can be written; it names a depth
--- that there is.
+-- The result says truly where the run is stored (`NamesTruly`) and that it can be written in place (`NamesWritable`). Its depth is one of
+-- the chain's (`NamesLayer`).
 abbrev pub NamesTruly : {D St : Type 0} → Ghosts D St → ℕ → Result (Mapping × ℕ) Fault → List D → List D → Type 0
 NamesTruly g offset result olds news = WhereAllSee g olds
     (IfOk result (λ r. DeepNames (map g.layer olds) (at (map g.layer olds)) (stored_at g news) offset r.1 r.0))
@@ -47,23 +48,23 @@ NamesWritable g offset asked result olds = WhereAllSee g olds (IfOk result (λ r
 abbrev pub NamesLayer : {D : Type 0} → Result (Mapping × ℕ) Fault → List D → Type 0
 NamesLayer result ds = length ds < 2 ^ 64 → IfOk result (λ r. IsDeepBelow (length ds) r.0)
 
--- it names a storage that there is
+-- The storage in the result exists.
 abbrev pub NamesStorage : {D St : Type 0} → Ghosts D St → Result (Mapping × ℕ) Fault → List D → Type 0
 NamesStorage g result ds = length ds < 2 ^ 64 → IfOk result (λ r. IsThere g ds r.0)
 
--- a read of a run has filled the buffer's begin with what these layers show
+-- The start of the buffer has the bytes of these layers.
 abbrev pub ReadsRun : {D St : Type 0} → Ghosts D St → ℕ → Result ℕ Fault → List ℕ → List D → Type 0
 ReadsRun g offset result buf ds = Each g.coherent ds → IfOk result (ShowBytes (map g.layer ds) offset buf)
 
--- a lookup of so many bytes in a layer has nothing to do, or is refused at once
+-- A lookup of `asked` bytes in a layer has nothing to do, or the image can't be used.
 abbrev pub NeedsNoLook : Layer → ℕ → Type 0
 NeedsNoLook layer asked = (asked ≡ 0) ⊎ IsUnusable layer
 
--- then all is as it was
+-- If a lookup has nothing to do, or the image can't be used, nothing changes.
 abbrev pub UnchangedIfIdle : {D St : Type 0} → Ghosts D St → ℕ → D × List D → D × List D → Type 0
 UnchangedIfIdle g asked old new = NeedsNoLook (g.layer old.0) asked → AllUnchanged g old new
 
--- why a lookup through these layers is refused, and a read
+-- The errors of a lookup through these layers, and then the errors of a read.
 abbrev pub LookRefused : {D St T : Type 0} → Ghosts D St → ℕ → ℕ → Result T Fault → List D → List D → Type 0
 LookRefused g offset asked result olds news = Each g.coherent olds
     → IfErr result (DeepLookCause (map g.layer olds) (at (map g.layer olds)) offset asked (files_of g olds) (files_of g news))
@@ -73,8 +74,8 @@ ReadRefused g offset n result olds news = Each g.coherent olds
     → IfErr result (ReadCause (map g.layer olds) (at (map g.layer olds)) (unit_of_chain (map g.layer olds)) offset n
     (files_of g olds) (files_of g news))
 
--- Right after a flush of each layer nothing is lost by a call that drops what they hold in memory: they are what they were, and lookups
--- stay true.
+-- If each layer was just flushed, its lookups agreed with its files, and its storages keep what is written, P holds. `KeepsLayers` and
+-- `KeepsSight` say what a successful reload then keeps: the layers, and that lookups agree with the files.
 abbrev pub WhereFlushed : {D St : Type 0} → Ghosts D St → List D → Type 0 → Type 0
 WhereFlushed g ds P = Each (λ d. IsTrue (g.layer d).fixed.keeps) ds → Each g.coherent ds → Each g.has_no_dirty_data ds → P
 
@@ -84,17 +85,17 @@ KeepsLayers g result olds news = WhereFlushed g olds (OnOk result (map g.layer n
 abbrev pub KeepsSight : {D St : Type 0} → Ghosts D St → Result Unit Fault → List D → List D → Type 0
 KeepsSight g result olds news = WhereFlushed g olds (OnOk result (Each g.coherent news))
 
--- Why the files of the layer at which that ended couldn't be read again, by its own storages, and what this marks. Where they say something
--- else than what was read of them it could be used before, and has failed.
+-- The error and the failed state of the layer where a reload ended. If its files no longer agree with what was read of them, the image
+-- could be used before, and has failed.
 pub record EndsReload {D St : Type 0} (g : Ghosts D St) (fault : Fault) (old new : D) : Type 0 where
   pub cause : RefusesReload g old new fault
   pub marks_failed : MarksFailed g old new fault
   pub failed : IsStale fault → (unusable_fault (g.layer old) ≡ None) × IsTrue (g.layer new).failed
 
--- and what the others are: nothing waits in those above it, and those below it are as they were
+-- A reload ended at one of the layers. The layers above it have no dirty data, and those below it are unchanged.
 abbrev pub EndsReloads : {D St : Type 0} → Ghosts D St → List D → List D → Fault → Type 0
 EndsReloads g olds news fault = EndsAt g.has_no_dirty_data (EndsReload g fault) olds news
 
--- why the layers' files can't be read again
+-- The errors of a reload of the layers.
 abbrev pub RefusesReloads : {D St : Type 0} → Ghosts D St → List D → List D → Fault → Type 0
 RefusesReloads g olds news = InvalidateCause (map g.layer olds) (files_of g olds) (files_of g news)

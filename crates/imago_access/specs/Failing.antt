@@ -1,4 +1,4 @@
--- Why calls of a driver are refused, of every image, by the storages of the driver and of the layers below it.
+-- The errors of a driver's calls, in terms of its own storages and those of the layers below it (the backing chain).
 use Rattle.std.specs.Prelude.{◌++◌, ℕ, [], ◌∷◌}
 use Rattle.imago_storage.specs.declared.fault.Fault.{Fault}
 use Rattle.imago_access.specs.declared.driver_model.DriverModel.{Ghosts}
@@ -8,16 +8,15 @@ use Rattle.imago_access.specs.Files.{ImageCause, files}
 use Rattle.imago_access.specs.Parts.{PlainCause}
 use Rattle.imago_access.specs.Refusals.{LookCause, ReadMappedCause, ReadCause, InvalidateCause}
 
--- by its own storages
+-- The errors of any image, by its own storages.
 abbrev pub Fails : {D St : Type 0} → Ghosts D St → D → D → Fault → Type 0
 Fails g old new = ImageCause (files g old) (files g new)
 
--- and by those of the layers below, that it reads
+-- The errors of any image for a call that also reads the layers below.
 abbrev pub FailsOver : {D St B : Type 0} → Ghosts D St → GhostsBelow B → D × B → D × B → Fault → Type 0
 FailsOver g u old new = ImageCause (files g old.0 ++ u.files_of_layers_below old.1) (files g new.0 ++ u.files_of_layers_below new.1)
 
--- What refuses a call of a driver: a lookup of a range, a read of places of a storage or of the layers below, a flush or a sync, and
--- reading its files again.
+-- The errors of a lookup. The definitions below are for a read of a storage, a read of the layers below, a flush or sync, and a reload.
 abbrev pub RefusesLookup : {D St : Type 0} → Ghosts D St → ℕ → ℕ → D → D → Fault → Type 0
 RefusesLookup g offset n old new = LookCause (g.layer old) offset n (files g old) (files g new)
 

@@ -1,5 +1,5 @@
--- What every call of a driver does to what contracts see of it. It was not cut off by want of memory or by a storage that failed where
--- `whole` holds.
+-- Specifies what every call of a driver preserves: its bytes, its invariant and its refcounts. A parameter `whole` states that the call had
+-- no resource error (`Fault::Memory`, `Fault::Storage`).
 use Rattle.std.specs.Prelude.{◌≡◌, ◌∷◌, ◌⊎◌, ⊤, ℕ, List, Option, Some, None, Result, IsTrue, IsOk, OnOk, IsErrOf, IsSome}
 use Rattle.imago_storage.specs.Calls.{IsFaultless}
 use Rattle.imago_storage.specs.Steps.{Call}
@@ -14,16 +14,17 @@ use Rattle.imago_access.specs.Refusals.{unusable_fault, own_refusal, SomeFailed}
 use Rattle.imago_access.specs.Room.{Takes}
 use Rattle.imago_access.specs.Stops.{KeepsCrashImages, GivesNone}
 
--- What reads and changes rest on is what it was.
+-- If lookups agreed with the files, the layer is unchanged and lookups still agree. A well-formed driver (its invariant holds) stays
+-- well-formed.
 pub record IsKnown {D St : Type 0} (g : Ghosts D St) (old new : D) : Type 0 where
   pub seen : g.coherent old → (g.layer new ≡ g.layer old) × g.coherent new
   pub safely : g.well_formed old → g.well_formed new
 
--- Each cluster is counted beyond what names it, and what is pending, as often as it was: nothing comes to leak, or ceases to.
+-- The excess refcount of each cluster is unchanged: nothing starts to leak, or stops.
 abbrev pub KeepsExcessRefcounts : {D St : Type 0} → Ghosts D St → D → D → Type 0
 KeepsExcessRefcounts g old new = (c : ℕ) → g.excess_refcount new c ≡ g.excess_refcount old c
 
--- All is as it was.
+-- Nothing has changed.
 pub record IsUnchanged {D St : Type 0} (g : Ghosts D St) (old new : D) : Type 0 where
   pub layer : g.layer new ≡ g.layer old
   pub unasked : Unasked g old new
@@ -35,24 +36,24 @@ pub record IsUnchanged {D St : Type 0} (g : Ghosts D St) (old new : D) : Type 0 
   pub room : g.well_formed old → Takes g (λ _. ⊤) old new
   pub stays_begun : (d : D) (call : Call) → g.began d call old → g.began d call new
 
--- A call is refused by this at once, if by anything, and else succeeds where it has nothing to do and the image can be used. In both cases
--- all is as it was.
+-- A call with this early error fails with it. Without an early error, a call with nothing to do succeeds if the image can be used. If the
+-- call fails early or has nothing to do, nothing changes.
 pub record EarlyOutcome {D St T : Type 0} (g : Ghosts D St) (refusal : Option Fault) (nothing : Type 0)
     (result : Result T Fault) (old new : D) : Type 0 where
   pub refused : (f : Fault) → refusal ≡ Some f → IsErrOf result f
   pub idle : nothing → unusable_fault (g.layer old) ≡ None → IsOk result
   pub unchanged : nothing ⊎ IsSome refusal → IsUnchanged g old new
 
--- the same of a change of a range, in bytes
+-- Like `EarlyOutcome`, for a change of a range in bytes.
 abbrev pub RangeEarlyOutcome : {D St T : Type 0} → Ghosts D St → ℕ → ℕ → Result T Fault → D → D → Type 0
 RangeEarlyOutcome g offset n result old new = EarlyOutcome g (own_refusal (g.layer old) offset n) (n ≡ 0) result old new
 
--- Right after a flush nothing is lost by a driver that drops what it holds in memory.
+-- A reload right after a flush loses nothing.
 abbrev pub KeepsWhatIsFlushed : {D St : Type 0} → Ghosts D St → Result Unit Fault → D → D → Type 0
 KeepsWhatIsFlushed g result old new = IsTrue (g.layer old).fixed.keeps → g.coherent old → g.has_no_dirty_data old
     → OnOk result ((g.layer new ≡ g.layer old) × g.coherent new)
 
--- All but counts of faults is as it was: what reads and changes rest on, the files, what waits to be written, and what is allocated.
+-- Nothing has changed except for fault counts: values, invariants, files, dirty data and allocations are unchanged.
 pub record IsLeftUntouched {D St : Type 0} (g : Ghosts D St) (old new : D) : Type 0 where
   pub known : IsKnown g old new
   pub unchanged_but_faults : Pairs UnchangedButMoreFaults (files g old) (files g new)
@@ -60,45 +61,46 @@ pub record IsLeftUntouched {D St : Type 0} (g : Ghosts D St) (old new : D) : Typ
   pub room : g.well_formed old → Takes g (λ _. ⊤) old new
   pub stays_begun : (d : D) (call : Call) → g.began d call old → g.began d call new
 
--- What a refusal leaves of an image of a format that marks failures: a storage's fault has marked it, and want of memory has marked it or
--- left all as it was.
+-- The failed state after an error, in a format that marks failures. After `Storage` the image has failed. After `Memory` it has failed, or
+-- nothing has changed except for fault counts.
 abbrev pub MarksFailed : {D St : Type 0} → Ghosts D St → D → D → Fault → Type 0
 MarksFailed g old new Storage = IsTrue (g.layer old).fixed.marks_failed → IsTrue (g.layer new).failed
 MarksFailed g old new Memory = IsTrue (g.layer old).fixed.marks_failed → IsTrue (g.layer new).failed ⊎ IsLeftUntouched g old new
 MarksFailed g old new fault = ⊤
 
--- The same of a call that reads the layers below too: a fault of its own storages has marked it, and one of theirs has, or left all as it
--- was.
+-- Like `MarksFailed`, for a call that also reads the layers below. After `Storage` from a storage of its own the image has failed. After
+-- `Storage` from a layer below, the image has failed, or nothing has changed except for fault counts.
 abbrev pub MarksFailedOver : {D St : Type 0} → Ghosts D St → D → D → Fault → Type 0
 MarksFailedOver g old new Storage = IsTrue (g.layer old).fixed.marks_failed
     → (SomeRose (files g old) (files g new) → IsTrue (g.layer new).failed) × (IsTrue (g.layer new).failed ⊎ IsLeftUntouched g old new)
 MarksFailedOver g old new Memory = IsTrue (g.layer old).fixed.marks_failed → IsTrue (g.layer new).failed ⊎ IsLeftUntouched g old new
 MarksFailedOver g old new fault = ⊤
 
--- A storage of one of the layers has failed, and this layer has where its format marks failures.
+-- A storage of one of the layers has failed, and so has that layer if its format marks failures.
 abbrev pub SomeMarkedFailed : {D St : Type 0} → Ghosts D St → List D → List D → Type 0
 SomeMarkedFailed g (old ∷ olds) (new ∷ news) = (SomeRose (files g old) (files g new) × MarksFailed g old new Storage) ⊎ SomeMarkedFailed g olds news
 SomeMarkedFailed g _ _ = ⊥
 
--- what a refusal leaves of the layers that a call looks at: of one that was refused by a storage
+-- The failed state of the layers after a read or a lookup that failed with `Storage`.
 abbrev pub MarksSomeFailed : {D St : Type 0} → Ghosts D St → List D → List D → Fault → Type 0
 MarksSomeFailed g olds news fault = fault ≡ Storage → SomeMarkedFailed g olds news
 
--- A call that only looks. Where nothing waits to be written it makes no request; else a stop in it shows nothing new.
+-- The effect of a call that only reads or looks up. If nothing is dirty, only fault counts of the files change. Otherwise crash images
+-- still read as before.
 pub record LookupCall {D St : Type 0} (g : Ghosts D St) (whole : Type 0) (old new : D) : Type 0 where
   pub keeps_layer_state : KeepsLayerState (g.layer old) (g.layer new)
   pub counts_not_fallen : Pairs IsLater (files g old) (files g new)
   pub faults : whole → Pairs IsFaultless (files g old) (files g new)
   pub stays : whole → g.coherent old → (g.layer new ≡ g.layer old) × g.coherent new
   pub safely : whole → g.well_formed old → g.well_formed new
-  -- one that was cut off has failed, or left what reads and changes rest on
+  -- after a resource error the image has failed, or values and invariants are unchanged
   pub cut : IsTrue (g.layer new).failed ⊎ IsKnown g old new
   pub stays_stable : g.stable old → g.stable new
   pub excess_refcount : whole → g.well_formed old → KeepsExcessRefcounts g old new
   pub unchanged_but_faults : g.has_no_dirty_data old → Pairs UnchangedButMoreFaults (files g old) (files g new) × g.has_no_dirty_data new
   pub crash_images : g.well_formed old → (below : List Layer) → KeepsCrashImages g below GivesNone old new
 
--- a call that may change: an image that had failed has failed still
+-- The effect of a call that may change the image. An image that had failed still has.
 pub record MutatingCall {D St : Type 0} (g : Ghosts D St) (ok whole : Type 0) (old new : D) : Type 0 where
   pub fixed : (g.layer new).fixed ≡ (g.layer old).fixed
   pub failed : IsTrue (g.layer old).failed → IsTrue (g.layer new).failed
@@ -108,7 +110,7 @@ pub record MutatingCall {D St : Type 0} (g : Ghosts D St) (ok whole : Type 0) (o
   pub stays_stable : g.stable old → g.stable new
   pub excess_refcount : whole → g.well_formed old → KeepsExcessRefcounts g old new
 
--- The same of one that reads its files anew. What was to be freed, and isn't yet, leaks then.
+-- Like `MutatingCall`, for a reload. Clusters that were still to be freed leak after the reload, so excess refcounts aren't preserved.
 pub record ReloadingCall {D St : Type 0} (g : Ghosts D St) (ok whole : Type 0) (old new : D) : Type 0 where
   pub fixed : (g.layer new).fixed ≡ (g.layer old).fixed
   pub failed : IsTrue (g.layer old).failed → IsTrue (g.layer new).failed
@@ -117,12 +119,13 @@ pub record ReloadingCall {D St : Type 0} (g : Ghosts D St) (ok whole : Type 0) (
   pub safely : whole → g.well_formed old → g.well_formed new
   pub stays_stable : g.stable old → g.stable new
 
--- what reads of the layers below rest on is what it was
+-- If lookups in the layers below (the backing chain) agreed with the files, the layers are unchanged and lookups still agree. Well-formed
+-- layers stay well-formed.
 pub record IsKnownUnder {B : Type 0} (u : GhostsBelow B) (old new : B) : Type 0 where
   pub seen : u.coherent_below old → (u.layers_below new ≡ u.layers_below old) × u.coherent_below new
   pub safely : u.well_formed_below old → u.well_formed_below new
 
--- a look at the layers below
+-- The effect of a read or a lookup on the layers below.
 pub record LookupCallBelow {B : Type 0} (u : GhostsBelow B) (whole : Type 0) (old new : B) : Type 0 where
   pub keeps_layer_state : KeepLayerStates (u.layers_below old) (u.layers_below new)
   pub counts_not_fallen : Pairs IsLater (u.files_of_layers_below old) (u.files_of_layers_below new)

@@ -1,4 +1,4 @@
--- Which kind of run the answer of a lookup names.
+-- The kind of run that a lookup finds: stored, zero, unreadable, in the layer below (the backing file), or past the end.
 use Rattle.imago_storage.specs.Steps.{Kind, stored, zero_run, special, indirect, at_end}
 use Rattle.imago_access.specs.declared.mapping.ShallowMapping.{ShallowMapping}
 use Rattle.imago_access.specs.declared.mapping.ShallowMapping.TheVariants as shallow
@@ -12,7 +12,7 @@ kind_of (shallow.Zero explicit) = zero_run
 kind_of (shallow.Special place) = special
 kind_of shallow.Eof = at_end
 
--- the same of a chain's answer
+-- Like `kind_of`, for a lookup through a chain.
 abbrev pub deep_kind_of : Mapping → Kind
 deep_kind_of (deep.Raw depth storage place writable) = stored
 deep_kind_of (deep.Zero explicit) = zero_run

@@ -1,4 +1,5 @@
--- The four calls of a driver that zero or discard a part of a range, by what they differ in.
+-- Specifies the four calls of a driver that zero or discard a part of a range (`ensure_zero_mapping`, `discard_to_zero`, `discard_to_any`,
+-- `discard_to_backing`), and how they differ.
 use Rattle.std.specs.Prelude.{◌≡◌, ⊤, ◌⊎◌, ℕ, ◌+◌, ◌≤◌, List, Result, IfOk, IfErr}
 use Rattle.imago_storage.specs.Disk.{Value}
 use Rattle.imago_storage.specs.Steps.{Call, write_zeroes, discard_to_zero, discard_to_any, discard_to_backing, IsIn, IsOut}
@@ -16,44 +17,44 @@ use Rattle.imago_access.specs.Stops.{KeepsCrashImages, GivesZero, GivesAny, Give
 pub data PartCall : Type 0 where
   -- zeroes, and keeps what is allocated
   ensures_zero : PartCall
-  -- zeroes, and gives up what is allocated
+  -- zeroes, and deallocates
   discards_to_zero : PartCall
-  -- gives up, and the bytes may be any
+  -- deallocates, and the bytes may become any bytes
   discards_to_any : PartCall
-  -- gives up to the layer below
+  -- deallocates, and the bytes read as in the layer below (the backing file)
   discards_to_backing : PartCall
 
--- what a place may become
+-- The changes of a byte that the call allows.
 abbrev pub Becomes : PartCall → Layer → ℕ → Cell → Cell → Type 0
 Becomes ensures_zero layer = ToZero
 Becomes discards_to_zero layer = ToZero
 Becomes discards_to_any layer = ToAny
 Becomes discards_to_backing layer = ToBelow layer.fixed.blank
 
--- what the call may give at a stop
+-- The values that the call may give in a crash image.
 abbrev pub PartGives : PartCall → List Layer → ℕ → ℕ → ℕ → Value → Type 0
 PartGives ensures_zero below = GivesZero
 PartGives discards_to_zero below = GivesZero
 PartGives discards_to_any below = GivesAny
 PartGives discards_to_backing below = GivesBelow below
 
--- over which layers that is told
+-- The layers below for which its crash images are specified.
 abbrev pub IsToldOver : PartCall → List Layer → Layer → Type 0
 IsToldOver discards_to_backing below layer = IsBacked below layer
 IsToldOver call below layer = ⊤
 
--- what becomes of the room of places: a zeroing that keeps takes none outside its range and gives none up, and a discard takes none and
--- gives none up outside its range
+-- The effect on allocations. A zeroing that keeps allocations allocates only in its range and deallocates nothing. The other calls allocate
+-- nothing and deallocate only in their range.
 abbrev pub LeavesPart : {D St : Type 0} → PartCall → Ghosts D St → ℕ → ℕ → D → D → Type 0
 LeavesPart ensures_zero g offset n = Takes g (IsOut offset n)
 LeavesPart call g offset n = GivesUp g offset n
 
--- what is true then of each place of the part
+-- The state of each byte of the part after the call.
 abbrev pub IsDone : {D St : Type 0} → PartCall → Ghosts D St → D → ℕ → Type 0
 IsDone ensures_zero g = g.zeroed
 IsDone call g = g.unallocated
 
--- the call of a disk that is done by such parts
+-- The call of a disk that is made of these driver calls.
 abbrev pub IsFor : PartCall → Call → Type 0
 IsFor ensures_zero (write_zeroes offset n) = ⊤
 IsFor discards_to_zero (discard_to_zero offset n) = ⊤
@@ -61,12 +62,13 @@ IsFor discards_to_any (discard_to_any offset n) = ⊤
 IsFor discards_to_backing (discard_to_backing offset n) = ⊤
 IsFor call whole = ⊥
 
--- the part that the call answers: it lies in the range, and is none at its start where the range is empty
+-- The part that the call returns is inside the range, or the part is empty and starts at or after `offset`. For an empty range the part is
+-- empty, at the start of the range.
 pub record IsPart (offset n : ℕ) (part : ℕ × ℕ) : Type 0 where
   pub inside : (offset ≤ part.0) × ((part.1 ≡ 0) ⊎ (part.0 + part.1 ≤ offset + n))
   pub empty : n ≡ 0 → part ≡ (offset, 0)
 
--- What the call does to an image that is safe, and what it leaves of every image.
+-- The effect of the call. Fields that need a well-formed driver say so.
 pub record DoesPart {D St : Type 0} (call : PartCall) (g : Ghosts D St) (offset n : ℕ)
     (result : Result (ℕ × ℕ) Fault) (old new : D) : Type 0 where
   pub ok : g.well_formed old → IfOk result (λ r. Rewrites (Becomes call (g.layer old)) (g.layer old) (g.layer new) r.0 r.1)
@@ -80,7 +82,7 @@ pub record DoesPart {D St : Type 0} (call : PartCall) (g : Ghosts D St) (offset 
   pub crash_images : g.well_formed old → (below : List Layer) → IsToldOver call below (g.layer old)
       → KeepsCrashImages g below (PartGives call below offset n) old new
 
--- why it is refused, as part of a call that is done by such parts
+-- The errors of the call, as a part of a call of the disk.
 pub record PartRefused {D St : Type 0} (call : PartCall) (g : Ghosts D St) (offset n : ℕ)
     (result : Result (ℕ × ℕ) Fault) (old new : D) : Type 0 where
   pub failed : IfErr result (ImageCause (files g old) (files g new))

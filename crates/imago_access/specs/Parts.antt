@@ -1,4 +1,5 @@
--- Calls of a driver as parts of a call of a chain.
+-- A call of a chain of images makes several calls of the top driver, each for a part of its range. Specifies the ranges of these parts, and
+-- their errors.
 use Rattle.std.specs.Prelude.{◌≡◌, ⊤, ℕ, ◌+◌, ◌<◌, ◌≤◌, Bool, true, Option, Some, None, List, [], ◌∷◌, IsFalse}
 use Rattle.imago_storage.specs.State.{StorageState}
 use Rattle.imago_storage.specs.Through.{Overflows}
@@ -11,18 +12,19 @@ use Rattle.imago_access.specs.Files.{SomeRose}
 use Rattle.imago_access.specs.Room.{IsUncutAt}
 use Rattle.imago_access.specs.Refusals.{unusable_fault, SomeUnusable}
 
--- the range lies in that of the call
+-- The range is inside that of the call.
 pub record IsPartOf (call : Call) (offset n : ℕ) : Type 0 where
   pub start : offset_of call ≤ offset
   pub end : offset + n ≤ offset_of call + length_of call
 
--- Its ends cut no unit that the call covers whole: what such a unit holds is never needed.
+-- Neither end of the range is inside a unit that the call covers completely. So the old data of a unit that the call covers completely is
+-- never needed.
 pub record IsUncutPart (layer : Layer) (call : Call) (offset n : ℕ) : Type 0 where
   pub part : IsPartOf call offset n
   pub start : IsUncutAt layer.fixed.unit layer.size (offset_of call) (length_of call) offset
   pub end : IsUncutAt layer.fixed.unit layer.size (offset_of call) (length_of call) (offset + n)
 
--- what a call that prepares announces: whether the whole of its range will be written
+-- The promise of a call that prepares mappings: whether its whole range will be written.
 abbrev pub announces : Call → Option Bool
 announces (write offset bytes) = Some true
 announces (write_zeroes offset n) = Some true
@@ -31,8 +33,9 @@ announces (prepare offset n overwrite) = Some overwrite
 announces (ensure offset n overwrite) = Some overwrite
 announces call = None
 
--- Why a call of a driver over a range is refused, with the layers below that it reads: by what the image is and the range, or by a cause
--- of the driver's own. It spends no mapping, so none is foreign to it, and nothing that it needs is more than the format can do.
+-- The errors of a driver's call over a range that reads the layers below. They come from the image's state, the range, or the driver
+-- itself. The call commits or cancels no mapping, so none is foreign (of another image), and it needs nothing that the format doesn't
+-- support.
 abbrev pub PartCause : List Layer → Layer → ℕ → ℕ → (Fault → Type 0) → List StorageState → List StorageState → Fault → Type 0
 PartCause below layer offset n causes olds news ReadOnly = (0 < n) × IsFalse layer.fixed.writable
 PartCause below layer offset n causes olds news PastEnd = (0 < n) × (layer.size < offset + n)
@@ -48,13 +51,13 @@ PartCause below layer offset n causes olds news Memory = ⊤
 PartCause below layer offset n causes olds news Storage = SomeRose olds news
 PartCause below layer offset n causes olds news fault = causes fault
 
--- the same of a zeroing or a discard, which the format or its storage may decline
+-- Like `PartCause`, for a zeroing or a discard, which the format or its storage may decline.
 abbrev pub DeclinableCause : List Layer → Layer → ℕ → ℕ → (Fault → Type 0) → List StorageState → List StorageState → Fault → Type 0
 DeclinableCause below layer offset n causes olds news Unsupported = causes Unsupported
 DeclinableCause below layer offset n causes olds news VersionLimit = causes VersionLimit
 DeclinableCause below layer offset n causes olds news fault = PartCause below layer offset n causes olds news fault
 
--- why a call without a range is refused: by what the image is, for want of memory or by a storage that failed
+-- The errors of a call without a range.
 abbrev pub PlainCause : Layer → List StorageState → List StorageState → Fault → Type 0
 PlainCause layer olds news Failed = unusable_fault layer ≡ Some Failed
 PlainCause layer olds news MissingData = unusable_fault layer ≡ Some MissingData
@@ -62,16 +65,16 @@ PlainCause layer olds news Memory = ⊤
 PlainCause layer olds news Storage = SomeRose olds news
 PlainCause layer olds news fault = ⊥
 
--- the range is mapped from a place of one of its storages on, and can be written there
+-- The range can be written in place, from this offset of one storage on.
 abbrev pub IsMappedAt : Layer → ℕ → ℕ → ℕ → Type 0
 IsMappedAt layer guest place n = (storage : ℕ) × ((i : ℕ) → i < n → layer.writable_location (guest + i) ≡ Some (storage, place + i))
 
--- why a write to a mapping is refused: also where the range isn't mapped there
+-- The errors of a write to a mapped range, which include that the range isn't mapped there.
 abbrev pub MappedCause : Layer → ℕ → ℕ → ℕ → List StorageState → List StorageState → Fault → Type 0
 MappedCause layer guest place n olds news Outdated = (0 < n) × (IsMappedAt layer guest place n → ⊥)
 MappedCause layer guest place n olds news fault = PartCause [] layer guest n (λ _. ⊥) olds news fault
 
--- why a growth or a shrink is refused
+-- The errors of a resize, and then the errors of a growth and of a shrink.
 abbrev pub ResizeCause : Type 0 → List Layer → Layer → (Fault → Type 0) → List StorageState → List StorageState → Fault → Type 0
 ResizeCause Alters below layer causes olds news ReadOnly = Alters × IsFalse layer.fixed.writable
 ResizeCause Alters below layer causes olds news PastEnd = ⊥

@@ -1,4 +1,4 @@
--- What a driver does that prepares a mapping, commits it, gives it up or writes to it.
+-- Specifies a driver's calls on prepared mappings (runs that are written and not yet committed): prepare, commit, cancel, and write.
 use Rattle.std.specs.Prelude.{◌≡◌, ◌++◌, ⊤, ◌⊎◌, ℕ, ◌<◌, ◌+◌, List, length, Option, Some, None, IsTrue, Result, IsOk, OnOk, IfOk, IfErr, IfSome, IsSome, MatchResult}
 use Rattle.imago_storage.specs.Steps.{Call}
 use Rattle.imago_storage.specs.declared.fault.Fault.{Fault}
@@ -17,15 +17,15 @@ use Rattle.imago_access.specs.Parts.{IsPartOf, IsUncutPart, announces, PartCause
 use Rattle.imago_access.specs.Failing.{FailsOver}
 use Rattle.imago_access.specs.Stops.{KeepsCrashImages, GivesNone, GivesBytes, GivesSettled}
 
--- a mapping of no length and without state, at the start of the storage 0
+-- An empty mapping without state, at the start of storage 0.
 abbrev pub nowhere : {St : Type 0} → PreparedDataMapping St
 nowhere = record { storage = 0; offset = 0; length = 0; state = None }
 
--- The mapping is the one that the layer has prepared; without state none is.
+-- The mapping is the one that the layer has prepared. If the mapping has no state, no mapping is prepared.
 abbrev pub IsHeldBy : {D St : Type 0} → Ghosts D St → Option St → Layer → Type 0
 IsHeldBy g state layer = IsMine g state layer × (state ≡ None → IsFree layer)
 
--- Why a call is refused that changes a range over the layers below, as part of a call that was begun.
+-- The errors of a call that changes a range and reads the layers below, as a part of a call that has begun.
 pub record RunRefused {D St B T : Type 0} (g : Ghosts D St) (u : GhostsBelow B) (asked : Asked)
     (result : Result T Fault) (old new : D × B) : Type 0 where
   pub failed : IfErr result (FailsOver g u old new)
@@ -35,7 +35,7 @@ pub record RunRefused {D St B T : Type 0} (g : Ghosts D St) (u : GhostsBelow B) 
       → IfErr result (PartCause (u.layers_below old.1) (g.layer old.0) asked.offset asked.length (g.own_cause d (u.layers_below old.1) call)
       (files g old.0 ++ u.files_of_layers_below old.1) (files g new.0 ++ u.files_of_layers_below new.1))
 
--- What a preparation does over the layers below, where the image is safe and reads of these are true, and what it leaves of a begun call.
+-- The effect of a preparation. Most fields need a well-formed driver, and layers below whose lookups agree with their files.
 pub record Prepares {D St B : Type 0} (g : Ghosts D St) (u : GhostsBelow B) (asked : Asked)
     (result : Result (PreparedDataMapping St) Fault) (old new : D × B) : Type 0 where
   pub ok : g.well_formed old.0 → u.coherent_below old.1
@@ -52,7 +52,7 @@ pub record Prepares {D St B : Type 0} (g : Ghosts D St) (u : GhostsBelow B) (ask
       → HadNoResourceError result → g.began d call new.0
   pub refused : RunRefused g u asked result old new
 
--- What a commit does. One without state changes nothing, and succeeds where the image can be used.
+-- The effect of a commit. A commit without state changes nothing, and succeeds if the image can be used.
 pub record Commits {D St : Type 0} (g : Ghosts D St) (state : Option St)
     (result : Result Unit (Fault × Option (PreparedDataMapping St))) (old new : D) : Type 0 where
   pub ok : OnOk result (Spends g state (g.layer old) (g.layer new)
@@ -65,7 +65,8 @@ pub record Commits {D St : Type 0} (g : Ghosts D St) (state : Option St)
   pub coherent : state ≡ None → g.coherent old → g.coherent new
   pub stays_begun : (d : D) (call : Call) → g.began d call old → IsMine g state (g.layer old) → OnOk result (g.began d call new)
 
--- Why it is refused: at once it gives the mapping back, and changes nothing; else it has spent it, and the image has failed.
+-- The errors of a commit. An early error returns the mapping, and nothing changes. After any other error the mapping is consumed, and the
+-- image has failed.
 pub record CommitRefused {D St : Type 0} (g : Ghosts D St) (mapping : PreparedDataMapping St)
     (result : Result Unit (Fault × Option (PreparedDataMapping St))) (old new : D) : Type 0 where
   pub early_outcome : (f : Fault) → commit_refusal g mapping.state (g.layer old) ≡ Some f
@@ -76,8 +77,7 @@ pub record CommitRefused {D St : Type 0} (g : Ghosts D St) (mapping : PreparedDa
       × Spends g mapping.state (g.layer old) (g.layer new) (IsFree (g.layer new) × (g.well_formed old → IsNotResourceError e.0 → ⊥)))
   pub failed : IfErr result (λ e. ImageCause (files g old) (files g new) e.0)
 
--- What becomes of a driver whose mapping is given up: the disk is as it was, and nothing is asked of a file. One without state changes
--- nothing.
+-- The effect of a cancel: the disk and the files are unchanged. A cancel without state changes nothing at all.
 pub record Cancels {D St : Type 0} (g : Ghosts D St) (mapping : PreparedDataMapping St)
     (result : Result Unit (Fault × PreparedDataMapping St)) (old new : D) : Type 0 where
   pub ok : OnOk result (Spends g mapping.state (g.layer old) (g.layer new) (Cancelled (g.layer old) (g.layer new)))
@@ -94,7 +94,7 @@ pub record Cancels {D St : Type 0} (g : Ghosts D St) (mapping : PreparedDataMapp
   pub room : g.well_formed old → IsMine g mapping.state (g.layer old) → Takes g (λ _. ⊤) old new
   pub stays_begun : (d : D) (call : Call) → g.began d call old → g.began d call new
 
--- What a write does from a place of a storage on, where the range is mapped.
+-- The effect of a write to a mapped range, from this offset of a storage on.
 pub record WritesMapped {D St : Type 0} (g : Ghosts D St) (guest place : ℕ) (bytes : List ℕ)
     (result : Result Unit Fault) (old new : D) : Type 0 where
   pub mapped : g.coherent old → OnOk result (0 < length bytes → IsMappedAt (g.layer old) guest place (length bytes))
@@ -107,7 +107,7 @@ pub record WritesMapped {D St : Type 0} (g : Ghosts D St) (guest place : ℕ) (b
   pub mutating_call : MutatingCall g (HadNoResourceError result) (HadNoResourceError result) old new
   pub stays_begun : (d : D) (call : Call) → g.began d call old → OnOk result (g.began d call new)
 
--- why it is refused
+-- The errors of a write to a mapped range.
 pub record WritingRefused {D St : Type 0} (g : Ghosts D St) (guest place n : ℕ) (result : Result Unit Fault) (old new : D) : Type 0 where
   pub failed : IfErr result (ImageCause (files g old) (files g new))
   pub marks_failed : IfErr result (MarksFailed g old new)

@@ -1,4 +1,4 @@
--- By which calls of a driver zeroings and discards of a chain are done, and what they leave and give at the places of their range.
+-- The calls of a driver that zeroings and discards of a chain of images make, and their effect on the bytes of a range.
 use Rattle.std.specs.Prelude.{ℕ, List}
 use Rattle.imago_storage.specs.Disk.{Value}
 use Rattle.imago_access.specs.Layer.{Layer}
@@ -13,7 +13,7 @@ abbrev pub zero_by : Zeroing → PartCall
 zero_by Keep = ensures_zero
 zero_by GiveUp = discards_to_zero
 
--- a zeroing leaves a place zeroed or, where room is given up, vacant
+-- A zeroing leaves each byte zeroed, or unallocated if it deallocates.
 abbrev pub IsZeroedBy : Zeroing → (ℕ → Type 0) → (ℕ → Type 0) → ℕ → Type 0
 IsZeroedBy Keep unallocated zeroed = zeroed
 IsZeroedBy GiveUp unallocated zeroed = unallocated
@@ -22,7 +22,7 @@ abbrev pub discard_by : Discarding → PartCall
 discard_by ToAny = discards_to_any
 discard_by ToBacking = discards_to_backing
 
--- a discard gives any byte, or what the layers below show
+-- A discard gives any byte, or the byte of the layers below.
 abbrev pub GivesDiscarded : Discarding → List Layer → ℕ → ℕ → ℕ → Value → Type 0
 GivesDiscarded ToAny below offset n = GivesAny offset n
 GivesDiscarded ToBacking below offset n = GivesBelow below offset n

@@ -1,4 +1,4 @@
--- Why calls of a driver or of a chain are refused.
+-- The errors of calls of a driver or of a chain of images: early errors (before the call does anything), and the causes of each fault.
 use Rattle.std.specs.Prelude.{◌≡◌, ◌⊎◌, ⊤, ℕ, ◌+◌, ◌<◌, ◌^◌, max, Bool, Option, Some, None, List, [], ◌∷◌, if◌then◌else◌, ltb, leb, eqb, not, IsTrue, IsFalse, IsSome}
 use Rattle.imago_storage.specs.State.{StorageState, unit_of}
 use Rattle.imago_storage.specs.Through.{round_up, Overflows}
@@ -13,15 +13,14 @@ use Rattle.imago_access.specs.declared.format.Format.TheVariants as format
 use Rattle.imago_access.specs.Chain.{disk_of, unit_of_chain}
 use Rattle.imago_access.specs.Files.{SomeRose, IsStale, greatest, keep_all}
 
--- why no call of an image but getters and a cancel succeeds
+-- The fault with which every call fails, except getters and a cancel, while the image can't be used.
 abbrev pub unusable_fault : Layer → Option Fault
 unusable_fault layer = if layer.failed then Some Failed else if layer.fixed.missing then Some MissingData else None
 
 abbrev pub IsUnusable : Layer → Type 0
 IsUnusable layer = IsSome (unusable_fault layer)
 
--- The first cause why a change of a range, in bytes, is refused, by whether the image was opened for writing, its unit of requests and its
--- size.
+-- The first error of a change of a range, in bytes, that depends on the setting for writing, the unit of requests and the size.
 abbrev pub range_refusal : Bool → (unit size offset n : ℕ) → Option Fault
 range_refusal writable unit size offset n =
     if eqb n 0 then None
@@ -30,8 +29,8 @@ range_refusal writable unit size offset n =
     else if ltb size (offset + n) then Some PastEnd
     else None
 
--- The first cause why a call over a range, in bytes, is refused before anything is done, by the unit of requests: for one that only
--- looks, and for one that changes.
+-- The first early error of a read or lookup of a range, in bytes, by the unit of requests. `change_refusal` is the first early error of a
+-- change.
 abbrev pub look_refusal : ℕ → Layer → ℕ → ℕ → Option Fault
 look_refusal unit layer offset n =
     if layer.failed then Some Failed
@@ -46,40 +45,40 @@ change_refusal unit layer offset n =
     else if layer.fixed.missing then Some MissingData
     else range_refusal layer.fixed.writable unit layer.size offset n
 
--- the same by the layer's own unit
+-- Like `change_refusal`, with the layer's own unit.
 abbrev pub own_refusal : Layer → ℕ → ℕ → Option Fault
 own_refusal layer offset n = change_refusal (unit_of_layer layer) layer offset n
 
--- What a layer can zero by itself, by its format: what its image file can, its units, if it can at all, or nothing.
+-- The ranges that a layer can zero by itself. Raw: what its image file can zero. qcow2: its units, or nothing. VMDK: nothing.
 abbrev pub ZeroesBy : Format → Layer → StorageState → Type 0
 ZeroesBy format.Raw layer image = layer.fixed.granularity ≡ Some (max (unit_of image.shape) image.shape.zero_align)
 ZeroesBy format.Qcow2 layer image = (layer.fixed.granularity ≡ None) ⊎ (layer.fixed.granularity ≡ Some layer.fixed.unit)
 ZeroesBy format.Vmdk layer image = layer.fixed.granularity ≡ None
 
--- What the storages of a layer make of it: its alignments are the greatest of theirs, it keeps what is written where each does, and it
--- zeroes by itself what its format can.
+-- The storages of a layer determine its alignments, which are the greatest ones. The layer keeps what is written if each storage does. It
+-- can zero by itself what its format can.
 pub record IsOfStorages (layer : Layer) (image : StorageState) (extras : List StorageState) : Type 0 where
   pub requests : layer.fixed.req_align ≡ greatest (λ s. s.shape.req_align) image extras
   pub memory : layer.fixed.mem_align ≡ greatest (λ s. s.shape.mem_align) image extras
   pub keeps : layer.fixed.keeps ≡ keep_all image extras
   pub zeroing : ZeroesBy layer.fixed.format layer image
 
--- a layer of the chain can't be used, for this
+-- A layer of the chain can't be used, with this fault.
 abbrev pub SomeUnusable : List Layer → Fault → Type 0
 SomeUnusable [] fault = ⊥
 SomeUnusable (layer ∷ below) fault = (unusable_fault layer ≡ Some fault) ⊎ SomeUnusable below fault
 
--- a layer of the chain has failed
+-- A layer of the chain has failed.
 abbrev pub SomeFailed : List Layer → Type 0
 SomeFailed [] = ⊥
 SomeFailed (layer ∷ below) = IsTrue layer.failed ⊎ SomeFailed below
 
--- a place of the range has this value
+-- A byte of the range has this value.
 abbrev pub SomeIs : (ℕ → Value) → ℕ → ℕ → Value → Type 0
 SomeIs value offset n v = (i : ℕ) × (i < n) × (value (offset + i) ≡ v)
 
--- Why a lookup in one layer is refused: by what the image is, by a table that is damaged at a place of the range, for want of memory, or
--- by a storage that failed.
+-- The errors of a lookup in one layer. They come from the image's state, a damaged table entry for a byte of the range, memory, or a
+-- storage.
 abbrev pub LookCause : Layer → ℕ → ℕ → List StorageState → List StorageState → Fault → Type 0
 LookCause layer offset n olds news Failed = unusable_fault layer ≡ Some Failed
 LookCause layer offset n olds news MissingData = unusable_fault layer ≡ Some MissingData
@@ -89,8 +88,7 @@ LookCause layer offset n olds news Memory = ⊤
 LookCause layer offset n olds news Storage = SomeRose olds news
 LookCause layer offset n olds news fault = ⊥
 
--- Why a read of a chain or a lookup through it is refused: also for a range whose padded end passes 64 bits, and for a place that can't
--- be read.
+-- The errors of a read of a chain. They include a padded end of more than 64 bits, and a byte that can't be read.
 abbrev pub ReadCause : List Layer → (ℕ → Value) → ℕ → ℕ → ℕ → List StorageState → List StorageState → Fault → Type 0
 ReadCause layers value unit offset n olds news Failed = SomeUnusable layers Failed
 ReadCause layers value unit offset n olds news MissingData = SomeUnusable layers MissingData
@@ -101,8 +99,8 @@ ReadCause layers value unit offset n olds news Memory = ⊤
 ReadCause layers value unit offset n olds news Storage = SomeRose olds news
 ReadCause layers value unit offset n olds news fault = ⊥
 
--- Why a call that changes is refused, from its own entry: also by a cause that the driver has of its own, but never because the format
--- can't zero or discard a part by itself.
+-- The errors of a call that changes, as seen from its entry. They include the driver's own, but not that the format can't zero or discard a
+-- part by itself.
 abbrev pub ChangeCause : List Layer → Layer → Call → (Fault → Type 0) → List StorageState → List StorageState → Fault → Type 0
 ChangeCause below layer call causes olds news ReadOnly = Alters (disk_of below layer) call × IsFalse layer.fixed.writable
 ChangeCause below layer call causes olds news PastEnd = Alters (disk_of below layer) call × (layer.size < offset_of call + length_of call)
@@ -117,7 +115,7 @@ ChangeCause below layer call causes olds news Memory = ⊤
 ChangeCause below layer call causes olds news Storage = SomeRose olds news
 ChangeCause below layer call causes olds news fault = causes fault
 
--- Why a read of the bytes of a storage is refused.
+-- The errors of a read of a storage.
 abbrev pub ReadMappedCause : Layer → ℕ → ℕ → List StorageState → List StorageState → Fault → Type 0
 ReadMappedCause layer place n olds news Failed = unusable_fault layer ≡ Some Failed
 ReadMappedCause layer place n olds news MissingData = unusable_fault layer ≡ Some MissingData
@@ -126,7 +124,7 @@ ReadMappedCause layer place n olds news Memory = ⊤
 ReadMappedCause layer place n olds news Storage = SomeRose olds news
 ReadMappedCause layer place n olds news fault = ⊥
 
--- Why a lookup through a chain is refused.
+-- The errors of a lookup through a chain.
 abbrev pub DeepLookCause : List Layer → (ℕ → Value) → ℕ → ℕ → List StorageState → List StorageState → Fault → Type 0
 DeepLookCause layers value offset n olds news Failed = SomeUnusable layers Failed
 DeepLookCause layers value offset n olds news MissingData = SomeUnusable layers MissingData
@@ -135,7 +133,7 @@ DeepLookCause layers value offset n olds news Memory = ⊤
 DeepLookCause layers value offset n olds news Storage = SomeRose olds news
 DeepLookCause layers value offset n olds news fault = ⊥
 
--- Why what the layers hold in memory can't be dropped and read again.
+-- The errors of a reload of the layers.
 abbrev pub InvalidateCause : List Layer → List StorageState → List StorageState → Fault → Type 0
 InvalidateCause layers olds news Failed = SomeUnusable layers Failed
 InvalidateCause layers olds news MissingData = SomeUnusable layers MissingData

@@ -1,4 +1,4 @@
--- What a driver does that makes the disk longer or shorter.
+-- Specifies `resize_grow` and `resize_shrink` of a driver: their effects and errors.
 use Rattle.std.specs.Prelude.{◌≡◌, ◌++◌, ◌⊎◌, ℕ, ◌<◌, ◌≤◌, max, List, None, IsFalse, Result, OnOk, IfErr, IsErrOf, IsSome}
 use Rattle.imago_storage.specs.Steps.{shrink}
 use Rattle.imago_storage.specs.declared.fault.Fault.{Fault}
@@ -16,8 +16,8 @@ use Rattle.imago_access.specs.Refusals.{unusable_fault}
 use Rattle.imago_access.specs.Resizes.{fill_of, Grown, NotGrown, Shrunk, NotShrunk}
 use Rattle.imago_access.specs.Stops.{KeepsCrashImagesTo, GivesPast, GivesBelowPast}
 
--- What a resize does at once. It has something to do where the second size, in bytes, is below the first, and does nothing else; an image
--- that can't be written refuses it then.
+-- The early outcomes of a resize. It has something to do only if the second size, in bytes, is below the first. An image that wasn't opened
+-- for writing then fails with `ReadOnly`.
 pub record Resizes {D St : Type 0} (g : Ghosts D St) (first second : ℕ) (result : Result Unit Fault) (old new : D) : Type 0 where
   pub nothing : first ≤ second → OnOk result (g.layer new ≡ g.layer old)
   pub free : IsFree (g.layer new)
@@ -25,11 +25,11 @@ pub record Resizes {D St : Type 0} (g : Ghosts D St) (first second : ℕ) (resul
   pub read_only : unusable_fault (g.layer old) ≡ None → second < first → IsFalse (g.layer old).fixed.writable
       → IsErrOf result ReadOnly × IsUnchanged g old new
 
--- a growth to this size reads nothing of the layers below: it has nothing to do, or is refused at once
+-- A growth to this size reads nothing of the layers below: it has nothing to do, or it fails early.
 abbrev pub IsUngrown : Layer → ℕ → Type 0
 IsUngrown layer size = (size ≤ layer.size) ⊎ (IsSome (unusable_fault layer) ⊎ IsFalse layer.fixed.writable)
 
--- a growth to a size, in bytes, over the layers below
+-- The effect of a growth to a size, in bytes, over the layers below.
 pub record Grows {D St B : Type 0} (g : Ghosts D St) (u : GhostsBelow B) (size : ℕ) (mode : PreallocateMode)
     (result : Result Unit Fault) (old new : D × B) : Type 0 where
   pub ok : g.well_formed old.0 → u.coherent_below old.1 → (g.layer old.0).size < size
@@ -39,7 +39,7 @@ pub record Grows {D St B : Type 0} (g : Ghosts D St) (u : GhostsBelow B) (size :
       (GivesPast (g.layer old.0).size) old.0 new.0
   pub mutating_call : MutatingCall g (HadNoResourceError result) (HadNoResourceError result × u.coherent_below old.1) old.0 new.0
 
--- why it is refused
+-- The errors of a growth.
 pub record GrowthRefused {D St B : Type 0} (g : Ghosts D St) (u : GhostsBelow B) (size : ℕ) (mode : PreallocateMode)
     (result : Result Unit Fault) (old new : D × B) : Type 0 where
   pub failed : IfErr result (FailsOver g u old new)
@@ -47,7 +47,7 @@ pub record GrowthRefused {D St B : Type 0} (g : Ghosts D St) (u : GhostsBelow B)
   pub cause : g.well_formed old.0 → u.coherent_below old.1 → IfErr result (GrowthCause (u.layers_below old.1) (g.layer old.0) size
       (g.growth_cause old.0 (u.layers_below old.1) size mode) (files g old.0 ++ u.files_of_layers_below old.1) (files g new.0 ++ u.files_of_layers_below new.1))
 
--- a shrink to a size, in bytes
+-- The effect of a shrink to a size, in bytes.
 pub record Shrinks {D St : Type 0} (g : Ghosts D St) (size : ℕ) (result : Result Unit Fault) (old new : D) : Type 0 where
   pub ok : g.well_formed old → size < (g.layer old).size → OnOk result (Shrunk (g.layer old) (g.layer new) size)
   pub err : g.well_formed old → IfErr result (λ e. IsNotResourceError e → NotShrunk (g.layer old) (g.layer new))
@@ -55,7 +55,7 @@ pub record Shrinks {D St : Type 0} (g : Ghosts D St) (size : ℕ) (result : Resu
       → KeepsCrashImagesTo g below size (g.layer old).size (GivesBelowPast below size) old new
   pub mutating_call : MutatingCall g (HadNoResourceError result) (HadNoResourceError result) old new
 
--- why it is refused
+-- The errors of a shrink.
 pub record ShrinkRefused {D St : Type 0} (g : Ghosts D St) (size : ℕ) (result : Result Unit Fault) (old new : D) : Type 0 where
   pub failed : IfErr result (ImageCause (files g old) (files g new))
   pub marks_failed : IfErr result (MarksFailed g old new)

@@ -1,4 +1,5 @@
--- What changes of a range do that are carried out run by run, to a driver and to the layers below it.
+-- Specifies changes of a range that are carried out run by run: their effects and errors, for a driver and the layers below it (the backing
+-- chain).
 use Rattle.std.specs.Prelude.{◌≡◌, ◌⊎◌, ⊤, ℕ, ◌+◌, ◌<◌, ◌≤◌, List, ◌∷◌, ◌++◌, Option, Some, Result, OnOk, IfOk, IfErr, IsTrue, length, true}
 use Rattle.imago_storage.specs.Disk.{Value, Shows, byte}
 use Rattle.imago_storage.specs.Steps.{Call, IsIn, IsOut}
@@ -23,16 +24,16 @@ use Rattle.imago_access.specs.Running.{IsIntact, IsBetween, RangeChange, DriverR
 use Rattle.imago_access.specs.Spending.{Spends}
 use Rattle.imago_access.specs.Stops.{KeepsCrashImages, GivesBytes, GivesZero, GivesSettled}
 
--- a change of a range, in bytes
+-- A change of a range, in bytes.
 pub data Work : Type 0 where
-  -- to write these bytes from an offset on
+  -- writes these bytes from an offset on
   writing : ℕ → List ℕ → Work
-  -- to write zeroes
+  -- writes zeroes
   writing_zeroes : ℕ → ℕ → Work
-  -- to zero in this way
+  -- zeroes in this way
   zeroing_by : Zeroing → ℕ → ℕ → Work
 
--- where its range begins, and how long it is
+-- The start of the range, and then its length.
 abbrev pub start_of : Work → ℕ
 start_of (writing offset bytes) = offset
 start_of (writing_zeroes offset n) = offset
@@ -43,19 +44,19 @@ extent_of (writing offset bytes) = length bytes
 extent_of (writing_zeroes offset n) = n
 extent_of (zeroing_by how offset n) = n
 
--- what it gives at places
+-- The values that the change gives at each offset.
 abbrev pub WorkGives : Work → ℕ → Value → Type 0
 WorkGives (writing offset bytes) = GivesBytes offset bytes
 WorkGives (writing_zeroes offset n) = GivesZero offset n
 WorkGives (zeroing_by how offset n) = GivesZero offset n
 
--- where it gives up no room: a zeroing that gives up does so in its range
+-- The bytes where the change deallocates nothing. A zeroing that deallocates does so in its range.
 abbrev pub WorkKeeps : Work → ℕ → Type 0
 WorkKeeps (writing offset bytes) p = ⊤
 WorkKeeps (writing_zeroes offset n) p = ⊤
 WorkKeeps (zeroing_by how offset n) p = (how ≡ zeroing_is.Keep) ⊎ IsOut offset n p
 
--- What it does: it gives its values at places of its range, and takes room only in units that the range touches.
+-- The effect of the change: it gives its values to bytes of its range, and only allocates in units that the range touches.
 pub record DoesWork {D St B T : Type 0} (g : Ghosts D St) (u : GhostsBelow B) (work : Work)
     (result : Result T Fault) (old new : D × B) : Type 0 where
   pub range_change : RangeChange g u (HadNoResourceError result) (WorkGives work) old new
@@ -64,14 +65,15 @@ pub record DoesWork {D St B T : Type 0} (g : Ghosts D St) (u : GhostsBelow B) (w
   pub stays_begun : (d : D) (call : Call) → g.began d call old.0 → IsPartOf call (start_of work) (extent_of work)
       → OnOk result (g.began d call new.0)
 
--- What a refusal leaves of an image of a format that marks failures, where a change of a driver alone may have been done in part: a
--- storage's fault has marked it, and want of memory has marked it or left it safe.
+-- The failed state of an image whose format marks failures, if a change by the driver may be done in part. After `Storage` the image has
+-- failed. After `Memory` it has failed or is still well-formed (its invariant holds).
 abbrev pub DriverMarksFailed : {D St : Type 0} → Ghosts D St → D → D → Fault → Type 0
 DriverMarksFailed g old new Storage = IsTrue (g.layer old).fixed.marks_failed → IsTrue (g.layer new).failed
 DriverMarksFailed g old new Memory = IsTrue (g.layer old).fixed.marks_failed → IsTrue (g.layer new).failed ⊎ (g.well_formed old → g.well_formed new)
 DriverMarksFailed g old new fault = ⊤
 
--- the same over the layers below: a fault of the top's own storages has marked it, and one of theirs has, or left one that was intact safe
+-- Like `DriverMarksFailed`, for a change that reads the layers below. After `Storage` from a storage of its own the image has failed. After
+-- `Storage` from a layer below, the image has failed or is still well-formed.
 abbrev pub MarksTopFailed : {D St B : Type 0} → Ghosts D St → GhostsBelow B → D × B → D × B → Fault → Type 0
 MarksTopFailed g u old new Storage = IsTrue (g.layer old.0).fixed.marks_failed
     → (SomeRose (files g old.0) (files g new.0) → IsTrue (g.layer new.0).failed)
@@ -79,13 +81,13 @@ MarksTopFailed g u old new Storage = IsTrue (g.layer old.0).fixed.marks_failed
 MarksTopFailed g u old new Memory = IsTrue (g.layer old.0).fixed.marks_failed → IsTrue (g.layer new.0).failed ⊎ (IsIntact g u old.0 old.1 → g.well_formed new.0)
 MarksTopFailed g u old new fault = ⊤
 
--- the call is one that such work is part of, and announces that all of its range will be written
+-- The change can be a part of the call, and the call promises that its whole range will be written.
 abbrev pub IsWorkOf : Work → Call → Type 0
 IsWorkOf (writing offset bytes) call = Some true ≡ announces call
 IsWorkOf (writing_zeroes offset n) call = Some true ≡ announces call
 IsWorkOf (zeroing_by how offset n) call = IsFor (zero_by how) call × (Some true ≡ announces call)
 
--- why it is refused, as part of a call that was begun
+-- The errors of the change, as a part of a call that has begun.
 pub record WorkRefused {D St B T : Type 0} (g : Ghosts D St) (u : GhostsBelow B) (work : Work)
     (result : Result T Fault) (old new : D × B) : Type 0 where
   pub failed : IfErr result (FailsOver g u old new)
@@ -95,14 +97,15 @@ pub record WorkRefused {D St B T : Type 0} (g : Ghosts D St) (u : GhostsBelow B)
       → IfErr result (PartCause (u.layers_below old.1) (g.layer old.0) (start_of work) (extent_of work) (g.own_cause d (u.layers_below old.1) call)
       (files g old.0 ++ u.files_of_layers_below old.1) (files g new.0 ++ u.files_of_layers_below new.1))
 
--- where the image is intact, the layers show what was written: the bytes of a first run, and all;
+-- On a well-formed chain, the layers read as the bytes of the first run. `ShowsAll` is for all bytes.
 abbrev pub ShowsRun : {D St B : Type 0} → Ghosts D St → GhostsBelow B → ℕ → List ℕ → Result ℕ Fault → D × B → D × B → Type 0
 ShowsRun g u offset bytes result old new = IsIntact g u old.0 old.1 → IfOk result (ShowBytes (g.layer new.0 ∷ u.layers_below old.1) offset bytes)
 
 abbrev pub ShowsAll : {D St B : Type 0} → Ghosts D St → GhostsBelow B → ℕ → List ℕ → Result Unit Fault → D × B → D × B → Type 0
 ShowsAll g u offset bytes result old new = IsIntact g u old.0 old.1 → OnOk result (Shows (at (g.layer new.0 ∷ u.layers_below old.1)) offset bytes)
 
--- zeroes over a first run of so many places, and over a range; and zeroes up to a place
+-- On a well-formed chain, the layers read as 0 in the first run (`ShowsZeroRun`), in the range (`ShowsZeroes`), or up to an end
+-- (`ShowsZeroTo`).
 abbrev pub ShowsZeroRun : {D St B : Type 0} → Ghosts D St → GhostsBelow B → ℕ → Result ℕ Fault → D × B → D × B → Type 0
 ShowsZeroRun g u offset result old new = IsIntact g u old.0 old.1
     → IfOk result (λ count. (i : ℕ) → i < count → at (g.layer new.0 ∷ u.layers_below old.1) (offset + i) ≡ byte 0)
@@ -117,7 +120,8 @@ AreZeroTo layers offset end = (p : ℕ) → offset ≤ p → p < end → at laye
 abbrev pub ShowsZeroTo : {D St B : Type 0} → Ghosts D St → GhostsBelow B → ℕ → Result ℕ Fault → D × B → D × B → Type 0
 ShowsZeroTo g u offset result old new = IsIntact g u old.0 old.1 → IfOk result (AreZeroTo (g.layer new.0 ∷ u.layers_below old.1) offset)
 
--- Places cut no unit of the layer that lies whole in a range: one, both ends of a part, and the end of a first run.
+-- The offset `at` isn't inside a unit of the layer that is completely in the range. `EndsCutNone` requires this of both ends of a part, and
+-- `RunIsUncut` of the end of the first run.
 abbrev pub CutsNoUnit : Layer → ℕ → ℕ → ℕ → Type 0
 CutsNoUnit layer offset n at = IsUncutAt layer.fixed.unit layer.size offset n at
 
@@ -127,42 +131,43 @@ EndsCutNone layer offset n part = CutsNoUnit layer offset n part.0 × CutsNoUnit
 abbrev pub RunIsUncut : {D St B : Type 0} → Ghosts D St → GhostsBelow B → ℕ → ℕ → Result ℕ Fault → D × B → Type 0
 RunIsUncut g u offset n result old = IsIntact g u old.0 old.1 → IfOk result (λ count. CutsNoUnit (g.layer old.0) offset n (offset + count))
 
--- The mapping of this state was committed, or given up; one without state is spent with nothing changed.
+-- The mapping was committed (`SettlesMapping`) or cancelled (`GivesMappingUp`). Without state nothing changes.
 abbrev pub SettlesMapping : {D St : Type 0} → Ghosts D St → Option St → D → D → Type 0
 SettlesMapping g state old new = Spends g state (g.layer old) (g.layer new) (g.well_formed old → Committed (g.layer old) (g.layer new))
 
 abbrev pub GivesMappingUp : {D St : Type 0} → Ghosts D St → Option St → D → D → Type 0
 GivesMappingUp g state old new = Spends g state (g.layer old) (g.layer new) (Cancelled (g.layer old) (g.layer new))
 
--- a stop in it shows what a held place may become
+-- A crash image of a commit (the file after a crash during it) may read a byte of the prepared mapping as the commit makes it.
 abbrev pub WriteBackCrashImages : {D St : Type 0} → Ghosts D St → D → D → Type 0
 WriteBackCrashImages g old new = g.well_formed old → (below : List Layer) → KeepsCrashImages g below (GivesSettled below (g.layer old)) old new
 
--- it is refused by no cause of the driver's own, whatever the range of the mapping
+-- The errors of a commit include none of the driver's own, for any range of the mapping.
 abbrev pub SettlingRefused : {D St : Type 0} → Ghosts D St → Result Unit Fault → D → D → Type 0
 SettlingRefused g result old new = g.well_formed old → (below : List Layer) (offset n : ℕ) → 0 < n
     → IfErr result (PartCause below (g.layer old) offset n (λ _. ⊥) (files g old) (files g new))
 
--- A part of a call that was begun leaves it begun where the part was not cut off.
+-- If the part had no resource error, the call around it still counts as begun.
 abbrev pub StaysBegun : {D St : Type 0} → Ghosts D St → ℕ → ℕ → Type 0 → D → D → Type 0
 StaysBegun {D} g offset n whole old new = (d : D) (call : Call) → g.began d call old → IsPartOf call offset n → whole → g.began d call new
 
--- the same change of a driver alone, over whatever layers below
+-- `DriverRangeChange` over all possible layers below.
 abbrev pub DriverRangeChangeAnywhere : {D St : Type 0} → Ghosts D St → Type 0 → (ℕ → Value → Type 0) → D → D → Type 0
 DriverRangeChangeAnywhere g whole gives old new = (below : List Layer) → DriverRangeChange g whole gives below old new
 
--- why zeroes aren't written to a range that is mapped from a place of a storage on
+-- The errors of writing zeroes to a range that is mapped from this offset of a storage on.
 abbrev pub MappedRefused : {D St : Type 0} → Ghosts D St → ℕ → ℕ → ℕ → Result Unit Fault → D → D → Type 0
 MappedRefused g guest place n result old new = g.well_formed old
     → IfErr result (MappedCause (g.layer old) guest place n (files g old) (files g new))
 
--- why a driver refuses a range, as part of a call that was begun, over whatever layers below
+-- The errors of a driver's call on a range, as a part of a call that has begun, over all possible layers below.
 abbrev pub RangeRefused : {D St T : Type 0} → PartCall → Ghosts D St → ℕ → ℕ → Result T Fault → D → D → Type 0
 RangeRefused {D} part g offset n result old new = g.well_formed old → (below : List Layer) (d : D) (call : Call)
     → g.began d call old → IsPartOf call offset n → IsFor part call
     → IfErr result (PartCause below (g.layer old) offset n (g.own_cause d below call) (files g old) (files g new))
 
--- What a driver alone zeroes, and what it discards, over layers below that it shows, and at a stop: places of the range take what is given.
+-- After a zeroing by the driver, bytes of the range read as before or as 0. `DiscardsAlone` is for a discard over layers that the driver
+-- reads through to. `DiscardCrashImages` is for crash images of such a discard.
 abbrev pub ZeroesAlone : {D St T : Type 0} → Ghosts D St → ℕ → ℕ → Result T Fault → D → D → Type 0
 ZeroesAlone g offset n result old new = g.well_formed old → (below : List Layer) → HadNoResourceError result
     → IsBetween (GivesZero offset n) below (g.layer old) (g.layer new)
@@ -175,31 +180,34 @@ abbrev pub DiscardCrashImages : {D St : Type 0} → Ghosts D St → Discarding �
 DiscardCrashImages g how offset n old new = g.well_formed old → (below : List Layer) → IsBacked below (g.layer old)
     → KeepsCrashImages g below (GivesDiscarded how below offset n) old new
 
--- what room a driver's zeroing leaves: it takes none outside its range, and gives up none there, nor where what is allocated is kept
+-- The effect of a driver's zeroing on allocations. The zeroing allocates only in its range. It deallocates only in its range, and only if
+-- it doesn't keep allocations.
 abbrev pub ZeroingLeaves : {D St T : Type 0} → Ghosts D St → Zeroing → ℕ → ℕ → Result T Fault → D → D → Type 0
 ZeroingLeaves g how offset n result old new = g.well_formed old → HadNoResourceError result
     → LeavesAllocation g (WorkKeeps (zeroing_by how offset n)) (IsOut offset n) old new
 
--- the part that was done of a range leaves out no whole unit of the layer before it, cuts none, and isn't empty where the range has one
+-- No unit that is completely in the range is before the part that was done, and the part ends inside no such unit. The part isn't empty if
+-- the range has such a unit.
 abbrev pub ReachesUnits : Layer → ℕ → ℕ → ℕ × ℕ → Type 0
 ReachesUnits layer offset n part = Reaches layer.fixed.unit layer.size offset n part.0 part.1
 
--- each place of the part is left as this way of zeroing says
+-- Each byte of the part is zeroed or unallocated, as this way of zeroing says.
 abbrev pub IsLeftIn : {D St : Type 0} → Ghosts D St → Zeroing → D → ℕ × ℕ → Type 0
 IsLeftIn g how new part = (p : ℕ) → IsIn part.0 part.1 p → IsZeroedBy how (g.unallocated new) (g.zeroed new) p
 
--- P, where this range is part of a call that was begun and that the driver has no cause of its own to decline
+-- If the range is part of a call that has begun, and the driver has no cause to decline that call, P holds.
 abbrev pub UnlessDeclined : {D St : Type 0} → PartCall → Ghosts D St → List Layer → ℕ → ℕ → D → Type 0 → Type 0
 UnlessDeclined {D} part g below offset n old P = (d : D) (call : Call) → g.began d call old → IsPartOf call offset n → IsFor part call
     → IsUndeclined (g.own_cause d below call) → P
 
--- Then each whole unit of the range is given up by a discard,
+-- If the driver doesn't decline the discard, each whole unit of the range is deallocated.
 abbrev pub GivesUnitsUpAlone : {D St : Type 0} → Ghosts D St → Discarding → ℕ → ℕ → Result Unit Fault → D → D → Type 0
 GivesUnitsUpAlone g how offset n result old new = g.well_formed old → (below : List Layer)
     → UnlessDeclined (discard_by how) g below offset n old
     (OnOk result (IsGivenUp (g.unallocated new) (g.layer old).fixed.unit (g.layer old).size offset n))
 
--- and left by a zeroing as its way says: by a driver alone between two places, so far up to a place, and in the whole range.
+-- If the driver doesn't decline the zeroing, each whole unit is left as this way of zeroing says. `LeavesUnitsBehind`: between two offsets,
+-- by the driver itself. `LeavesUnitsTo`: up to an offset. `LeavesUnits`: in the whole range.
 abbrev pub LeavesUnitsBehind : {D St : Type 0} → Ghosts D St → Zeroing → ℕ → ℕ → Result (ℕ × ℕ) Fault → D → D → Type 0
 LeavesUnitsBehind g how offset n result old new = g.well_formed old → (below : List Layer) → UnlessDeclined (zero_by how) g below offset n old
     (IfOk result (λ r. IsGivenUpBehind (IsZeroedBy how (g.unallocated new) (g.zeroed new)) (g.layer old).fixed.unit (g.layer old).size

@@ -1,4 +1,5 @@
--- What calls that change do to a chain.
+-- The invariant of a chain of images (it is well-formed), and the effect of a call that changes a range run by run. `RangeChange` holds of
+-- one run, and also of consecutive runs together.
 use Rattle.std.specs.Prelude.{◌≡◌, ◌⊎◌, ⊤, ℕ, ◌<◌, [], ◌∷◌, Some, None, List, map}
 use Rattle.imago_access.specs.declared.driver_model.DriverModel.{Ghosts}
 use Rattle.imago_access.specs.declared.driver_model.LayersBelowModel.{Ghosts as GhostsBelow}
@@ -10,7 +11,8 @@ use Rattle.imago_access.specs.Files.{files_of}
 use Rattle.imago_access.specs.Going.{MutatingCall, LookupCallBelow}
 use Rattle.imago_access.specs.Stops.{KeepsCrashImages}
 
--- what the unspent mapping has copied of a place is what the place shows, and a place beside its run can't be written
+-- The byte that the prepared mapping has copied is the byte that the disk reads at `p`. A byte that was copied next to the run can't be
+-- written in place.
 abbrev pub IsTruly : (ℕ → Value) → Layer → ℕ → Held → Type 0
 IsTruly below layer p loose = ⊤
 IsTruly below layer p (beside b) = IsCopied below layer p b × (layer.writable_location p ≡ None)
@@ -20,7 +22,7 @@ IsTruly below layer p (inside None written announced) = ⊤
 abbrev pub HoldsTrue : (ℕ → Value) → Layer → Type 0
 HoldsTrue below layer = (p : ℕ) → IsTruly below layer p (layer.held p)
 
--- the layers of a list of drivers, as those below another see them
+-- A list of drivers as the layers below another one.
 abbrev pub below_ghosts : {D St : Type 0} → Ghosts D St → GhostsBelow (List D)
 below_ghosts g = record {
   layers_below = map g.layer;
@@ -31,7 +33,7 @@ below_ghosts g = record {
   stable_below = Each g.stable;
 }
 
--- layers alone, of which nothing else is told
+-- A list of layers as the layers below a driver, with no other facts.
 abbrev pub alone_ghosts : GhostsBelow (List Layer)
 alone_ghosts = record {
   layers_below = λ x. x;
@@ -42,20 +44,19 @@ alone_ghosts = record {
   stable_below = λ x. ⊤;
 }
 
--- What promises on values rest on: the top layer is as a sound image has to be, lookups in the layers below are true, the top shows them,
--- and so does what its mapping has copied.
+-- The chain is well-formed: the top driver is well-formed, lookups below agree with the files, and the top reads through to the layers
+-- below if it has any. The bytes that its prepared mapping has copied are those that the disk reads at their offsets.
 pub record IsIntact {D St B : Type 0} (g : Ghosts D St) (u : GhostsBelow B) (top : D) (below : B) : Type 0 where
   pub is_well_formed : g.well_formed top
   pub is_coherent : u.coherent_below below
   pub backed : IsBacked (u.layers_below below) (g.layer top)
   pub held : HoldsTrue (at (u.layers_below below)) (g.layer top)
 
--- each place shows what it did, or what the call gives there
+-- Each byte reads as before, or as a value that the call gives.
 abbrev pub IsBetween : (ℕ → Value → Type 0) → List Layer → Layer → Layer → Type 0
 IsBetween gives below old new = (p : ℕ) → p < old.size → (at (new ∷ below) p ≡ at (old ∷ below) p) ⊎ gives p (at (new ∷ below) p)
 
--- What a call that changes a range does to a driver and to the layers below it. It was not cut off by want of memory or by a storage that
--- failed where `whole` holds.
+-- The effect of a call that changes a range, on a driver and the layers below it. If `whole` holds, the call had no resource error.
 pub record RangeChange {D St B : Type 0} (g : Ghosts D St) (u : GhostsBelow B) (whole : Type 0) (gives : ℕ → Value → Type 0)
     (old new : D × B) : Type 0 where
   pub size : (g.layer new.0).size ≡ (g.layer old.0).size
@@ -65,21 +66,21 @@ pub record RangeChange {D St B : Type 0} (g : Ghosts D St) (u : GhostsBelow B) (
   pub values : whole → IsIntact g u old.0 old.1 → IsBetween gives (u.layers_below old.1) (g.layer old.0) (g.layer new.0)
   pub crash_images : IsIntact g u old.0 old.1 → KeepsCrashImages g (u.layers_below old.1) gives old.0 new.0
 
--- the same of a chain, with its drivers
+-- The chain is well-formed. `ChainRangeChange` is `RangeChange` for a chain.
 abbrev pub IsIntactChain : {D St : Type 0} → Ghosts D St → D × List D → Type 0
 IsIntactChain g c = IsIntact g (below_ghosts g) c.0 c.1
 
 abbrev pub ChainRangeChange : {D St : Type 0} → Ghosts D St → Type 0 → (ℕ → Value → Type 0) → D × List D → D × List D → Type 0
 ChainRangeChange g = RangeChange g (below_ghosts g)
 
--- the same of a driver alone, over whatever layers below
+-- `RangeChange` for a call of the driver itself, with these layers below.
 abbrev pub DriverRangeChange : {D St : Type 0} → Ghosts D St → Type 0 → (ℕ → Value → Type 0) → List Layer → D → D → Type 0
 DriverRangeChange g whole gives below old new = RangeChange g alone_ghosts whole gives (old, below) (new, below)
 
--- the disk of a chain
+-- The disk of a chain.
 abbrev pub chain_disk : {D : Type 0} → (D → Layer) → D × List D → Disk
 chain_disk layer c = disk_of (map layer c.1) (layer c.0)
 
--- what the layers below the top show
+-- The values of the layers below the top.
 abbrev pub below_of : {D : Type 0} → (D → Layer) → D × List D → ℕ → Value
 below_of layer c = at (map layer c.1)

@@ -1,4 +1,4 @@
--- What a stop of the machine leaves in the image file of the top layer.
+-- Crash images: the files that a crash during a call may leave as the top layer's image file.
 use Rattle.std.specs.Prelude.{IsTrue, ◌≡◌, ◌⊎◌, ℕ, ◌+◌, ◌<◌, ◌≤◌, List, ◌∷◌, length, slice_index, if◌then◌else◌, ltb, Bool, true, false, Some, None}
 use Rattle.imago_storage.specs.State.{StorageState}
 use Rattle.imago_storage.specs.Passing.{UnrefusedCrashImages}
@@ -9,16 +9,16 @@ use Rattle.imago_access.specs.Layer.{Layer, Meaning, Cell, Held, inside, through
 use Rattle.imago_access.specs.Chain.{at}
 use Rattle.imago_access.specs.Changes.{CommitsPlace}
 
--- what a file shows through the layers below
+-- The value at `p` of file `f` over the layers below.
 abbrev pub shown : List Layer → (List ℕ → Meaning) → List ℕ → ℕ → Value
 shown below means f p = if ltb p (means f).size then through ((means f).cell p) (at below p) else byte 0
 
--- What a begun call may show at a place: what the file meant at entry, what the disk showed at entry, or a value that the call gives.
+-- The values that a crash image may read at `p`: those of the file or the disk at entry, or one that the call gives.
 abbrev pub May : List Layer → Layer → List ℕ → (ℕ → Value → Type 0) → ℕ → Value → Type 0
 May below entry entry_file gives p v = (v ≡ shown below entry.fixed.means entry_file p) ⊎ ((v ≡ at (entry ∷ below) p) ⊎ gives p v)
 
--- A file left during a call: it is sound, of at least this size, and where it states the size of the disk of at most that, and shows what
--- the call may show, at the places below its size and below the disk's at entry.
+-- A file `f` that a crash during a call may leave. It is consistent, and its disk has at least the size `least`. If the file states the
+-- size, that is at most `most`. Each byte of the old disk reads as the call may leave it.
 pub record Left (below : List Layer) (entry : Layer) (entry_file : List ℕ) (sound : ℕ → List ℕ → Type 0) (least most : ℕ)
     (gives : ℕ → Value → Type 0) (f : List ℕ) : Type 0 where
   pub is_sound : sound entry.fixed.kind f
@@ -27,52 +27,52 @@ pub record Left (below : List Layer) (entry : Layer) (entry_file : List ℕ) (so
   pub shows : (p : ℕ) → p < (entry.fixed.means f).size → p < entry.size
       → May below entry entry_file gives p (shown below entry.fixed.means f p)
 
--- what a call keeps at each stop, seen from its own entry, with the least and the greatest size that it passes through
+-- The crash images of a call, seen from its entry, if the size of the disk stays between `least` and `most`.
 abbrev pub KeepsCrashImagesTo : {D St : Type 0} → Ghosts D St → List Layer → (least most : ℕ) → (ℕ → Value → Type 0) → D → D → Type 0
 KeepsCrashImagesTo g below least most gives old new =
     UnrefusedCrashImages (Left below (g.layer old) (g.image old).bytes g.sound least most gives) (g.image old) (g.image new)
 
--- the same of a call that isn't a resize: the size of the disk stays
+-- Like `KeepsCrashImagesTo`, for a call that doesn't resize the disk.
 abbrev pub KeepsCrashImages : {D St : Type 0} → Ghosts D St → List Layer → (ℕ → Value → Type 0) → D → D → Type 0
 KeepsCrashImages g below gives old new = KeepsCrashImagesTo g below (g.layer old).size (g.layer old).size gives old new
 
--- no request, and nothing else has changed in the file
+-- The call made no request that changes the file: the file and its crash images are unchanged.
 abbrev pub MakesNone : StorageState → StorageState → Type 0
 MakesNone old new = (new.crash_image ≡ old.crash_image) × (new.past_crash_images ≡ old.past_crash_images) × (new.bytes ≡ old.bytes) × (new.refusals ≡ old.refusals)
 
--- Values that calls give at a place: none;
+-- Values that calls may give to a byte. Here: none.
 abbrev pub GivesNone : ℕ → Value → Type 0
 GivesNone p v = ⊥
 
--- bytes that are written, from an offset on;
+-- The bytes that are written from `offset` on.
 abbrev pub GivesBytes : ℕ → List ℕ → ℕ → Value → Type 0
 GivesBytes offset bytes p v = (i : ℕ) × (i < length bytes) × (p ≡ offset + i) × (v ≡ byte (slice_index bytes i))
 
--- zeroes over a range;
+-- Zeroes in a range.
 abbrev pub GivesZero : ℕ → ℕ → ℕ → Value → Type 0
 GivesZero offset n p v = IsIn offset n p × (v ≡ byte 0)
 
--- any byte over a range;
+-- Any byte in a range.
 abbrev pub GivesAny : ℕ → ℕ → ℕ → Value → Type 0
 GivesAny offset n p v = IsIn offset n p × IsByte v
 
--- what the layers below show over a range;
+-- The values of the layers below in a range.
 abbrev pub GivesBelow : List Layer → ℕ → ℕ → ℕ → Value → Type 0
 GivesBelow below offset n p v = IsIn offset n p × (v ≡ at below p)
 
--- any value from a place on;
+-- Any value from offset `size` on.
 abbrev pub GivesPast : ℕ → ℕ → Value → Type 0
 GivesPast size p v = size ≤ p
 
--- what the layers below show from a place on;
+-- The values of the layers below from offset `size` on.
 abbrev pub GivesBelowPast : List Layer → ℕ → ℕ → Value → Type 0
 GivesBelowPast below size p v = (size ≤ p) × (v ≡ at below p)
 
--- what a place may become when the mapping that holds it is committed;
+-- The value of the byte after a commit of the prepared mapping (a run that is written and not yet committed).
 abbrev pub GivesSettled : List Layer → Layer → ℕ → Value → Type 0
 GivesSettled below layer p v = (c : Cell) × CommitsPlace (layer.held p) (layer.cell p) c × (v ≡ through c (at below p))
 
--- what was written to a held place, and any byte where it was announced and is not yet written.
+-- The byte that was written to a byte of a prepared mapping. If none was written, but the caller promised to write all, any byte.
 abbrev pub MayTake : Held → Value → Type 0
 MayTake (inside copied (Some b) announced) v = v ≡ byte b
 MayTake (inside copied None true) v = IsByte v
@@ -81,27 +81,27 @@ MayTake held v = ⊥
 abbrev pub GivesHeld : Layer → ℕ → Value → Type 0
 GivesHeld layer p v = MayTake (layer.held p) v
 
--- What an ensured mapping may give over its range: any byte where it was announced that all of it will be written.
+-- The values that an ensured mapping may give in its range: any byte if the caller promised to write all, and none otherwise.
 abbrev pub GivesAnnounced : Bool → ℕ → ℕ → ℕ → Value → Type 0
 GivesAnnounced true offset n = GivesAny offset n
 GivesAnnounced false offset n = GivesNone
 
--- The file by itself means what the layer says. It may be longer than the disk, as writes are padded to whole units, but for formats that
--- state the disk's size themselves.
+-- The file by itself says what each byte of the image is. It may be longer than the disk, as writes are padded to whole units, unless the
+-- format states the disk's size.
 pub record IsMeant (layer : Layer) (f : List ℕ) : Type 0 where
   pub size : layer.size ≤ (layer.fixed.means f).size
   pub exactly : IsTrue layer.fixed.exact → (layer.fixed.means f).size ≡ layer.size
   pub cell : (p : ℕ) → p < layer.size → (layer.fixed.means f).cell p ≡ layer.cell p
 
--- the image file of a driver means its disk by itself
+-- The image file of a driver by itself says what each byte of the image is.
 abbrev pub IsWritten : {D St : Type 0} → Ghosts D St → D → Type 0
 IsWritten g d = IsMeant (g.layer d) (g.image d).bytes
 
--- Nothing is pending: what each cluster is counted beyond what names it leaks in the file.
+-- No cluster is pending (allocated and not yet linked, or on the free list): the excess refcount of each cluster is what leaks in the file.
 abbrev pub IsCounted : {D St : Type 0} → Ghosts D St → D → Type 0
 IsCounted g d = (c : ℕ) → g.excess_refcount d c ≡ (g.layer d).fixed.leaks (g.image d).bytes c
 
--- the file is sound, and not shorter than the disk
+-- The file is consistent, and not shorter than the disk.
 pub record IsCovered (layer : Layer) (sound : ℕ → List ℕ → Type 0) (f : List ℕ) : Type 0 where
   pub is_sound : sound layer.fixed.kind f
   pub size : layer.size ≤ (layer.fixed.means f).size

@@ -1,4 +1,5 @@
-// A chain of layers: one flat disk. In qemu they are nodes, in a backing chain.
+// `FormatAccess`, an image over its backing files as one flat disk: the type, its constructors and its getters. The calls are in the files
+// of `access/`, one topic a file. Definitions: specs/ChainCalls.antt and specs/Running.antt.
 ghost use Rattle.std.specs.Prelude.{◌≡◌, [], map, IfOk, IfErr, Some, MatchOption};
 ghost use Rattle.imago_storage.specs.State.{IsAlignment};
 ghost use Rattle.imago_access.specs.Layer.{unmapped, IsFree};
@@ -24,9 +25,13 @@ mod upkeep;
 mod writing;
 mod zeroing;
 
-/// An open image over the layers below it: one flat disk.
+/// An open image over the layers below it (its backing chain): one flat disk.
 ///
-/// Offsets and lengths are in bytes. Contracts see the driver, and the drivers of the layers below, the highest first.
+/// Offsets and lengths are in bytes. Contracts see the driver of the top layer, and the drivers of the layers below, the highest first.
+///
+/// Errors that a call lists, and the state after an error, are those of a well-formed chain (its images are consistent and usable,
+/// `IsIntactChain`). On another chain a call may fail for more reasons. Crash safety also requires an image file that reports its crash
+/// images (the file after a crash between two requests), keeps what is written, and refuses no change during the call.
 #[derive(Drop)]
 pub struct FormatAccess<D> {
     driver: D,
@@ -48,7 +53,7 @@ impl<D> Model for FormatAccess<D> {
 }
 
 impl<D: FormatDriverInstance> FormatAccess<D> {
-    /// A disk of one layer.
+    /// Returns a disk of one image, without layers below.
     pub fn new(driver: D) -> Self
         ensures { result ≡ (driver, []) }
     {
@@ -58,9 +63,15 @@ impl<D: FormatDriverInstance> FormatAccess<D> {
         }
     }
 
-    /// A layer over a chain. The driver has to show the layer below, as a qcow2 image with a backing file does.
+    /// Puts an image on top of a chain, which becomes its backing chain.
     ///
-    /// It refuses with `Fault::Memory`, and gives both back.
+    /// # Preconditions
+    ///
+    /// The driver reads through to the layer below where it has nothing allocated, as a qcow2 image with a backing file does.
+    ///
+    /// # Errors
+    ///
+    /// - `Fault::Memory`. The driver and the chain are returned with it.
     pub fn with_below(
         alloc: Global,
         driver: D,
@@ -79,7 +90,7 @@ impl<D: FormatDriverInstance> FormatAccess<D> {
         }
     }
 
-    /// The chain below the top layer, if there is one.
+    /// Returns the chain below the top layer, if the disk has one.
     pub fn below(&self) -> Option<&FormatAccess<D>>
         ensures { MatchOption result (self.now.1 ≡ []) (λ b. self.now.1 ≡ chain b.now) }
     {
@@ -89,21 +100,21 @@ impl<D: FormatDriverInstance> FormatAccess<D> {
         }
     }
 
-    /// The driver of the top layer.
+    /// Returns the driver of the top layer.
     pub fn inner(&self) -> &D
         ensures { result.now ≡ self.now.0 }
     {
         &self.driver
     }
 
-    /// The size of the disk, in bytes.
+    /// Returns the size of the disk, in bytes.
     pub fn size(&self) -> u64
         ensures { result ≡ (D.layer self.now.0).size }
     {
         self.driver.size()
     }
 
-    /// The greatest request alignment of the storages of all layers, in bytes.
+    /// Returns the greatest request alignment of the storages of all layers, in bytes.
     pub fn req_align(&self) -> usize
         ensures value { result ≡ req_align_of (map D.layer (chain self.now)) }
         ensures alignment { IsAlignment result }
@@ -115,7 +126,7 @@ impl<D: FormatDriverInstance> FormatAccess<D> {
         }
     }
 
-    /// The greatest memory alignment of the storages of all layers, in bytes.
+    /// Returns the greatest memory alignment of the storages of all layers, in bytes.
     pub fn mem_align(&self) -> usize
         ensures value { result ≡ mem_align_of (map D.layer (chain self.now)) }
         ensures alignment { IsAlignment result }
@@ -127,7 +138,7 @@ impl<D: FormatDriverInstance> FormatAccess<D> {
         }
     }
 
-    // The unit of the requests of all layers, in bytes.
+    // Returns the unit of requests to all layers, in bytes: the larger of the two alignments.
     fn unit(&self) -> u64
         ensures value { result ≡ unit_of_chain (map D.layer (chain self.now)) }
         ensures alignment { IsAlignment result }
@@ -137,7 +148,11 @@ impl<D: FormatDriverInstance> FormatAccess<D> {
 }
 
 impl<D: FormatDriverInstance> FormatAccess<D> {
-    /// The driver of the top layer, to be changed. Nothing may be prepared.
+    /// Returns the driver of the top layer for changes.
+    ///
+    /// # Preconditions
+    ///
+    /// No mapping is prepared: each one from `prepare_data_mapping` was committed or cancelled.
     pub fn inner_mut(&mut self) -> &mut D
         requires { IsFree (D.layer self.old.0) }
         ensures* lends { sem 𝓛 (Lends (the_row D.row) D.row self.entry result (λ w. (w, self.entry.now.1))) }
@@ -148,7 +163,11 @@ impl<D: FormatDriverInstance> FormatAccess<D> {
 }
 
 impl<D: FormatDriverInstance + Drop> FormatAccess<D> {
-    /// The driver of the top layer; the layers below are dropped. Nothing may be prepared.
+    /// Returns the driver of the top layer, and drops the layers below.
+    ///
+    /// # Preconditions
+    ///
+    /// No mapping is prepared: each one from `prepare_data_mapping` was committed or cancelled.
     pub fn into_driver(self) -> D
         requires { IsFree (D.layer self.0) }
         ensures { result ≡ self.0 }

@@ -1,4 +1,5 @@
-// The layers below one, as its driver reads them: the backing of an image, in qemu and imago.
+// `ReadBelow`: how a driver reads the layers below its image (the backing chain), to copy data from them. The chain implements it for its
+// lower layers.
 ghost use Rattle.std.specs.Prelude.{◌≡◌, ◌+◌, ◌≤◌, ◌^◌, [], ⊤, length, OnOk, IfErr, IsErrOf};
 ghost use Rattle.imago_storage.specs.Disk.{Shows};
 ghost use Rattle.imago_access.specs.Chain.{at, has_any};
@@ -11,18 +12,24 @@ use crate::driver_model::LayersBelowModel;
 use imago_storage::Fault;
 use std::alloc::Global;
 
-/// The layers below one, as its driver reads them: it is lent them by the chain.
+/// The layers below an image (its backing chain), as its driver reads them. The chain passes them by reference.
 ///
-/// Contracts see the layers, the highest first, and the states of their storages. The chain below a layer implements it, and `NoBelow`.
+/// Contracts see the layers, the highest first, and the states of their storages. The chain below a layer and `NoBelow` implement the
+/// trait.
 pub trait ReadBelow: LayersBelowModel {
-    /// Whether there is a layer.
+    /// Returns true if the image has a layer below.
     fn present(&self) -> bool
         ensures { result ≡ has_any (Self.layers_below self.now) };
 
-    /// Fills the buffer with what the layers show from the offset in bytes on, and with zeroes past the end of the highest.
+    /// Fills the buffer with the bytes of the layers from `offset` on, in bytes, and with zeroes past the end of the highest layer.
     ///
-    /// It refuses as a read of a chain does. It never refuses with `Fault::RangeOverflow` a range that ends at most 2^22 bytes past 2^63. A
-    /// refusal leaves the buffer open.
+    /// # Errors
+    ///
+    /// The errors of `FormatAccess::read`. `Fault::RangeOverflow` never occurs for a range that ends at most 2^22 bytes past 2^63.
+    ///
+    /// # On error
+    ///
+    /// The contents of the buffer are unspecified.
     fn read(&mut self, alloc: Global, buf: &mut [u8], offset: u64) -> Result<(), Fault>
         ensures shown { OnOk result (Self.coherent_below self.old → Shows (at (Self.layers_below self.old)) offset buf.new) }
         ensures lookup_call { LookupCallBelow Self.LayersBelowModel (HadNoResourceError result) self.old self.new }
@@ -31,7 +38,7 @@ pub trait ReadBelow: LayersBelowModel {
         ensures cause { Self.coherent_below self.old → IfErr result (RefusesReads Self.LayersBelowModel offset (length buf.old) self.old self.new) };
 }
 
-/// No layer.
+/// No layers below an image. All bytes are 0.
 #[derive(Drop)]
 pub struct NoBelow;
 

@@ -1,4 +1,4 @@
-// How images are opened and created, option by option.
+// Builders that open and create images, option by option. The `Base` types hold the options that all formats have.
 ghost use Rattle.std.specs.Prelude.{◌≡◌, false, Bool, ℕ, Some, None, Ok, Option, Result, MatchOption, IsOkUnless, IfOk, IfErr, IsTrue};
 ghost use Rattle.imago_storage.specs.Options.{OpenOptions};
 ghost use Rattle.imago_storage.specs.declared.fault.Fault.{Fault};
@@ -13,8 +13,8 @@ use crate::gate::ImplicitOpenGate;
 use imago_storage::{Fault, Storage, StorageOpenOptions};
 use std::alloc::Global;
 
-/// What every builder that opens an image holds: the image file, whether it is opened for writing, and how the files are opened
-/// that it names.
+/// The options of a builder that opens an image, in any format: the image file, whether it is opened for writing, and the options for
+/// referenced files.
 #[derive(Drop)]
 pub struct FormatDriverBuilderBase<S> {
     image: S,
@@ -23,7 +23,7 @@ pub struct FormatDriverBuilderBase<S> {
 }
 
 impl<S> FormatDriverBuilderBase<S> {
-    /// An image file, for reading alone, and with no options.
+    /// Makes a builder for an image file, read-only and without options.
     pub fn new(image: S) -> Self
         ensures { result ≡ record { image = image; writable = false; options = None } }
     {
@@ -34,37 +34,40 @@ impl<S> FormatDriverBuilderBase<S> {
         }
     }
 
-    /// Whether also for writing.
+    /// Sets whether the image is also opened for writing.
     pub fn set_write(&mut self, write: bool)
         ensures { self.new ≡ record self.old { writable = write } }
     {
         self.writable = write;
     }
 
-    /// How the files are opened that the image names.
+    /// Sets how the files that the image references are opened.
     pub fn set_storage_open_options(&mut self, options: StorageOpenOptions)
         ensures { self.new ≡ record self.old { options = Some options } }
     {
         self.options = Some(options);
     }
 
-    /// Whether also for writing.
+    /// Returns true if the image is also opened for writing.
     pub fn get_writable(&self) -> bool
         ensures { result ≡ self.now.writable }
     {
         self.writable
     }
 
-    /// How the files are opened that the image names, where that was said.
+    /// Returns how the files that the image references are opened, if that was set.
     pub fn get_storage_opts(&self) -> Option<&StorageOpenOptions>
         ensures { MatchOption result (self.now.options ≡ None) (λ o. self.now.options ≡ Some o.now) }
     {
         self.options.as_ref()
     }
 
-    /// A copy of these options, or new ones, for writing where the image is opened for that.
+    /// Returns a copy of the options for referenced files, or default options. They are for writing exactly if the image is opened for
+    /// writing.
     ///
-    /// Its only refusal is `Fault::Memory`.
+    /// # Errors
+    ///
+    /// - `Fault::Memory`.
     pub fn make_storage_opts(&self, alloc: Global) -> Result<StorageOpenOptions, Fault>
         ensures ok { IfOk result (λ o. o ≡ options_with self.now.options self.now.writable) }
         ensures err { IsOkUnless result Fault.Memory }
@@ -82,7 +85,7 @@ impl<S> FormatDriverBuilderBase<S> {
         }
     }
 
-    /// The image file. The gate isn't asked, since the file was handed in.
+    /// Returns the image file. The gate isn't called, since the caller passed the file in.
     pub fn open_image<G: ImplicitOpenGate<S>>(self, _gate: &mut G) -> Result<S, Fault>
         ensures image { result ≡ Ok self.image }
         ensures gate { _gate.new ≡ _gate.old }
@@ -96,8 +99,8 @@ impl<S> FormatDriverBuilderBase<S> {
     }
 }
 
-/// What every builder that creates an image holds: the storage for the image file, the size of the disk in bytes, and what is
-/// prepared for its bytes.
+/// The options of a builder that creates an image, in any format: the storage of the image file, the size of the disk in bytes, and the
+/// preallocation.
 #[derive(Drop)]
 pub struct FormatCreateBuilderBase<S> {
     image: S,
@@ -106,7 +109,7 @@ pub struct FormatCreateBuilderBase<S> {
 }
 
 impl<S> FormatCreateBuilderBase<S> {
-    /// A storage, for a disk of no bytes, with nothing prepared.
+    /// Makes a builder for a storage, for an empty disk without preallocation.
     pub fn new(image: S) -> Self
         ensures { result ≡ record { image = image; size = 0; preallocate = mode.None } }
     {
@@ -117,35 +120,35 @@ impl<S> FormatCreateBuilderBase<S> {
         }
     }
 
-    /// The size of the disk, in bytes.
+    /// Sets the size of the disk, in bytes.
     pub fn set_size(&mut self, size: u64)
         ensures { self.new ≡ record self.old { size = size } }
     {
         self.size = size;
     }
 
-    /// What is prepared for the bytes of the disk.
+    /// Sets how the bytes of the disk are preallocated.
     pub fn set_preallocate(&mut self, preallocate: PreallocateMode)
         ensures { self.new ≡ record self.old { preallocate = preallocate } }
     {
         self.preallocate = preallocate;
     }
 
-    /// The size of the disk, in bytes.
+    /// Returns the size of the disk, in bytes.
     pub fn get_size(&self) -> u64
         ensures { result ≡ self.now.size }
     {
         self.size
     }
 
-    /// What is prepared for the bytes of the disk.
+    /// Returns how the bytes of the disk are preallocated.
     pub fn get_preallocate(&self) -> PreallocateMode
         ensures { result ≡ self.now.preallocate }
     {
         self.preallocate
     }
 
-    /// The storage.
+    /// Returns the storage, and consumes the builder.
     pub fn get_image(self) -> S
         ensures { result ≡ self.image }
     {
@@ -157,7 +160,7 @@ impl<S> FormatCreateBuilderBase<S> {
         image
     }
 
-    /// The storage.
+    /// Returns the storage by reference.
     pub fn get_image_ref(&self) -> &S
         ensures { result.now ≡ self.now.image }
     {
@@ -167,10 +170,10 @@ impl<S> FormatCreateBuilderBase<S> {
 
 /// Opens an image of a format, option by option.
 ///
-/// Contracts see the image file, whether it is opened for writing, the options, and which drivers it may open.
+/// Contracts see the image file, whether it is opened for writing, the options, and which drivers the call may return.
 /// `imago_formats::RawOpenBuilder`, `imago_formats::VmdkOpenBuilder` and `qcow2_image::Qcow2OpenBuilder` implement it.
 pub trait FormatDriverBuilder<S: Storage> {
-    /// The driver that it opens.
+    /// The driver of the opened image.
     type Format: FormatDriverInstance<Storage = S>;
 
     /// The format.
@@ -181,32 +184,32 @@ pub trait FormatDriverBuilder<S: Storage> {
     /// The image file.
     ghost image_of: { Self → S };
 
-    /// Whether it is opened also for writing.
+    /// True if the image is also opened for writing.
     ghost writable_of: { Self → Bool };
 
-    /// How the files are opened that the image names, where that was said.
+    /// The options for opening the files that the image references, if they were set.
     ghost options_of: { Self → Option OpenOptions };
 
-    /// The number that the open image has.
+    /// The number that the opened image has.
     ghost number_of: { Self → ℕ };
 
-    /// The builder that is for writing, or isn't, and else as it was.
+    /// The same builder, with this setting for writing.
     ghost with_writable: { Self → Bool → Self };
 
-    /// What it may open.
+    /// The drivers that the call may return.
     ghost opens: { Self → Self.Format → Type 0 };
 
-    /// Why it may open nothing.
+    /// The errors that the call may return.
     ghost refuses: { Self → Fault → Type 0 };
 
-    /// An image file, for reading alone, and with no options.
+    /// Makes a builder for an image file, read-only and without options.
     fn new(image: S) -> Self
         ensures image { image_of result ≡ image }
         ensures writable { writable_of result ≡ false }
         ensures options { options_of result ≡ None }
         ensures number { number_of result ≡ 0 };
 
-    /// Whether also for writing.
+    /// Sets whether the image is also opened for writing.
     fn write(self, write: bool) -> Self
         ensures made { result ≡ with_writable self write }
         ensures image { image_of result ≡ image_of self }
@@ -214,16 +217,18 @@ pub trait FormatDriverBuilder<S: Storage> {
         ensures options { options_of result ≡ options_of self }
         ensures number { number_of result ≡ number_of self };
 
-    /// How the files are opened that the image names.
+    /// Sets how the files that the image references are opened.
     fn storage_open_options(self, options: StorageOpenOptions) -> Self
         ensures image { image_of result ≡ image_of self }
         ensures writable { writable_of result ≡ writable_of self }
         ensures options { options_of result ≡ Some options }
         ensures number { number_of result ≡ number_of self };
 
-    /// Opens the image. The gate decides which of the files may be opened that the image names and that weren't handed in.
+    /// Opens the image. The gate opens the files that the image references and that the caller didn't pass in.
     ///
-    /// It refuses as the format's own builder says, and drops the image file then.
+    /// # Errors
+    ///
+    /// The errors of the format's builder. The image file is then dropped.
     fn open<G: ImplicitOpenGate<S>>(
         self,
         alloc: Global,
@@ -232,28 +237,28 @@ pub trait FormatDriverBuilder<S: Storage> {
         ensures ok { IfOk result (opens self) }
         ensures err { IfErr result (refuses self) };
 
-    /// Whether also for writing.
+    /// Returns true if the image is also opened for writing.
     fn get_writable(&self) -> bool
         ensures { result ≡ writable_of self.now };
 
-    /// How the files are opened that the image names, where that was said.
+    /// Returns how the files that the image references are opened, if that was set.
     fn get_storage_open_options(&self) -> Option<&StorageOpenOptions>
         ensures { MatchOption result (options_of self.now ≡ None) (λ o. options_of self.now ≡ Some o.now) };
 
-    /// What it opens shows what its files mean by themselves; nothing waits in memory, nothing is prepared, and the image file is as it
-    /// was. Where that is sound and its storage keeps what is written, the image is safe.
+    /// The opened image reads what its file says. No metadata is dirty, no mapping is prepared, and the image file is unchanged. If the
+    /// file is consistent and its storage keeps what is written, the driver is well-formed (its invariant holds).
     ghost opened: { (b : Self) → OpensOnly Self.Format.DriverModel (opens b) FORMAT (writable_of b) (number_of b) (S.state (image_of b)) };
 }
 
-/// Makes the builder that opens an image file: each closure that takes the file and answers a builder does.
+/// Makes the builder that opens an image file. Each closure that takes the file and returns a builder implements it.
 pub trait MakeOpenBuilder<S, B> {
-    /// It may be handed this file.
+    /// The files that it may be given.
     ghost takes: { Self → S → Type 0 };
 
-    /// What it answers for this file.
+    /// The results that it may return for this file.
     ghost makes: { Self → S → Result B Fault → Type 0 };
 
-    /// The builder for this file, or a refusal of its own.
+    /// Makes the builder for this file, or returns an error of its own.
     fn make(self, image: S) -> Result<B, Fault>
         requires { takes self image }
         ensures { makes self image result };
@@ -271,74 +276,78 @@ impl<S, B, F: FnOnce(S) -> Result<B, Fault>> MakeOpenBuilder<S, B> for F {
 
 /// Creates an image of a format, option by option.
 ///
-/// Contracts see the storage for the image file, the size of the disk and what is prepared for its bytes, which storages the format
-/// may make of that, and which drivers it may open then.
+/// Contracts see the storage of the image file, the size of the disk and its preallocation. They also see the possible states of the
+/// storage after creation, and which drivers may then open it.
 pub trait FormatCreateBuilder<S: Storage> {
     /// The format.
     const FORMAT: Format;
 
     ghost FORMAT: { Format };
 
-    /// The builder that opens what was created.
+    /// The builder that opens the created image.
     type DriverBuilder: FormatDriverBuilder<S>;
 
-    /// The storage for the image file.
+    /// The storage of the image file.
     ghost storage_of: { Self → S };
 
     /// The size of the disk, in bytes.
     ghost size_of: { Self → ℕ };
 
-    /// What is prepared for the bytes of the disk.
+    /// The preallocation of the disk's bytes.
     ghost preallocate_of: { Self → PreallocateMode };
 
-    /// What the storage may be once the image is created.
+    /// The states of the storage after the image is created.
     ghost creates: { Self → S → Type 0 };
 
-    /// What the storage may be that is given to be opened.
+    /// The states of the storage when it is opened.
     ghost hands: { Self → S → Type 0 };
 
-    /// By which builder it is opened, where another one was made for that: the same for writing, with what else was created.
+    /// The builder that opens the image, made from the builder of `open_builder`: for writing, and with all files that were created.
     ghost opens_with: { Self → Self.DriverBuilder → Self.DriverBuilder → Type 0 };
 
-    /// Why nothing may be created.
+    /// The errors that creation may return.
     ghost refuses: { Self → Fault → Type 0 };
 
-    /// A storage, for a disk of no bytes, with nothing prepared.
+    /// Makes a builder for a storage, for an empty disk without preallocation.
     fn new(image: S) -> Self
         ensures storage { storage_of result ≡ image }
         ensures size { size_of result ≡ 0 }
         ensures preallocate { preallocate_of result ≡ mode.None };
 
-    /// The size of the disk, in bytes.
+    /// Sets the size of the disk, in bytes.
     fn size(self, size: u64) -> Self
         ensures storage { storage_of result ≡ storage_of self }
         ensures size { size_of result ≡ size }
         ensures preallocate { preallocate_of result ≡ preallocate_of self };
 
-    /// What is prepared for the bytes of the disk.
+    /// Sets how the bytes of the disk are preallocated.
     fn preallocate(self, preallocate: PreallocateMode) -> Self
         ensures storage { storage_of result ≡ storage_of self }
         ensures size { size_of result ≡ size_of self }
         ensures preallocate { preallocate_of result ≡ preallocate };
 
-    /// The size of the disk, in bytes.
+    /// Returns the size of the disk, in bytes.
     fn get_size(&self) -> u64
         ensures { result ≡ size_of self.now };
 
-    /// What is prepared for the bytes of the disk.
+    /// Returns how the bytes of the disk are preallocated.
     fn get_preallocate(&self) -> PreallocateMode
         ensures { result ≡ preallocate_of self.now };
 
-    /// Creates the image, and gives its file back.
+    /// Creates the image, and returns its file.
     ///
-    /// It refuses as the format's own builder says, and drops the storage then.
+    /// # Errors
+    ///
+    /// The errors of the format's builder. The storage is then dropped.
     fn create(self, alloc: Global) -> Result<S, Fault>
         ensures ok { IfOk result (creates self) }
         ensures err { IfErr result (refuses self) };
 
-    /// Creates the image, and opens it, also for writing, by the builder that `open_builder` makes for its file.
+    /// Creates the image, and opens it for writing with the builder that `open_builder` makes for its file.
     ///
-    /// It refuses as the format's own builders say, and as `open_builder` does, and drops the storage then.
+    /// # Errors
+    ///
+    /// The errors of the format's builders and of `open_builder`. The storage is then dropped.
     fn create_open<G: ImplicitOpenGate<S>, F: MakeOpenBuilder<S, Self::DriverBuilder> + Drop>(
         self,
         alloc: Global,

@@ -1,4 +1,4 @@
-// What contracts see of a driver, and of the layers below one: in qemu of a node, and of its backing chain.
+// Ghost traits: what contracts see of a driver, and of the layers below it. Only contracts and proofs use them.
 ghost use Rattle.std.specs.Prelude.{ℕ, List};
 ghost use Rattle.imago_storage.specs.State.{StorageState};
 ghost use Rattle.imago_storage.specs.Steps.{Call};
@@ -6,89 +6,91 @@ ghost use Rattle.imago_storage.specs.declared.fault.Fault.{Fault};
 ghost use Rattle.imago_access.specs.Layer.{Layer};
 ghost use Rattle.imago_access.specs.declared.format.PreallocateMode.{PreallocateMode};
 
-/// What contracts see of a driver: a layer, the states of its storages (its image file and the others), and what is the driver's own to say
-/// of itself.
+/// The model of a driver that contracts see: a layer (its image without the backing chain), the states of its storages, and facts that the
+/// driver defines for itself.
 ///
-/// A driver names no place of its storages but by their numbers: the image file has the number 0, and the others follow.
+/// The storages of a driver are known by number: the image file has the number 0, and the other files follow.
 pub trait DriverModel {
-    /// What it needs to commit a mapping that it has prepared.
+    /// The data with which the driver commits a prepared mapping (a run that is written and not yet committed).
     type State;
 
-    /// The layer.
+    /// The image as a layer of a chain: its size, what each byte is, and what never changes.
     ghost layer: { Self → Layer };
 
-    /// The image file.
+    /// The state of the image file.
     ghost image: { Self → StorageState };
 
-    /// The other files.
+    /// The states of the other files.
     ghost extras: { Self → List StorageState };
 
-    /// What it holds in memory is what its files say, so that lookups are true.
+    /// The metadata in memory agrees with the files, so lookups return what the files say.
     ghost coherent: { Self → Type 0 };
 
-    /// It is as an image that was found sound has to be, so that changes are true and only the causes that are named come.
+    /// The driver's invariant, which holds for a consistent image. While it holds, changes do what their contracts say, and only the listed
+    /// errors occur.
     ghost well_formed: { Self → Type 0 };
 
-    /// Nothing waits in memory to be written, so that looking at it makes no request.
+    /// Nothing in memory is dirty, so lookups change no file.
     ghost has_no_dirty_data: { Self → Type 0 };
 
-    /// What lasts of it over each call, also over one that want of memory or a storage cut off.
+    /// A property that every call preserves, even one that fails with a resource error (`Fault::Memory`, `Fault::Storage`).
     ghost stable: { Self → Type 0 };
 
-    /// How often each cluster of its file is counted there beyond what names it, and beyond what is pending: what is still to be named, or
-    /// to be freed. Where nothing is pending that is what leaks. A format that counts none says 0.
+    /// The excess refcount of each cluster: its refcount in the file, minus its references, minus what is pending. Pending are allocated
+    /// clusters that aren't linked yet, and clusters to free. If nothing is pending, the excess leaks. In a format without refcounts it is
+    /// 0.
     ghost excess_refcount: { Self → ℕ → ℕ };
 
-    /// Nothing is allocated for a place that the format could give up. Places past the disk's end may count as vacant.
+    /// Nothing that the format could deallocate is allocated for the byte. Bytes past the end of the disk may count as unallocated.
     ghost unallocated: { Self → ℕ → Type 0 };
 
-    /// A place has room of its own, which a write or a zeroing keeps for it. What is allocated and isn't its own, as compressed bytes, is
-    /// neither.
+    /// The byte has space of its own, which a write or a zeroing keeps for the byte. A byte with space that isn't its own, such as a
+    /// compressed one, has no allocation and isn't unallocated either.
     ghost has_allocation: { Self → ℕ → Type 0 };
 
-    /// Neither bytes of a storage nor what can't be read stand for a place, where the format can say of a place that it is 0. Places past
-    /// the disk's end may count as zeroed.
+    /// The byte is neither stored in a storage nor unreadable, if the format has a way to say that a byte is 0. Bytes past the end of the
+    /// disk may count as zeroed.
     ghost zeroed: { Self → ℕ → Type 0 };
 
-    /// The layer itself says of a place that it is 0, in place of having nothing there. It says so of no place that shows the layer below,
-    /// nor of one that is 0 because it has nothing there and no layer is below.
+    /// The layer itself maps the byte as 0 (an explicit zero). A byte that reads through to the layer below is never an explicit zero.
+    /// Neither is a byte that is 0 only because nothing is allocated and no layer is below.
     ghost explicit_zero: { Self → ℕ → Type 0 };
 
-    /// Which mapping a state belongs to, and the number of the image that prepared it.
+    /// The mapping that a state belongs to. `tag` is the number of the image that prepared the mapping.
     ghost mapping_id: { Self.State → ℕ };
 
     ghost tag: { Self.State → ℕ };
 
-    /// Which files are sound as images of a kind.
+    /// A file with these bytes is consistent as an image of this kind.
     ghost sound: { ℕ → List ℕ → Type 0 };
 
-    /// From the first moment on, parts of the call have been carried out, and nothing else.
+    /// Between the first state and the second, nothing or only parts of the call were carried out.
     ghost began: { Self → Call → Self → Type 0 };
 
-    /// The causes of the driver's own to refuse a call, begun at this moment over these layers below.
+    /// The driver's own errors for a call that began in this state, over these layers below (the backing chain).
     ghost own_cause: { Self → List Layer → Call → Fault → Type 0 };
 
-    /// The same of a growth to a size in this mode.
+    /// The driver's own errors for a growth to a size in this mode.
     ghost growth_cause: { Self → List Layer → ℕ → PreallocateMode → Fault → Type 0 };
 }
 
-/// What contracts see of the layers below one: the layers, the highest first, and the states of their storages.
+/// The model of the layers below an image (its backing chain): the layers, the highest first, and the states of their storages.
 pub trait LayersBelowModel {
     /// The layers.
     ghost layers_below: { Self → List Layer };
 
-    /// Their storages, those of the highest first.
+    /// The states of their storages, those of the highest layer first.
     ghost files_of_layers_below: { Self → List StorageState };
 
-    /// What they hold in memory is what their files say.
+    /// The metadata in memory agrees with the files of each layer.
     ghost coherent_below: { Self → Type 0 };
 
-    /// They are as images that were found sound have to be.
+    /// Each layer's driver is well-formed.
     ghost well_formed_below: { Self → Type 0 };
 
-    /// They hold nothing that waits to be written: looking at them makes no request.
+    /// Nothing in memory is dirty, so lookups change no file.
     ghost have_no_dirty_data_below: { Self → Type 0 };
 
-    /// What lasts of them over each call.
+    /// A property that every call preserves.
     ghost stable_below: { Self → Type 0 };
 }

@@ -1,6 +1,6 @@
-// The formats of images, and how a growth of one prepares its new bytes: in qemu by a `PreallocMode`.
+// The image formats, and the ways to preallocate the new bytes of a growing disk.
 
-/// The formats of images that are carried.
+/// An image format.
 #[derive(Clone, Copy, Debug, Drop, PartialEq, Eq)]
 pub enum Format {
     /// The bytes of a file, one for one.
@@ -11,17 +11,17 @@ pub enum Format {
     Vmdk,
 }
 
-/// What a growth does for the new bytes of a disk.
+/// The way in which a growth prepares the new bytes of a disk.
 #[derive(Clone, Copy, Debug, Drop, PartialEq, Eq)]
 pub enum PreallocateMode {
-    /// Nothing: the new bytes may be anything.
+    /// Nothing is prepared: the new bytes may be any bytes.
     None,
-    /// They read as 0, as cheaply as the format can say so.
+    /// The new bytes read as 0, as cheaply as the format allows.
     Zero,
-    /// They are mapped by the format and read as 0. Not for a disk with a layer below.
+    /// The new bytes are mapped by the format and read as 0. Not for a disk with a layer below (a backing file).
     FormatAllocate,
-    /// They are mapped and allocated in the storage, and read as 0. Not for a disk with a layer below.
+    /// The new bytes are mapped, allocated in the storage, and read as 0. Not for a disk with a layer below (a backing file).
     FullAllocate,
-    /// They are mapped, and zeroes are written over them. Not for a disk with a layer below.
+    /// The new bytes are mapped, and zeroes are written to them. Not for a disk with a layer below (a backing file).
     WriteData,
 }

@@ -1,4 +1,4 @@
-// Who opens the files that an image names. In qemu the image does it itself.
+// The gate that decides which of the files that an image references may be opened.
 ghost use Rattle.std.specs.Prelude.{◌≡◌, ℕ, List, Result, Err};
 ghost use Rattle.imago_storage.specs.declared.fault.Fault.{Fault};
 ghost use Rattle.imago_storage.specs.declared.fault.Fault.TheVariants.{MissingData};
@@ -6,21 +6,23 @@ ghost use Rattle.imago_storage.specs.declared.fault.Fault.TheVariants.{MissingDa
 use imago_storage::Fault;
 use std::alloc::Global;
 
-/// Opens the storages that an image names in its own bytes and that weren't handed in: it decides which may be opened.
+/// Opens the storages that an image references by name and that the caller didn't pass in. It decides which may be opened.
 ///
-/// Contracts see what it may answer, so that they can tell which storages an image was opened with.
+/// Contracts see its possible answers, so they can say with which storages an image was opened.
 pub trait ImplicitOpenGate<S> {
-    /// What it may answer for a name, and what it is then.
+    /// The possible results for a name, and the gate after each result.
     ghost answers: { Self → List ℕ → Result S Fault → Self → Type 0 };
 
-    /// Opens the storage of this name, as the image gives it.
+    /// Opens the storage with this name, as the image has it.
     ///
-    /// It refuses with a fault of its own, as `Fault::MissingData` for a storage that isn't to be opened.
+    /// # Errors
+    ///
+    /// A fault of the gate's own, such as `Fault::MissingData` for a storage that may not be opened.
     fn open_storage(&mut self, alloc: Global, name: &str) -> Result<S, Fault>
         ensures { answers self.old name.now result self.new };
 }
 
-/// Opens nothing: `Fault::MissingData` for every name.
+/// A gate that opens nothing: it returns `Fault::MissingData` for every name.
 #[derive(Clone, Copy, Debug, Drop, PartialEq, Eq)]
 pub struct DenyImplicitOpenGate;
 

@@ -1,8 +1,7 @@
-//! Images as flat disks: the interface of a driver, and the chain of layers that a guest reads and writes through.
+//! The interface of a format driver, and a chain of layers (an image over its backing files) that is read and written as one flat disk.
 //!
-//! `FormatDriverInstance` is what a driver of a format promises, and `FormatAccess` is a disk over one driver and the layers below it.
-//! Contracts see a layer as a `Layer` and its storages as states of `imago_storage`. In qemu a driver is a
-//! `BlockDriver`, a layer a node, the layers below a backing chain, and a storage a protocol node.
+//! `FormatDriverInstance` is what a driver of a format promises. `FormatAccess` is a disk over one driver and the layers below it.
+//! Contracts see each layer as a `Layer`, and its storages as states of `imago_storage`. Terms are explained in docs/GLOSSARY.md.
 #![tactic(auto)]
 
 mod access;

@@ -1,79 +1,80 @@
-// Where the places of a disk lie: what qemu's `bdrv_block_status` answers of offsets.
+// The results of lookups: where a run of bytes is stored, in one image or in a chain of images. The type of prepared mappings (runs that
+// are written before they are committed) is here too.
 ghost use Rattle.std.specs.Prelude.{false, ◌≡◌, ◌-◌, ◌^◌, Some, None, is_none};
 ghost use Rattle.imago_access.specs.Mappings.{is_deep_end, is_deep_explicit, lower, IsDeepBelow};
 
-/// What one layer says of a run of places.
+/// A lookup's result for a run of bytes in one layer (an image without its backing files).
 #[derive(Clone, Copy, Debug, Drop, PartialEq, Eq)]
 pub enum ShallowMapping {
-    /// They are bytes of a storage.
+    /// The run is stored in a storage of the layer.
     Raw {
-        /// The number of the storage, by the driver.
+        /// The storage's number in the driver.
         storage: usize,
-        /// Where the run begins in it, in bytes.
+        /// The offset of the run in the storage, in bytes.
         offset: u64,
-        /// They can be written there.
+        /// The run can be written in place.
         writable: bool,
     },
-    /// They are what the layer below shows.
+    /// The run reads as in the layer below (the backing file).
     Indirect {
-        /// Where the run begins in the layer below, in bytes.
+        /// The offset of the run in the layer below, in bytes.
         offset: u64,
-        /// They could be written there, as far as this layer goes. A layer says the same of all such places.
+        /// This layer allows writing the run in place in the layer below. A layer gives one answer for all runs of the layer below.
         writable: bool,
     },
-    /// They are 0.
+    /// The run is 0.
     Zero {
-        /// The layer says so itself, in place of having nothing there.
+        /// The layer itself maps the run as 0, rather than having nothing allocated for it.
         explicit: bool,
     },
-    /// They are past the end of the disk.
+    /// The run is past the end of the disk.
     Eof,
-    /// They can't be read as bytes of a storage.
+    /// The run can't be read as bytes of a storage, as a compressed cluster can't.
     Special {
-        /// Where the run begins in the disk, in bytes.
+        /// The offset of the run in the disk, in bytes.
         offset: u64,
     },
 }
 
-/// What a chain of layers says of a run of places.
+/// A lookup's result for a run of bytes in a chain of layers (an image over its backing files).
 #[derive(Clone, Copy, Debug, Drop, PartialEq, Eq)]
 pub enum Mapping {
-    /// They are bytes of a storage.
+    /// The run is stored in a storage of a layer.
     Raw {
-        /// How many layers are above the one whose storage it is.
+        /// The number of layers above the one that has the storage.
         depth: usize,
-        /// The number of the storage, by that layer's driver.
+        /// The storage's number in the driver of that layer.
         storage: usize,
-        /// Where the run begins in it, in bytes.
+        /// The offset of the run in the storage, in bytes.
         offset: u64,
-        /// They can be written there: each layer on the way says so.
+        /// The run can be written in place: each layer down to this one allows it.
         writable: bool,
     },
-    /// They are 0.
+    /// The run is 0.
     Zero {
-        /// The top layer says so itself.
+        /// The top layer itself maps the run as 0.
         explicit: bool,
     },
-    /// They are past the end of the disk.
+    /// The run is past the end of the disk.
     Eof,
-    /// They can't be read as bytes of a storage.
+    /// The run can't be read as bytes of a storage, as a compressed cluster can't.
     Special {
-        /// How many layers are above the one that says so.
+        /// The number of layers above the one where the run can't be read.
         depth: usize,
-        /// Where the run begins in that layer, in bytes.
+        /// The offset of the run in that layer, in bytes.
         offset: u64,
     },
 }
 
 impl Mapping {
-    /// Whether the places are past the end of the disk.
+    /// Returns true if the run is past the end of the disk.
     pub fn is_eof(&self) -> bool
         ensures { result ≡ is_deep_end self.now }
     {
         matches!(self, Mapping::Eof)
     }
 
-    // The mapping as the layer above sees it.
+    // Returns the mapping as the layer above sees it.
     pub(crate) fn lowered(self, writable_above: bool) -> Mapping
         ensures value { IsDeepBelow (2 ^ 64 - 1) self → result ≡ lower writable_above self }
         ensures end { is_deep_end result ≡ is_deep_end self }
@@ -101,9 +102,9 @@ impl Mapping {
     }
 }
 
-/// A run of places that a driver has mapped writable: what is written to it is part of the disk once it is committed.
+/// A run that a driver has prepared for writing. What is written to it becomes part of the disk when it is committed.
 ///
-/// It can't be dropped: it has to be committed or cancelled.
+/// It can't be dropped: it must be committed or cancelled.
 pub struct PreparedDataMapping<State> {
     storage: usize,
     offset: u64,
@@ -112,7 +113,7 @@ pub struct PreparedDataMapping<State> {
 }
 
 impl<State> PreparedDataMapping<State> {
-    /// A run that is part of the disk already, in a storage by its number, with where it begins there and how long it is in bytes.
+    /// Makes a mapping of a run that is already part of the disk. The storage is given by number, the offset and length in bytes.
     pub fn existing(storage: usize, offset: u64, length: u64) -> Self
         ensures { result ≡ record { storage = storage; offset = offset; length = length; state = None } }
     {
@@ -124,7 +125,7 @@ impl<State> PreparedDataMapping<State> {
         }
     }
 
-    /// A run that becomes part of the disk when it is committed, with what the driver needs for that.
+    /// Makes a mapping of a run that becomes part of the disk when it is committed. `state` is what the driver needs to commit it.
     pub fn to_commit(storage: usize, offset: u64, length: u64, state: State) -> Self
         ensures { result ≡ record { storage = storage; offset = offset; length = length; state = Some state } }
     {
@@ -136,35 +137,35 @@ impl<State> PreparedDataMapping<State> {
         }
     }
 
-    /// The number of the storage, by the driver.
+    /// Returns the storage's number in the driver.
     pub fn storage(&self) -> usize
         ensures { result ≡ self.now.storage }
     {
         self.storage
     }
 
-    /// Where the run begins in the storage, in bytes.
+    /// Returns the offset of the run in the storage, in bytes.
     pub fn offset(&self) -> u64
         ensures { result ≡ self.now.offset }
     {
         self.offset
     }
 
-    /// How long the run is, in bytes.
+    /// Returns the length of the run, in bytes.
     pub fn length(&self) -> u64
         ensures { result ≡ self.now.length }
     {
         self.length
     }
 
-    /// Whether there is nothing to commit.
+    /// Returns true if the mapping has nothing to commit.
     pub fn is_nonblocking(&self) -> bool
         ensures { result ≡ is_none self.now.state }
     {
         self.state.is_none()
     }
 
-    /// What the driver needs to commit it, if anything.
+    /// Returns what the driver needs to commit the mapping, if anything.
     pub fn into_state(self) -> Option<State>
         ensures { result ≡ self.state }
     {

@@ -1,4 +1,4 @@
-// The ranges of a disk that may be changed. The unit is the request alignment in qemu, and `req_align` in imago.
+// The check of a range before a change. Definition: `range_refusal` in specs/Refusals.antt.
 ghost use Rattle.std.specs.Prelude.{◌≡◌, ◌<◌, ◌≤◌, ◌+◌, ◌∷◌, List, IsTrue, IfErr, OnOk, Some, None};
 ghost use Rattle.imago_storage.specs.State.{StorageState};
 ghost use Rattle.imago_access.specs.Files.{IsNotResourceError, ImageCause};
@@ -6,13 +6,20 @@ ghost use Rattle.imago_access.specs.Refusals.{range_refusal};
 
 use imago_storage::{Fault, padded_end};
 
-/// Why a change of a range is refused before anything is done, if it is, by what an image says of itself: an empty range never is; else
-/// with `Fault::ReadOnly` where the image wasn't opened for writing, with `Fault::RangeOverflow` where the end of the range, rounded up
-/// to the unit of requests, passes `u64`, and with `Fault::PastEnd` where the range ends behind the size. Unit, which is above 0, size,
-/// offset and length are in bytes.
+/// Checks whether a range may be changed, before anything is done. `unit`, `size`, `offset` and `length` are in bytes.
 ///
-/// This is the order of refusals that the calls of `FormatDriverInstance` which change a range ask for, behind that of `ready`.
-/// The calls of `FormatAccess` that change a range refuse in the same order, by the unit of the whole chain.
+/// An empty range always passes. The calls of `FormatDriverInstance` that change a range make these checks in this order, after `ready`.
+/// The calls of `FormatAccess` make these checks too, with the unit of the whole chain.
+///
+/// # Preconditions
+///
+/// `unit` is above 0.
+///
+/// # Errors
+///
+/// - `Fault::ReadOnly` if the image wasn't opened for writing.
+/// - `Fault::RangeOverflow` if the end of the range, rounded up to a multiple of `unit`, doesn't fit `u64`.
+/// - `Fault::PastEnd` if the range ends past `size`.
 pub fn check_range(
     writable: bool,
     unit: u64,

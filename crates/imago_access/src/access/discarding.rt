@@ -1,4 +1,5 @@
-// Discards that may leave parts of their range as they are.
+// Discards of a range, to any bytes or to the layers below (the backing chain). Parts of the range that the driver can't deallocate stay
+// unchanged. Definitions: specs/RangeCalls.antt and specs/RunCalls.antt.
 ghost use Rattle.std.specs.Prelude.{ℕ, ◌≡◌, ◌↔◌, ◌<◌, ◌+◌, ◌^◌, IsTrue, length, map, IsOk, IfOk, IfErr, IsErrOf, Some};
 ghost use Rattle.imago_storage.specs.Steps.{discard_to_any, discard_to_backing, IsIn};
 ghost use Rattle.imago_access.specs.RangeCalls.{discard_by};
@@ -19,23 +20,23 @@ use crate::drivers::FormatDriverInstance;
 use imago_storage::Fault;
 use std::alloc::Global;
 
-// What the given up places of a range may show.
+// The bytes that a discarded range may read as.
 #[derive(Clone, Copy, Debug, Drop, PartialEq, Eq)]
 enum Discarding {
     // Any byte.
     ToAny,
-    // What they did, or the layer below.
+    // The old byte, or the byte of the layer below.
     ToBacking,
 }
 
-// Whether a driver has refused because its format or its storage can't.
+// Returns true if a driver has declined a call because its format or its storage doesn't support it.
 pub(crate) fn is_declined(fault: Fault) -> bool
     ensures { IsTrue result ↔ IsDeclined fault }
 {
     matches!(fault, Fault::Unsupported | Fault::VersionLimit)
 }
 
-// The part of a range that the driver gives up: from where on, and how many bytes.
+// Discards a part of a range. Returns where the part starts, and how many bytes it has.
 fn discard_part<D: FormatDriverInstance>(
     alloc: Global,
     driver: &mut D,
@@ -61,7 +62,7 @@ fn discard_part<D: FormatDriverInstance>(
     }
 }
 
-// Gives up all of a range that the driver can give up.
+// Discards each part of a range that the driver can deallocate.
 fn discard_all<D: FormatDriverInstance>(
     alloc: Global,
     driver: &mut D,
@@ -97,33 +98,54 @@ fn discard_all<D: FormatDriverInstance>(
 }
 
 impl<D: FormatDriverInstance> FormatAccess<D> {
-    /// Gives up a range: each of its bytes stays, or may be any. Each whole unit of the range is given up, unless the driver declines that;
-    /// other parts may stay. Nothing may be prepared.
+    /// Discards a range: each of its bytes stays unchanged, or may become any byte.
     ///
-    /// It refuses with `Fault::ReadOnly`, with `Fault::RangeOverflow` where the end of the range, rounded up to the chain's alignment,
-    /// passes `u64`, with `Fault::PastEnd`, with causes of the driver's own, with `Fault::Memory` and `Fault::Storage`, and where the
-    /// image can't be used. A refusal for another cause than `Memory` and `Storage` leaves each byte of the range as the call may, and
-    /// every other as it was.
+    /// Each unit (a cluster in qcow2) that is completely in the range is deallocated, unless the driver declines that as unsupported. Other
+    /// parts may stay.
+    ///
+    /// # Preconditions
+    ///
+    /// No mapping is prepared: each one from `prepare_data_mapping` was committed or cancelled.
+    ///
+    /// # Errors
+    ///
+    /// - `Fault::Failed`, `Fault::MissingData` if the top image can't be used.
+    /// - `Fault::ReadOnly` if the top image wasn't opened for writing.
+    /// - `Fault::RangeOverflow` if the end of the range, rounded up to the chain's alignment, doesn't fit `u64`.
+    /// - `Fault::PastEnd` if the range ends past the end of the disk.
+    /// - An error of the driver's own (`DriverModel::own_cause`).
+    /// - `Fault::Memory`, `Fault::Storage`.
+    ///
+    /// # On error
+    ///
+    /// After an error other than `Fault::Memory` and `Fault::Storage`, each byte of the range is unchanged or has become any byte. Bytes
+    /// outside the range are unchanged. After `Fault::Storage` a qcow2 image has failed. After `Fault::Memory` it has failed, or is still
+    /// well-formed (consistent and usable).
+    ///
+    /// # Crash safety
+    ///
+    /// Each crash image (the image file after a crash during the call) is consistent. Each byte reads as it did in the file or on the disk
+    /// before the call. A byte of the range may also read as any byte.
     pub fn discard_to_any(&mut self, alloc: Global, offset: u64, length: u64) -> Result<(), Fault>
         requires free { IsFree (D.layer self.old.0) }
 
-        // What it does.
+        // The effect.
         ensures ok { IsCarriedOut D.DriverModel (discard_to_any offset length) result self.old self.new }
         ensures err { IsDoneInPart D.DriverModel (discard_to_any offset length) result self.old self.new }
         ensures room { IsIntactChain D.DriverModel self.old → HadNoResourceError result → GivesUp D.DriverModel offset length self.old.0 self.new.0 }
         ensures gives_up { GivesUnitsUp D.DriverModel (discard_to_any offset length) result self.old self.new }
 
-        // When it ends at once.
+        // Early outcomes.
         ensures early_outcome { (f : Fault) → chain_refusal D.DriverModel self.old offset length ≡ Some f → IsErrOf result f }
         ensures idle { length ≡ 0 → unusable_fault (D.layer self.old.0) ≡ None → IsOk result }
         ensures untouched { EndsAtOnce D.DriverModel self.old offset length → self.new ≡ self.old }
 
-        // What it keeps, and what its stops show.
+        // Preserved state, and crash images.
         ensures keeps_layer_state { KeepsLayerState (D.layer self.old.0) (D.layer self.new.0) }
         ensures range_change { ChainRangeChange D.DriverModel (HadNoResourceError result) (GivesAny offset length) self.old self.new }
         ensures below { self.new.1 ≡ self.old.1 }
 
-        // Why it is refused, and what that marks.
+        // Errors, and the failed state after them.
         ensures failed { IfErr result (Fails D.DriverModel self.old.0 self.new.0) }
         ensures marks_failed { IfErr result (DriverMarksFailed D.DriverModel self.old.0 self.new.0) }
         ensures cause { CallRefused D.DriverModel (discard_to_any offset length) result self.old self.new }
@@ -132,10 +154,28 @@ impl<D: FormatDriverInstance> FormatAccess<D> {
         discard_all(alloc, &mut self.driver, Discarding::ToAny, offset, length)
     }
 
-    /// Gives up a range to the layer below: each of its bytes stays, or is what the layer below shows. Each whole unit of the range is
-    /// given up, unless the driver declines that; other parts may stay. Nothing may be prepared.
+    /// Discards a range to the layer below (the backing file): each of its bytes stays unchanged, or becomes the byte of the layer below.
     ///
-    /// It refuses as `discard_to_any` does, and leaves the same.
+    /// Each unit (a cluster in qcow2) that is completely in the range is deallocated, unless the driver declines that as unsupported. Other
+    /// parts may stay.
+    ///
+    /// # Preconditions
+    ///
+    /// No mapping is prepared: each one from `prepare_data_mapping` was committed or cancelled.
+    ///
+    /// # Errors
+    ///
+    /// The errors of `discard_to_any`.
+    ///
+    /// # On error
+    ///
+    /// After an error other than `Fault::Memory` and `Fault::Storage`, each byte of the range is unchanged or is the byte of the layer
+    /// below. The rest is as after an error of `discard_to_any`.
+    ///
+    /// # Crash safety
+    ///
+    /// Each crash image (the image file after a crash during the call) is consistent. Each byte reads as it did in the file or on the disk
+    /// before the call. A byte of the range may also read as in the layer below.
     pub fn discard_to_backing(
         &mut self,
         alloc: Global,
@@ -144,23 +184,23 @@ impl<D: FormatDriverInstance> FormatAccess<D> {
     ) -> Result<(), Fault>
         requires free { IsFree (D.layer self.old.0) }
 
-        // What it does.
+        // The effect.
         ensures ok { IsCarriedOut D.DriverModel (discard_to_backing offset length) result self.old self.new }
         ensures err { IsDoneInPart D.DriverModel (discard_to_backing offset length) result self.old self.new }
         ensures room { IsIntactChain D.DriverModel self.old → HadNoResourceError result → GivesUp D.DriverModel offset length self.old.0 self.new.0 }
         ensures gives_up { GivesUnitsUp D.DriverModel (discard_to_backing offset length) result self.old self.new }
 
-        // When it ends at once.
+        // Early outcomes.
         ensures early_outcome { (f : Fault) → chain_refusal D.DriverModel self.old offset length ≡ Some f → IsErrOf result f }
         ensures idle { length ≡ 0 → unusable_fault (D.layer self.old.0) ≡ None → IsOk result }
         ensures untouched { EndsAtOnce D.DriverModel self.old offset length → self.new ≡ self.old }
 
-        // What it keeps, and what its stops show.
+        // Preserved state, and crash images.
         ensures keeps_layer_state { KeepsLayerState (D.layer self.old.0) (D.layer self.new.0) }
         ensures range_change { ChainRangeChange D.DriverModel (HadNoResourceError result) (GivesBelow (map D.layer self.old.1) offset length) self.old self.new }
         ensures below { self.new.1 ≡ self.old.1 }
 
-        // Why it is refused, and what that marks.
+        // Errors, and the failed state after them.
         ensures failed { IfErr result (Fails D.DriverModel self.old.0 self.new.0) }
         ensures marks_failed { IfErr result (DriverMarksFailed D.DriverModel self.old.0 self.new.0) }
         ensures cause { CallRefused D.DriverModel (discard_to_backing offset length) result self.old self.new }

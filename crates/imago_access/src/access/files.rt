@@ -1,4 +1,4 @@
-// The files of a chain's layers, as they stand: protocol nodes, in qemu.
+// Reads the bytes of the files of a chain's images, without the mapping of the disk. Definitions: specs/FileReads.antt.
 ghost use Rattle.std.specs.Prelude.{◌≡◌, ◌≤◌, ◌∷◌, length, OnOk, IfErr, IsOk, IsErrOf};
 ghost use Rattle.imago_access.specs.Layers.{chain, layers};
 ghost use Rattle.imago_access.specs.Files.{AreRead, OverflowsIn, Pairs, HadNoResourceError, files_of};
@@ -12,8 +12,10 @@ use imago_storage::{Fault, Storage};
 use std::alloc::Global;
 
 impl<D: FormatDriverInstance> FormatAccess<D> {
-    /// The length of a file of a layer, in bytes. The top layer has the number 0; of its files the image file has 0, and the further files
-    /// follow. Of a number that none has it is 0.
+    /// Returns the length of a file of a layer (an image of the chain), in bytes.
+    ///
+    /// The top layer has the number 0. In each layer the image file has the number 0, and the other files follow. If no file has these
+    /// numbers, the length is 0.
     pub fn file_size(&self, layer: usize, file: usize) -> u64
         ensures { result ≡ length (file_bytes_in (files_at D.DriverModel (chain self.now) layer) file) }
     {
@@ -34,14 +36,26 @@ impl<D: FormatDriverInstance> FormatAccess<D> {
 }
 
 impl<D: ReadFiles> FormatAccess<D> {
-    /// Fills the buffer with the bytes of a file of a layer from an offset in bytes on, by the numbers that `file_size` has. Past a file's
-    /// end it reads zeroes, and so do numbers that none has. What waits in memory to be written isn't in the files. That is no read of the
-    /// disk: an image that has failed, or lacks a file, answers it too, and a storage's fault marks none as failed.
+    /// Fills the buffer with the bytes of a file of a layer from `offset` on, in bytes. Layers and files have the numbers of `file_size`.
     ///
-    /// It refuses with `Fault::RangeOverflow`, before it takes memory or asks for anything, where the range isn't empty and its end, padded
-    /// to the file's own unit of requests (the larger of its two alignments, in bytes), passes `u64`; else with `Fault::Memory`, where no
-    /// storage of the chain failed, and with `Fault::Storage`. An empty range, and numbers that no file has, are never refused. A refusal
-    /// leaves the buffer open, and all but counts of faults as it was.
+    /// Past the end of the file the bytes are 0. They are also 0 if no file has these numbers. Dirty data in memory isn't part of the
+    /// files.
+    ///
+    /// This reads no byte of the disk. It also works on an image that has failed or that has no data file, and a storage's fault doesn't
+    /// mark an image failed.
+    ///
+    /// # Errors
+    ///
+    /// - `Fault::RangeOverflow` if the range isn't empty and its end, padded to the file's unit of requests, doesn't fit `u64`. The unit is
+    ///   the larger of the file's two alignments, in bytes. This is checked before memory is allocated or a request is made.
+    /// - `Fault::Memory` if memory ran out. No storage of the chain failed.
+    /// - `Fault::Storage` if a storage of the chain failed.
+    ///
+    /// An empty range and numbers without a file never fail.
+    ///
+    /// # On error
+    ///
+    /// The contents of the buffer are unspecified. Nothing else changes, except for the storages' counts of faults.
     #[cycle(read_file)]
     pub fn read_file(
         &mut self,
@@ -51,18 +65,18 @@ impl<D: ReadFiles> FormatAccess<D> {
         offset: u64,
         buf: &mut [u8],
     ) -> Result<(), Fault>
-        // What it answers.
+        // The result.
         ensures bytes { OnOk result (AreRead (files_at D.DriverModel (chain self.old) layer) file offset (length buf.old) buf.new) }
         ensures overflow { OverflowsIn (files_at D.DriverModel (chain self.old) layer) file offset (length buf.old)
             → IsErrOf result Fault.RangeOverflow }
         ensures empty { length buf.old ≡ 0 → IsOk result }
         ensures beyond { length (files_at D.DriverModel (chain self.old) layer) ≤ file → IsOk result }
 
-        // What it keeps.
+        // Preserved state.
         ensures read { Pairs (FilesRead D.DriverModel (HadNoResourceError result)) (chain self.old) (chain self.new) }
         ensures lookup_call { Pairs (LookupCall D.DriverModel (HadNoResourceError result)) (chain self.old) (chain self.new) }
 
-        // Why it is refused.
+        // Errors.
         ensures cause { let overflows = OverflowsIn (files_at D.DriverModel (chain self.old) layer) file offset (length buf.old) in
             IfErr result (FileReadCause overflows (files_of D.DriverModel (chain self.old)) (files_of D.DriverModel (chain self.new))) }
     {
@@ -77,7 +91,7 @@ impl<D: ReadFiles> FormatAccess<D> {
         )
     }
 
-    // The same of a layer and those below it.
+    // Reads from a layer and the layers below it, like `read_file`.
     #[cycle(read_file)]
     fn read_file_part(
         alloc: Global,
@@ -104,7 +118,7 @@ impl<D: ReadFiles> FormatAccess<D> {
         Self::read_file_below(alloc, below, layer - 1, file, offset, buf)
     }
 
-    // The same of the layers below, if there are any.
+    // Reads from the layers below, like `read_file`. Without any, the bytes are 0.
     #[cycle(read_file)]
     fn read_file_below(
         alloc: Global,

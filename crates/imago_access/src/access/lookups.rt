@@ -1,4 +1,5 @@
-// Lookups, from the top layer downward: `bdrv_block_status` in qemu.
+// Lookups: where the bytes of a run are stored, in the top layer or through all layers (an image and its backing files). Definitions:
+// specs/Mappings.antt.
 ghost use Rattle.std.specs.Prelude.{◌≡◌, ◌∷◌, length, IsOk, IfOk, IfErr, IsErrOf, Some, None};
 ghost use Rattle.imago_storage.specs.declared.fault.Fault.{Fault};
 ghost use Rattle.imago_access.specs.Layers.{chain, layers};
@@ -17,19 +18,28 @@ use imago_storage::Fault;
 use std::alloc::Global;
 
 impl<D: FormatDriverInstance> FormatAccess<D> {
-    /// What the top layer itself says of one run of places from the offset on, not longer than asked, and the run's length in bytes:
-    /// at or past the size the end, of no length, and else at least one byte where one is asked for.
+    /// Looks up a run of at most `max_length` bytes at `offset` in the top layer only (the image without its backing files). Returns where
+    /// the run is stored, and its length in bytes.
     ///
-    /// It refuses with `Fault::DamagedTable` where the layer's tables say nothing of a place of the range, with `Fault::Memory` and
-    /// `Fault::Storage`, and where the layer can't be used. With `Fault::Storage` a qcow2 image has failed, and with `Fault::Memory` it has
-    /// or is as it was.
+    /// At or past the end of the disk the result is `Eof`, of length 0. Otherwise the run has at least one byte, unless `max_length` is 0.
+    ///
+    /// # Errors
+    ///
+    /// - `Fault::Failed`, `Fault::MissingData` if the top image can't be used.
+    /// - `Fault::DamagedTable` if the layer's tables have no valid entry for a byte of the range.
+    /// - `Fault::Memory`, `Fault::Storage`.
+    ///
+    /// # On error
+    ///
+    /// After `Fault::Storage` a qcow2 image has failed. After `Fault::Memory` it has failed, or nothing has changed except for the
+    /// storages' counts of faults.
     pub fn get_shallow_mapping(
         &mut self,
         alloc: Global,
         offset: u64,
         max_length: u64,
     ) -> Result<(ShallowMapping, u64), Fault>
-        // What it answers.
+        // The result.
         ensures ok { D.coherent self.old.0 → IfOk result (TopFinds D.DriverModel offset max_length self.old self.new) }
         ensures run { IfOk result (λ r. IsRun (D.layer self.old.0) offset max_length r.0 r.1) }
         ensures looks { D.coherent self.old.0 → IfOk result (LooksIn D.DriverModel offset max_length self.old.0 self.new.0) }
@@ -37,16 +47,16 @@ impl<D: FormatDriverInstance> FormatAccess<D> {
         ensures explicit_zero { D.coherent self.old.0 → IfOk result (ReportsExplicitZero (D.explicit_zero self.old.0) offset) }
         ensures storage_exists { IfOk result (λ r. IsOneOf (length (files D.DriverModel self.old.0)) r.0) }
 
-        // When it ends at once.
+        // Early outcomes.
         ensures idle { max_length ≡ 0 → unusable_fault (D.layer self.old.0) ≡ None → IsOk result }
         ensures unusable { (f : Fault) → unusable_fault (D.layer self.old.0) ≡ Some f → IsErrOf result f }
         ensures unchanged { NeedsNoLook (D.layer self.old.0) max_length → IsUnchanged D.DriverModel self.old.0 self.new.0 }
 
-        // What it keeps.
+        // Preserved state.
         ensures lookup_call { Pairs (LookupCall D.DriverModel (HadNoResourceError result)) (chain self.old) (chain self.new) }
         ensures below { self.new.1 ≡ self.old.1 }
 
-        // Why it is refused, and what that marks.
+        // Errors, and the failed state after them.
         ensures failed { IfErr result (Fails D.DriverModel self.old.0 self.new.0) }
         ensures marks_failed { IfErr result (MarksFailed D.DriverModel self.old.0 self.new.0) }
         ensures cause { D.coherent self.old.0 → IfErr result (RefusesLookup D.DriverModel offset max_length self.old.0 self.new.0) }
@@ -54,17 +64,29 @@ impl<D: FormatDriverInstance> FormatAccess<D> {
         self.driver.get_mapping(alloc, offset, max_length)
     }
 
-    /// Where one run of places from the offset on lies, not longer than asked, and the run's length in bytes: at or past the size the
-    /// end, of no length, and else at least one byte where one is asked for. Past the end of a lower layer the disk is 0.
+    /// Looks up a run of at most `max_length` bytes at `offset` through all layers (the image and its backing files). Returns where the run
+    /// is stored, and its length in bytes.
     ///
-    /// A place is answered as one that can be written only where each layer on the way says so, and wherever they do while nothing is
-    /// prepared in the last of them. A zero is explicit exactly where the top layer states it itself, in place of having nothing there.
-    /// If it shows a layer below, each zero of its own is explicit. The depth that it names is one of the chain's, and the storage one of
-    /// the layer at that depth.
+    /// At or past the end of the disk the result is `Eof`, of length 0. Otherwise the run has at least one byte, unless `max_length` is 0.
+    /// Past the end of a lower layer the disk is 0.
     ///
-    /// It refuses with `Fault::DamagedTable` where a layer's tables say nothing of a place of the range, with `Fault::Memory` and
-    /// `Fault::Storage`, and where a layer that it asks can't be used. With `Fault::Storage` the layer whose storage it was has failed, if
-    /// it is a qcow2 image.
+    /// The result is writable only if each layer down to the one that stores the run allows writing in place. It is always writable if
+    /// those layers allow it and no mapping is prepared in the layer that stores the run.
+    ///
+    /// A zero is explicit exactly if the top layer itself maps the bytes as 0. If the top layer reads through to a layer below, each zero
+    /// of its own is explicit.
+    ///
+    /// The depth in the result is one of the chain's. The storage number is one of the layer at that depth.
+    ///
+    /// # Errors
+    ///
+    /// - `Fault::Failed`, `Fault::MissingData` if a layer that is looked up can't be used.
+    /// - `Fault::DamagedTable` if a layer's tables have no valid entry for a byte of the range.
+    /// - `Fault::Memory`, `Fault::Storage`.
+    ///
+    /// # On error
+    ///
+    /// After `Fault::Storage` the layer that uses the failing storage has failed, if it is a qcow2 image.
     #[cycle(map)]
     pub fn get_mapping(
         &mut self,
@@ -72,7 +94,7 @@ impl<D: FormatDriverInstance> FormatAccess<D> {
         offset: u64,
         max_length: u64,
     ) -> Result<(Mapping, u64), Fault>
-        // What it answers.
+        // The result.
         ensures ok { WhereAllSee D.DriverModel (chain self.old) (IfOk result (ChainFinds D.DriverModel offset max_length self.old self.new)) }
         ensures run { IfOk result (λ r. IsDeepRun (D.layer self.old.0).size offset max_length r.0 r.1) }
         ensures names { NamesTruly D.DriverModel offset result (chain self.old) (chain self.new) }
@@ -82,15 +104,15 @@ impl<D: FormatDriverInstance> FormatAccess<D> {
         ensures writable { NamesWritable D.DriverModel offset max_length result (chain self.old) }
         ensures explicit_zero { D.coherent self.old.0 → IfOk result (DeepReportsExplicitZero (D.explicit_zero self.old.0) offset) }
 
-        // When it ends at once.
+        // Early outcomes.
         ensures idle { max_length ≡ 0 → unusable_fault (D.layer self.old.0) ≡ None → IsOk result }
         ensures unusable { (f : Fault) → unusable_fault (D.layer self.old.0) ≡ Some f → IsErrOf result f }
         ensures unchanged { UnchangedIfIdle D.DriverModel max_length self.old self.new }
 
-        // What it keeps.
+        // Preserved state.
         ensures lookup_call { Pairs (LookupCall D.DriverModel (HadNoResourceError result)) (chain self.old) (chain self.new) }
 
-        // Why it is refused, and what that marks.
+        // Errors, and the failed state after them.
         ensures failed { IfErr result (ChainFails D.DriverModel self.old self.new) }
         ensures marks_failed { IfErr result (MarksSomeFailed D.DriverModel (chain self.old) (chain self.new)) }
         ensures cause { LookRefused D.DriverModel offset max_length result (chain self.old) (chain self.new) }
@@ -98,7 +120,7 @@ impl<D: FormatDriverInstance> FormatAccess<D> {
         Self::map_part(alloc, &mut self.driver, &mut self.below, offset, max_length)
     }
 
-    // The same of a layer and those below it.
+    // Looks up a run in a layer and the layers below it.
     #[cycle(map)]
     fn map_part(
         alloc: Global,
@@ -156,7 +178,7 @@ impl<D: FormatDriverInstance> FormatAccess<D> {
         }
     }
 
-    // Where the places lie in the layers below, which have no end.
+    // Looks up a run in the layers below, which read as 0 past their end.
     #[cycle(map)]
     fn map_below(
         alloc: Global,

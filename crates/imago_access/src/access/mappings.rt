@@ -1,5 +1,5 @@
-// Mappings that a caller, or another call of the chain, prepares, and that are committed or given up. In qemu one is a `QCowL2Meta`, and
-// its commit the linking of L2 entries.
+// Calls on prepared mappings: a run of guest bytes is prepared (allocated), written, and then committed as part of the disk, or cancelled.
+// Definitions: specs/PreparingCalls.antt and specs/Spending.antt.
 ghost use Rattle.std.specs.Prelude.{⊤, ◌≡◌, ◌<◌, ◌+◌, ◌^◌, length, IsOk, IfOk, IfErr, OnOk, IsErr, IsErrOf, IsSome, Some, None};
 ghost use Rattle.imago_storage.specs.Steps.{Call, prepare, write_mapped};
 ghost use Rattle.imago_storage.specs.declared.fault.Fault.{Fault};
@@ -24,7 +24,7 @@ use crate::mapping::PreparedDataMapping;
 use imago_storage::Fault;
 use std::alloc::Global;
 
-// Gives up a mapping of this image.
+// Cancels a mapping of this image.
 pub(crate) fn abandon<D: FormatDriverInstance>(
     driver: &mut D,
     mapping: PreparedDataMapping<D::State>,
@@ -46,7 +46,7 @@ pub(crate) fn abandon<D: FormatDriverInstance>(
     }
 }
 
-// Commits a mapping of this image, and gives it up where that is refused.
+// Commits a mapping of this image, and cancels it if the commit returns it.
 pub(crate) fn commit_or_abandon<D: FormatDriverInstance>(
     driver: &mut D,
     alloc: Global,
@@ -78,15 +78,37 @@ pub(crate) fn commit_or_abandon<D: FormatDriverInstance>(
 }
 
 impl<D: FormatDriverInstance> FormatAccess<D> {
-    /// Maps a run from the offset on so that it can be written: at least one byte, and not more than asked. Nothing may be prepared.
+    /// Prepares a run of at least 1 and at most `length` bytes at `offset` for writing.
     ///
-    /// What is written to the run is part of the disk once the mapping is committed. With `overwrite` all of the run is going to be
-    /// written before that, so what it shows isn't copied. A mapping without state is part of the disk already; so is that of an empty
-    /// range, which has no length and begins at the start of the storage 0. It refuses with
-    /// `Fault::ReadOnly`, with `Fault::RangeOverflow` where the end of the range, rounded up to the chain's alignment, passes `u64`, with
-    /// `Fault::PastEnd`, with causes of the driver's own, with `Fault::Memory` and `Fault::Storage`, and where a layer can't be used. A
-    /// refusal for another cause than `Memory` and `Storage` leaves the disk as it was. After these two a qcow2 image has failed, or is as
-    /// it was; where the storage was its own, it has failed.
+    /// Data written to the run becomes part of the disk when the mapping is committed. With `overwrite`, the caller promises to write the
+    /// whole run before the commit, and its current bytes aren't copied.
+    ///
+    /// A mapping without state is already part of the disk, and has nothing to commit. For an empty range the result is an empty mapping
+    /// without state, at the start of storage 0.
+    ///
+    /// # Preconditions
+    ///
+    /// No mapping is prepared: each one from `prepare_data_mapping` was committed or cancelled.
+    ///
+    /// # Errors
+    ///
+    /// - `Fault::Failed`, `Fault::MissingData` if a layer can't be used.
+    /// - `Fault::ReadOnly` if the top image wasn't opened for writing.
+    /// - `Fault::RangeOverflow` if the end of the range, rounded up to the chain's alignment, doesn't fit `u64`.
+    /// - `Fault::PastEnd` if the range ends past the end of the disk.
+    /// - An error of the driver's own (`DriverModel::own_cause`).
+    /// - `Fault::Memory`, `Fault::Storage`.
+    ///
+    /// # On error
+    ///
+    /// No mapping is prepared. After an error other than `Fault::Memory` and `Fault::Storage` the disk is unchanged. After `Fault::Memory`
+    /// or `Fault::Storage` a qcow2 image has failed, or nothing in it has changed except for the storages' counts of faults. If a storage
+    /// of the image itself failed, the image has failed.
+    ///
+    /// # Crash safety
+    ///
+    /// Each crash image (the image file after a crash during the call) is consistent. Each byte reads as it did in the file or on the disk
+    /// before the call.
     pub fn prepare_data_mapping(
         &mut self,
         alloc: Global,
@@ -96,7 +118,7 @@ impl<D: FormatDriverInstance> FormatAccess<D> {
     ) -> Result<PreparedDataMapping<D::State>, Fault>
         requires free { IsFree (D.layer self.old.0) }
 
-        // What it does.
+        // The effect.
         ensures ok { IsIntactChain D.DriverModel self.old → IfOk result (ChainPrepares D.DriverModel (asking offset length overwrite) self.old self.new) }
         ensures writable_location { IsIntactChain D.DriverModel self.old → IfOk result (CanWriteRun (D.layer self.new.0) offset) }
         ensures run { IfOk result (λ m. IsMappedRun (D.layer self.old.0) offset length m.length × (m.offset + m.length < 2 ^ 64)) }
@@ -104,18 +126,18 @@ impl<D: FormatDriverInstance> FormatAccess<D> {
         ensures stateless { IfOk result (λ m. m.state ≡ None → IsFree (D.layer self.new.0)) }
         ensures err { IsIntactChain D.DriverModel self.old → UnlessResourceError result (ChainStays D.DriverModel self.old self.new) }
 
-        // When it ends at once.
+        // Early outcomes.
         ensures empty { length ≡ 0 → IfOk result (λ m. (m ≡ nowhere) × (D.layer self.new.0 ≡ D.layer self.old.0)) }
         ensures untouched { IsSome (chain_refusal D.DriverModel self.old offset length) → self.new ≡ self.old }
         ensures early_outcome { (f : Fault) → chain_refusal D.DriverModel self.old offset length ≡ Some f → IsErrOf result f }
         ensures idle { length ≡ 0 → unusable_fault (D.layer self.old.0) ≡ None → IsOk result }
         ensures unchanged { EndsAtOnce D.DriverModel self.old offset length → AllUnchanged D.DriverModel self.old self.new }
 
-        // What it keeps, and what its stops show.
+        // Preserved state, and crash images.
         ensures free { IsErr result → IsFree (D.layer self.new.0) }
         ensures range_change { ChainRangeChange D.DriverModel (HadNoResourceError result) GivesNone self.old self.new }
 
-        // Why it is refused, and what that marks.
+        // Errors, and the failed state after them.
         ensures failed { IfErr result (ChainFails D.DriverModel self.old self.new) }
         ensures marks_failed { IfErr result (MarksFailedOver D.DriverModel self.old.0 self.new.0) }
         ensures cause { CallRefused D.DriverModel (prepare offset length overwrite) result self.old self.new }
@@ -125,52 +147,73 @@ impl<D: FormatDriverInstance> FormatAccess<D> {
             .prepare_data_mapping(alloc, &mut self.below, offset, length, overwrite)
     }
 
-    /// Makes a prepared mapping part of the disk: each of its places takes the byte written to it; one without keeps its byte, or may be
-    /// any where it was announced that all would be written. A mapping without state takes no memory.
+    /// Commits a prepared mapping: what was written to it becomes part of the disk.
     ///
-    /// It gives the mapping back, and changes nothing, where the image can't be used, and one with state with `Fault::ReadOnly`, else with
-    /// `Fault::Foreign` where it was prepared under another number. Refused with `Fault::DamagedTable`, `Fault::Counter`, `Fault::Memory`
-    /// or `Fault::Storage` it has spent the mapping, and the image has failed.
+    /// A byte of the mapping that wasn't written is unchanged, but may become any byte if the mapping was prepared with `overwrite`. A
+    /// mapping without state (with nothing to commit) allocates no memory.
+    ///
+    /// # Errors
+    ///
+    /// The mapping is returned, and nothing changes:
+    ///
+    /// - `Fault::Failed`, `Fault::MissingData` if the top image can't be used.
+    /// - `Fault::ReadOnly` if the mapping has state and the image wasn't opened for writing.
+    /// - `Fault::Foreign` if the mapping has state and was prepared by an image with another number.
+    ///
+    /// The mapping is consumed, and the image has failed:
+    ///
+    /// - `Fault::DamagedTable`, `Fault::Counter`, `Fault::Memory`, `Fault::Storage`.
+    ///
+    /// # Crash safety
+    ///
+    /// Each crash image (the image file after a crash during the call) is consistent. Each byte reads as it did in the file or on the disk
+    /// before the call, or as the byte written to the mapping. A byte that was promised with `overwrite` and not written may read as any
+    /// byte.
     pub fn commit_data_mapping(
         &mut self,
         alloc: Global,
         mapping: PreparedDataMapping<D::State>,
     ) -> Result<(), (Fault, Option<PreparedDataMapping<D::State>>)>
-        // What it does.
+        // The effect.
         ensures ok { WhereMine D.DriverModel mapping.state self.old (OnOk result (ChainCommits D.DriverModel mapping.state self.old self.new)) }
         ensures own { IsForeignTo D.tag mapping.state (D.layer self.old.0) → IsErr result }
         ensures writable_location { WhereMine D.DriverModel mapping.state self.old (OnOk result (KeepsWritableLocations (D.layer self.old.0) (D.layer self.new.0))) }
         ensures stateless { mapping.state ≡ None → OnOk result (D.layer self.new.0 ≡ D.layer self.old.0) }
         ensures commits { Commits D.DriverModel mapping.state result self.old.0 self.new.0 }
 
-        // What it keeps, and what its stops show.
+        // Preserved state, and crash images.
         ensures free { IsMine D.DriverModel mapping.state (D.layer self.old.0) → IsSome mapping.state → OnOk result (IsFree (D.layer self.new.0)) }
         ensures intact { IsMine D.DriverModel mapping.state (D.layer self.old.0) → OnOk result (StaysIntact D.DriverModel self.old self.new) }
         ensures crash_images { WhereMine D.DriverModel mapping.state self.old (CommitCrashImages D.DriverModel self.old self.new) }
         ensures below { self.new.1 ≡ self.old.1 }
 
-        // Why it is refused, and what that marks.
+        // Errors, and the failed state after them.
         ensures refused { CommitRefused D.DriverModel mapping result self.old.0 self.new.0 }
         ensures cause { ChainCommitRefused D.DriverModel mapping.state result self.old self.new }
     {
         self.driver.commit_data_mapping(alloc, mapping)
     }
 
-    /// Gives a prepared mapping up: the disk is as it was before. It makes no request and takes no memory, also where the image has failed.
-    /// One without state changes nothing.
+    /// Cancels a prepared mapping (a run that is written and not yet committed). The disk is unchanged, and what was written to the mapping
+    /// is discarded.
     ///
-    /// It gives the mapping back with `Fault::Foreign` for one that was prepared under another number.
+    /// It makes no request and allocates no memory, and it works even if the image has failed. Cancelling a mapping without state (with
+    /// nothing to commit) changes nothing.
+    ///
+    /// # Errors
+    ///
+    /// - `Fault::Foreign` if the mapping was prepared by an image with another number. The mapping is returned, and nothing changes.
     pub fn cancel(
         &mut self,
         mapping: PreparedDataMapping<D::State>,
     ) -> Result<(), (Fault, PreparedDataMapping<D::State>)>
-        // What it does.
+        // The effect.
         ensures ok { IsMine D.DriverModel mapping.state (D.layer self.old.0) → OnOk result (ChainCancels D.DriverModel mapping.state self.old self.new) }
         ensures own { IsForeignTo D.tag mapping.state (D.layer self.old.0) → IsErr result }
         ensures cancels { Cancels D.DriverModel mapping result self.old.0 self.new.0 }
         ensures stateless { mapping.state ≡ None → D.layer self.new.0 ≡ D.layer self.old.0 }
 
-        // What it keeps, and what its stops show.
+        // Preserved state, and crash images.
         ensures free { IsMine D.DriverModel mapping.state (D.layer self.old.0) → IsSome mapping.state → IsFree (D.layer self.new.0) }
         ensures intact { IsMine D.DriverModel mapping.state (D.layer self.old.0) → StaysIntact D.DriverModel self.old self.new }
         ensures below { self.new.1 ≡ self.old.1 }
@@ -178,13 +221,29 @@ impl<D: FormatDriverInstance> FormatAccess<D> {
         self.driver.cancel_data_mapping(mapping)
     }
 
-    /// Writes bytes to a range that is mapped and can be written from a place of its storage on: by the image, or by its unspent mapping,
-    /// to which they are noted until it is committed.
+    /// Writes bytes in place to the guest range at `guest`, which is stored in one of the image's files from offset `place` on.
     ///
-    /// It refuses with `Fault::Outdated` where the range isn't mapped there, with `Fault::ReadOnly`, `Fault::RangeOverflow`,
-    /// `Fault::PastEnd`, `Fault::Memory` and `Fault::Storage`, and where the image can't be used. A refusal for another cause than
-    /// `Memory` and `Storage` leaves the disk as it was. With `Fault::Storage` a qcow2 image has failed, and with `Fault::Memory` it has or
-    /// is as it was.
+    /// The range is mapped by the image, or by the prepared mapping (a run that is written and not yet committed). Bytes that are written
+    /// to the prepared mapping become part of the disk when it is committed.
+    ///
+    /// # Errors
+    ///
+    /// - `Fault::Failed`, `Fault::MissingData` if the top image can't be used.
+    /// - `Fault::ReadOnly` if the top image wasn't opened for writing.
+    /// - `Fault::RangeOverflow` if the end of the range, rounded up to the chain's alignment, doesn't fit `u64`.
+    /// - `Fault::PastEnd` if the range ends past the end of the disk.
+    /// - `Fault::Outdated` if the range isn't mapped there.
+    /// - `Fault::Memory`, `Fault::Storage`.
+    ///
+    /// # On error
+    ///
+    /// After an error other than `Fault::Memory` and `Fault::Storage` the disk is unchanged. After `Fault::Storage` a qcow2 image has
+    /// failed. After `Fault::Memory` it has failed, or nothing has changed except for the storages' counts of faults.
+    ///
+    /// # Crash safety
+    ///
+    /// Each crash image (the image file after a crash during the call) is consistent. Each byte reads as it did in the file or on the disk
+    /// before the call, or as written.
     pub fn write_mapped(
         &mut self,
         alloc: Global,
@@ -192,25 +251,25 @@ impl<D: FormatDriverInstance> FormatAccess<D> {
         place: u64,
         bytes: &[u8],
     ) -> Result<(), Fault>
-        // What it does.
+        // The effect.
         ensures ok { IsCarriedOut D.DriverModel (write_mapped guest bytes.now) result self.old self.new }
         ensures mapped { D.coherent self.old.0 → OnOk result (IsMappedFor (D.layer self.old.0) guest place (length bytes.now)) }
         ensures writable_location { IsIntactChain D.DriverModel self.old → OnOk result ((D.layer self.new.0).writable_location ≡ (D.layer self.old.0).writable_location) }
         ensures err { IsIntactChain D.DriverModel self.old → UnlessResourceError result (D.layer self.new.0 ≡ D.layer self.old.0) }
 
-        // When it ends at once.
+        // Early outcomes.
         ensures early_outcome { (f : Fault) → chain_refusal D.DriverModel self.old guest (length bytes.now) ≡ Some f → IsErrOf result f }
         ensures idle { length bytes.now ≡ 0 → unusable_fault (D.layer self.old.0) ≡ None → IsOk result }
         ensures unchanged { EndsAtOnce D.DriverModel self.old guest (length bytes.now) → IsUnchanged D.DriverModel self.old.0 self.new.0 }
         ensures untouched { IsSome (chain_refusal D.DriverModel self.old guest (length bytes.now)) → self.new ≡ self.old }
         ensures empty { length bytes.now ≡ 0 → D.layer self.new.0 ≡ D.layer self.old.0 }
 
-        // What it keeps, and what its stops show.
+        // Preserved state, and crash images.
         ensures keeps_layer_state { KeepsLayerState (D.layer self.old.0) (D.layer self.new.0) }
         ensures range_change { ChainRangeChange D.DriverModel (HadNoResourceError result) (GivesBytes guest bytes.now) self.old self.new }
         ensures below { self.new.1 ≡ self.old.1 }
 
-        // Why it is refused, and what that marks.
+        // Errors, and the failed state after them.
         ensures failed { IfErr result (Fails D.DriverModel self.old.0 self.new.0) }
         ensures marks_failed { IfErr result (MarksFailed D.DriverModel self.old.0 self.new.0) }
         ensures cause { IsIntactChain D.DriverModel self.old → IfErr result (ChainMappedCause D.DriverModel guest place bytes.now self.old self.new) }

@@ -1,4 +1,4 @@
-// Reads, from the top layer downward. The layers below are a backing chain in qemu, and backing in imago.
+// Reads of the disk, from the top layer downward. A byte that a layer has no data for comes from the layer below it (its backing file).
 ghost use Rattle.std.specs.Prelude.{◌≡◌, ◌∷◌, ◌<◌, ◌≤◌, length, map, IsOk, IfOk, IfErr, OnOk, IsErrOf, Some, None};
 ghost use Rattle.imago_storage.specs.Disk.{Shows};
 ghost use Rattle.imago_storage.specs.Through.{Overflows};
@@ -20,28 +20,35 @@ use imago_storage::{Fault, padded_end};
 use std::alloc::Global;
 
 impl<D: FormatDriverInstance> FormatAccess<D> {
-    /// Fills the buffer with the disk's bytes from the offset on, and with zeroes past its end.
+    /// Fills the buffer with the disk's bytes from `offset` on, and with zeroes past the end of the disk.
     ///
-    /// Each byte is the top layer's. Where a layer leaves a byte to the layer below, that layer gives it. Past the end of a lower layer,
-    /// and below the last layer, the byte is 0. An empty range succeeds if the top image can be used.
+    /// Each byte is the top layer's. If a layer has nothing allocated for a byte, the byte comes from the layer below (the backing file).
+    /// Past the end of a lower layer, and below the last layer, the byte is 0. An empty range succeeds if the top image can be used.
     ///
-    /// It refuses with `Fault::RangeOverflow` where the end of the range, rounded up to the chain's alignment, passes `u64`, with
-    /// `Fault::Barred` and `Fault::DamagedTable` where a place of the range has no byte, with `Fault::Memory` and `Fault::Storage`, and
-    /// where a layer can't be used. A refusal leaves the buffer open, and for another cause than `Memory` and `Storage` the disk as it was.
-    /// With `Fault::Storage` the layer whose storage it was has failed, if it is a qcow2 image.
+    /// # Errors
+    ///
+    /// - `Fault::Failed`, `Fault::MissingData` if a layer can't be used.
+    /// - `Fault::RangeOverflow` if the end of the range, rounded up to the chain's alignment, doesn't fit `u64`.
+    /// - `Fault::Barred`, `Fault::DamagedTable` if a byte of the range can't be read.
+    /// - `Fault::Memory`, `Fault::Storage`.
+    ///
+    /// # On error
+    ///
+    /// The contents of the buffer are unspecified. After an error other than `Fault::Memory` and `Fault::Storage` the disk is unchanged.
+    /// After `Fault::Storage` the layer that uses the failing storage has failed, if it is a qcow2 image.
     pub fn read(&mut self, alloc: Global, buf: &mut [u8], offset: u64) -> Result<(), Fault>
-        // What it answers.
+        // The result.
         ensures ok { Each D.coherent (chain self.old) → OnOk result (ChainReads D.DriverModel offset (length buf.old) buf.new self.old self.new) }
 
-        // When it ends at once.
+        // Early outcomes.
         ensures early_outcome { (f : Fault) → chain_look_refusal D.DriverModel self.old offset (length buf.old) ≡ Some f → IsErrOf result f }
         ensures idle { length buf.old ≡ 0 → unusable_fault (D.layer self.old.0) ≡ None → IsOk result }
         ensures untouched { LookEndsAtOnce D.DriverModel self.old offset (length buf.old) → self.new ≡ self.old }
 
-        // What it keeps.
+        // Preserved state.
         ensures lookup_call { Pairs (LookupCall D.DriverModel (HadNoResourceError result)) (chain self.old) (chain self.new) }
 
-        // Why it is refused, and what that marks.
+        // Errors, and the failed state after them.
         ensures failed { IfErr result (ChainFails D.DriverModel self.old self.new) }
         ensures marks_failed { IfErr result (MarksSomeFailed D.DriverModel (chain self.old) (chain self.new)) }
         ensures cause { ReadRefused D.DriverModel offset (length buf.old) result (chain self.old) (chain self.new) }
@@ -56,7 +63,7 @@ impl<D: FormatDriverInstance> FormatAccess<D> {
         self.read_all(alloc, buf, offset)
     }
 
-    // The same of a range whose padded end fits, run by run.
+    // Reads a range whose padded end fits `u64`, run by run.
     #[cycle(read)]
     fn read_all(&mut self, alloc: Global, buf: &mut [u8], offset: u64) -> Result<(), Fault>
         requires fits { Overflows (unit_of_chain (map D.layer (chain self.old))) offset (length buf.old) → ⊥ }
@@ -74,7 +81,7 @@ impl<D: FormatDriverInstance> FormatAccess<D> {
         Ok(())
     }
 
-    // The first run of a range that isn't empty. It answers how many bytes that are.
+    // Reads the first run of a range that isn't empty. Returns the length of the run, in bytes.
     #[cycle(read)]
     fn read_run(&mut self, alloc: Global, buf: &mut [u8], offset: u64) -> Result<usize, Fault>
         requires fits { Overflows (unit_of_chain (map D.layer (chain self.old))) offset (length buf.old) → ⊥ }
@@ -89,7 +96,7 @@ impl<D: FormatDriverInstance> FormatAccess<D> {
         Self::read_part(alloc, &mut self.driver, &mut self.below, buf, offset)
     }
 
-    // The same of a layer and those below it.
+    // Reads the first run from a layer and the layers below it, like `read_run`.
     #[cycle(read)]
     fn read_part(
         alloc: Global,
@@ -135,7 +142,7 @@ impl<D: FormatDriverInstance> FormatAccess<D> {
         }
     }
 
-    // What the layers below show of a range whose padded end fits, and zeroes where there are none.
+    // Reads a range whose padded end fits `u64` from the layers below. Without any, the bytes are 0.
     #[cycle(read)]
     fn read_below(
         alloc: Global,

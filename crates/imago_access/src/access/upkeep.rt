@@ -1,4 +1,4 @@
-// Calls that keep an image and its files in step.
+// Calls that write back or reload what is in memory: `flush`, `sync`, and `invalidate_cache`.
 ghost use Rattle.std.specs.Prelude.{◌≡◌, ◌∷◌, IsOk, IfErr, OnOk, IsErrOf, Some};
 ghost use Rattle.imago_storage.specs.Steps.{flush, sync, done};
 ghost use Rattle.imago_storage.specs.declared.fault.Fault.{Fault};
@@ -20,21 +20,31 @@ use imago_storage::Fault;
 use std::alloc::Global;
 
 impl<D: FormatDriverInstance> FormatAccess<D> {
-    /// Hands all that waits in memory to the files of the top layer, and flushes these. While nothing is prepared, the top's files alone
-    /// then mean what its layer shows, and leak what each cluster is counted beyond what names it. The layers below it are only read.
+    /// Writes all dirty data to the files of the top layer, and flushes the files. The layers below (the backing chain) aren't changed.
     ///
-    /// It refuses with `Fault::Memory` and `Fault::Storage`, and where the image can't be used.
+    /// If no mapping is prepared, the image file by itself then says what each byte of the image is. The excess refcount of each cluster
+    /// (refcount minus references) is then what leaks in the file.
+    ///
+    /// # Errors
+    ///
+    /// - `Fault::Failed`, `Fault::MissingData` if the top image can't be used.
+    /// - `Fault::Memory`, `Fault::Storage`.
+    ///
+    /// # Crash safety
+    ///
+    /// Each crash image (the image file after a crash during the call) is consistent. Each byte reads as it did in the file or on the disk
+    /// before the call.
     pub fn flush(&mut self, alloc: Global) -> Result<(), Fault>
-        // What it does.
+        // The effect.
         ensures ok { IsCarriedOut D.DriverModel flush result self.old self.new }
         ensures written { IsIntactChain D.DriverModel self.old → IsFree (D.layer self.old.0) → OnOk result (IsWritten D.DriverModel self.new.0) }
         ensures counted { IsIntactChain D.DriverModel self.old → IsFree (D.layer self.old.0) → OnOk result (IsCounted D.DriverModel self.new.0) }
 
-        // When it ends at once.
+        // Early outcomes.
         ensures unusable { (f : Fault) → unusable_fault (D.layer self.old.0) ≡ Some f → IsErrOf result f }
         ensures unchanged { IsUnusable (D.layer self.old.0) → IsUnchanged D.DriverModel self.old.0 self.new.0 }
 
-        // What it keeps, and what its stops show.
+        // Preserved state, and crash images.
         ensures same { IsIntactChain D.DriverModel self.old → OnOk result (D.layer self.new.0 ≡ D.layer self.old.0) }
         ensures coherent { D.coherent self.old.0 → OnOk result ((D.layer self.new.0 ≡ D.layer self.old.0) × D.coherent self.new.0) }
         ensures has_no_dirty_data { OnOk result (D.has_no_dirty_data self.new.0) }
@@ -42,7 +52,7 @@ impl<D: FormatDriverInstance> FormatAccess<D> {
         ensures range_change { ChainRangeChange D.DriverModel (IsOk result) GivesNone self.old self.new }
         ensures below { self.new.1 ≡ self.old.1 }
 
-        // Why it is refused, and what that marks.
+        // Errors, and the failed state after them.
         ensures failed { IfErr result (Fails D.DriverModel self.old.0 self.new.0) }
         ensures marks_failed { IfErr result (MarksFailed D.DriverModel self.old.0 self.new.0) }
         ensures cause { D.well_formed self.old.0 → IfErr result (RefusesFlush D.DriverModel self.old.0 self.new.0) }
@@ -50,18 +60,22 @@ impl<D: FormatDriverInstance> FormatAccess<D> {
         self.driver.flush(alloc)
     }
 
-    /// Makes what was handed to the files of the top layer durable. Lookups in it that were true stay true, also if the call fails.
+    /// Syncs the files of the top layer: what was written to them is durable. If lookups in the top layer agreed with the files before,
+    /// they still do, even if the call fails.
     ///
-    /// It refuses with `Fault::Memory` and `Fault::Storage`, and where the image can't be used.
+    /// # Errors
+    ///
+    /// - `Fault::Failed`, `Fault::MissingData` if the top image can't be used.
+    /// - `Fault::Memory`, `Fault::Storage`.
     pub fn sync(&mut self) -> Result<(), Fault>
-        // What it does.
+        // The effect.
         ensures ok { OnOk result (ChainSteps D.DriverModel sync done self.old self.new) }
 
-        // When it ends at once.
+        // Early outcomes.
         ensures unusable { (f : Fault) → unusable_fault (D.layer self.old.0) ≡ Some f → IsErrOf result f }
         ensures unchanged { IsUnusable (D.layer self.old.0) → IsUnchanged D.DriverModel self.old.0 self.new.0 }
 
-        // What it keeps, and what its stops show.
+        // Preserved state, and crash images.
         ensures same { OnOk result (D.layer self.new.0 ≡ D.layer self.old.0) }
         ensures unchanged_but_faults { Pairs UnchangedButMoreFaults (files D.DriverModel self.old.0) (files D.DriverModel self.new.0) }
         ensures coherent { D.coherent self.old.0 → D.coherent self.new.0 }
@@ -70,30 +84,42 @@ impl<D: FormatDriverInstance> FormatAccess<D> {
         ensures range_change { ChainRangeChange D.DriverModel (IsOk result) GivesNone self.old self.new }
         ensures below { self.new.1 ≡ self.old.1 }
 
-        // Why it is refused, and what that marks.
+        // Errors, and the failed state after them.
         ensures marks_failed { IfErr result (MarksFailed D.DriverModel self.old.0 self.new.0) }
         ensures cause { IfErr result (RefusesFlush D.DriverModel self.old.0 self.new.0) }
     {
         self.driver.sync()
     }
 
-    /// Drops what the layers hold in memory, written or not, and reads what they need of their files again, from the top layer downward.
-    /// Nothing may be prepared in any. Where it succeeds right after a flush, while nothing waits in a layer below, lookups were true and
-    /// all storages keep what is written, it changes no byte of the disk, and lookups stay true.
+    /// Drops what the layers (the image and its backing files) have in memory, dirty or not, and reloads what they need from their files,
+    /// from the top layer downward.
     ///
-    /// It refuses with `Fault::DamagedHeader`, `Fault::DamagedTable`, `Fault::Unsupported`, `Fault::Limit` and `Fault::CacheFull`, with
-    /// which the layer that refused has failed, as it hadn't before, with `Fault::Memory` and `Fault::Storage`, and where a layer can't be
-    /// used. With `Fault::Storage` the layer that refused has failed, if it is a qcow2 image. In the layers above it nothing waits any
-    /// more, and those below it are as they were.
+    /// If it succeeds, no byte of the disk changes and lookups still agree with the files. This requires that lookups agreed with the files
+    /// before, that no layer has dirty data, as after a flush, and that all storages keep what is written.
+    ///
+    /// # Preconditions
+    ///
+    /// No mapping is prepared in any layer: each one was committed or cancelled.
+    ///
+    /// # Errors
+    ///
+    /// - `Fault::Failed`, `Fault::MissingData` if a layer can't be used.
+    /// - `Fault::DamagedHeader`, `Fault::DamagedTable`, `Fault::Unsupported`, `Fault::Limit`, `Fault::CacheFull` if a layer's files can't
+    ///   be reloaded. That layer could be used before, and has failed.
+    /// - `Fault::Memory`, `Fault::Storage`. After `Fault::Storage` the layer where it occurred has failed, if it is a qcow2 image.
+    ///
+    /// # On error
+    ///
+    /// The layers above the one that failed have no dirty data any more. The layers below the one that failed are unchanged.
     #[cycle(invalidate)]
     pub fn invalidate_cache(&mut self, alloc: Global) -> Result<(), Fault>
         requires free { Each (λ d. IsFree (D.layer d)) (chain self.old) }
 
-        // When it ends at once.
+        // Early outcomes.
         ensures unusable { (f : Fault) → unusable_fault (D.layer self.old.0) ≡ Some f → IsErrOf result f }
         ensures unchanged { IsUnusable (D.layer self.old.0) → AllUnchanged D.DriverModel self.old self.new }
 
-        // What it keeps, and what its stops show.
+        // Preserved state, and crash images.
         ensures same { KeepsLayers D.DriverModel result (chain self.old) (chain self.new) }
         ensures coherent { KeepsSight D.DriverModel result (chain self.old) (chain self.new) }
         ensures unchanged_but_faults { Pairs UnchangedButMoreFaults (files_of D.DriverModel (chain self.old)) (files_of D.DriverModel (chain self.new)) }
@@ -101,7 +127,7 @@ impl<D: FormatDriverInstance> FormatAccess<D> {
         ensures mutating_call { Pairs (ReloadingCall D.DriverModel (IsOk result) (IsOk result)) (chain self.old) (chain self.new) }
         ensures free { Each (λ d. IsFree (D.layer d)) (chain self.new) }
 
-        // Why it is refused, and what that marks.
+        // Errors, and the failed state after them.
         ensures downward { IfErr result (EndsReloads D.DriverModel (chain self.old) (chain self.new)) }
         ensures marks_failed { IfErr result (MarksSomeFailed D.DriverModel (chain self.old) (chain self.new)) }
         ensures cause { IfErr result (RefusesReloads D.DriverModel (chain self.old) (chain self.new)) }
@@ -109,7 +135,7 @@ impl<D: FormatDriverInstance> FormatAccess<D> {
         Self::invalidate_part(alloc, &mut self.driver, &mut self.below)
     }
 
-    // The same of a layer and those below it.
+    // Reloads a layer and the layers below it, like `invalidate_cache`.
     #[cycle(invalidate)]
     fn invalidate_part(
         alloc: Global,
@@ -134,7 +160,7 @@ impl<D: FormatDriverInstance> FormatAccess<D> {
         Self::invalidate_layers_below(alloc, below)
     }
 
-    // The same of the layers below, if there are any.
+    // Reloads the layers below, if the chain has any.
     #[cycle(invalidate)]
     fn invalidate_layers_below(
         alloc: Global,

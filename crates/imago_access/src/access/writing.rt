@@ -1,4 +1,5 @@
-// Writes, through mappings that are prepared and committed run by run: in qemu such a mapping is a `QCowL2Meta`.
+// Writes of a range, run by run. Each run is prepared (allocated if needed), written, and committed as part of the disk (`write_run`).
+// Definitions: specs/RunCalls.antt and specs/Running.antt.
 ghost use Rattle.std.specs.Prelude.{◌≡◌, ◌<◌, ◌≤◌, ◌+◌, List, length, IsOk, IfOk, IfErr, OnOk, IsErrOf, Some, None};
 ghost use Rattle.imago_storage.specs.State.{StorageState};
 ghost use Rattle.imago_storage.specs.Steps.{write};
@@ -18,7 +19,7 @@ use crate::ranges::check_range;
 use imago_storage::Fault;
 use std::alloc::Global;
 
-// Writes the first run of a range that lies in the disk. It answers how many bytes that are.
+// Writes the first run of a range inside the disk. Returns the length of the run, in bytes.
 pub(crate) fn write_run<D: FormatDriverInstance, B: ReadBelow>(
     alloc: Global,
     driver: &mut D,
@@ -49,7 +50,7 @@ pub(crate) fn write_run<D: FormatDriverInstance, B: ReadBelow>(
     }
 }
 
-// Writes all of a range that lies in the disk, run by run.
+// Writes the whole of a range inside the disk, run by run.
 pub(crate) fn write_all<D: FormatDriverInstance, B: ReadBelow>(
     alloc: Global,
     driver: &mut D,
@@ -66,7 +67,7 @@ pub(crate) fn write_all<D: FormatDriverInstance, B: ReadBelow>(
     ensures does { DoesWork D.DriverModel B.LayersBelowModel (writing offset bytes.now) result (driver.old, below.old) (driver.new, below.new) }
     ensures refused { WorkRefused D.DriverModel B.LayersBelowModel (writing offset bytes.now) result (driver.old, below.old) (driver.new, below.new) }
 {
-    // The range ends in the disk, whose size fits 64 bits.
+    // The range ends inside the disk, and the disk's size fits 64 bits.
     let _size = driver.size();
     let mut done = 0;
     while done < bytes.len() {
@@ -76,7 +77,7 @@ pub(crate) fn write_all<D: FormatDriverInstance, B: ReadBelow>(
 }
 
 impl<D: FormatDriverInstance> FormatAccess<D> {
-    // Why a change of a range is refused before anything is done. An empty range is refused only where the image can't be used.
+    // Checks whether a range may be changed, before anything is done. An empty range fails only if the image can't be used.
     pub(crate) fn check_change(&self, offset: u64, length: u64) -> Result<(), Fault>
         ensures ok { OnOk result (chain_refusal D.DriverModel self.now offset length ≡ None) }
         ensures err { IfErr result (λ e. chain_refusal D.DriverModel self.now offset length ≡ Some e) }
@@ -88,30 +89,49 @@ impl<D: FormatDriverInstance> FormatAccess<D> {
         check_range(writable, self.unit(), size, offset, length)
     }
 
-    /// Writes the bytes at an offset. Nothing may be prepared.
+    /// Writes the bytes at an offset.
     ///
-    /// It refuses with `Fault::ReadOnly`, with `Fault::RangeOverflow` where the end of the range, rounded up to the chain's alignment,
-    /// passes `u64`, with `Fault::PastEnd`, with causes of the driver's own, with `Fault::Memory` and `Fault::Storage`, and where a layer
-    /// can't be used. A refusal for another cause than `Memory` and `Storage` leaves each byte of the range old or new, and every other
-    /// as it was.
+    /// # Preconditions
+    ///
+    /// No mapping is prepared: each one from `prepare_data_mapping` was committed or cancelled.
+    ///
+    /// # Errors
+    ///
+    /// - `Fault::Failed`, `Fault::MissingData` if a layer can't be used.
+    /// - `Fault::ReadOnly` if the top image wasn't opened for writing.
+    /// - `Fault::RangeOverflow` if the end of the range, rounded up to the chain's alignment, doesn't fit `u64`.
+    /// - `Fault::PastEnd` if the range ends past the end of the disk.
+    /// - An error of the driver's own (`DriverModel::own_cause`).
+    /// - `Fault::Memory`, `Fault::Storage`.
+    ///
+    /// # On error
+    ///
+    /// After an error other than `Fault::Memory` and `Fault::Storage`, each byte of the range is unchanged or new. Bytes outside the range
+    /// are unchanged. After `Fault::Memory` or `Fault::Storage` a qcow2 image has failed, or is still well-formed (consistent and usable).
+    /// If a storage of the image itself failed, the image has failed.
+    ///
+    /// # Crash safety
+    ///
+    /// Each crash image (the image file after a crash during the call) is consistent. Each byte reads as it did in the file or on the disk
+    /// before the call. A byte of the range may also read as written.
     pub fn write(&mut self, alloc: Global, bytes: &[u8], offset: u64) -> Result<(), Fault>
         requires free { IsFree (D.layer self.old.0) }
 
-        // What it does.
+        // The effect.
         ensures ok { IsCarriedOut D.DriverModel (write offset bytes.now) result self.old self.new }
         ensures err { IsDoneInPart D.DriverModel (write offset bytes.now) result self.old self.new }
         ensures room { TakesNear D.DriverModel offset (length bytes.now) result self.old self.new }
 
-        // When it ends at once.
+        // Early outcomes.
         ensures early_outcome { (f : Fault) → chain_refusal D.DriverModel self.old offset (length bytes.now) ≡ Some f → IsErrOf result f }
         ensures idle { length bytes.now ≡ 0 → unusable_fault (D.layer self.old.0) ≡ None → IsOk result }
         ensures untouched { EndsAtOnce D.DriverModel self.old offset (length bytes.now) → self.new ≡ self.old }
 
-        // What it keeps, and what its stops show.
+        // Preserved state, and crash images.
         ensures keeps_layer_state { KeepsLayerState (D.layer self.old.0) (D.layer self.new.0) }
         ensures range_change { ChainRangeChange D.DriverModel (HadNoResourceError result) (GivesBytes offset bytes.now) self.old self.new }
 
-        // Why it is refused, and what that marks.
+        // Errors, and the failed state after them.
         ensures failed { IfErr result (ChainFails D.DriverModel self.old self.new) }
         ensures marks_failed { IfErr result (MarksTopFailed D.DriverModel (below_ghosts D.DriverModel) self.old self.new) }
         ensures cause { CallRefused D.DriverModel (write offset bytes.now) result self.old self.new }

@@ -1,4 +1,5 @@
-// Zeroing of ranges: by the driver where it can, and else by writing zeroes.
+// Zeroing of a range: by the driver if it can (in qcow2, by zero clusters), and otherwise by writing zeroes. Definitions:
+// specs/RangeCalls.antt and specs/RunCalls.antt.
 ghost use Rattle.std.specs.Prelude.{⊤, ◌≡◌, ◌<◌, ◌≤◌, ◌+◌, ◌^◌, ◌∷◌, List, length, IsOk, IfOk, IfErr, OnOk, IsErrOf, Some, replicate};
 ghost use Rattle.imago_storage.specs.Steps.{Call, write_zeroes, discard_to_zero};
 ghost use Rattle.imago_access.specs.Layer.{Layer, IsFree, KeepsLayerState};
@@ -24,22 +25,22 @@ use crate::drivers::FormatDriverInstance;
 use imago_storage::Fault;
 use std::alloc::Global;
 
-// The most zeroes that are written at once, in bytes.
+// The greatest number of zeroes in one write, in bytes.
 const PIECE: u64 = 65_536;
 
-// What is written where a driver can't zero: a change takes no memory for it.
+// The zeroes to write if a driver can't zero. They are static, so that a change needs no memory for them.
 static ZEROES: [u8; PIECE as usize] = [0; PIECE as usize];
 
-// What becomes of the places of storages that are allocated for a zeroed range.
+// The use of the space that is allocated for a zeroed range.
 #[derive(Clone, Copy, Debug, Drop, PartialEq, Eq)]
 enum Zeroing {
-    // They are kept.
+    // The space is kept.
     Keep,
-    // They are given up.
+    // The space is deallocated.
     GiveUp,
 }
 
-// The part of a range that the driver zeroes by itself: from where on, and how many bytes.
+// Zeroes the part of a range that the driver zeroes by itself. Returns where the part starts, and how many bytes it has.
 fn zero_part<D: FormatDriverInstance>(
     alloc: Global,
     driver: &mut D,
@@ -66,7 +67,7 @@ fn zero_part<D: FormatDriverInstance>(
     }
 }
 
-// The zeroes of one piece.
+// Returns `length` zeroes.
 fn zero_bytes(length: u64) -> &'static [u8]
     requires { length ≤ 65536 }
     ensures { result.now ≡ replicate length 0 }
@@ -74,7 +75,7 @@ fn zero_bytes(length: u64) -> &'static [u8]
     &ZEROES[..length as usize]
 }
 
-// Writes zeroes to a range that is mapped, in pieces that end at multiples of their length in its storage.
+// Writes zeroes to a mapped range, in pieces that end at multiples of `PIECE` in the storage.
 fn write_mapped_zeroes<D: FormatDriverInstance>(
     alloc: Global,
     driver: &mut D,
@@ -103,8 +104,8 @@ fn write_mapped_zeroes<D: FormatDriverInstance>(
     Ok(())
 }
 
-// Writes zeroes to the first run of a range that lies in the disk: the run is mapped as a whole, so that nothing is copied to it. It
-// answers how many bytes that are.
+// Writes zeroes to the first run of a range inside the disk. Returns the length of the run, in bytes. The run is mapped as a whole, so that
+// nothing is copied to it.
 fn write_zero_run<D: FormatDriverInstance, B: ReadBelow>(
     alloc: Global,
     driver: &mut D,
@@ -136,7 +137,7 @@ fn write_zero_run<D: FormatDriverInstance, B: ReadBelow>(
     }
 }
 
-// Writes zeroes over a range that lies in the disk, run by run.
+// Writes zeroes to a range inside the disk, run by run.
 fn write_zero_bytes<D: FormatDriverInstance, B: ReadBelow>(
     alloc: Global,
     driver: &mut D,
@@ -159,8 +160,9 @@ fn write_zero_bytes<D: FormatDriverInstance, B: ReadBelow>(
     Ok(())
 }
 
-// Lets the driver zero a part of a range that isn't empty. It answers where that part begins and ends: at the end of the range where the
-// driver has done none, or can't.
+// Lets the driver zero a part of a range that isn't empty. Returns where the part starts and ends. If the driver declines, both are the end
+// of the range. If it zeroes nothing, both are the start of its empty part, but at most the end of the range. If that part starts at
+// `offset`, both are the end of the range.
 fn zero_by_driver<D: FormatDriverInstance>(
     alloc: Global,
     driver: &mut D,
@@ -195,8 +197,8 @@ fn zero_by_driver<D: FormatDriverInstance>(
     }
 }
 
-// Zeroes the first part of a range that isn't empty and lies in the disk: bytes that the driver leaves before its own part are written.
-// It answers where the part ends.
+// Zeroes the first part of a range that isn't empty and is inside the disk. Returns where the part ends. Bytes before the driver's own part
+// are written as zeroes.
 fn zero_run<D: FormatDriverInstance, B: ReadBelow>(
     alloc: Global,
     driver: &mut D,
@@ -222,7 +224,7 @@ fn zero_run<D: FormatDriverInstance, B: ReadBelow>(
     Ok(end)
 }
 
-// Zeroes all of a range that lies in the disk, or is empty.
+// Zeroes the whole of a range that is inside the disk, or is empty.
 fn zero_all<D: FormatDriverInstance, B: ReadBelow>(
     alloc: Global,
     driver: &mut D,
@@ -251,32 +253,53 @@ fn zero_all<D: FormatDriverInstance, B: ReadBelow>(
 }
 
 impl<D: FormatDriverInstance> FormatAccess<D> {
-    /// Makes a range read as 0, and keeps what is allocated for it. Each whole unit of the range is zeroed by the format itself, unless the
-    /// driver declines that. Nothing may be prepared.
+    /// Makes a range read as 0, and keeps what is allocated for it.
     ///
-    /// It refuses with `Fault::ReadOnly`, with `Fault::RangeOverflow` where the end of the range, rounded up to the chain's alignment,
-    /// passes `u64`, with `Fault::PastEnd`, with causes of the driver's own, with `Fault::Memory` and `Fault::Storage`, and where a layer
-    /// can't be used. A refusal for another cause than `Memory` and `Storage` leaves each byte of the range old or 0, and every other as
-    /// it was. The chain itself takes no memory for it: want of it is the driver's.
+    /// Each unit (a cluster in qcow2) that is completely in the range is zeroed by the format itself, unless the driver declines that as
+    /// unsupported. Zeroes are written to the rest. The chain allocates no memory for the call; only the driver may.
+    ///
+    /// # Preconditions
+    ///
+    /// No mapping is prepared: each one from `prepare_data_mapping` was committed or cancelled.
+    ///
+    /// # Errors
+    ///
+    /// - `Fault::Failed`, `Fault::MissingData` if a layer can't be used.
+    /// - `Fault::ReadOnly` if the top image wasn't opened for writing.
+    /// - `Fault::RangeOverflow` if the end of the range, rounded up to the chain's alignment, doesn't fit `u64`.
+    /// - `Fault::PastEnd` if the range ends past the end of the disk.
+    /// - An error of the driver's own (`DriverModel::own_cause`).
+    /// - `Fault::Memory`, `Fault::Storage`.
+    ///
+    /// # On error
+    ///
+    /// After an error other than `Fault::Memory` and `Fault::Storage`, each byte of the range is unchanged or 0. Bytes outside the range
+    /// are unchanged. After `Fault::Memory` or `Fault::Storage` a qcow2 image has failed, or is still well-formed (consistent and usable).
+    /// If a storage of the image itself failed, the image has failed.
+    ///
+    /// # Crash safety
+    ///
+    /// Each crash image (the image file after a crash during the call) is consistent. Each byte reads as it did in the file or on the disk
+    /// before the call. A byte of the range may also read as 0.
     pub fn write_zeroes(&mut self, alloc: Global, offset: u64, length: u64) -> Result<(), Fault>
         requires free { IsFree (D.layer self.old.0) }
 
-        // What it does.
+        // The effect.
         ensures ok { IsCarriedOut D.DriverModel (write_zeroes offset length) result self.old self.new }
         ensures err { IsDoneInPart D.DriverModel (write_zeroes offset length) result self.old self.new }
         ensures room { TakesNear D.DriverModel offset length result self.old self.new }
         ensures zeroed { ZeroesUnits D.DriverModel (write_zeroes offset length) result self.old self.new }
 
-        // When it ends at once.
+        // Early outcomes.
         ensures early_outcome { (f : Fault) → chain_refusal D.DriverModel self.old offset length ≡ Some f → IsErrOf result f }
         ensures idle { length ≡ 0 → unusable_fault (D.layer self.old.0) ≡ None → IsOk result }
         ensures untouched { EndsAtOnce D.DriverModel self.old offset length → self.new ≡ self.old }
 
-        // What it keeps, and what its stops show.
+        // Preserved state, and crash images.
         ensures keeps_layer_state { KeepsLayerState (D.layer self.old.0) (D.layer self.new.0) }
         ensures range_change { ChainRangeChange D.DriverModel (HadNoResourceError result) (GivesZero offset length) self.old self.new }
 
-        // Why it is refused, and what that marks.
+        // Errors, and the failed state after them.
         ensures failed { IfErr result (ChainFails D.DriverModel self.old self.new) }
         ensures marks_failed { IfErr result (MarksTopFailed D.DriverModel (below_ghosts D.DriverModel) self.old self.new) }
         ensures cause { CallRefused D.DriverModel (write_zeroes offset length) result self.old self.new }
@@ -292,29 +315,37 @@ impl<D: FormatDriverInstance> FormatAccess<D> {
         )
     }
 
-    /// Makes a range read as 0, and gives up what is allocated for each whole unit of it, unless the driver declines that. Nothing may be
-    /// prepared.
+    /// Makes a range read as 0. Each unit (a cluster in qcow2) that is completely in the range is deallocated, unless the driver declines
+    /// that as unsupported.
     ///
-    /// It refuses as `write_zeroes` does, and leaves the same. The chain itself takes no memory for it either.
+    /// The chain allocates no memory for the call; only the driver may.
+    ///
+    /// # Preconditions
+    ///
+    /// No mapping is prepared: each one from `prepare_data_mapping` was committed or cancelled.
+    ///
+    /// # Errors
+    ///
+    /// The errors of `write_zeroes`. For the state on error and crash safety see `write_zeroes` too.
     pub fn discard_to_zero(&mut self, alloc: Global, offset: u64, length: u64) -> Result<(), Fault>
         requires free { IsFree (D.layer self.old.0) }
 
-        // What it does.
+        // The effect.
         ensures ok { IsCarriedOut D.DriverModel (discard_to_zero offset length) result self.old self.new }
         ensures err { IsDoneInPart D.DriverModel (discard_to_zero offset length) result self.old self.new }
         ensures room { GivesUpNear D.DriverModel offset length result self.old self.new }
         ensures gives_up { GivesUnitsUp D.DriverModel (discard_to_zero offset length) result self.old self.new }
 
-        // When it ends at once.
+        // Early outcomes.
         ensures early_outcome { (f : Fault) → chain_refusal D.DriverModel self.old offset length ≡ Some f → IsErrOf result f }
         ensures idle { length ≡ 0 → unusable_fault (D.layer self.old.0) ≡ None → IsOk result }
         ensures untouched { EndsAtOnce D.DriverModel self.old offset length → self.new ≡ self.old }
 
-        // What it keeps, and what its stops show.
+        // Preserved state, and crash images.
         ensures keeps_layer_state { KeepsLayerState (D.layer self.old.0) (D.layer self.new.0) }
         ensures range_change { ChainRangeChange D.DriverModel (HadNoResourceError result) (GivesZero offset length) self.old self.new }
 
-        // Why it is refused, and what that marks.
+        // Errors, and the failed state after them.
         ensures failed { IfErr result (ChainFails D.DriverModel self.old self.new) }
         ensures marks_failed { IfErr result (MarksTopFailed D.DriverModel (below_ghosts D.DriverModel) self.old self.new) }
         ensures cause { CallRefused D.DriverModel (discard_to_zero offset length) result self.old self.new }

@@ -80,7 +80,7 @@ returns-in_err-at-clause-does g c = rw (handed_on _ _ c.from_residual.ensures.1)
   room = λ i not_resource_error. let d = g.D.DriverModel in let l = c.loop-at.invariant in
       let y0 = c.args.driver.now in let y1 = c.loop-at.driver in let y2 = c.zero_run.new.driver in let at_now = c.loop-at.at in let rest = c.args.offset + c.args.n - at_now in
       room_then d (λ p. (c.args.zeroing ≡ zeroing_is.Keep) ⊎ IsOut c.args.offset c.args.n p) (λ p. (c.args.zeroing ≡ zeroing_is.Keep) ⊎ IsOut at_now rest p) c.args.offset c.args.n at_now rest y0 y1 y2 l.range_change.mutating_call.fixed l.from (omega (arith, l.inside)) (λ p there. elim there [ inl keep ↦ inl keep | inr out ↦ inr (out_wider c.args.offset c.args.n at_now rest p l.from (omega (arith, l.inside)) out) ]) (l.room i) (c.in_err-at.ensures.does.room (l.range_change.intact tt i) not_resource_error);
-  began = λ e call begun part. tt;
+  stays_begun = λ e call begun part. tt;
 })
 
 pub returns-in_err-at-clause-refused : goal.returns-in_err-at-clause-refused
@@ -105,7 +105,7 @@ pub returns-clause-does : goal.returns-clause-does
 returns-clause-does g c = record {
   range_change = c.loop-at.invariant.range_change;
   room = λ i whole. c.loop-at.invariant.room i;
-  began = λ e call begun part. c.loop-at.invariant.began e call begun part;
+  stays_begun = λ e call begun part. c.loop-at.invariant.began e call begun part;
 }
 
 pub returns-clause-refused : goal.returns-clause-refused
