@@ -16,7 +16,7 @@ use Rattle.std.specs.declared.alloc.Global.{Global}
 use lib.Dec.{ltb}
 
 module _ {N : Type 0} where
-  -- the size of the extents so far, with one more, and what is left of the whole
+  -- The size of the first `i + 1` extents, and of the remaining ones.
   pub size_more : (xs : List (Extent N)) (i : ℕ) (x : Extent N) → i < length xs → x ≡ get_or xs i x → size_of (take (i + 1) xs) ≡ size_of (take i xs) + 512 * x.sectors
   size_more xs i x h is =
       let more = sum_by_more (λ (e : Extent N). e.sectors) xs i x h in
@@ -29,7 +29,7 @@ module _ {N : Type 0} where
       let same : (get_or xs i x).sectors ≡ x.sectors = ap (λ (e : Extent N). e.sectors) (sym is) in
       omega (arith, more, same)
 
-  -- the same of the files that are asked for
+  -- The number of files that the first `i + 1` extents need.
   pub asked_more : (xs : List (Extent N)) (i : ℕ) (x : Extent N) → i < length xs → x ≡ get_or xs i x →
       files_asked (take (i + 1) xs) ≡ files_asked (take i xs) + cond (has_file x) 1 0
   asked_more xs i x h is =
@@ -42,7 +42,7 @@ module _ {N : Type 0} where
       subst (λ (e : Extent N). files_asked (take i xs) + cond (has_file e) 1 0 ≤ files_asked xs) (sym is)
       (sum_by_more_le (λ (e : Extent N). cond (has_file e) 1 0) xs i x h)
 
-  -- a place of the first extent, and one behind it
+  -- A byte of the first extent, and one after it.
   pub in_first : (files : ℕ → ℕ → ℕ) (x : Extent N) (ys : List (Extent N)) (k q : ℕ) → q < 512 * x.sectors →
       in_extents files (x ∷ ys) k q ≡ in_source x.access x.source (files k) q
   in_first files x ys k q h = rw (lt-ltb q (512 * x.sectors) h) refl
@@ -54,7 +54,7 @@ module _ {N : Type 0} where
       let rest : 512 * x.sectors + q - 512 * x.sectors ≡ q = omega arith in
       rw (past, rest) refl
 
-  -- a walk over extents that has come to the extent i, which begins at a place, on the way to p
+  -- A search for the offset `p` has reached the extent `i`, which begins at `start`.
   pub record StandsAt (xs : List (Extent N)) (i start k p : ℕ) : Type 0 where
     pub begins : start ≡ size_of (take i xs)
     pub low : start ≤ p
@@ -67,7 +67,7 @@ module _ {N : Type 0} where
   rest_is : (xs : List (Extent N)) (i : ℕ) (x : Extent N) → i < length xs → x ≡ get_or xs i x → drop i xs ≡ x ∷ drop (i + 1) xs
   rest_is xs i x h is = drop-cons xs i x h ∙ ap (λ y. y ∷ drop (suc i) xs) (sym is) ∙ ap (λ n. x ∷ drop n xs) (sym (add-one i))
 
-  -- what ends in reach from an extent on: the extent, and those behind it
+  -- Reads can reach the end of the extent `i` and of those after it.
   pub reach_at : (unit : ℕ) (xs : List (Extent N)) (i : ℕ) (x : Extent N) → i < length xs → x ≡ get_or xs i x → AreInReach unit (drop i xs) →
       (round_up unit (end_in_file x.access x.source x.sectors) < 2 ^ 64) × AreInReach unit (drop (i + 1) xs)
   reach_at unit xs i x h is all =
@@ -100,7 +100,7 @@ module _ {N : Type 0} where
         reach = λ unit all. let r : AreInReach unit (x ∷ drop (i + 1) xs) = rw rest at (at.reach unit all) in r.0;
       }
 
-  -- the run of a place's extent
+  -- The run inside the extent of an offset.
   pub whole_run : (xs : List (Extent N)) (p asked n start k : ℕ) (x : Extent N) → IsExtentAt xs p x start k → n ≡ min asked (x.sectors * 512 - (p - start)) →
       IsWholeRun xs p asked n
   whole_run xs p asked n start k x at is = elim (cases_lt asked (x.sectors * 512 - (p - start))) [
@@ -139,7 +139,7 @@ module _ {N : Type 0} where
       regroup : (s n q : ℕ) → s + n * 512 + q ≡ s + (512 * n + q)
       regroup s n q = omega arith
 
--- the names of files, from an extent on
+-- The names of files, from an extent on.
 pub names_from : (xs : List (Extent (String Global))) (i : ℕ) (x : Extent (String Global)) (name : Option (List ℕ)) → i < length xs → x ≡ get_or xs i x →
     option_to_list name ≡ map (λ n. string_bytes n) (name_in x.access x.source) →
     map (λ n. string_bytes n) (file_names (drop i xs)) ≡ option_to_list name ++ map (λ n. string_bytes n) (file_names (drop (i + 1) xs))
@@ -147,7 +147,7 @@ names_from xs i x name h is e =
     ap (λ ys. map (λ n. string_bytes n) (file_names ys)) (rest_is xs i x h is) ∙ map-append (λ n. string_bytes n) (name_in x.access x.source) (file_names (drop (i + 1) xs))
     ∙ ap (λ ns. ns ++ map (λ n. string_bytes n) (file_names (drop (i + 1) xs))) (sym e)
 
--- a name that is passed over, and one that isn't there
+-- The search for a name skips one, or finds no more names.
 pub past_name : (all ns rest : List (List ℕ)) (name : List ℕ) (before left : ℕ) → get_or all before [] ≡ get_or ns left [] → ns ≡ (name ∷ []) ++ rest → (left ≡ 0 → ⊥) →
     get_or all before [] ≡ get_or rest (left - 1) []
 past_name all ns rest name before zero so is some = absurd (some refl)

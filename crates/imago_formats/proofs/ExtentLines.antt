@@ -1,4 +1,4 @@
--- Lines that name an extent, by what they are made of.
+-- The form of extent lines agrees with the parser's definitions.
 use Rattle.std.proofs.Common.{suc, ◌≡◌, ◌⊎◌, inl, inr, ℕ, ◌+◌, ◌*◌, ◌<◌, ◌^◌, ◌&&◌, ◌||◌, Bool, true, false, not, cond, eqb, ltb, List, [], ◌∷◌, ◌++◌, length, take, drop, get_or, Option, Some, None, Result, Ok, Err, refl, sym, ap, subst, ◌∙◌, add-one, append-nil, length-append, take-append-drop, codes, arith}
 use Rattle.std.specs.Prelude.{⊤, IsTrue}
 use Rattle.std.specs.List.{list_all, position_or_len, take_while, before_first, after_first}
@@ -24,7 +24,7 @@ use Rattle.imago_formats.specs.declared.vmdk.descriptor.Source.{Source}
 use Rattle.imago_formats.specs.declared.vmdk.descriptor.Source.TheVariants.{Flat, Zero}
 use Rattle.imago_formats.specs.declared.vmdk.descriptor.Extent.{Extent}
 
--- ---- A text in two parts, the second of which begins at the first byte that passes.
+-- ---- A text in two parts. The second begins at the first byte that meets a condition.
 
 abbrev pub Meets : (ℕ → Bool) → List ℕ → Type 0
 Meets p [] = ⊤
@@ -33,7 +33,7 @@ Meets p (b ∷ bs) = p b ≡ true
 one_more : (n : ℕ) → 1 + n ≡ suc n
 one_more n = omega arith
 
--- the first place that passes stands behind those that don't
+-- The position of the first byte that meets the condition.
 pub first_at : (p : ℕ → Bool) (xs ys : List ℕ) → list_all (λ b. not (p b)) xs ≡ true → Meets p ys → position_or_len p (xs ++ ys) ≡ length xs
 first_at p [] [] fails meets = refl
 first_at p [] (y ∷ ys) fails meets = ap (λ t. cond (not t) (1 + position_or_len p ys) 0) meets
@@ -50,7 +50,7 @@ drop_front : (xs ys : List ℕ) → drop (length xs) (xs ++ ys) ≡ ys
 drop_front [] ys = grind (arith, common_steps)
 drop_front (x ∷ xs) ys = drop_front xs ys
 
--- what passes at the front of a text, and what stands behind it
+-- The first bytes that meet the condition, and the rest of the text.
 pub front_passes : (q : ℕ → Bool) (xs : List ℕ) → list_all q (take_while q xs) ≡ true
 front_passes q [] = refl
 front_passes q (x ∷ xs) = ap (λ l. list_all q l) (take_while-cons q x xs) ∙ at_first (q x) refl (front_passes q xs)
@@ -67,7 +67,7 @@ rest_meets p (x ∷ xs) = at_first (p x) refl (rest_meets p xs)
     at_first true e later = e
     at_first false e later = subst (λ (n : ℕ). Meets p (drop n (x ∷ xs))) (sym (one_more (position_or_len p xs))) later
 
--- ---- Blanks and words.
+-- ---- Blanks, and texts without them.
 
 abbrev pub NoBlanks : List ℕ → Type 0
 NoBlanks xs = list_all (λ b. not (is_blank b)) xs ≡ true
@@ -94,7 +94,7 @@ pub gap_ends : (gap rest : List ℕ) → IsGap gap → Ends (gap ++ rest)
 gap_ends [] rest gap = absurd (omega (arith, gap.0))
 gap_ends (x ∷ xs) rest gap = (both (is_blank x) (list_all is_blank xs) gap.1).0
 
--- blanks at the start go
+-- Blanks at the start are removed.
 pub blanks_off : (gap rest : List ℕ) → AreBlanks gap → Starts rest → past_blanks (gap ++ rest) ≡ rest
 blanks_off gap rest blanks starts =
     ap (λ n. drop n (gap ++ rest)) (first_at (λ b. not (is_blank b)) gap rest (twice gap ∙ blanks) starts) ∙ drop_front gap rest
@@ -108,11 +108,11 @@ word_is one rest none ends = ap (λ n. take n (one ++ rest)) (first_at is_blank 
 pub behind_word : (one rest : List ℕ) → NoBlanks one → Ends rest → past_word (one ++ rest) ≡ past_blanks rest
 behind_word one rest none ends = ap (λ n. past_blanks (drop n (one ++ rest))) (first_at is_blank one rest none ends) ∙ ap past_blanks (drop_front one rest)
 
--- the same of a word with a gap behind it
+-- The text after the first `word` and its gap.
 pub next_word : (one gap rest : List ℕ) → NoBlanks one → IsGap gap → Starts rest → past_word (one ++ (gap ++ rest)) ≡ rest
 next_word one gap rest none is starts = behind_word one (gap ++ rest) none (gap_ends gap rest is) ∙ blanks_off gap rest is.1 starts
 
--- a text as its first word, a gap, and the rest
+-- A text as its first `word`, a gap, and the rest.
 pub record IsSplit (text : List ℕ) : Type 0 where
   pub gap : List ℕ
   pub whole : text ≡ word text ++ (gap ++ past_word text)
@@ -162,7 +162,7 @@ number_bare n xs number = digits_bare xs (both (list_all is_ascii_digit xs) _ nu
 pub number_some : (n : ℕ) (xs : List ℕ) → AreDigitsOf n xs → 0 < length xs
 number_some n xs number = ltb-true _ _ (both (ltb 0 (length xs)) _ (both (list_all is_ascii_digit xs) _ number.0).1).0
 
--- a word that isn't empty begins with no blank
+-- A nonempty text without blanks doesn't begin with a blank.
 pub bare_starts : (xs rest : List ℕ) → NoBlanks xs → 0 < length xs → Starts (xs ++ rest)
 bare_starts [] rest none some = absurd (omega (arith, some))
 bare_starts (x ∷ xs) rest none some = (both (not (is_blank x)) (list_all (λ b. not (is_blank b)) xs) none).0
@@ -171,7 +171,7 @@ pub number_read : (n : ℕ) (xs : List ℕ) → AreDigitsOf n xs → decimal xs 
 number_read n xs number =
     ap (λ t. cond t (Ok (digits_value 10 xs)) (Err DamagedDescriptor)) number.0 ∙ ap (λ v. Ok v) (sym number.1)
 
--- ---- What is made of answers.
+-- ---- Chains of results.
 
 bind_to : {A B : Type 0} (r : Result A Fault) (f : A → Result B Fault) (a : A) (v : Result B Fault) → r ≡ Ok a → f a ≡ v → (r >>= f) ≡ v
 bind_to r f a v is later = ap (λ x. x >>= f) is ∙ later
@@ -200,9 +200,9 @@ some_byte b bs = ne_eqb _ _ (omega arith)
 pub same_bytes : (xs ys : List ℕ) → bytes_eq xs ys ≡ true → xs ≡ ys
 same_bytes xs ys e = (bytes_eq-Decides xs ys).0 e
 
--- ---- From what a line is made of to what it says.
+-- ---- From the form of a line to its meaning.
 
--- a sector by what stands behind the blanks of its text, and a name by the place of its closing quote
+-- The sector by the text after the blanks, and the name by the position of its closing quote.
 abbrev by_rest : List ℕ → List ℕ → Result ℕ Fault
 by_rest text rest = cond (is_empty rest) (Ok 0)
     (cond (is_blank (get_or text 0 0) && is_empty (past_word rest)) (decimal (word rest)) (Err DamagedDescriptor))
@@ -292,7 +292,7 @@ access_starts ReadWrite rest = refl
 access_starts ReadOnly rest = refl
 access_starts NoAccess rest = refl
 
--- a text that begins with another byte than that of a comment
+-- The text begins with a byte that doesn't start a comment.
 pub unskipped : (b : ℕ) (bs : List ℕ) → eqb b 35 ≡ false → said_from (b ∷ bs) ≡ said_with (access_of (word (b ∷ bs))) (b ∷ bs)
 unskipped b bs other =
     ap (λ t. cond (t || eqb b 35) (Ok None) (said_with (access_of (word (b ∷ bs))) (b ∷ bs))) (some_byte b bs)
@@ -320,7 +320,7 @@ extent_read access sectors source digits gap text number is told =
     source (Ok (extent access sectors source))
     (ap (source_of sectors) rest ∙ source_read sectors source text told) refl)
 
--- a line that is made as one that names an extent is read as that
+-- An extent line is parsed as its extent.
 pub made : (x : Extent (List ℕ)) (line : List ℕ) → IsExtentLine x line → said_by line ≡ Ok (Some x)
 made x line l =
     let more : List ℕ = l.digits ++ (l.second_gap ++ l.source) in
@@ -335,20 +335,20 @@ made x line l =
     ∙ bind_to (extent_of x.access (past_word (access_word x.access ++ text))) (λ y. Ok (Some y)) x (Ok (Some x))
     (ap (extent_of x.access) rest ∙ extent_read x.access x.sectors x.source l.digits l.second_gap l.source l.digits_are l.second_gap_is l.source_is) refl
 
--- ---- From what a line says to what it is made of.
+-- ---- From the meaning of a line to its form.
 
 sector_made : (text : List ℕ) (sector : ℕ) → sector_of text ≡ Ok sector → (AreBlanks text × (sector ≡ 0)) ⊎ IsSectorText sector text
-sector_made text sector e = all_flushed (is_empty (past_blanks text)) refl e
+sector_made text sector e = sector_cases (is_empty (past_blanks text)) refl e
   where
-    all_flushed : (t : Bool) → is_empty (past_blanks text) ≡ t →
+    sector_cases : (t : Bool) → is_empty (past_blanks text) ≡ t →
         cond t (Ok 0) (cond (is_blank (get_or text 0 0) && is_empty (past_word (past_blanks text))) (decimal (word (past_blanks text))) (Err DamagedDescriptor)) ≡ Ok sector →
         (AreBlanks text × (sector ≡ 0)) ⊎ IsSectorText sector text
-    all_flushed true none told =
+    sector_cases true none told =
         let rest : past_blanks text ≡ [] = empty_is (past_blanks text) none in
         let whole : text ≡ gap_of text = gap_whole text ∙ ap (λ l. gap_of text ++ l) rest ∙ append-nil (gap_of text) in
         let same : ◌≡◌ {A = Result ℕ Fault} (Ok sector) (Ok 0) = sym told in
         inl (subst (λ (l : List ℕ). AreBlanks l) (sym whole) (gap_blanks text), cc same)
-    all_flushed false some told =
+    sector_cases false some told =
         let parts = from_test (is_blank (get_or text 0 0) && is_empty (past_word (past_blanks text))) (decimal (word (past_blanks text))) DamagedDescriptor sector told in
         let tests = both (is_blank (get_or text 0 0)) (is_empty (past_word (past_blanks text))) parts.0 in
         let number = number_from (word (past_blanks text)) sector parts.1 in
@@ -519,7 +519,7 @@ extent_made x line access kind e =
     source_some sectors (Flat name sector) text s = subst (λ (l : List ℕ). 0 < length l) (sym s.made) (omega arith)
     source_some sectors Zero text s = subst (λ (l : List ℕ). 0 < length l) (sym s.made) (omega arith)
 
--- a line that is read as one that names an extent is made as such a line
+-- A line that is parsed as an extent has the form of an extent line.
 pub read : (x : Extent (List ℕ)) (line : List ℕ) → said_by line ≡ Ok (Some x) → IsExtentLine x line
 read x line e = at_skip (is_skipped (past_blanks line)) e
   where

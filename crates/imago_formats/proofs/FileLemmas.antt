@@ -1,4 +1,4 @@
--- The text of a file, by the bytes at its start.
+-- The text of a file, from the bytes at its start.
 use Rattle.std.proofs.Common.{suc, ◌≡◌, ◌≢◌, ◌⊎◌, inl, inr, ℕ, ◌+◌, ◌-◌, ◌<◌, ◌≤◌, ◌^◌, ◌&&◌, Bool, true, false, not, cond, List, [], ◌∷◌, length, take, get_or, Result, Ok, Err, refl, sym, ap, subst, IfErr, zero-add, min, ◌∙◌, arith, rules}
 use Rattle.std.specs.List.{position_or_len}
 use Rattle.std.specs.Str.{bytes_eq}
@@ -25,7 +25,7 @@ text_cons b bs = take_while-cons (λ x. not (eqb x 0)) b bs
 take_none : (n : ℕ) → take {A = ℕ} n [] ≡ []
 take_none n = grind (arith, common_steps)
 
--- the text of the bytes at a file's start is the start of its text
+-- The text of a prefix of the file is a prefix of the file's text.
 pub front_of_text : (bytes buf : List ℕ) → ((k : ℕ) → k < length buf → get_or buf k 0 ≡ get_or bytes k 0) → text_of buf ≡ take (length buf) (text_of bytes)
 front_of_text bytes [] r = refl
 front_of_text [] (b ∷ bs) r =
@@ -45,11 +45,11 @@ one_not : (a b c : Bool) → b ≡ false → (a && (b && c)) ≡ false
 one_not true b c e = rw e refl
 one_not false b c e = refl
 
--- what is longer is no descriptor
+-- A text that is too long is no descriptor.
 too_long : (text : List ℕ) → 2 ^ 20 < length text → read_from text ≡ Err DamagedDescriptor
 too_long text h = let bad : is_descriptor text ≡ false = one_not (is_utf8 text) _ _ (lt-leb _ _ h) in rw bad refl
 
--- a file is read by as many bytes as a descriptor may have, and one more
+-- The first 2^20 + 1 bytes of a file decide its meaning as a descriptor.
 pub front_of_descriptor : (bytes buf : List ℕ) → Reads bytes 0 buf → (length bytes ≤ length buf) ⊎ (2 ^ 20 < length buf) → descriptor_of buf ≡ descriptor_of bytes
 front_of_descriptor bytes buf r enough =
     let front : text_of buf ≡ take (length buf) (text_of bytes) = front_of_text bytes buf (λ k h. r k h ∙ ap (λ i. get_or bytes i 0) (zero-add k)) in
@@ -70,11 +70,11 @@ not_signature line h = decided (bytes_eq line signature) refl
     decided false e = e
     decided true e = let same : line ≡ signature = (bytes_eq-Decides line signature).0 e in absurd (h (ap length same))
 
--- where a text's first line ends
+-- The end of a text's first line.
 abbrev newline_at : List ℕ → ℕ
 newline_at text = position_or_len (λ b. eqb b 10) text
 
--- the first line of a text
+-- The first line of a text.
 abbrev first_of : List ℕ → List ℕ
 first_of text = get_or (lines text) 0 []
 
@@ -115,7 +115,7 @@ long_line text h =
           not_signature (first_of text) (omega arith)
     ]
 
--- whether a text begins with the first line of a descriptor, its first 23 bytes say
+-- The first 23 bytes of a text decide if it begins with the first line of a descriptor.
 signed_by_front : (text : List ℕ) → is_signed (take 23 text) ≡ is_signed text
 signed_by_front text =
     elim (cases_lt (length text) 23) [
@@ -140,7 +140,7 @@ front_is_signed bytes buf r h =
     let front : text_of buf ≡ take (length buf) (text_of bytes) = front_of_text bytes buf (λ k h. r k h ∙ ap (λ i. get_or bytes i 0) (zero-add k)) in
     ap is_signed (front ∙ ap (λ n. take n (text_of bytes)) h) ∙ signed_by_front (text_of bytes)
 
--- why a descriptor isn't read, where the storage has not failed
+-- The error of a descriptor, if the storage hasn't failed.
 pub not_read : {T : Type 0} (r : Result T Fault) (said : Result (List (Extent (List ℕ))) Fault) (old new : StorageState) → new.faults ≡ old.faults →
     IfErr r (λ e. (e ≡ Memory) ⊎ (said ≡ Err e)) → IfErr r (NotRead said old new)
 not_read (Ok x) said old new same why = tt
@@ -149,7 +149,7 @@ not_read (Err e) said old new same why = elim why [
   | inr told ↦ inr (told, same)
 ]
 
--- a storage in which nothing changed but the count of faults is the same where that hasn't either
+-- A storage with an equal fault count and no other change is equal.
 pub same_state : (s s' : StorageState) → UnchangedButFaults s s' → s'.faults ≡ s.faults → s' ≡ s
 same_state s s' kept faults = λ i. record {
   shape = kept.shape i;

@@ -1,4 +1,4 @@
--- A storage that is cut and then made longer.
+-- A storage that is truncated and then extended.
 use Rattle.std.proofs.Common.{inl, inr, ⊎_elim, ℕ, ◌≤◌, List, length, arith, sym, ◌∙◌, ap, subst}
 use Rattle.std.specs.Prelude.{IsTrue, slice_index}
 use Rattle.std.proofs.lemmas.List.{get_or_past}
@@ -10,7 +10,7 @@ use Rattle.imago_storage.specs.declared.fault.Fault.TheVariants.{Unsupported, Me
 use Rattle.imago_storage.proofs.Composing.{tells_on, keeps_on, no_stops, one_stop, stops_both}
 use Rattle.imago_formats.specs.Growing.{HasFirst, CutTo, GrownTo, NotLengthened, StorageResizeCause}
 
--- the file after a resize
+-- The file after a resize.
 resized_stop : (old new : StorageState) (from to : ℕ) → from ≤ to → Resized old new to → EachCrashImage (HasFirst old.bytes from) old new
 resized_stop old new from to longer resized =
     one_stop (HasFirst old.bytes from) old new resized.changed.mark
@@ -29,7 +29,7 @@ cut_by_resize old new from resized = record {
   crash_images = resized_stop old new from from (omega arith) resized;
 }
 
--- of a file with the first bytes of one that has them
+-- A file with the first bytes of `mid` has the first bytes of `old`.
 first_on : (old mid : StorageState) (from : ℕ) → CutTo old mid from → IsTrue old.shape.keeps → (f : List ℕ) → HasFirst mid.bytes from f → HasFirst old.bytes from f
 first_on old mid from cut keeps f first = record { long = first.long; same = λ k lt. first.same k lt ∙ cut.prefix_unchanged keeps k lt }
 
@@ -57,7 +57,7 @@ refused_resize old new from fault cause refused = record {
   crash_images = no_stops (HasFirst old.bytes from) old new refused.refused.crash_image refused.refused.past_crash_images;
 }
 
--- a storage that isn't resized
+-- The storage isn't resized.
 pub not_cut : (old new : StorageState) (from : ℕ) → (fault : Fault) → UnlessUnsupported old new (NotResized old new) fault → NotLengthened old new from fault
 not_cut old new from Unsupported same = record {
   cause = (ap (λ (s : StorageState). s.faults) same, ap (λ (s : StorageState). s.refusals) same);
@@ -70,7 +70,7 @@ not_cut old new from Memory refused = refused_resize old new from Memory refused
 not_cut old new from Storage refused = refused_resize old new from Storage refused.refused.cause refused
 not_cut old new from _ refused = absurd refused.refused.cause
 
--- why a storage isn't made longer that was cut before
+-- The cause of a failed extension after a truncation.
 cause_behind : (old mid new : StorageState) (from : ℕ) → CutTo old mid from → (fault : Fault) → StorageResizeCause mid new fault → StorageResizeCause old new fault
 cause_behind old mid new from cut Unsupported cause = (cause.0 ∙ cut.faults, cause.1 ∙ cut.refusals)
 cause_behind old mid new from cut Memory cause = cause ∙ cut.faults

@@ -14,7 +14,7 @@ parts_go_on : (x : List ℕ) (ys : List (List ℕ)) → 0 < length ys → lines_
 parts_go_on x [] h = absurd (omega arith)
 parts_go_on x (y ∷ ys) h = refl
 
--- a line before a newline
+-- A line that ends with a newline.
 pub line_here : (text : List ℕ) (n : ℕ) → n ≡ position_or_len (λ b. eqb b 10) text → n < length text →
     lines text ≡ strip_carriage_return (take n text) ∷ lines (drop (n + 1) text)
 line_here text n e h =
@@ -38,7 +38,7 @@ one_line : (text : List ℕ) → 0 < length text → lines_of_parts (text ∷ []
 one_line [] h = absurd (omega arith)
 one_line (b ∷ bs) h = let some : eqb (length (b ∷ bs)) 0 ≡ false = ne_eqb _ _ (omega arith) in rw some refl
 
--- the last line, without a newline
+-- The last line, without a newline.
 pub line_to_end : (text : List ℕ) (n : ℕ) → n ≡ position_or_len (λ b. eqb b 10) text → n ≡ length text → 0 < length text →
     lines text ≡ take n text ∷ lines (drop n text)
 line_to_end text n e h k =
@@ -61,7 +61,7 @@ all_three true true false e f g = g
 all_three true false c e f g = f
 all_three false b c e f g = e
 
--- a text that is accepted, rule by rule
+-- A valid text, rule by rule.
 pub accepted : (text : List ℕ) (xs : List (Extent (List ℕ))) → is_utf8 text ≡ true → length text ≤ 2 ^ 20 → is_signed text ≡ true →
     extents_of (drop 1 (lines text)) ≡ Ok xs → size_of xs < 2 ^ 63 → read_from text ≡ Ok xs
 accepted text xs utf8 short signed read small =

@@ -1,4 +1,4 @@
--- The lines of a descriptor, one behind the other.
+-- The order of a descriptor's lines.
 use Rattle.std.proofs.Common.{◌≡◌, ℕ, List, [], ◌∷◌, ◌++◌, Option, Some, None, Ok, Err, refl, ap, ◌∙◌}
 use Rattle.std.specs.Prelude.{map}
 use Rattle.std.specs.List.{filter_map}
@@ -11,7 +11,6 @@ use Rattle.imago_formats.specs.declared.vmdk.descriptor.Extent.{Extent}
 abbrev Found : Type 0
 Found = List (Option (Extent (List ℕ)))
 
--- equal lists have equal heads and equal rests
 head_same : {A : Type 0} (x y : A) (xs ys : List A) → x ∷ xs ≡ y ∷ ys → (x ≡ y) × (xs ≡ ys)
 head_same x y xs ys e = (cc e, cc e)
 

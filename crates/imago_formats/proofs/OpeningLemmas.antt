@@ -1,4 +1,4 @@
--- The files that extents ask for, opened one by one.
+-- The files of extents, opened one by one.
 use Rattle.std.proofs.Common.{[], inl, inr, ◌≡◌, ◌⊎◌, ℕ, ◌+◌, ◌<◌, ◌^◌, false, cond, List, ◌∷◌, ◌++◌, length, take, drop, get_or, refl, sym, ap, subst, ◌∙◌, append_assoc, length-append, take-append-drop, arith}
 use Rattle.std.specs.Prelude.{map, Result, Ok, Err, Some}
 use Rattle.std.proofs.lemmas.List.{length-map, map-append}
@@ -41,7 +41,7 @@ module _ {N : Type 0} where
   one_name ReadOnly (Flat name sector) = refl
   one_name ReadOnly Zero = refl
 
-  -- as many as files are asked for
+  -- The number of names is the number of files that the extents need.
   length-file_names : (xs : List (Extent N)) → length (file_names xs) ≡ files_asked xs
   length-file_names [] = refl
   length-file_names (x ∷ xs) =
@@ -58,13 +58,13 @@ names_split xs i =
     ∙ ap (λ ns. map (λ n. string_bytes n) ns) (names_append (take i xs) (drop i xs))
     ∙ map-append (λ n. string_bytes n) (file_names (take i xs)) (file_names (drop i xs))
 
--- a name behind others
+-- The name after those in `before`.
 named_behind : (all before rest : List (List ℕ)) (name : List ℕ) → all ≡ before ++ name ∷ rest →
     (get_or all (length before) [] ≡ name) × (length before < length all)
 named_behind all [] rest name e = rw e (refl, omega arith)
 named_behind all (b ∷ bs) rest name e = let later = named_behind (bs ++ name ∷ rest) bs rest name refl in rw e (later.0, omega (arith, later.1))
 
--- the name of an extent's file, by its number
+-- The name of an extent's file, by its number.
 pub name_at : (xs : List (Extent (String Global))) (i k : ℕ) (x : Extent (String Global)) (name : List ℕ) → i < length xs → x ≡ get_or xs i x →
     name ∷ [] ≡ map (λ n. string_bytes n) (name_in x.access x.source) → k ≡ files_asked (take i xs) →
     (get_or (kept_names xs) k [] ≡ name) × (k < length (kept_names xs))
@@ -75,7 +75,7 @@ name_at xs i k x name h is e count =
     (names_split xs i ∙ ap (λ ns. kept_names (take i xs) ++ ns) rest) in
     rw place at behind
 
--- ---- What the gate opens.
+-- ---- The files that the gate opens.
 
 module _ {G S : Type 0} (answers : G → List ℕ → Result S Fault → G → Type 0) (names : List (List ℕ)) where
   opens_more : (k : ℕ) (gate mid now : G) (files : List S) (file : S) → Opens answers names k gate files mid → k + length files < length names →
@@ -96,7 +96,7 @@ module _ {G S : Type 0} (answers : G → List ℕ → Result S Fault → G → T
             (subst (λ (n : ℕ). answers mid (get_or names n []) (Ok file) now) there given),
       )
 
-  -- one file more
+  -- One more file.
   pub opened_more : (old : List S × G) (files : List S) (mid now : G) (file : S) → OpensNext answers names old (files, mid) →
       length files < length names → answers mid (get_or names (length files) []) (Ok file) now → OpensNext answers names old (files ++ file ∷ [], now)
   opened_more old files mid now file opens named given =
@@ -108,7 +108,7 @@ module _ {G S : Type 0} (answers : G → List ℕ → Result S Fault → G → T
       }
 
 module _ {G S : Type 0} (answers : G → List ℕ → Result S Fault → G → Type 0) (names : List (List ℕ)) (old : List S × G) where
-  -- a file whose name has this number is opened, or isn't
+  -- The gate opens the file with this number, or fails.
   pub opens_here : (files files' : List S) (gate now : G) (k : ℕ) (name : List ℕ) → OpensNext answers names old (files, gate) → length files ≡ k →
       (get_or names k [] ≡ name) × (k < length names) → (file : S) × (files' ≡ files ++ file ∷ []) × answers gate name (Ok file) now →
       OpensNext answers names old (files', now)
@@ -130,7 +130,7 @@ module _ {G S : Type 0} (answers : G → List ℕ → Result S Fault → G → T
         cause = elim why [ inl memory ↦ inl memory | inr told ↦ inr (subst (λ (n : List ℕ). answers gate n (Err fault) now) (sym here) told) ];
       }
 
--- ---- What refuses an image.
+-- ---- The errors of an image.
 
 asks_kept : (a : Access) (s : Source (String Global)) → asks_file a (source_with (λ name. string_bytes name) s) ≡ asks_file a s
 asks_kept NoAccess s = refl
@@ -146,7 +146,7 @@ asked_kept (x ∷ xs) =
     ∙ (λ i. cond (asks_kept x.access x.source i) 1 0 + asked_kept xs i)
     ∙ sym (sum_by-cons (λ (e : Extent (String Global)). cond (has_file e) 1 0) x xs)
 
--- where no file is asked for, reads reach each extent's end
+-- If no file is needed, reads can reach the end of each extent.
 no_end : (a : Access) (s : Source (String Global)) (sectors : ℕ) → ◌≡◌ {A = ℕ} (cond (asks_file a s) 1 0) 0 → end_in_file a s sectors ≡ 0
 no_end NoAccess s sectors none = refl
 no_end ReadWrite (Flat name sector) sectors none = absurd (omega (arith, none))
@@ -164,7 +164,7 @@ none_beyond unit (x ∷ xs) some none =
     let low : round_up unit 0 < 2 ^ 64 = omega (arith, round_up_whole unit 0 some (omega (arith, some))) in
     (subst (λ (n : ℕ). round_up unit n < 2 ^ 64) (sym end) low, none_beyond unit xs some rest)
 
--- why a descriptor isn't read is why it isn't opened
+-- An error of reading a descriptor is an error of opening it.
 pub unread_unopened : {S : Type 0} (state : S → StorageState) (said : Result (List (Extent (List ℕ))) Fault) (old new : S) (fault : Fault) →
     NotRead said (state old) (state new) fault → RefusesOpening state said fault
 unread_unopened state said old new fault (inr told) = inr (inr told.0)
@@ -172,14 +172,14 @@ unread_unopened state said old new Memory (inl cause) = inl refl
 unread_unopened state said old new Storage (inl cause) = inr (inl (refl, may-fail state old new cause))
 unread_unopened state said old new fault (inl cause) = absurd cause
 
--- the same, where reads reach less
+-- Replaces the condition on reads by a stronger one.
 pub not_all_weaker : {G S : Type 0} (answers : G → List ℕ → Result S Fault → G → Type 0) (names : List (List ℕ)) (Reach Reach' : Type 0)
     (old new : List S × G) (fault : Fault) → (Reach' → Reach) → NotAllOpened answers names Reach old new fault → NotAllOpened answers names Reach' old new fault
 not_all_weaker answers names Reach Reach' old new fault less (inl stops) = inl stops
 not_all_weaker answers names Reach Reach' old new fault less (inr over) =
     inr (record { fault_is = over.fault_is; opens = over.opens; all = over.all; beyond = λ reach. over.beyond (less reach) })
 
--- an image that is read is refused for its files only where it asks for one
+-- A valid image only fails because of its files if it needs one.
 pub refused_files : {G S : Type 0} (state : S → StorageState) (answers : G → List ℕ → Result S Fault → G → Type 0) (image : StorageState) (gate now : G)
     (fault : Fault) → ((files : List StorageState) → 0 < unit_of_all (image ∷ files)) → FilesRefused state answers image gate now fault →
     MayRefuse state false (descriptor_of image.bytes) fault

@@ -1,4 +1,4 @@
--- Calls of a driver that leave all as it was, but for counts of faults.
+-- Calls of a driver that change nothing except fault counts.
 use Rattle.std.proofs.Common.{◌≡◌, ℕ, ◌<◌, ◌≤◌, Bool, true, false, List, [], ◌∷◌, Result, Ok, Err, refl, sym, ap, ◌∙◌, subst, inl, inr, arith}
 use Rattle.std.specs.Prelude.{⊤, max, ◌-◌, length, MatchResult, IsOk, IsErrAnd, Option, Some, None, IsTrue, IsFalse, IfErr, OnOk, if◌then◌else◌, eqb}
 use Rattle.imago_storage.specs.State.{StorageState}
@@ -81,7 +81,7 @@ module _ {D St : Type 0} (g : Ghosts D St) where
   takes_same : (d : D) → Takes g (λ _. ⊤) d d
   takes_same d = record { stays_allocated = λ p l h. h; free = λ p s h. h; zeroes = λ p l s h. h }
 
-  -- all is as it was
+  -- A call that changes nothing.
   pub unchanged_same : (d : D) → IsUnchanged g d d
   unchanged_same d = record {
     layer = refl;
@@ -116,11 +116,11 @@ module _ {D St : Type 0} (g : Ghosts D St) where
   none_in : (offset p : ℕ) → IsIn offset 0 p → ⊥
   none_in offset p inside = omega (arith, inside.0, inside.1)
 
-  -- no unit of a byte lies whole in an empty range
+  -- An empty range contains no whole unit.
   none_whole : (size offset u : ℕ) → IsWholeUnit 1 size offset 0 u → ⊥
   none_whole size offset u w = omega (arith, w.start, w.on_disk, w.end)
 
-  -- a part of an empty range is done
+  -- A part call on an empty range has no effect.
   pub does_nothing : (call : PartCall) (offset n : ℕ) (d : D) → n ≡ 0 → (g.layer d).fixed.unit ≡ 1 → DoesPart call g offset n (Ok (offset, 0)) d d
   does_nothing call offset n d none unit = record {
     ok = λ well_formed. record { keeps_layer_state = like_same (g.layer d) (g.layer d) refl; range = λ p inside. absurd (none_in offset p inside); others = λ p out. refl };
@@ -142,7 +142,7 @@ module _ {D St : Type 0} (g : Ghosts D St) where
       whole_none u w = none_whole (g.layer d).size offset u
           (subst (λ (m : ℕ). IsWholeUnit 1 (g.layer d).size offset m u) none (subst (λ (m : ℕ). IsWholeUnit m (g.layer d).size offset n u) unit w))
 
-  -- one that is refused
+  -- A part call that fails.
   pub does_refused : (call : PartCall) (offset n : ℕ) (e : Fault) (d : D) → DoesPart call g offset n (Err e) d d
   does_refused call offset n e d = record {
     ok = λ well_formed. tt;
@@ -185,9 +185,9 @@ module _ (layer : Layer) (olds news : List StorageState) where
   plain_fresh Storage cause stale = stale
   plain_fresh e cause stale = absurd cause
 
--- ---- Refusals at once.
+-- ---- Early errors.
 
--- a barrier stands before every cause of a range
+-- In a usable image the early errors are those of the range.
 behind_barrier : (f m : Bool) (rest : Option Fault) → (if f then Some Failed else (if m then Some MissingData else None)) ≡ None →
     (if f then Some Failed else (if m then Some MissingData else rest)) ≡ rest
 behind_barrier true m rest e = absurd cc
@@ -200,7 +200,7 @@ at_barrier true m rest x e = e
 at_barrier false true rest x e = e
 at_barrier false false rest x e = absurd cc
 
--- an empty range isn't refused for itself
+-- An empty range has no early error.
 pub refuses_none : (layer : Layer) (offset n : ℕ) → unusable_fault layer ≡ None → n ≡ 0 → own_refusal layer offset n ≡ None
 refuses_none layer offset n runs none =
     behind_barrier layer.failed layer.fixed.missing (range_refusal layer.fixed.writable (unit_of_layer layer) layer.size offset n) runs ∙ rw none refl
@@ -214,14 +214,14 @@ refuses_some layer offset n ReadOnly closed why =
 refuses_some layer offset n e closed why = absurd why
 
 module _ {D St T : Type 0} (g : Ghosts D St) where
-  -- a format that marks no failures
+  -- The format doesn't mark images failed.
   pub unmarked : (r : Result T Fault) (old new : D) → IsFalse (g.layer old).fixed.marks_failed → IfErr r (MarksFailed g old new)
   unmarked (Ok v) old new never_marks = tt
   unmarked (Err Storage) old new never_marks = λ marks. absurd (cc (marks, never_marks))
   unmarked (Err Memory) old new never_marks = λ marks. absurd (cc (marks, never_marks))
   unmarked (Err e) old new never_marks = tt
 
-  -- a call of an image that can be used, and one of another
+  -- A call of a usable image, and a call of an unusable one.
   pub at_once_runs : (nothing : Type 0) (r : Result T Fault) (old new : D) → unusable_fault (g.layer old) ≡ None →
       (nothing → IsOk r × IsUnchanged g old new) → EarlyOutcome g (unusable_fault (g.layer old)) nothing r old new
   at_once_runs nothing r old new runs idle = record {
@@ -238,7 +238,7 @@ module _ {D St T : Type 0} (g : Ghosts D St) where
     unchanged = λ h. unchanged_same g d;
   }
 
-  -- the same of what a `?` hands on
+  -- The same for the error that `?` returns.
   pub at_once_handed : (nothing : Type 0) (result : Result T Fault) (e : Fault) (d : D) → IsErrAnd result (λ x. x ≡ e) → unusable_fault (g.layer d) ≡ Some e →
       EarlyOutcome g (unusable_fault (g.layer d)) nothing result d d
   at_once_handed nothing result e d is_err barred =
@@ -265,7 +265,7 @@ module _ {D St T : Type 0} (g : Ghosts D St) where
   at_once_same offset n (Ok v) d closed done why = at_once_none offset n v d done.0 done.1
   at_once_same offset n (Err e) d closed done why = at_once_some offset n e d closed why
 
--- ---- Mappings of a layer that is never written, and its resizes.
+-- ---- Mappings and resizes of a layer that is never written.
 
 module _ {D St B : Type 0} (g : Ghosts D St) (u : GhostsBelow B) where
   pub prepares_none : (asked : Asked) (m : PreparedDataMapping St) (d : D) (b : B) → asked.length ≡ 0 → m.length ≡ 0 → m.state ≡ None →
@@ -327,7 +327,7 @@ module _ {D St B : Type 0} (g : Ghosts D St) (u : GhostsBelow B) where
     mutating_call = went_same g (IsNotResourceError e) (IsNotResourceError e × u.coherent_below b) d;
   }
 
-  -- a growth by n bytes, which is refused but where n is 0
+  -- A growth by `n` bytes, which only succeeds if `n` is 0.
   pub grows_same : (size n : ℕ) (mode : PreallocateMode) (r : Result Unit Fault) (d : D) (b : B) → n ≡ size - (g.layer d).size →
       OnOk r ((unusable_fault (g.layer d) ≡ None) × (n ≡ 0)) → Grows g u size mode r (d, b) (d, b)
   grows_same size n mode (Ok v) d b more done = grows_none size mode d b (omega (arith, more, done.1))
@@ -358,7 +358,7 @@ module _ {D St : Type 0} (g : Ghosts D St) where
     mutating_call = went_same g (IsNotResourceError e) (IsNotResourceError e) d;
   }
 
-  -- a shrink by n bytes, which is refused but where n is 0
+  -- A shrink by `n` bytes, which only succeeds if `n` is 0.
   pub shrinks_same : (size n : ℕ) (r : Result Unit Fault) (d : D) → n ≡ (g.layer d).size - size →
       OnOk r ((unusable_fault (g.layer d) ≡ None) × (n ≡ 0)) → Shrinks g size r d d
   shrinks_same size n (Ok v) d less done = shrinks_none size d (omega (arith, less, done.1))
@@ -372,7 +372,7 @@ module _ {D St : Type 0} (g : Ghosts D St) where
       record { failed = tt; marks_failed = tt; cause = λ well_formed below. (omega (arith, less, why.1), closed) }
   shrink_refused size n (Err e) d less closed why = absurd why
 
-  -- what either does at once
+  -- The early outcome of either resize.
   pub resizes_same : (first second n : ℕ) (r : Result Unit Fault) (d : D) → n ≡ first - second → IsFree (g.layer d) →
       OnOk r ((unusable_fault (g.layer d) ≡ None) × (n ≡ 0)) → IfErr r (Refuses (g.layer d) n) → Resizes g first second r d d
   resizes_same first second n (Ok v) d apart free done why = record {
@@ -445,7 +445,7 @@ module _ {D St : Type 0} (g : Ghosts D St) where
   writing_same guest place n (Ok v) d closed why = record { failed = tt; marks_failed = tt; cause = λ well_formed. tt }
   writing_same guest place n (Err e) d closed why = writing_refused guest place n e d closed why
 
-  -- a commit that is given back, or has nothing to do
+  -- A commit that returns its mapping, or has nothing to commit.
   pub commits_same : (state : Option St) (result : Result Unit (Fault × Option (PreparedDataMapping St))) (d : D) →
       OnOk result (Spends g state (g.layer d) (g.layer d) (IsFree (g.layer d) × (g.well_formed d → Committed (g.layer d) (g.layer d)))) → Commits g state result d d
   commits_same state result d spends = record {

@@ -1,4 +1,4 @@
--- What the calls of a storage do to the raw image over it.
+-- The effect of a storage's calls on the raw image over it.
 use Rattle.std.proofs.Common.{◌≡◌, ◌⊎◌, refl, inl, inr, ⊎_elim, ℕ, ◌+◌, ◌-◌, ◌<◌, ◌≤◌, List, [], ◌∷◌, length, arith, sym, ◌∙◌, ap, subst}
 use Rattle.std.specs.Prelude.{⊤, Bool, false, ◌&&◌, Some, None, Result, Ok, Err, OnOk, IfOk, IfErr, IsTrue, EachIndex, slice_index, replicate, if◌then◌else◌, ltb}
 use Rattle.std.proofs.Math.Nat.{le_refl}
@@ -25,15 +25,15 @@ use Rattle.imago_formats.specs.RawLayer.{raw_fixed, raw_layer}
 use Rattle.imago_formats.specs.Growing.{HasFirst, NotLengthened}
 use Rattle.imago_formats.specs.RawHome.{never}
 
--- a storage of the same shape
+-- A storage with the same fixed properties.
 pub raw_like : (old new : StorageState) (size : ℕ) (w : Bool) → new.shape ≡ old.shape → KeepsLayerState (raw_layer old size w) (raw_layer new size w)
 raw_like old new size w shape = record { fixed = ap (λ (s : Shape). raw_fixed s w) shape; size = refl; unspent = refl; failed = λ f. f }
 
--- what a call keeps at each stop of the storage of a raw image, with the least and the greatest size that it passes through
+-- The clause on the crash images of a raw image's storage. The disk's size is at least `least` and at most `most` during the call.
 abbrev pub RawStops : List Layer → ℕ → Bool → (least most : ℕ) → (ℕ → Value → Type 0) → StorageState → StorageState → Type 0
 RawStops below size w least most gives old new = UnrefusedCrashImages (Left below (raw_layer old size w) old.bytes (λ kind file. ⊤) least most gives) old new
 
--- a file that a stop leaves: no shorter than asked, and below the disk's size each byte was there or is given
+-- A crash image is long enough, and each byte below the disk's size is old or given by the call.
 pub raw_left : (below : List Layer) (old : StorageState) (size : ℕ) (w : Bool) (least most : ℕ) (gives : ℕ → Value → Type 0) (f : List ℕ) → size ≤ length old.bytes → least ≤ length f
     → ((p : ℕ) → p < size → p < length f → (slice_index f p ≡ slice_index old.bytes p) ⊎ gives p (byte (slice_index f p))) → Left below (raw_layer old size w) old.bytes (λ kind file. ⊤) least most gives f
 raw_left below old size w least most gives f fits long each = record {
@@ -48,7 +48,7 @@ raw_left below old size w least most gives f fits long each = record {
       (each p in_disk inside);
 }
 
--- the same bytes in a storage of the same shape
+-- Equal bytes in a storage with the same fixed properties.
 pub raw_same : (old new : StorageState) (size : ℕ) (w : Bool) → new.shape ≡ old.shape → new.bytes ≡ old.bytes → raw_layer new size w ≡ raw_layer old size w
 raw_same old new size w shape bytes = λ i. record {
   fixed = raw_fixed (shape i) w;
@@ -60,12 +60,12 @@ raw_same old new size w shape bytes = λ i. record {
   unspent = None;
 }
 
--- what holds whatever the answer
+-- A fact that always holds also holds on success.
 pub on_ok_always : {T : Type 0} (result : Result T Fault) (P : Type 0) → P → OnOk result P
 on_ok_always (Ok x) P holds = holds
 on_ok_always (Err fault) P holds = tt
 
--- Raw images show no layer below, so that below one that is shown all places are 0.
+-- No layer below is visible through a raw image. If `below` backs it, `below` is empty and reads as 0.
 pub backed_zero : (below : List Layer) (s : StorageState) (size : ℕ) (w : Bool) → IsBacked below (raw_layer s size w) → (p : ℕ) → at below p ≡ byte 0
 backed_zero [] s size w backed p = refl
 backed_zero (next ∷ below) s size w backed p = let is : own (byte 0) ≡ unmapped = backed in absurd (cc is)
@@ -77,7 +77,7 @@ backed_stops below old new size w at n backed =
     passes_weaker (Left below l old.bytes (λ kind file. ⊤) size size (GivesZero at n)) (Left below l old.bytes (λ kind file. ⊤) size size (GivesBelow below at n)) old new
     (left_weaker below (λ kind file. ⊤) l old.bytes size size (GivesZero at n) (GivesBelow below at n) (λ p v inside gave. inr (inr (gave.0, gave.1 ∙ sym (backed_zero below old size w backed p)))))
 
--- A refused call for another cause than want of memory and a storage's fault has changed nothing.
+-- A write that fails without a resource error has changed nothing.
 pub unwritten_same : (old new : StorageState) (at : ℕ) (bytes : List ℕ) (fault : Fault) → WriteFailed old new at bytes fault → IsNotResourceError fault → new ≡ old
 unwritten_same old new at bytes RangeOverflow h not_resource_error = h.1
 unwritten_same old new at bytes Memory h not_resource_error = absurd not_resource_error
@@ -99,7 +99,7 @@ ungrown_faultless old new from _ h not_resource_error = absurd h.cause
 pub same_faultless : (old new : StorageState) → new ≡ old → IsFaultless old new
 same_faultless old new same = (ap (λ (s : StorageState). s.faults) same, ap (λ (s : StorageState). s.refusals) same)
 
--- the storage gets no shorter
+-- The storage gets no shorter.
 pub unwritten_long : (old new : StorageState) (at : ℕ) (bytes : List ℕ) (fault : Fault) → WriteFailed old new at bytes fault → length old.bytes ≤ length new.bytes
 unwritten_long old new at bytes RangeOverflow h = rw h.1 (le_refl _)
 unwritten_long old new at bytes _ h = h.no_shorter
@@ -128,7 +128,7 @@ unwritten_step : (old new : StorageState) (at : ℕ) (bytes : List ℕ) (fault :
 unwritten_step old new at bytes RangeOverflow h no_change_refused = subst (λ (s : StorageState). CrashImageIsBytes old → CrashImageIsBytes s) (sym h.1) (λ same. same)
 unwritten_step old new at bytes _ h no_change_refused = ⊎_elim (λ rose. absurd (no_change_refused rose)) (λ on. on) h.crash_image_is_bytes
 
--- A write of a range, whatever it answered.
+-- A write of a range, in every case.
 module _ {T : Type 0} (result : Result T Fault) (old new : StorageState) (at : ℕ) (bytes : List ℕ) (ok : OnOk result (WriteSucceeded old new at bytes)) (err : IfErr result (WriteFailed old new at bytes)) where
   pub written_step : (HasRisen old.refusals new.refusals → ⊥) → CrashImageIsBytes old → CrashImageIsBytes new
   written_step = from result ok err where
@@ -146,7 +146,7 @@ module _ {T : Type 0} (result : Result T Fault) (old new : StorageState) (at : �
         (stops_and (OldOrNewBytes old.bytes at bytes) (λ f. length old.bytes ≤ length f) old new stops long),
   )
 
--- a place lies outside of a range or in it
+-- An offset is inside a range or outside it.
 in_or_out : (at n p : ℕ) → IsOut at n p ⊎ IsIn at n p
 in_or_out at n p = elim (cases_lt p at) [
   | inl lt ↦ inl (inl lt)
@@ -155,7 +155,7 @@ in_or_out at n p = elim (cases_lt p at) [
 
 -- Bytes of a range.
 
--- a byte of a file that is mixed of old bytes and these
+-- A byte of a file that has old or new bytes in the range.
 pub mixed_place : (old : List ℕ) (at : ℕ) (bytes f : List ℕ) → OldOrNewBytes old at bytes f → (p : ℕ) → (slice_index f p ≡ slice_index old p) ⊎ (IsIn at (length bytes) p × (slice_index f p ≡ slice_index bytes (p - at)))
 mixed_place old at bytes f mixed p = elim (cases_lt p at) [
   | inl lt ↦ inl (mixed.before p lt)
@@ -181,14 +181,14 @@ mixed_zeroes old at n f mixed p =
 
 -- Resizes.
 
--- a file with the first bytes of the disk
+-- A file with the first bytes of the disk.
 first_left : (below : List Layer) (old : StorageState) (size from most : ℕ) (w : Bool) (gives : ℕ → Value → Type 0) (f : List ℕ) → size ≤ length old.bytes → HasFirst old.bytes from f
     → ((p : ℕ) → from ≤ p → p < size → p < length f → gives p (byte (slice_index f p))) → Left below (raw_layer old size w) old.bytes (λ kind file. ⊤) from most gives f
 first_left below old size from most w gives f fits first past =
     raw_left below old size w from most gives f fits first.long
     (λ p lt inside. elim (cases_lt p from) [ inl below_it ↦ inl (first.same p below_it) | inr behind ↦ inr (past p behind lt inside) ])
 
--- one that shrinks has no place past its new size
+-- The crash images of a shrink.
 pub shrunk_stops : (below : List Layer) (old new : StorageState) (size to : ℕ) (w : Bool) (gives : ℕ → Value → Type 0) → size ≤ length old.bytes → Resized old new to
     → RawStops below size w to size gives old new
 shrunk_stops below old new size to w gives fits resized no_change_refused = (
@@ -205,7 +205,7 @@ module _ (old new : StorageState) (size : ℕ) (w : Bool) (at n : ℕ) (positive
   whole_inside : HasWholeUnits (discard_unit old) at n → (at ≤ whole_start old at) × (whole_start old at + whole_size old at n ≤ at + n)
   whole_inside has = (le_round_up (discard_unit old) at (omega (arith, positive)), omega (arith, has, round_down-le (discard_unit old) (at + n)))
 
-  -- what lies outside of the range stays
+  -- Bytes outside the range are unchanged.
   given_outside : IsTrue old.shape.keeps → GivenUp old new at n → (p : ℕ) → IsOut at n p → slice_index new.bytes p ≡ slice_index old.bytes p
   given_outside keeps given p out = ⊎_elim
       (λ same. ap (λ (s : StorageState). slice_index s.bytes p) same)

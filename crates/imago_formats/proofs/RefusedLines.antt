@@ -1,4 +1,4 @@
--- Lines that begin with an access and are refused.
+-- Lines that begin with an access keyword and are invalid.
 use Rattle.std.proofs.Common.{◌≡◌, ◌⊎◌, inl, inr, ℕ, ◌+◌, ◌*◌, ◌<◌, ◌^◌, ◌&&◌, Bool, true, false, cond, eqb, ltb, List, [], ◌∷◌, ◌++◌, length, drop, get_or, not, Option, Some, Result, Ok, Err, refl, sym, ap, subst, ◌∙◌, length-append, take-append-drop, codes, arith}
 use Rattle.std.specs.List.{position_or_len, before_first, after_first}
 use Rattle.std.specs.Str.{bytes_eq, is_utf8}
@@ -16,7 +16,7 @@ use Rattle.imago_formats.specs.declared.vmdk.descriptor.Source.{Source}
 use Rattle.imago_formats.specs.declared.vmdk.descriptor.Source.TheVariants.{Flat, Zero}
 use Rattle.imago_formats.specs.declared.vmdk.descriptor.Extent.{Extent}
 
--- what may stand behind a word ends it
+-- `EndsWord` implies the condition that the lemmas on extent lines use.
 ends : (rest : List ℕ) → EndsWord rest → Ends rest
 ends [] is = tt
 ends (b ∷ bs) is = is
@@ -25,7 +25,7 @@ ends_word : (rest : List ℕ) → Ends rest → EndsWord rest
 ends_word [] is = tt
 ends_word (b ∷ bs) is = is
 
--- what a line says that begins with an access, by what follows that
+-- The meaning of a line that begins with an access keyword, by its number of sectors.
 abbrev by_count : Access → List ℕ → Result ℕ Fault → Result (Option (Extent (List ℕ))) Fault
 by_count access rest count = (count >>= λ n. source_of n (past_word rest) >>= λ s. Ok (extent access n s)) >>= λ x. Ok (Some x)
 
@@ -81,7 +81,7 @@ uncarried line o =
 
 -- ---- Damage.
 
--- an answer that is refused for nothing else
+-- The only possible error is `DamagedDescriptor`.
 abbrev OnlyDamage : {A : Type 0} → Result A Fault → Type 0
 OnlyDamage r = (fault : Fault) → r ≡ Err fault → fault ≡ DamagedDescriptor
 
@@ -122,7 +122,7 @@ only_flat sectors text = only_test (begins_with 34 text) (named sectors (drop 1 
 only_zero : (text : List ℕ) → OnlyDamage (zero_of text)
 only_zero text = only_test (is_empty text) (Ok Zero) (only_ok Zero)
 
--- what stands where a type should is refused as damage, or it is another type
+-- An invalid source is damaged, or has another type.
 source_refused : (n : ℕ) (text : List ℕ) (fault : Fault) → source_of n text ≡ Err fault → (fault ≡ DamagedDescriptor) ⊎ IsOtherType (word text)
 source_refused n text fault e = at_flat (bytes_eq (word text) (codes "FLAT")) refl e
   where
@@ -155,7 +155,7 @@ source_refused n text fault e = at_flat (bytes_eq (word text) (codes "FLAT")) re
     at_flat true is told = inl (only_flat n (past_word text) fault told)
     at_flat false is told = at_zero (bytes_eq (word text) (codes "ZERO")) refl is told
 
--- a line that has another type behind its number is one that isn't carried
+-- A line with another type after its number is an unsupported one.
 other_made : (line : List ℕ) (a : IsAccessLine line) (rest : List ℕ) → rest ≡ past_word (access_word a.access ++ a.remainder) → is_decimal (word rest) ≡ true →
     IsOtherType (word (past_word rest)) → IsOtherExtent line
 other_made line a rest is digits kind =

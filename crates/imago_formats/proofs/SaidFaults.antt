@@ -1,4 +1,4 @@
--- By which faults the text of a descriptor is refused.
+-- The faults that the text of a descriptor can have.
 use Rattle.std.proofs.Common.{◌≡◌, ◌∷◌, [], ◌++◌, ◌+◌, ◌*◌, ◌^◌, ℕ, Bool, true, false, List, Option, Some, None, Result, Ok, Err, drop, length, subst}
 use Rattle.std.specs.Prelude.{⊤, ◌&&◌, ◌==◌, nat_lt, if◌then◌else◌, codes, slice_index}
 use Rattle.std.specs.List.{after_first, before_first, position_or_len}
@@ -15,7 +15,7 @@ use Rattle.imago_formats.specs.declared.vmdk.descriptor.Extent.{Extent}
 use Rattle.imago_formats.specs.declared.vmdk.descriptor.Source.{Source}
 use Rattle.imago_formats.specs.declared.vmdk.descriptor.Source.TheVariants.{Flat, Zero}
 
--- it is damaged, or not carried
+-- The text is damaged or unsupported.
 abbrev IsOfText : Fault → Type 0
 IsOfText DamagedDescriptor = ⊤
 IsOfText Unsupported = ⊤
@@ -110,6 +110,6 @@ text_said text =
     only_if {A = List (Extent (List ℕ))} (is_descriptor text) (said >>= sized) (Err DamagedDescriptor)
     (only_then {A = List (Extent (List ℕ))} {B = List (Extent (List ℕ))} said sized (all_said (drop 1 (lines text))) size_said) tt
 
--- no text says that a storage failed
+-- No text has the fault `Storage`.
 pub never_storage : (file : List ℕ) → descriptor_of file ≡ Err Storage → ⊥
 never_storage file said = subst Only said (text_said (text_of file))

@@ -1,4 +1,4 @@
--- What lines say that name no extent.
+-- The meaning of lines that describe no extent.
 use Rattle.std.proofs.Common.{suc, ◌≡◌, ◌⊎◌, inl, inr, ℕ, ◌+◌, ◌<◌, ◌&&◌, ◌||◌, Bool, true, false, not, cond, eqb, ltb, List, [], ◌∷◌, ◌++◌, length, take, drop, Option, Some, None, Result, Ok, Err, refl, sym, ap, subst, ◌∙◌, add-one, append-nil, length-append, codes, arith}
 use Rattle.std.specs.Prelude.{IsTrue}
 use Rattle.std.specs.List.{list_all, position_or_len}
@@ -15,7 +15,7 @@ use Rattle.imago_formats.specs.SettingLines.{HasNoSign, IsCarriedSetting, IsCarr
 use Rattle.imago_formats.specs.declared.vmdk.descriptor.Access.{Access}
 use Rattle.imago_formats.specs.declared.vmdk.descriptor.Extent.{Extent}
 
--- ---- One word, with blanks round it.
+-- ---- Text without blanks, padded by blanks.
 
 not_false : (t : Bool) → t ≡ false → not t ≡ true
 not_false t e = ap not e
@@ -23,7 +23,7 @@ not_false t e = ap not e
 starts_off : (text : List ℕ) → Starts text → past_blanks text ≡ text
 starts_off text starts = blanks_off [] text refl starts
 
--- what a padded word has behind its blanks
+-- A padded text, after the blanks at its start.
 padded_off : (one text : List ℕ) → NoBlanks one → Starts one → 0 < length one → (p : IsPadded one text) → past_blanks text ≡ one ++ p.end
 padded_off [] text none starts some p = absurd (omega (arith, some))
 padded_off (b ∷ bs) text none starts some p = ap past_blanks p.made ∙ blanks_off p.start ((b ∷ bs) ++ p.end) p.start_is starts
@@ -40,7 +40,7 @@ padded_word one text none starts some same p =
     ap (is_word one) (padded_off one text none starts some p)
     ∙ (λ i. bytes_eq (parts.0 i) one && is_empty (parts.1 i)) ∙ ap (λ t. t && is_empty []) same
 
--- a text whose word stands alone behind its blanks
+-- The text has one `word`, and blanks around it.
 padded_by : (text : List ℕ) → is_empty (past_word (past_blanks text)) ≡ true → IsPadded (word (past_blanks text)) text
 padded_by text alone =
     let one = split (past_blanks text) in
@@ -123,7 +123,7 @@ parent_made value e =
 
 -- ---- Settings.
 
--- a key with no blanks before it is one word, or padded by it, alike
+-- For a key without blanks before it, the two ways to compare it agree.
 key_read : (one key : List ℕ) → Starts key → NoBlanks one → Starts one → 0 < length one → bytes_eq one one ≡ true → IsPadded one key → is_word one key ≡ true
 key_read one key starts none one_starts some same p =
     ap (is_word one) (sym (starts_off key starts)) ∙ padded_word one key none one_starts some same p
@@ -152,7 +152,7 @@ carried_made key value starts e = record {
   parent = λ p. at_version (is_word (codes "version") key) refl (key_read (codes "parentCID") key starts refl refl (omega arith) refl p) e;
 }
   where
-    -- one key is no other
+    -- A key can't be both.
     not_both : is_word (codes "version") key ≡ true → is_word (codes "parentCID") key ≡ true → ⊥
     not_both one other =
         let first = same_bytes (word key) (codes "version") (both (bytes_eq (word key) (codes "version")) (is_empty (past_word key)) one).0 in
@@ -167,7 +167,7 @@ carried_made key value starts e = record {
     at_version true is other told = absurd (not_both is other)
     at_version false is other told = parent_made value (sym (ap (λ t. by_keys false t (past_blanks value)) other) ∙ told)
 
--- what a setting says, by the place of its equals sign
+-- The meaning of a setting, by the position of its equals sign.
 abbrev by_sign : List ℕ → ℕ → Result (Option (Extent (List ℕ))) Fault
 by_sign text n = cond (ltb n (length text))
     (cond (is_carried (take n text) (past_blanks (drop (n + 1) text))) (Ok None) (Err Unsupported)) (Err DamagedDescriptor)

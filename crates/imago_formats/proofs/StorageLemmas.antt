@@ -20,7 +20,7 @@ use Rattle.imago_access.specs.Files.{UnchangedButMoreFaults, IsStorageAt, Pairs,
 use Rattle.imago_access.proofs.Units.{alignment_max, overflows_more}
 
 module _ {A : Type 0} (state : A → StorageState) (measure : StorageState → ℕ) where
-  -- the greatest of a measure with one storage more
+  -- The greatest value of a measure, with one more storage.
   greatest_push : (s : StorageState) (xs : List A) (x : A) → greatest measure s (map state (xs ++ x ∷ [])) ≡ max (greatest measure s (map state xs)) (measure (state x))
   greatest_push s [] x = refl
   greatest_push s (y ∷ ys) x = ap (λ n. max (measure s) n) (greatest_push (state y) ys x) ∙ omega arith
@@ -30,7 +30,7 @@ module _ {A : Type 0} (state : A → StorageState) (measure : StorageState → �
   greatest_more s xs i x h is =
       ap (λ ys. greatest measure s (map state ys)) (take_more xs i x h ∙ ap (λ y. take i xs ++ y ∷ []) (sym is)) ∙ greatest_push s (take i xs) x
 
--- one of several storages has changed
+-- One of several storages has changed.
 module _ {A : Type 0} (state : A → StorageState) where
   pub pairs_at : (R : StorageState → StorageState → Type 0) (olds : List StorageState) (xs : List A) (i : ℕ) (d y : A) → i < length xs →
       ((a : StorageState) → R a (state (get_or xs i d)) → R a (state y)) → Pairs R olds (map state xs) → Pairs R olds (map state (set xs i y))
@@ -47,7 +47,7 @@ module _ {A : Type 0} (state : A → StorageState) where
       inl (subst (λ (n : ℕ). HasRisen n (state y).faults) pairs.0.0 rose)
   rose_at (o ∷ os) (z ∷ zs) (suc i) d y h rose pairs = inr (rose_at os zs i d y (omega arith) rose pairs.1)
 
--- a call that was stopped at one of them, before which none had failed
+-- A call failed at one of the storages, and none before it had failed.
 pub stopped_at : {A : Type 0} (state : A → StorageState) (olds : List StorageState) (xs : List A) (i : ℕ) (d y : A) (e : Fault) → i < length xs →
     Cause (state (get_or xs i d)).faults (state y).faults e → Pairs IsFaultless olds (map state xs) → IsStopped olds (map state (set xs i y)) e
 stopped_at state olds xs i d y Memory h cause pairs = tt
@@ -63,13 +63,13 @@ faultless_step x y step a first = faultless_both a x y step first
 pub kept_step : (x y : StorageState) → UnchangedButMoreFaults x y → (a : StorageState) → UnchangedButMoreFaults a x → UnchangedButMoreFaults a y
 kept_step x y step a first = is_kept_both a x y first step
 
--- the first was kept, and the others are as they were
+-- The call was made on the first storage, and the others are unchanged.
 pub kept_first : (x y : StorageState) (xs : List StorageState) → UnchangedButMoreFaults x y → Pairs UnchangedButMoreFaults (x ∷ xs) (y ∷ xs)
 kept_first x y xs kept = (kept, kept_all_same xs)
 
 -- ---- Reads of one of several storages.
 
--- a read that wasn't cut off has met no fault
+-- A read without a resource error has counted no fault.
 pub read_faultless : {T : Type 0} (r : Result T Fault) (a b : StorageState) (place n : ℕ) → UnchangedButFaults a b → OnOk r (b.faults ≡ a.faults) → IfErr r (NotRead a b place n) →
     HadNoResourceError r → IsFaultless a b
 read_faultless (Ok v) a b place n kept same why whole = (same, kept.refusals)
@@ -78,7 +78,7 @@ read_faultless (Err Memory) a b place n kept same why whole = absurd whole
 read_faultless (Err Storage) a b place n kept same why whole = absurd whole
 read_faultless (Err e) a b place n kept same why whole = absurd why
 
--- no storage has a unit above that of all
+-- The unit of a storage is at most that of all storages.
 greatest_first : (measure : StorageState → ℕ) (s : StorageState) (ss : List StorageState) → measure s ≤ greatest measure s ss
 greatest_first measure s [] = le_refl (measure s)
 greatest_first measure s (t ∷ ts) = omega arith
@@ -118,7 +118,7 @@ module _ {A : Type 0} (state : A → StorageState) where
   read_at_cause s xs i d y offset n Storage h kept why = inr (rose_at state (map state xs) xs i d y h why (faultless_all_same (map state xs)))
   read_at_cause s xs i d y offset n e h kept why = absurd why
 
-  -- a range that overflows one of them overflows the greatest of their units
+  -- A range that overflows with the unit of one storage overflows with that of all storages.
   pub overflow_all : ((x : A) → IsAligned (state x).shape) → (s : A) (xs : List A) (k place n : ℕ) →
       OverflowsIn (state s ∷ map state xs) k place n → Overflows (unit_of_all (state s ∷ map state xs)) place n
   overflow_all aligned s xs zero place n over =
@@ -140,7 +140,7 @@ module _ {A : Type 0} (state : A → StorageState) where
   byte_past (y ∷ ys) zero p h = absurd (omega arith)
   byte_past (y ∷ ys) (suc i) p h = byte_past ys i p (omega arith)
 
-  -- a range that passes 64 bits at one of them
+  -- A range that doesn't fit 64 bits at one storage.
   pub overflow_at : (xs : List A) (i : ℕ) (d : A) (place n : ℕ) → i < length xs → OverflowsIn (map state xs) i place n →
       Overflows (unit_of (state (get_or xs i d)).shape) place n
   overflow_at [] i d place n h passes = absurd (omega arith)
@@ -204,7 +204,7 @@ passes_within state s xs (suc k) d place n some h over =
     let same : suc k - 1 ≡ k = omega arith in
     passes_at state xs k d place n (omega (arith, h)) (subst (λ i. Overflows (unit_of (state (get_or xs i d)).shape) place n) same over)
 
--- the storage that is found by its index
+-- The storage with a given index.
 storage_at : {A : Type 0} (state : A → StorageState) (xs : List A) (i : ℕ) (x : A) → i < length xs → x ≡ get_or xs i x → IsStorageAt (map state xs) i (state x)
 storage_at state [] i x h is = absurd (omega (arith, h))
 storage_at state (y ∷ ys) zero x h is = ap state is

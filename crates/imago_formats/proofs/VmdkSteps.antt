@@ -1,4 +1,4 @@
--- What calls do to a VMDK image that only look at its storages.
+-- The effect on a VMDK image of calls that only read its storages.
 use Rattle.std.proofs.Common.{zero, suc, ◌≡◌, ℕ, ◌+◌, ◌-◌, ◌*◌, ◌<◌, ◌≤◌, ◌^◌, min, List, [], ◌∷◌, Result, Ok, Err, refl, sym, ap, subst, ◌∙◌, ◌++◌, take, drop, max, arith}
 use Rattle.std.specs.Prelude.{IsOk, Bool, false, true, None, Some, if◌then◌else◌, length, ltb, ◌&&◌, OnOk, IsTrue, map, slice_index}
 use Rattle.imago_storage.specs.State.{StorageState, Shape}
@@ -54,7 +54,7 @@ bytes_kept (x ∷ xs) [] pairs k p = absurd pairs
 bytes_kept (x ∷ xs) (y ∷ ys) pairs zero p = ap (λ (bytes : List ℕ). slice_index bytes p) pairs.0.0.bytes
 bytes_kept (x ∷ xs) (y ∷ ys) pairs (suc k) p = bytes_kept xs ys pairs.1 k p
 
--- The layer is what it was.
+-- The layer is unchanged.
 pub layer_kept : {N : Type 0} (extents : List (Extent N)) (image image' : StorageState) (files files' : List StorageState) →
     Pairs UnchangedButMoreFaults (image ∷ files) (image' ∷ files') → vmdk_layer extents image' files' ≡ vmdk_layer extents image files
 layer_kept extents image image' files files' kept =
@@ -91,16 +91,16 @@ layer_kept extents image image' files files' kept =
       unspent = None;
     }
 
--- what holds whatever the answer
+-- A fact that always holds also holds on success.
 pub on_ok : {T : Type 0} (r : Result T Fault) (P : Type 0) → P → OnOk r P
 on_ok (Ok v) P holds = holds
 on_ok (Err e) P holds = tt
 
--- the items of a list that is written back whole
+-- A list that is written back completely.
 pub written_back : {A : Type 0} (n : ℕ) (xs ys : List A) → length xs ≡ n → take n (xs ++ drop (length xs) ys) ≡ xs
 written_back n xs ys h = grind (arith, common_steps)
 
--- A VMDK image whose storages are kept: what its layer is, and what reads and changes rest on.
+-- A VMDK image with unchanged storages: its layer, and the conditions of reads and changes.
 pub record IsKeptImage {A : Type 0} (state : A → StorageState) (extents : List (Extent (String Global))) (old new : A × List A) : Type 0 where
   pub layer : vmdk_layer extents (state new.0) (map state new.1) ≡ vmdk_layer extents (state old.0) (map state old.1)
   pub kept : Pairs UnchangedButMoreFaults (state old.0 ∷ map state old.1) (state new.0 ∷ map state new.1)
@@ -120,7 +120,7 @@ module _ {A : Type 0} (state : A → StorageState) (extents : List (Extent (Stri
         said = λ says. ap descriptor_of kept.0.0.bytes ∙ says;
       }
 
-  -- the same of files that a call has written back, as many as there were
+  -- The same for a list of files that a call has written back with the same length.
   pub kept_back : (image image' : A) (files now : List A) (n : ℕ) → length now ≡ n → Pairs UnchangedButMoreFaults (state image ∷ map state files) (state image' ∷ map state now) →
       IsKeptImage state extents (image, files) (image', take n (now ++ drop (length now) files))
   kept_back image image' files now n many kept =
@@ -148,7 +148,7 @@ module _ (extents : List (Extent (String Global))) (image : StorageState) (files
   abbrev within : ℕ
   within = offset - start
 
-  -- what the places show, by what the extent shows
+  -- The values of a run, from those of its extent.
   places : (value : ℕ → Cell) → ((q : ℕ) → q < 512 * sectors → in_extents (byte_in (image ∷ files)) extents 1 (start + q) ≡ value q) →
       EachIs here.cell offset n (λ i. value (offset - start + i))
   places value shows i below =
@@ -156,7 +156,7 @@ module _ (extents : List (Extent (String Global))) (image : StorageState) (files
       let inside : offset - start + i < 512 * sectors = omega arith in
       ap (λ p. in_extents (byte_in (image ∷ files)) extents 1 p) q ∙ shows (offset - start + i) inside
 
-  -- an extent of a file
+  -- An extent with a file.
   in_flat : (sector : ℕ) → round_up (unit_of_layer here) (512 * (sector + sectors)) < 2 ^ 64 →
       ((q : ℕ) → q < 512 * sectors → in_extents (byte_in (image ∷ files)) extents 1 (start + q) ≡ own (byte (byte_in (image ∷ files) k (512 * sector + q)))) →
       Looks here (byte_in (image ∷ files)) offset asked (shallow.Raw k (min (min (512 * sector) (2 ^ 64 - 1) + (offset - start)) (2 ^ 64 - 1)) false) n
@@ -185,7 +185,7 @@ module _ (extents : List (Extent (String Global))) (image : StorageState) (files
       Looks here (byte_in (image ∷ files)) offset asked (shallow.Special offset) n
   in_barred shows = record { names = (λ i below. places (λ q. own barred) shows i below, refl); reach = tt; writable_location = λ free some storage at is. absurd (cc is) }
 
-  -- what a lookup answers
+  -- The result of a lookup.
   looks_in : (a : Access) (s : Source (String Global)) → round_up (unit_of_layer here) (end_in_file a s sectors) < 2 ^ 64 →
       ((q : ℕ) → q < 512 * sectors → in_extents (byte_in (image ∷ files)) extents 1 (start + q) ≡ in_source a s (byte_in (image ∷ files) k) q) →
       Looks here (byte_in (image ∷ files)) offset asked (mapping_of a s k offset (offset - start)) n
@@ -195,7 +195,7 @@ module _ (extents : List (Extent (String Global))) (image : StorageState) (files
   looks_in ReadOnly (Flat name sector) reach shows = in_flat sector reach shows
   looks_in ReadOnly Zero reach shows = in_zero shows
 
--- a lookup names one of so many storages
+-- A lookup returns one of the `count` storages.
 pub names_one : (a : Access) (s : Source (String Global)) (k offset far count : ℕ) → (IsTrue (asks_file a s) → k < count) →
     IsOneOf count (mapping_of a s k offset far)
 names_one NoAccess s k offset far count low = tt
@@ -204,7 +204,7 @@ names_one ReadWrite Zero k offset far count low = tt
 names_one ReadOnly (Flat name sector) k offset far count low = low refl
 names_one ReadOnly Zero k offset far count low = tt
 
--- no file is missing
+-- No file is missing.
 pub all_open : (n asked : ℕ) → (if ltb n asked then Some MissingData else None) ≡ None → asked ≤ n
 all_open n asked runs = by_test (ltb n asked) refl runs
   where
@@ -218,7 +218,7 @@ pub looks_at : (extents : List (Extent (String Global))) (image : StorageState) 
 looks_at extents image files offset asked n x start k at some reach short =
     looks_in extents image files offset asked start k x.sectors n at.low at.high short some x.access x.source (at.reach _ reach) (at.shows (byte_in (image ∷ files)))
 
--- which zeroes of a run the descriptor states
+-- The explicit zeroes of a run.
 module _ (extents : List (Extent (String Global))) (offset start k sectors n : ℕ) (low : start ≤ offset) (high : offset < start + 512 * sectors) (short : n ≤ 512 * sectors - (offset - start)) where
   shown : (a : Access) (s : Source (String Global)) → ((files : ℕ → ℕ → ℕ) (q : ℕ) → q < 512 * sectors → in_extents files extents 1 (start + q) ≡ in_source a s (files k) q) →
       (files : ℕ → ℕ → ℕ) (i : ℕ) → i < n → in_extents files extents 1 (offset + i) ≡ in_source a s (files k) (offset - start + i)

@@ -1,4 +1,4 @@
--- Searches of a text, and the digits of a number.
+-- Searches in a text, and the digits of a number.
 use Rattle.std.proofs.Common.{zero, suc, ◌^◌, lit<, ◌≡◌, ℕ, ◌<◌, ◌≤◌, Bool, true, false, cond, List, [], ◌∷◌, length, Option, Some, None, Result, Ok, Err, refl, ap, ◌∙◌, arith, MatchResult, rules, ◌&&◌}
 use Rattle.std.proofs.lemmas.List.Sums.{prefix_len-le-length}
 use Rattle.std.specs.List.{position_or_len, list_all}
@@ -19,7 +19,7 @@ found_or : (n len : ℕ) (t : Bool) → ltb n len ≡ t → n ≤ len → unwrap
 found_or n len true e h = refl
 found_or n len false e h = let g : len ≤ n = ltb-false n len e in omega arith
 
--- a position that is found, or else the length
+-- The position that was found, or else the length.
 pub first_place : (p : ℕ → Bool) (xs : List ℕ) (r : Option ℕ) →
     r ≡ cond (ltb (position_or_len p xs) (length xs)) (Some (position_or_len p xs)) None → unwrap_or r (length xs) ≡ position_or_len p xs
 first_place p xs r e = ap (λ v. unwrap_or v (length xs)) e ∙ found_or (position_or_len p xs) (length xs) _ refl (prefix_len-le-length _ xs)
@@ -68,7 +68,7 @@ decimal_parsed {E} ds (Err x) e h =
     lacking (list_all is_ascii_digit ds) (ltb 0 (length ds)) (ltb (digits_value 10 ds) (2 ^ 64)) (digits_value 10 ds)
     (λ b c. o (ltb-true _ _ b, ltb-true _ _ c))
 
--- whether bytes are text, by what a test of them said
+-- The result of the UTF-8 test.
 pub not_text : (bs : List ℕ) → ¬ (IsUtf8 bs) → is_utf8 bs ≡ false
 not_text bs n = decided (is_utf8 bs) refl
   where

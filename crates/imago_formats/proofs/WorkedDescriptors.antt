@@ -1,4 +1,4 @@
--- What worked descriptors mean.
+-- The meaning of example descriptors.
 use Rattle.std.proofs.Common.{zero, suc, ◌≡◌, ◌^◌, ◌&&◌, ℕ, Bool, true, ltb, lit<, List, [], ◌∷◌, ◌++◌, length, drop, inr, refl, ap, ◌∙◌, Some, None, Result, Ok, Err, codes, arith}
 use Rattle.std.specs.Prelude.{nat_le, if◌then◌else◌}
 use Rattle.std.specs.List.{list_all}
@@ -18,7 +18,7 @@ use Rattle.imago_formats.proofs.ExtentLines.{made}
 use Rattle.imago_formats.proofs.LineOrder.{all}
 use Rattle.imago_formats.proofs.WordLemmas.{both, is_text}
 
--- bytes of ASCII are text
+-- ASCII bytes are valid UTF-8.
 all_below : (bs : List ℕ) → list_all (λ b. ltb b 128) bs ≡ true → IsAscii bs
 all_below [] low i = lit< tt
 all_below (b ∷ bs) low zero = ltb-true _ _ (both (ltb b 128) (list_all (λ c. ltb c 128) bs) low).0
@@ -27,7 +27,7 @@ all_below (b ∷ bs) low (suc i) = all_below bs (both (ltb b 128) (list_all (λ 
 ascii_text : (bs : List ℕ) → list_all (λ b. ltb b 128) bs ≡ true → is_utf8 bs ≡ true
 ascii_text bs low = is_text bs (IsUtf8-from_ascii bs (all_below bs low))
 
--- what is read of a text, by whether it is text
+-- The meaning of a text, by the result of its UTF-8 test.
 abbrev as_read : Bool → List ℕ → Result (List (Extent (List ℕ))) Fault
 as_read utf8 text = if utf8 && (nat_le (length text) (2 ^ 20) && is_signed text) then (extents_of (drop 1 (lines text)) >>= sized) else Err DamagedDescriptor
 

@@ -1,5 +1,5 @@
--- The lines that name an extent, by what they are made of: words and numbers, with blanks between them and at both ends. Nothing here says
--- how a line is read.
+-- The form of the lines of a VMDK descriptor that describe an extent: keywords and numbers, with blanks between them and at both ends. The
+-- definitions don't depend on how a line is parsed.
 use Rattle.std.specs.Prelude.{◌≡◌, ◌⊎◌, ℕ, ◌+◌, ◌*◌, ◌^◌, ◌<◌, ◌==◌, not, List, ◌∷◌, ◌++◌, length, codes, IsTrue}
 use Rattle.std.specs.List.{list_all}
 use Rattle.std.specs.Str.{is_utf8}
@@ -11,25 +11,25 @@ use Rattle.imago_formats.specs.declared.vmdk.descriptor.Source.{Source}
 use Rattle.imago_formats.specs.declared.vmdk.descriptor.Source.TheVariants.{Flat, Zero}
 use Rattle.imago_formats.specs.declared.vmdk.descriptor.Extent.{Extent}
 
--- spaces and tabs alone, or nothing
+-- The text only has spaces and tabs, or is empty.
 abbrev pub AreBlanks : List ℕ → Type 0
 AreBlanks text = IsTrue (list_all is_blank text)
 
--- at least one of them
+-- The text is at least one blank.
 abbrev pub IsGap : List ℕ → Type 0
 IsGap text = (0 < length text) × AreBlanks text
 
--- the digits of a number below 2^64
+-- The digits of a number below 2^64.
 abbrev pub AreDigitsOf : ℕ → List ℕ → Type 0
 AreDigitsOf n digits = IsTrue (is_decimal digits) × (n ≡ digits_value 10 digits)
 
--- the word that says who may use an extent
+-- The keyword of an access mode.
 abbrev pub access_word : Access → List ℕ
 access_word ReadWrite = codes "RW"
 access_word ReadOnly = codes "RDONLY"
 access_word NoAccess = codes "NOACCESS"
 
--- a sector, with a gap before it and blanks behind it
+-- A sector, after a gap and followed by blanks.
 pub record IsSectorText (sector : ℕ) (text : List ℕ) : Type 0 where
   pub gap : List ℕ
   pub digits : List ℕ
@@ -39,7 +39,7 @@ pub record IsSectorText (sector : ℕ) (text : List ℕ) : Type 0 where
   pub digits_are : AreDigitsOf sector digits
   pub end_is : AreBlanks end
 
--- FLAT, the file's name in double quotes, and the sector with its first byte, which is 0 where there is none
+-- FLAT, the quoted name of the file, and the sector with the first byte. The sector is 0 if it is missing.
 pub record IsFlatText (sectors : ℕ) (name : List ℕ) (sector : ℕ) (text : List ℕ) : Type 0 where
   pub gap : List ℕ
   pub end : List ℕ
@@ -48,21 +48,21 @@ pub record IsFlatText (sectors : ℕ) (name : List ℕ) (sector : ℕ) (text : L
   pub no_quote : IsTrue (list_all (λ b. not (b == 34)) name)
   pub is_text : IsTrue (is_utf8 name)
   pub sector_is : (AreBlanks end × (sector ≡ 0)) ⊎ IsSectorText sector end
-  -- its bytes end below 2^64
+  -- The bytes end below 2^64.
   pub fits : 512 * (sector + sectors) < 2 ^ 64
 
--- ZERO, with blanks behind it
+-- ZERO, followed by blanks.
 pub record IsZeroText (text : List ℕ) : Type 0 where
   pub end : List ℕ
   pub made : text ≡ codes "ZERO" ++ end
   pub end_is : AreBlanks end
 
--- where the bytes of an extent of so many sectors come from
+-- The source of an extent with this number of sectors.
 abbrev pub IsSourceText : ℕ → Source (List ℕ) → List ℕ → Type 0
 IsSourceText sectors (Flat name sector) = IsFlatText sectors name sector
 IsSourceText sectors Zero = IsZeroText
 
--- a line that names an extent: its access, the number of its sectors, and where its bytes come from
+-- A line that describes an extent: its access mode, its number of sectors, and its source.
 pub record IsExtentLine (x : Extent (List ℕ)) (line : List ℕ) : Type 0 where
   pub start : List ℕ
   pub gap : List ℕ

@@ -1,4 +1,4 @@
--- How a storage is made longer for a disk that it is no shorter than.
+-- Specifies how the storage of a raw image grows and is truncated. The storage is at least as long as the disk.
 use Rattle.std.specs.Prelude.{◌≡◌, ◌⊎◌, ◌<◌, ◌≤◌, ℕ, List, length, slice_index, IsTrue}
 use Rattle.imago_storage.specs.State.{StorageState, HasRisen, CrashImageIsBytes}
 use Rattle.imago_storage.specs.Calls.{Cause, NotResized, UnlessUnsupported}
@@ -6,12 +6,12 @@ use Rattle.imago_storage.specs.Through.{EachCrashImage}
 use Rattle.imago_storage.specs.declared.fault.Fault.{Fault}
 use Rattle.imago_storage.specs.declared.fault.Fault.TheVariants.{Unsupported}
 
--- a file with the first n bytes of another
+-- `f` begins with the first `n` bytes of `old`.
 pub record HasFirst (old : List ℕ) (n : ℕ) (f : List ℕ) : Type 0 where
   pub long : n ≤ length f
   pub same : (k : ℕ) → k < n → slice_index f k ≡ slice_index old k
 
--- the first bytes alone are left
+-- The storage is truncated to the first `from` bytes.
 pub record CutTo (old new : StorageState) (from : ℕ) : Type 0 where
   pub shape : new.shape ≡ old.shape
   pub faults : new.faults ≡ old.faults
@@ -21,7 +21,7 @@ pub record CutTo (old new : StorageState) (from : ℕ) : Type 0 where
   pub crash_image_is_bytes : CrashImageIsBytes old → CrashImageIsBytes new
   pub crash_images : EachCrashImage (HasFirst old.bytes from) old new
 
--- the first bytes are left, and those behind them are 0
+-- The first `from` bytes are unchanged, and all bytes after them are 0.
 pub record GrownTo (old new : StorageState) (from to : ℕ) : Type 0 where
   pub faults : new.faults ≡ old.faults
   pub refusals : new.refusals ≡ old.refusals
@@ -31,12 +31,12 @@ pub record GrownTo (old new : StorageState) (from to : ℕ) : Type 0 where
   pub crash_image_is_bytes : CrashImageIsBytes old → CrashImageIsBytes new
   pub crash_images : EachCrashImage (HasFirst old.bytes from) old new
 
--- why a storage isn't resized
+-- The error of a failed resize of a storage.
 abbrev pub StorageResizeCause : StorageState → StorageState → Fault → Type 0
 StorageResizeCause old new Unsupported = (new.faults ≡ old.faults) × (new.refusals ≡ old.refusals)
 StorageResizeCause old new fault = Cause old.faults new.faults fault
 
--- the first bytes are left
+-- A growth failed: the first `from` bytes are unchanged.
 pub record NotLengthened (old new : StorageState) (from : ℕ) (fault : Fault) : Type 0 where
   pub cause : StorageResizeCause old new fault
   pub long : from ≤ length old.bytes → from ≤ length new.bytes
@@ -44,6 +44,6 @@ pub record NotLengthened (old new : StorageState) (from : ℕ) (fault : Fault) :
   pub crash_image_is_bytes : HasRisen old.refusals new.refusals ⊎ (CrashImageIsBytes old → CrashImageIsBytes new)
   pub crash_images : EachCrashImage (HasFirst old.bytes from) old new
 
--- a storage that isn't cut off: all is as it was where it can't be, and else its bytes are
+-- A truncation failed. If it is unsupported nothing has changed, otherwise the bytes are unchanged.
 abbrev pub NotCut : StorageState → StorageState → Fault → Type 0
 NotCut old new = UnlessUnsupported old new (NotResized old new)

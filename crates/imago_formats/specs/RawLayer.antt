@@ -1,4 +1,4 @@
--- A raw image as a layer: each byte of the storage is a place.
+-- A raw image as a layer (one image of a backing chain): each byte of the disk is a byte of the storage.
 use Rattle.std.specs.Prelude.{⊤, ℕ, max, Bool, false, ◌&&◌, Option, Some, None, List, length, slice_index, if◌then◌else◌, ltb, codes, ◌++◌}
 use Rattle.imago_storage.specs.State.{Shape, StorageState, unit_of}
 use Rattle.imago_storage.specs.Disk.{byte}
@@ -8,11 +8,11 @@ use Rattle.imago_storage.specs.declared.fault.Fault.TheVariants.{Unsupported}
 use Rattle.imago_access.specs.Layer.{Layer, Fixed, Meaning, own, loose}
 use Rattle.imago_access.specs.declared.format.Format.TheVariants as format
 
--- what a file means as a raw image: its bytes
+-- The disk that a file means as a raw image: its bytes.
 abbrev pub raw_meaning : List ℕ → Meaning
 raw_meaning f = record { size = length f; cell = λ p. own (byte (slice_index f p)) }
 
--- what never changes of a raw image over a storage of this shape, which was opened for writing or not
+-- The fixed properties of a raw image over a storage.
 abbrev pub raw_fixed : Shape → Bool → Fixed
 raw_fixed shape writable = record {
   format = format.Raw;
@@ -34,7 +34,7 @@ raw_fixed shape writable = record {
   unit = 1;
 }
 
--- a raw image over a storage in this state, with its size in bytes and whether it was opened for writing
+-- A raw image over a storage, with its size in bytes. `writable` is set if it was opened for writing.
 abbrev pub raw_layer : StorageState → ℕ → Bool → Layer
 raw_layer state size writable = record {
   fixed = raw_fixed state.shape writable;
@@ -46,12 +46,12 @@ raw_layer state size writable = record {
   unspent = None;
 }
 
--- the causes of its own to refuse a change: a storage that can't be cut
+-- The driver's own errors for a change: the storage can't be truncated.
 abbrev pub RawCause : Call → Fault → Type 0
 RawCause (shrink size) Unsupported = ⊤
 RawCause call fault = ⊥
 
--- what a raw image is printed as
+-- The text that a raw image is printed as.
 abbrev pub raw_text : Option (List ℕ) → List ℕ
 raw_text None = codes "raw[]"
 raw_text (Some name) = codes "raw[" ++ name ++ codes "]"

@@ -1,17 +1,17 @@
--- The lines that begin with an access, by what they are made of: those of another type than FLAT and ZERO. Nothing here says how a line is
--- read.
+-- The form of the lines of a VMDK descriptor that begin with an access keyword and have a type other than FLAT and ZERO. The definitions
+-- don't depend on how a line is parsed.
 use Rattle.std.specs.Prelude.{◌≡◌, ℕ, ◌<◌, ⊤, not, List, [], ◌∷◌, ◌++◌, length, codes, IsTrue}
 use Rattle.std.specs.List.{list_all}
 use Rattle.imago_formats.specs.DescriptorWords.{is_blank, is_decimal}
 use Rattle.imago_formats.specs.DescriptorLines.{AreBlanks, IsGap, access_word}
 use Rattle.imago_formats.specs.declared.vmdk.descriptor.Access.{Access}
 
--- what may stand behind a word: nothing, or a blank and anything
+-- The text that may follow a `word`: nothing, or a blank and anything.
 abbrev pub EndsWord : List ℕ → Type 0
 EndsWord [] = ⊤
 EndsWord (b ∷ rest) = IsTrue (is_blank b)
 
--- a line whose first word says who may use an extent
+-- A line that begins with an access keyword.
 pub record IsAccessLine (line : List ℕ) : Type 0 where
   pub start : List ℕ
   pub access : Access
@@ -20,14 +20,14 @@ pub record IsAccessLine (line : List ℕ) : Type 0 where
   pub start_is : AreBlanks start
   pub rest_is : EndsWord remainder
 
--- the name of a type that isn't carried: a word that is neither FLAT nor ZERO
+-- The name of an unsupported type: not empty, without blanks, and neither FLAT nor ZERO.
 pub record IsOtherType (kind : List ℕ) : Type 0 where
   pub nonempty : 0 < length kind
   pub one_word : IsTrue (list_all (λ b. not (is_blank b)) kind)
   pub no_flat : kind ≡ codes "FLAT" → ⊥
   pub no_zero : kind ≡ codes "ZERO" → ⊥
 
--- a line of an access, the number of sectors and such a type, and anything behind that
+-- A line with an access keyword, the number of sectors, an unsupported type, and anything after that.
 pub record IsOtherExtent (line : List ℕ) : Type 0 where
   pub start : List ℕ
   pub access : Access

@@ -1,4 +1,4 @@
--- What calls do to the storages of an image.
+-- The effect of calls on the storages of a VMDK image: the descriptor's file, and the files of the extents.
 use Rattle.std.specs.Prelude.{map, ⊤, ◌≡◌, ◌<◌, Some, None, ℕ, max, List, [], ◌∷◌}
 use Rattle.imago_storage.specs.State.{StorageState}
 use Rattle.imago_storage.specs.declared.fault.Fault.{Fault}
@@ -9,28 +9,28 @@ use Rattle.imago_access.specs.Refusals.{unusable_fault}
 use Rattle.imago_access.specs.Files.{UnchangedButMoreFaults, Pairs, SomeRose, files, greatest}
 use Rattle.imago_access.specs.declared.driver_model.DriverModel.{Ghosts}
 
--- the states of an image file and of others
+-- The states of the image file and of the other files.
 abbrev pub states : {A : Type 0} → (A → StorageState) → A → List A → List StorageState
 states state image files = state image ∷ map state files
 
--- why a call stops that goes over storages: want of memory, or one that failed
+-- The error of a call over several storages: memory ran out, or one of them failed.
 abbrev pub IsStopped : List StorageState → List StorageState → Fault → Type 0
 IsStopped olds news Memory = ⊤
 IsStopped olds news Storage = SomeRose olds news
 IsStopped olds news fault = ⊥
 
--- the unit of requests to all of several storages
+-- The unit of requests that fits all of several storages.
 abbrev pub unit_of_all : List StorageState → ℕ
 unit_of_all [] = 0
 unit_of_all (s ∷ ss) = max (greatest (λ t. t.shape.req_align) s ss) (greatest (λ t. t.shape.mem_align) s ss)
 
--- why a change is refused of a layer that is never written: a file is missing, or there is something to change
+-- The error of a change of a layer that is never written: a file is missing, or there is something to change.
 abbrev pub Refuses : Layer → ℕ → Fault → Type 0
 Refuses layer n MissingData = unusable_fault layer ≡ Some MissingData
 Refuses layer n ReadOnly = (unusable_fault layer ≡ None) × (0 < n)
 Refuses layer n fault = ⊥
 
--- what a call keeps of a driver that changes nothing but counts of faults
+-- The properties that a call preserves if it changes only fault counts.
 pub record Keeps {D St : Type 0} (g : Ghosts D St) (old new : D) : Type 0 where
   pub layer : g.layer new ≡ g.layer old
   pub unchanged_but_faults : Pairs UnchangedButMoreFaults (files g old) (files g new)

@@ -1,4 +1,4 @@
--- What holds of every VMDK image.
+-- Laws on every VMDK image.
 use Rattle.std.proofs.Common.{◌-◌, ◌≡◌, ℕ, ◌+◌, ◌*◌, ◌∙◌, refl, sym, ap}
 use Rattle.std.specs.Prelude.{Bool, true, false, cond, ltb, map, Option, Some, None, List, [], ◌∷◌, Ok, ⊤}
 use Rattle.std.proofs.Math.Nat.{le_refl}
@@ -20,7 +20,7 @@ use Rattle.imago_formats.specs.declared.vmdk.descriptor.Extent.{Extent}
 use Rattle.std.specs.List.{sum_by}
 use Rattle.std.proofs.lemmas.List.Sums.{sum_by-cons}
 
--- the size is the same however the files are named
+-- The size doesn't depend on how file names are stored.
 pub size_kept : (xs : List (Extent (String Global))) → size_of (kept_extents xs) ≡ size_of xs
 size_kept xs = ap (λ n. 512 * n) (sectors_kept xs)
   where
@@ -29,7 +29,7 @@ size_kept xs = ap (λ n. 512 * n) (sectors_kept xs)
     sectors_kept (y ∷ ys) = sum_by-cons (λ x. x.sectors) (kept_extent y) (kept_extents ys) ∙ ap (λ n. y.sectors + n) (sectors_kept ys)
         ∙ sym (sum_by-cons (λ x. x.sectors) y ys)
 
--- no place can be written
+-- No byte has a writable location.
 pub no_home : (p q : ℕ) (at : ℕ × ℕ) → ◌≡◌ {A = Option (ℕ × ℕ)} None (Some at) → ◌≡◌ {A = Option (ℕ × ℕ)} None (Some at) → p ≡ q
 no_home p q at first second = absurd (cc first)
 
@@ -39,7 +39,7 @@ aligned_of state measure each s [] = each s
 aligned_of state measure each s (x ∷ xs) =
     alignment_max (measure (state s)) (greatest measure (state x) (map state xs)) (each s) (aligned_of state measure each x xs)
 
--- the greatest alignments are alignments
+-- The greatest alignments are valid alignments.
 pub aligned_files : {A : Type 0} (state : A → StorageState) → ((x : A) → IsAligned (state x).shape) → (s : A) (xs : List A) →
     IsAlignment (greatest (λ t. t.shape.req_align) (state s) (map state xs))
     × IsAlignment (greatest (λ t. t.shape.mem_align) (state s) (map state xs))
@@ -48,12 +48,12 @@ aligned_files state aligned s xs = (
   aligned_of state (λ t. t.shape.mem_align) (λ x. (aligned x).memory) s xs,
 )
 
--- the descriptor states the size of the disk
+-- The descriptor states the size of the disk.
 pub covered : (extents : List (Extent (String Global))) (image : StorageState) (files : List StorageState) →
     descriptor_of image.bytes ≡ Ok (kept_extents extents) → IsCovered (vmdk_layer extents image files) (λ kind f. ⊤) image.bytes
 covered extents image files said = record { is_sound = tt; size = rw said (rw (size_kept extents) (le_refl (size_of extents))) }
 
--- extents with names in memory show the same
+-- The stored extents have the same contents as the parsed ones.
 cells_kept : (files : ℕ → ℕ → ℕ) (xs : List (Extent (String Global))) (k p : ℕ) →
     in_extents files (kept_extents xs) k p ≡ in_extents files xs k p
 cells_kept files [] k p = refl
@@ -76,7 +76,7 @@ cells_kept files (x ∷ xs) k p = by_access x.access x.source (ltb p (512 * x.se
     by_access ReadOnly Zero true later = refl
     by_access ReadOnly Zero false later = later k
 
--- what stands in a file as a descriptor means the disk
+-- The file, as a descriptor, means the disk.
 pub written : (extents : List (Extent (String Global))) (image : StorageState) (files : List StorageState) →
     descriptor_of image.bytes ≡ Ok (kept_extents extents) → IsMeant (vmdk_layer extents image files) image.bytes
 written extents image files said = record {
@@ -85,13 +85,13 @@ written extents image files said = record {
   cell = λ p low. rw said (cells_kept (byte_in (image ∷ files)) extents 1 p);
 }
 
--- it is as long as that
+-- The disk has the size that the descriptor states.
 pub as_stated : (extents : List (Extent (String Global))) (image : StorageState) (files : List StorageState) →
     descriptor_of image.bytes ≡ Ok (kept_extents extents) →
     (vmdk_layer extents image files).size ≡ ((vmdk_layer extents image files).fixed.means image.bytes).size
 as_stated extents image files said = sym ((written extents image files said).exactly refl)
 
--- An image that was just opened is safe where its storages keep what is written.
+-- The descriptor is unchanged by requests that only change fault counts.
 pub said_still : (before image : StorageState) (extents : List (Extent (String Global))) → UnchangedButMoreFaults before image →
     descriptor_of before.bytes ≡ Ok (kept_extents extents) → descriptor_of image.bytes ≡ Ok (kept_extents extents)
 said_still before image extents kept said = ap descriptor_of kept.0.bytes ∙ said

@@ -1,4 +1,4 @@
--- Descriptors, byte for byte, and what they mean.
+-- Examples of descriptors, byte for byte, and their meaning.
 use Rattle.std.specs.Prelude.{ℕ, List, [], ◌∷◌, ◌++◌, codes}
 use Rattle.imago_formats.specs.Descriptor.{signature}
 use Rattle.imago_formats.specs.declared.vmdk.descriptor.Access.{Access}
@@ -7,20 +7,20 @@ use Rattle.imago_formats.specs.declared.vmdk.descriptor.Source.{Source}
 use Rattle.imago_formats.specs.declared.vmdk.descriptor.Source.TheVariants.{Flat, Zero}
 use Rattle.imago_formats.specs.declared.vmdk.descriptor.Extent.{Extent}
 
--- lines, each with a newline behind it
+-- Lines, each followed by a newline.
 abbrev pub text_with : List (List ℕ) → List ℕ
 text_with [] = []
 text_with (line ∷ rest) = line ++ 10 ∷ text_with rest
 
--- a descriptor with these lines behind the first
+-- A descriptor with these lines after the first.
 abbrev pub descriptor_with : List (List ℕ) → List ℕ
 descriptor_with rest = text_with (signature ∷ rest)
 
--- a text in double quotes
+-- A text in double quotes.
 abbrev pub quoted : List ℕ → List ℕ
 quoted text = 34 ∷ text ++ 34 ∷ []
 
--- a descriptor as tools write it, of two sectors: one of the file a, and one of zeroes
+-- A descriptor as tools write it, with two sectors: one of the file a, and one of zeroes.
 abbrev pub two_sectors : List ℕ
 two_sectors = descriptor_with (
     codes "version=1"
@@ -41,8 +41,8 @@ extent access sectors source = record { access = access; sectors = sectors; sour
 abbrev pub two_extents : List (Extent (List ℕ))
 two_extents = extent ReadWrite 1 (Flat (codes "a") 0) ∷ extent ReadWrite 1 Zero ∷ []
 
--- the same with other blanks, other cases, a name with a blank in it, and lines that end as DOS has them; what stands behind a zero byte is
--- no text
+-- A descriptor with other blanks, other cases, a name with a blank in it, and DOS line ends. The bytes after a 0 byte aren't part of the
+-- text.
 abbrev pub other_text : List ℕ
 other_text = signature ++ 13 ∷ 10 ∷ codes " version =  3 " ++ 10 ∷ codes "parentCID=FfFfFfFf" ++ 10
     ∷ 9 ∷ codes "RDONLY" ++ 9 ∷ codes " 2 FLAT  " ++ quoted (codes "a b") ++ codes " 7 " ++ 13 ∷ 10

@@ -1,4 +1,4 @@
-// How raw images are opened and created, and VMDK images opened.
+// Builders that open or create a raw image, and open a VMDK image.
 ghost use Rattle.std.specs.Prelude.{refl, map, ◌≡◌, [], true, false, Ok, Err, None, IsTrue, IfOk, IfErr};
 ghost use Rattle.std.proofs.Common.{sym};
 ghost use Rattle.imago_storage.specs.declared.fault.Fault.TheVariants.{Unsupported};
@@ -25,7 +25,8 @@ use imago_access::{
 use imago_storage::{Fault, Storage, StorageOpenOptions};
 use std::alloc::Global;
 
-/// Opens a raw image: never refused, with no request, and no storage is asked of the gate, as a raw image names none.
+/// A builder that opens a raw image. Opening never fails, and makes no request. The gate (the value that opens files by name) isn't called,
+/// because a raw image references no other file.
 #[derive(Drop)]
 pub struct RawOpenBuilder<S> {
     base: FormatDriverBuilderBase<S>,
@@ -59,7 +60,7 @@ impl<S: Storage> FormatDriverBuilder<S> for RawOpenBuilder<S> {
       size_is = as_long (S.state b.base.image) (S.state d.storage) d.size (ap S.state opens.0) (ap (λ (l : Layer). l.size) opens.1.0);
       meant = record { size = opens.1.1; exactly = never; cell = λ p low. refl };
       counted = λ c. refl;
-      kept = kept_same (S.state b.base.image) (S.state d.storage) (ap S.state opens.0);
+      unchanged_but_faults = kept_same (S.state b.base.image) (S.state d.storage) (ap S.state opens.0);
       free = refl;
       usable = refl;
       coherent = tt;
@@ -87,7 +88,7 @@ impl<S: Storage> FormatDriverBuilder<S> for RawOpenBuilder<S> {
     fn open<G: ImplicitOpenGate<S>>(self, _alloc: Global, gate: &mut G) -> Result<Raw<S>, Fault>
         ensures ok { IfOk result (⟦<RawOpenBuilder<S> as FormatDriverBuilder<S>>⟧.opens self) }
         ensures err { IfErr result (⟦<RawOpenBuilder<S> as FormatDriverBuilder<S>>⟧.refuses self) }
-        // The gate isn't asked.
+        // The gate isn't called.
         ensures gate { gate.new ≡ gate.old }
     {
         let writable = self.base.get_writable();
@@ -104,11 +105,14 @@ impl<S: Storage> FormatDriverBuilder<S> for RawOpenBuilder<S> {
     }
 }
 
-/// Opens a VMDK image for reading: its descriptor, and then the files that the gate opens for the names of its extents.
+/// A builder that opens a VMDK image read-only: its descriptor, and then the files of its extents, which the gate (the value that opens
+/// files by name) opens.
 ///
-/// It refuses with `Fault::Unsupported` where it is to be for writing, before anything is done, and else as `Vmdk::open_image` and
-/// `Vmdk::open_implicit_dependencies_gated` do: where no extent asks for a file, with what the descriptor says, `Fault::Memory` and
-/// `Fault::Storage` alone, the last by a storage that may fail.
+/// # Errors
+///
+/// - `Fault::Unsupported` if the builder asks for a writable image. This is checked first.
+/// - The errors of `Vmdk::open_image` and of `Vmdk::open_implicit_dependencies_gated`. If no extent needs a file, the call only fails with
+///   the descriptor's own error, `Fault::Memory`, or `Fault::Storage` if the storage may fail.
 #[derive(Drop)]
 pub struct VmdkOpenBuilder<S> {
     base: FormatDriverBuilderBase<S>,
@@ -146,7 +150,7 @@ impl<S: Storage> FormatDriverBuilder<S> for VmdkOpenBuilder<S> {
           size_is = as_stated d.disk.extents.items (S.state d.image) (map S.state d.files.items) said;
           meant = written d.disk.extents.items (S.state d.image) (map S.state d.files.items) said;
           counted = λ c. refl;
-          kept = kept;
+          unchanged_but_faults = kept;
           free = refl;
           usable = opens.3;
           coherent = opens.4;
@@ -174,9 +178,9 @@ impl<S: Storage> FormatDriverBuilder<S> for VmdkOpenBuilder<S> {
     fn open<G: ImplicitOpenGate<S>>(self, alloc: Global, gate: &mut G) -> Result<Vmdk<S>, Fault>
         ensures ok { IfOk result (⟦<VmdkOpenBuilder<S> as FormatDriverBuilder<S>>⟧.opens self) }
         ensures err { IfErr result (⟦<VmdkOpenBuilder<S> as FormatDriverBuilder<S>>⟧.refuses self) }
-        // Its files are those that the gate opened for the names of its extents, in order.
+        // The files are those that the gate opened for the names of the extents, in order.
         ensures files { IfOk result (λ d. OpensNext G.answers (kept_names d.disk.extents.items) ([], gate.old) (d.files.items, gate.new)) }
-        // It is refused before the gate is asked, or as the opening of the files is that its extents ask for.
+        // The call fails before the gate is called, or while the files of the extents are opened.
         ensures cause { IfErr result (NotBuilt S.state G.answers self.base.writable (S.state self.base.image) gate.old gate.new) }
     {
         if self.base.get_writable() {
@@ -198,7 +202,7 @@ impl<S: Storage> FormatDriverBuilder<S> for VmdkOpenBuilder<S> {
 }
 
 impl<S: Storage> Vmdk<S> {
-    /// Opens a VMDK image, option by option.
+    /// Returns a builder that opens a VMDK image, option by option.
     pub fn builder(image: S) -> VmdkOpenBuilder<S>
         ensures { result ≡ record { base = record { image = image; writable = false; options = None } } }
     {
@@ -206,10 +210,17 @@ impl<S: Storage> Vmdk<S> {
     }
 }
 
-/// Creates a raw image: the storage is cut to nothing, then made as long as the disk, and flushed.
+/// A builder that creates a raw image: the storage is truncated to 0 bytes, resized to the size of the disk, and flushed.
 ///
-/// It refuses with `Fault::Unsupported` where the storage can't be cut or grown so, with `Fault::Memory` and `Fault::Storage`, and
-/// drops the storage then. `create_open` refuses so, and as the closure does that makes the builder.
+/// # Errors
+///
+/// - `Fault::Unsupported` if the storage doesn't support one of these resizes.
+/// - `Fault::Memory`, `Fault::Storage`.
+/// - `create_open` also returns the error of the closure that makes the builder.
+///
+/// # On error
+///
+/// The storage is dropped.
 #[derive(Drop)]
 pub struct RawCreateBuilder<S> {
     base: FormatCreateBuilderBase<S>,
@@ -283,7 +294,7 @@ impl<S: Storage> FormatCreateBuilder<S> for RawCreateBuilder<S> {
         ensures err { let c = ⟦<RawCreateBuilder<S> as FormatCreateBuilder<S>>⟧ in
             let o = ⟦<RawOpenBuilder<S> as FormatDriverBuilder<S>>⟧ in
             IfErr result (NotOpened (c.refuses self) (c.hands self) (F.makes open_builder) (c.opens_with self) o.refuses) }
-        // The gate isn't asked.
+        // The gate isn't called.
         ensures gate { gate.new ≡ gate.old }
     {
         let image = self.create(alloc)?;
@@ -293,14 +304,14 @@ impl<S: Storage> FormatCreateBuilder<S> for RawCreateBuilder<S> {
 }
 
 impl<S: Storage> Raw<S> {
-    /// Opens a raw image, option by option.
+    /// Returns a builder that opens a raw image, option by option.
     pub fn builder(image: S) -> RawOpenBuilder<S>
         ensures { result ≡ record { base = record { image = image; writable = false; options = None } } }
     {
         RawOpenBuilder::new(image)
     }
 
-    /// Creates a raw image, option by option.
+    /// Returns a builder that creates a raw image, option by option.
     pub fn create_builder(image: S) -> RawCreateBuilder<S>
         ensures { result ≡ record { base = record { image = image; size = 0; preallocate = mode.None } } }
     {

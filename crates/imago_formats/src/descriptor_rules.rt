@@ -1,5 +1,5 @@
-//! What the rules of descriptors say, by worked texts, and of what lines are made that name an extent, or none.
-//! Each function does nothing, and its contract is what was computed or proved of the rules.
+//! Laws on the text of VMDK descriptors: examples, and the form of the lines that describe an extent or a setting. A law is a function
+//! without code whose contract is a theorem.
 
 ghost use Rattle.std.specs.Prelude.{◌≡◌, ◌++◌, ◌∷◌, [], ℕ, List, Option, Some, None, Ok, Err, codes, map};
 ghost use Rattle.std.specs.List.{filter_map};
@@ -14,7 +14,8 @@ ghost use Rattle.imago_formats.specs.declared.vmdk.descriptor.Access.TheVariants
 ghost use Rattle.imago_formats.specs.declared.vmdk.descriptor.Source.TheVariants.{Zero};
 ghost use Rattle.imago_formats.specs.declared.vmdk.descriptor.Extent.{Extent};
 
-/// Descriptors that are read: one of two extents, and one that has all that may stand otherwise.
+/// Law: if a file has one of the example texts, it is a valid descriptor with the stated extents. One text has two extents, one has every
+/// other allowed form, and one has no line after the first.
 pub fn worked_descriptors()
     ensures two { descriptor_of two_sectors ≡ Ok two_extents }
     ensures size { size_of two_extents ≡ 1024 }
@@ -22,7 +23,8 @@ pub fn worked_descriptors()
     ensures none { descriptor_of (descriptor_with []) ≡ Ok [] }
 {}
 
-/// Descriptors that are refused, by their first lines and their settings.
+/// Law: if a file has one of the example texts with a wrong first line, an unsupported setting or an unknown line, it fails with the stated
+/// error.
 pub fn refused_settings()
     ensures first_line { descriptor_of (codes "# Disk DescriptorFile " ++ 10 ∷ []) ≡ Err DamagedDescriptor }
     ensures version { descriptor_of (descriptor_with (codes "version=4" ∷ [])) ≡ Err Unsupported }
@@ -31,8 +33,8 @@ pub fn refused_settings()
     ensures neither { descriptor_of (descriptor_with (codes "what" ∷ [])) ≡ Err DamagedDescriptor }
 {}
 
-/// Descriptors that are refused, by an extent: each line is judged from left to right, the first with a fault decides, and the size of the
-/// disk comes last.
+/// Law: if a file has one of the example texts with an invalid extent, it fails with the stated error. Each line is checked from left to
+/// right, and the first line with a fault decides. The size of the disk is checked last. The example with the largest extent is valid.
 pub fn refused_extents()
     ensures other_type { descriptor_of (descriptor_with (codes "RW 1 SPARSE" ∷ codes "what" ∷ [])) ≡ Err Unsupported }
     ensures count { descriptor_of (descriptor_with (codes "RW x SPARSE" ∷ [])) ≡ Err DamagedDescriptor }
@@ -44,8 +46,8 @@ pub fn refused_extents()
         ≡ Err DamagedDescriptor }
 {}
 
-/// The lines behind the first: where each says something, what names an extent is taken in order, and else the first line that is refused
-/// decides.
+/// Law: if all lines after the first one are valid, the disk has their extents in order. Otherwise the first invalid line decides the
+/// error.
 pub fn lines_in_order()
     ensures all { (found : List (Option (Extent (List ℕ)))) (lines : List (List ℕ)) → map said_by lines ≡ map (λ o. Ok o) found
         → extents_of lines ≡ Ok (filter_map (λ o. o) found) }
@@ -53,8 +55,8 @@ pub fn lines_in_order()
         → map said_by before ≡ map (λ o. Ok o) found → said_by line ≡ Err fault → extents_of (before ++ line ∷ rest) ≡ Err fault }
 {}
 
-/// A line names an extent exactly where it is made as such a line is. Another that begins with an access is refused: as one that isn't
-/// carried where its number of sectors is followed by the name of another type, and else as damage.
+/// Law: a line describes an extent exactly if it has the form of `IsExtentLine`. Any other line that begins with an access keyword is an
+/// error: unsupported if its number of sectors is followed by another extent type, and damaged otherwise.
 pub fn extent_lines()
     ensures read { (x : Extent (List ℕ)) (line : List ℕ) → said_by line ≡ Ok (Some x) → IsExtentLine x line }
     ensures made { (x : Extent (List ℕ)) (line : List ℕ) → IsExtentLine x line → said_by line ≡ Ok (Some x) }
@@ -63,8 +65,8 @@ pub fn extent_lines()
         → said_by line ≡ Err DamagedDescriptor }
 {}
 
-/// A line that names no extent, and isn't refused as one: blanks alone and comments say nothing, a setting is carried or it isn't, by its
-/// key and its value, and what is neither is damage.
+/// Law: if a line is blank or a comment, it is ignored. If it is a setting, its key and value decide if it is supported. If it has no
+/// equals sign and describes no extent, it is damaged.
 pub fn setting_lines()
     ensures silent { (line : List ℕ) → IsSilent line → said_by line ≡ Ok None }
     ensures carried { (key value line : List ℕ) → IsSettingLine key value line → IsCarriedSetting key value → said_by line ≡ Ok None }

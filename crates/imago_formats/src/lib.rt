@@ -1,4 +1,5 @@
-//! Drivers of the simple formats: raw images, and the descriptors of VMDK images. A driver is a `BlockDriver` in qemu.
+//! Drivers of the simple formats. A driver maps the guest offsets of an image to offsets in its files. `Raw` reads and writes a raw image.
+//! `Vmdk` reads a VMDK image: a text descriptor and flat extents. Terms are explained in docs/GLOSSARY.md.
 #![tactic(auto)]
 
 mod builders;

@@ -1,4 +1,4 @@
-// A raw image: the disk is the storage's bytes. The storage is a protocol node in qemu.
+// The driver of raw images: the guest disk is the bytes of the storage. Definitions: specs/RawLayer.antt and specs/Growing.antt.
 ghost use Rattle.std.specs.Prelude.{◌≡◌, min, ◌-◌, ◌+◌, ◌≤◌, ◌<◌, ◌^◌, [], ⊤, refl, length, replicate, ◌⊎◌, OnOk, IfOk, IfErr, IsErr, IsSome, IsTrue, None, Some, true};
 ghost use Rattle.std.proofs.Common.{inr};
 ghost use Rattle.std.proofs.Math.Nat.{le_refl};
@@ -35,18 +35,21 @@ use imago_storage::{
 use std::alloc::Global;
 use std::fmt::{self, Display, Formatter, Write};
 
-/// A raw image prepares nothing that would have to be committed.
+/// The state of a prepared mapping (a run that is written before it is committed). A raw image has nothing to commit, so this type has no
+/// value.
 #[derive(Drop)]
 pub enum NoState {}
 
-/// A raw image: each byte of the disk is the byte of its storage at the same place.
+/// A raw image: each byte of the disk is the byte of the storage at the same offset.
 ///
-/// Its size, in bytes, is that of the storage when it was opened, or of the last resize since. It never passes the storage's length,
-/// which padding of writes may make greater. Its one storage has the number 0. Its lookups never answer an explicit zero.
+/// The size of the image in bytes is that of the storage when it was opened, or that of the last resize. It never exceeds the storage's
+/// length, which padding of writes may increase. The image has one storage, with the number 0. Within the disk a lookup always reports
+/// bytes of the storage, never zeroes.
 ///
-/// As a driver it is never failed, lacks no file and shows no layer below: `discard_to_backing` zeroes. All but a resize is done whole.
-/// `resize_grow` grows the storage in the mode `None`, `Zero`, `Zero`, `Allocate` or `WriteData` for the five modes in their order; both
-/// resizes refuse with `Fault::Unsupported` where the storage does, and a refused one leaves the size, also after a storage's fault.
+/// No error sets the driver to failed, so the image can still be used after an error. It has no other files, and reads from no backing
+/// file: `discard_to_backing` zeroes. Each successful zeroing or discard covers its whole range. For the five preallocation modes in their
+/// order, `resize_grow` grows the storage in the mode `None`, `Zero`, `Zero`, `Allocate` or `WriteData`. Both resizes fail with
+/// `Fault::Unsupported` if the storage doesn't support them. A failed resize doesn't change the size, even after a fault of the storage.
 #[derive(Drop)]
 pub struct Raw<S> {
     storage: S,
@@ -55,7 +58,7 @@ pub struct Raw<S> {
 }
 
 impl<S: Storage> Raw<S> {
-    /// Opens a storage as a raw image, for reading alone or also for writing.
+    /// Opens a storage as a raw image, read-only or for writing.
     pub fn open_image(storage: S, writable: bool) -> Self
         ensures layer { ⟦<Raw<S> as DriverModel>⟧.layer result ≡ raw_layer (S.state storage) (length (S.state storage).bytes) writable }
         ensures well_formed { IsTrue (S.state storage).shape.keeps → ⟦<Raw<S> as DriverModel>⟧.well_formed result }
@@ -72,7 +75,7 @@ impl<S: Storage> Raw<S> {
 }
 
 impl<S> Raw<S> {
-    /// Whether a storage can be opened as a raw image: always.
+    /// Returns true, because any storage can be a raw image.
     pub fn probe(_image: &mut S) -> Result<bool, Fault>
         ensures value { result ≡ Ok true }
         ensures same { _image.new ≡ _image.old }
@@ -80,17 +83,17 @@ impl<S> Raw<S> {
         Ok(true)
     }
 
-    /// The storage.
+    /// Returns the storage.
     pub fn image(&self) -> &S
         ensures { result.now ≡ self.now.storage }
     {
         &self.storage
     }
 
-    /// The storage, to be changed.
+    /// Returns the storage by mutable reference.
     ///
-    /// The image keeps its size, and its disk is then what the storage's bytes are. It has to be left no shorter than the disk: with
-    /// one that is shorter, the image isn't safe.
+    /// The image keeps its size, and its disk then reads as the storage's new bytes. The caller must leave the storage at least as long as
+    /// the disk. Otherwise the driver's invariant is broken.
     pub fn image_mut(&mut self) -> &mut S
         ensures* lends { sem 𝓛 (Lends (the_row S.row) S.row self.entry result (λ w. record self.entry.now { storage = w })) }
         ensures value { result.now ≡ self.old.storage }
@@ -98,21 +101,21 @@ impl<S> Raw<S> {
         &mut self.storage
     }
 
-    /// How many further files it has: none.
+    /// Returns the number of extra files, which is 0.
     pub fn extras(&self) -> usize
         ensures { result ≡ 0 }
     {
         0
     }
 
-    /// The name of one of them: no text, as there is none.
+    /// Returns the name of an extra file. There is no extra file, so the name is empty.
     pub fn extra_name(&self, _i: usize) -> &str
         ensures { result.now ≡ [] }
     {
         ""
     }
 
-    /// The storage again. Nothing waits to be written to it.
+    /// Consumes the image and returns the storage. A raw image has no dirty data in memory.
     pub fn into_image(self) -> S
         ensures { result ≡ self.storage }
     {
@@ -137,7 +140,7 @@ impl<S: Storage> Display for Raw<S> {
 }
 
 impl<S: Storage> Raw<S> {
-    // Why a change of a range that isn't empty is refused before anything is done.
+    // Checks that a change of a nonempty range may begin, and returns the first early error otherwise.
     fn check_change(&self, offset: u64, length: u64) -> Result<(), Fault>
         requires { 0 < length }
         ensures ok { let d = ⟦<Raw<S> as DriverModel>⟧ in OnOk result (own_refusal (d.layer self.now) offset length ≡ None) }
@@ -172,7 +175,7 @@ impl<S: Storage> Raw<S> {
 }
 
 impl<S: Storage> Raw<S> {
-    // The run from an offset on: all of the range that lies in the disk.
+    // Returns the run from `offset` on: the part of the range that is inside the disk.
     fn run_from(&self, offset: u64, max_length: u64) -> (ShallowMapping, u64)
         ensures end { self.now.size ≤ offset → result ≡ (shallow.Eof, 0) }
         ensures run { offset < self.now.size → result ≡ (shallow.Raw 0 offset self.now.writable, min max_length (self.now.size - offset)) }
@@ -188,7 +191,7 @@ impl<S: Storage> Raw<S> {
         (mapping, max_length.min(self.size - offset))
     }
 
-    // Makes the disk longer, and its storage as long. Refused, it leaves the size, and its storage no shorter than the disk.
+    // Makes the disk longer, and its storage as long. On error the size is unchanged, and the storage is at least as long as the disk.
     fn grow_to(&mut self, size: u64, mode: StorageMode) -> Result<(), Fault>
         requires { self.old.size ≤ size }
         ensures ok { OnOk result (GrownTo (S.state self.old.storage) (S.state self.new.storage) self.old.size size) }
@@ -204,7 +207,7 @@ impl<S: Storage> Raw<S> {
         Ok(())
     }
 
-    // Makes the disk shorter, and its storage as short. Refused, it leaves the size and each byte.
+    // Makes the disk shorter, and its storage as short. On error the size and all bytes are unchanged.
     fn shrink_to(&mut self, size: u64) -> Result<(), Fault>
         ensures ok { OnOk result (Resized (S.state self.old.storage) (S.state self.new.storage) size) }
         ensures size { OnOk result (self.new.size ≡ size) }
@@ -220,16 +223,16 @@ impl<S: Storage> Raw<S> {
     }
 }
 
-// What becomes of the room that a zeroed range has.
+// The allocation of a range after it is zeroed.
 #[derive(Clone, Copy, Drop)]
 enum Zeroes {
-    // The storage may give it up.
+    // The storage may deallocate the range.
     GivenUp,
-    // It stays allocated.
+    // The range stays allocated.
     Allocated,
 }
 
-// Zeroes a range of a storage, by writing where the storage has no call for it.
+// Zeroes a range of a storage. If the storage doesn't support zeroing, the zeroes are written.
 fn zero_range<S: Storage>(
     storage: &mut S,
     alloc: Global,
@@ -391,7 +394,7 @@ impl<S: Storage> FormatDriverInstance for Raw<S> {
         ensures failed { let d = ⟦<Raw<S> as DriverModel>⟧ in IfErr result (Fails d self.old self.new) }
         ensures marks_failed { let d = ⟦<Raw<S> as DriverModel>⟧ in IfErr result (MarksFailed d self.old self.new) }
         ensures cause { let d = ⟦<Raw<S> as DriverModel>⟧ in d.coherent self.old → IfErr result (RefusesLookup d offset max_length self.old self.new) }
-        // All of the range that lies in the disk is one run.
+        // The part of the range inside the disk is one run.
         ensures whole { offset < self.old.size → IfOk result (λ r. r.1 ≡ min max_length (self.old.size - offset)) }
     {
         Ok(self.run_from(offset, max_length))
@@ -436,7 +439,7 @@ impl<S: Storage> FormatDriverInstance for Raw<S> {
         ensures early_outcome { RangeEarlyOutcome ⟦<Raw<S> as DriverModel>⟧ offset length result self.old self.new }
         ensures unread { let d = ⟦<Raw<S> as DriverModel>⟧ in
             (length ≡ 0) ⊎ IsSome (own_refusal (d.layer self.old) offset length) → _below.new ≡ _below.old }
-        // All of the range is mapped.
+        // The whole range is mapped.
         ensures whole { IfOk result (λ m. m.length ≡ length) }
     {
         if length == 0 {
@@ -503,7 +506,7 @@ impl<S: Storage> FormatDriverInstance for Raw<S> {
         ensures does { DoesPart ensures_zero ⟦<Raw<S> as DriverModel>⟧ offset length result self.old self.new }
         ensures early_outcome { RangeEarlyOutcome ⟦<Raw<S> as DriverModel>⟧ offset length result self.old self.new }
         ensures refused { PartRefused ensures_zero ⟦<Raw<S> as DriverModel>⟧ offset length result self.old self.new }
-        // All of the range is done.
+        // The whole range is zeroed.
         ensures whole { IfOk result (λ r. r ≡ (offset, length)) }
     {
         self.zero(alloc, Zeroes::Allocated, offset, length)
@@ -519,7 +522,7 @@ impl<S: Storage> FormatDriverInstance for Raw<S> {
         ensures does { DoesPart discards_to_zero ⟦<Raw<S> as DriverModel>⟧ offset length result self.old self.new }
         ensures early_outcome { RangeEarlyOutcome ⟦<Raw<S> as DriverModel>⟧ offset length result self.old self.new }
         ensures refused { PartRefused discards_to_zero ⟦<Raw<S> as DriverModel>⟧ offset length result self.old self.new }
-        // All of the range is done.
+        // The whole range is zeroed.
         ensures whole { IfOk result (λ r. r ≡ (offset, length)) }
     {
         self.zero(alloc, Zeroes::GivenUp, offset, length)
@@ -535,7 +538,7 @@ impl<S: Storage> FormatDriverInstance for Raw<S> {
         ensures does { DoesPart discards_to_any ⟦<Raw<S> as DriverModel>⟧ offset length result self.old self.new }
         ensures early_outcome { RangeEarlyOutcome ⟦<Raw<S> as DriverModel>⟧ offset length result self.old self.new }
         ensures refused { PartRefused discards_to_any ⟦<Raw<S> as DriverModel>⟧ offset length result self.old self.new }
-        // All of the range is done.
+        // The whole range is discarded.
         ensures whole { IfOk result (λ r. r ≡ (offset, length)) }
     {
         if length == 0 {
@@ -544,7 +547,7 @@ impl<S: Storage> FormatDriverInstance for Raw<S> {
         self.check_change(offset, length)?;
         match self.storage.discard(offset, length) {
             Ok(()) => {
-                // What is given up is bytes still.
+                // Discarded data is still a list of bytes, by the contract of `size`.
                 let _bytes = self.storage.size();
                 Ok((offset, length))
             }
@@ -562,7 +565,7 @@ impl<S: Storage> FormatDriverInstance for Raw<S> {
         ensures does { DoesPart discards_to_backing ⟦<Raw<S> as DriverModel>⟧ offset length result self.old self.new }
         ensures early_outcome { RangeEarlyOutcome ⟦<Raw<S> as DriverModel>⟧ offset length result self.old self.new }
         ensures refused { PartRefused discards_to_backing ⟦<Raw<S> as DriverModel>⟧ offset length result self.old self.new }
-        // All of the range is done, and is 0 then.
+        // The whole range is discarded, and then reads as 0.
         ensures whole { IfOk result (λ r. r ≡ (offset, length)) }
         ensures zeroed { let d = ⟦<Raw<S> as DriverModel>⟧ in
             d.well_formed self.old → OnOk result (Rewrites ToZero (d.layer self.old) (d.layer self.new) offset length) }
@@ -594,7 +597,7 @@ impl<S: Storage> FormatDriverInstance for Raw<S> {
         ensures unread { let d = ⟦<Raw<S> as DriverModel>⟧ in IsUngrown (d.layer self.old) size → _below.new ≡ _below.old }
         ensures below { LookupCallBelow B.LayersBelowModel (HadNoResourceError result) _below.old _below.new }
         ensures refused { GrowthRefused ⟦<Raw<S> as DriverModel>⟧ B.LayersBelowModel size mode result (self.old, _below.old) (self.new, _below.new) }
-        // The storage is then as long as the disk; refused, the disk has its size, and its storage is no shorter than it.
+        // On success the storage is as long as the disk. On error the size is unchanged, and the storage is at least as long as the disk.
         ensures exact { self.old.size < size → OnOk result ((length (S.state self.new.storage).bytes ≡ size) × (self.new.size ≡ size)) }
         ensures same_size_on_error { IfErr result (λ e. self.new.size ≡ self.old.size) }
         ensures within { let d = ⟦<Raw<S> as DriverModel>⟧ in d.well_formed self.old → d.well_formed self.new }
@@ -613,7 +616,7 @@ impl<S: Storage> FormatDriverInstance for Raw<S> {
         ensures resizes { let d = ⟦<Raw<S> as DriverModel>⟧ in Resizes d (d.layer self.old).size size result self.old self.new }
         ensures shrinks { Shrinks ⟦<Raw<S> as DriverModel>⟧ size result self.old self.new }
         ensures refused { ShrinkRefused ⟦<Raw<S> as DriverModel>⟧ size result self.old self.new }
-        // The storage is then as long as the disk; refused, the disk has its size, and its storage is no shorter than it.
+        // On success the storage is as long as the disk. On error the size is unchanged, and the storage is at least as long as the disk.
         ensures exact { size < self.old.size → OnOk result ((length (S.state self.new.storage).bytes ≡ size) × (self.new.size ≡ size)) }
         ensures same_size_on_error { IfErr result (λ e. self.new.size ≡ self.old.size) }
         ensures within { let d = ⟦<Raw<S> as DriverModel>⟧ in d.well_formed self.old → d.well_formed self.new }
@@ -645,7 +648,7 @@ impl<S: Storage> ReadFiles for Raw<S> {
     }
 }
 
-// Cuts off what a storage has behind a length.
+// Truncates a storage to `from` bytes.
 fn cut_storage<S: Storage>(storage: &mut S, from: u64) -> Result<(), Fault>
     ensures ok { OnOk result (CutTo (S.state storage.old) (S.state storage.new) from) }
     ensures err { IfErr result (NotLengthened (S.state storage.old) (S.state storage.new) from) }
@@ -658,8 +661,7 @@ fn cut_storage<S: Storage>(storage: &mut S, from: u64) -> Result<(), Fault>
     storage.resize(from, StorageMode::None)
 }
 
-// Makes a storage longer. What it has behind the first length was written as padding: it is cut off before, so that all new bytes
-// are 0.
+// Makes a storage longer. The bytes after `from` were written as padding. They are truncated first, so that all new bytes are 0.
 pub(crate) fn grow_storage<S: Storage>(
     storage: &mut S,
     from: u64,
@@ -676,7 +678,7 @@ pub(crate) fn grow_storage<S: Storage>(
     storage.resize(to, mode)
 }
 
-// How the storage grows for a growth of the image.
+// Returns the mode in which the storage grows, for a mode of the image's growth.
 pub(crate) fn storage_mode(mode: PreallocateMode) -> StorageMode {
     match mode {
         PreallocateMode::None => StorageMode::None,

@@ -1,4 +1,4 @@
-// VMDK images, by their descriptors.
+// The VMDK driver: read-only images that consist of a text descriptor and flat extents.
 mod descriptor;
 mod disk;
 mod driver;

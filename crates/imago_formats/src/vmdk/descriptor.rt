@@ -1,37 +1,37 @@
-// What a descriptor names.
+// The contents of a parsed descriptor.
 
-/// Who may use an extent.
+/// The access mode of an extent.
 #[derive(Clone, Copy)]
 pub(crate) enum Access {
-    /// It is read and written.
+    /// The extent can be read and written.
     ReadWrite,
-    /// It is read.
+    /// The extent can be read.
     ReadOnly,
-    /// It isn't read.
+    /// The extent can't be read.
     NoAccess,
 }
 
-/// Where an extent's bytes come from. `N` is what names a file.
+/// The source of an extent's bytes. `N` is the type of a file name.
 #[derive(Drop)]
 pub(crate) enum Source<N> {
-    /// From a file, from a sector of it on.
+    /// A file, from a sector on.
     Flat {
-        /// The file's name.
+        /// The name of the file.
         name: N,
-        /// The sector with its first byte.
+        /// The sector with the first byte of the extent.
         sector: u64,
     },
-    /// They are all 0.
+    /// All bytes are 0.
     Zero,
 }
 
-/// A part of the disk.
+/// An extent: a consecutive part of the disk.
 #[derive(Drop)]
 pub(crate) struct Extent<N> {
-    /// Who may use it.
+    /// The access mode.
     pub(crate) access: Access,
-    /// Its size in sectors of 512 bytes.
+    /// The size in sectors of 512 bytes.
     pub(crate) sectors: u64,
-    /// Where its bytes come from.
+    /// The source of the bytes.
     pub(crate) source: Source<N>,
 }

@@ -1,4 +1,4 @@
-// The disk of a descriptor: its extents, one behind the other.
+// The disk of a descriptor: its extents, one after another.
 ghost use Rattle.std.specs.Prelude.{◌≡◌, ◌+◌, if◌then◌else◌, ◌<◌, ◌≤◌, ◌^◌, IfOk, IfErr, IfSome, IfNone};
 ghost use Rattle.imago_storage.specs.declared.fault.Fault.TheVariants.{DamagedDescriptor};
 ghost use Rattle.imago_formats.specs.Descriptor.{size_of};
@@ -7,31 +7,31 @@ ghost use Rattle.imago_formats.specs.VmdkLayer.{IsExtentAt, files_asked, has_fil
 use crate::vmdk::descriptor::{Access, Extent, Source};
 use imago_storage::Fault;
 
-/// The extents of a disk of less than 2^63 bytes.
+/// The extents of a disk with less than 2^63 bytes.
 #[derive(Drop)]
 pub(crate) struct Disk {
     extents: Vec<Extent<String>>,
     size: u64,
-    // How many files they ask for, as each call of the image compares it.
+    // The number of files that the extents need. Each call of the image checks it.
     asked: usize,
     ghost exact: { size ≡ size_of extents.items },
     ghost small: { size < 2 ^ 63 },
     ghost counted: { asked ≡ files_asked extents.items },
 }
 
-/// Where an extent stands.
+/// An extent with its position on the disk.
 #[derive(Drop)]
 pub(crate) struct Found<'a> {
     /// The extent.
     pub(crate) extent: &'a Extent<String>,
-    /// Where it begins on the disk.
+    /// The offset on the disk at which the extent starts.
     pub(crate) start: u64,
-    /// Which of the files it has, counted from 1, if it has one.
+    /// The number of the extent's file, counted from 1, if the extent has a file.
     pub(crate) number: usize,
 }
 
 impl Disk {
-    /// The disk of these extents, unless it has too many bytes.
+    /// Creates the disk of these extents. Fails with `Fault::DamagedDescriptor` if it has 2^63 bytes or more.
     pub(crate) fn new(extents: Vec<Extent<String>>) -> Result<Self, Fault>
         ensures ok { IfOk result (λ d. (d.extents ≡ extents) × (size_of extents.items < 2 ^ 63)) }
         ensures err { IfErr result (λ e. (e ≡ DamagedDescriptor) × (2 ^ 63 ≤ size_of extents.items)) }
@@ -45,28 +45,28 @@ impl Disk {
         })
     }
 
-    /// Its size in bytes.
+    /// Returns the size in bytes.
     pub(crate) fn size(&self) -> u64
         ensures { result ≡ size_of self.now.extents.items }
     {
         self.size
     }
 
-    /// Its extents.
+    /// Returns the extents.
     pub(crate) fn extents(&self) -> &[Extent<String>]
         ensures { result.now ≡ self.now.extents.items }
     {
         &self.extents
     }
 
-    /// How many files they ask for.
+    /// Returns the number of files that the extents need.
     pub(crate) fn asked(&self) -> usize
         ensures { result ≡ files_asked self.now.extents.items }
     {
         self.asked
     }
 
-    /// The extent at a place.
+    /// Finds the extent that contains an offset.
     pub(crate) fn find(&self, offset: u64) -> Option<Found<'_>>
         ensures found { IfSome result (λ f. IsExtentAt self.now.extents.items offset f.extent.now f.start f.number) }
         ensures none { IfNone result (size_of self.now.extents.items ≤ offset) }
@@ -89,7 +89,7 @@ impl Disk {
     }
 }
 
-/// Whether an extent asks for a file.
+/// Returns true if the extent needs a file.
 pub(crate) fn has_file(extent: &Extent<String>) -> bool
     ensures { result ≡ has_file extent.now }
 {
@@ -102,7 +102,7 @@ pub(crate) fn has_file(extent: &Extent<String>) -> bool
     }
 }
 
-// The number of the file that comes next behind an extent.
+// Returns the number of the next file after an extent.
 fn number_after(number: usize, extent: &Extent<String>) -> usize
     requires { number < 2 ^ 63 }
     ensures { result ≡ (if has_file extent.now then number + 1 else number) }
@@ -110,7 +110,7 @@ fn number_after(number: usize, extent: &Extent<String>) -> usize
     if has_file(extent) { number + 1 } else { number }
 }
 
-// How many files extents ask for.
+// Counts the files that the extents need.
 fn files_asked(extents: &[Extent<String>]) -> usize
     ensures { result ≡ files_asked extents.now }
 {
@@ -123,7 +123,7 @@ fn files_asked(extents: &[Extent<String>]) -> usize
     count
 }
 
-// The size of the disk of these extents, if it has less than 2^63 bytes.
+// Returns the size of the disk in bytes, if it is less than 2^63.
 fn total_size(extents: &[Extent<String>]) -> Result<u64, Fault>
     ensures ok { IfOk result (λ n. (n ≡ size_of extents.now) × (n < 2 ^ 63)) }
     ensures err { IfErr result (λ e. (e ≡ DamagedDescriptor) × (2 ^ 63 ≤ size_of extents.now)) }

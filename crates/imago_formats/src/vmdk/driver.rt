@@ -1,4 +1,4 @@
-// A VMDK image as a driver, which is a `BlockDriver` in qemu.
+// The driver of VMDK images: maps guest offsets to the files of the extents. Definitions: specs/VmdkLayer.antt and specs/VmdkOpening.antt.
 ghost use Rattle.std.specs.Prelude.{IsErrOf, slice_index_or, ◌<◌, ◌≤◌, ℕ, ◌≡◌, ◌⊎◌, ◌∷◌, ◌-◌, ◌+◌, ◌*◌, ◌<◌, [], ⊤, min, map, refl, length, OnOk, IfOk, IfErr, IsOk, IsTrue, Ok, Err, Some, None};
 ghost use Rattle.std.proofs.Common.{inr};
 ghost use Rattle.std.proofs.Math.Nat.{le_refl};
@@ -38,9 +38,9 @@ use imago_storage::{Fault, Storage, larger_alignment};
 use std::alloc::Global;
 use std::fmt::{self, Display, Formatter, Write};
 
-/// A VMDK image: a text descriptor, which names the extents of the disk, and the files of those that have one.
+/// A VMDK image: a text descriptor with the extents of the disk, and the files of these extents.
 ///
-/// It is read, and never written. Its descriptor's file has the number 0, and the files of its extents follow, in order.
+/// The image is read, and never written. The descriptor's file has the number 0. The files of the extents follow, in order.
 #[derive(Drop)]
 pub struct Vmdk<S> {
     image: S,
@@ -49,10 +49,15 @@ pub struct Vmdk<S> {
 }
 
 impl<S: Storage> Vmdk<S> {
-    /// Opens a descriptor, without the files that it names: while one is missing, each call of the driver is refused with
-    /// `Fault::MissingData`, but for its getters, a cancel, and reads of the files as they stand.
+    /// Opens a descriptor, without the files of its extents.
     ///
-    /// It refuses with `Fault::DamagedDescriptor`, `Fault::Unsupported`, `Fault::Memory`, and `Fault::Storage` where the storage may fail.
+    /// While a file is missing, each call of the driver fails with `Fault::MissingData`. Getters, a cancel, and reads of a file
+    /// (`ReadFiles`) still work.
+    ///
+    /// # Errors
+    ///
+    /// - `Fault::DamagedDescriptor`, `Fault::Unsupported`, if the descriptor violates the format, or has something that isn't supported.
+    /// - `Fault::Memory`, and `Fault::Storage` if the storage may fail.
     pub fn open_image(alloc: Global, image: S) -> Result<Self, Fault>
         ensures said { IfOk result (λ d. descriptor_of (S.state image).bytes ≡ Ok (kept_extents d.disk.extents.items)) }
         ensures image { IfOk result (λ d. S.state d.image ≡ S.state image) }
@@ -68,9 +73,11 @@ impl<S: Storage> Vmdk<S> {
         })
     }
 
-    /// Whether a storage is a VMDK descriptor, by its first line. Its bytes stay.
+    /// Returns true if the first line of a storage is that of a VMDK descriptor. No byte changes.
     ///
-    /// It refuses with `Fault::Memory` and `Fault::Storage`.
+    /// # Errors
+    ///
+    /// - `Fault::Memory`, `Fault::Storage`.
     pub fn probe(alloc: Global, image: &mut S) -> Result<bool, Fault>
         ensures ok { IfOk result (λ yes. yes ≡ is_signed (text_of (S.state image.old).bytes)) }
         ensures unchanged_but_faults { UnchangedButFaults (S.state image.old) (S.state image.new) }
@@ -79,14 +86,19 @@ impl<S: Storage> Vmdk<S> {
         is_descriptor(alloc, image)
     }
 
-    /// Opens the files that the extents ask for, in order, as the gate allows, but for those that are open.
+    /// Opens the missing files of the extents in order, each by a call of the gate (the value that opens files by name).
     ///
-    /// It refuses as the gate does, and with `Fault::Memory` before it asks the gate for a file that it has no room for. What it has
-    /// opened stays then, and a later call goes on behind it.
+    /// # Errors
     ///
-    /// It refuses with `Fault::DamagedDescriptor` where all files are open and an extent ends in its file so near the end of 64 bits that
-    /// reads, padded to whole units, don't reach it. They stay open then too, so that calls of the image aren't refused for a missing file
-    /// any more, but a lookup may name a place that can't be read.
+    /// - An error of the gate.
+    /// - `Fault::Memory` if memory for a file's entry runs out. The gate isn't called for that file.
+    /// - `Fault::DamagedDescriptor` if all files were opened, but a read padded to whole units can't reach the end of an extent in its
+    ///   file. This happens if the extent ends close to 2^64 bytes.
+    ///
+    /// # On error
+    ///
+    /// Files that were opened remain open, and a later call continues with the next one. After `Fault::DamagedDescriptor` all files have
+    /// been opened, so calls don't fail for a missing file any more. A lookup may then return a location that can't be read.
     pub fn open_implicit_dependencies_gated<G: ImplicitOpenGate<S>>(
         &mut self,
         alloc: Global,
@@ -96,7 +108,7 @@ impl<S: Storage> Vmdk<S> {
         ensures image { self.new.image ≡ self.old.image }
         ensures ready { OnOk result (unusable_fault (⟦<Vmdk<S> as DriverModel>⟧.layer self.new) ≡ None) }
         ensures coherent { OnOk result (⟦<Vmdk<S> as DriverModel>⟧.coherent self.new) }
-        // Behind the files that were open stand those that the gate opened for the names that come next, in order.
+        // The new files are those that the gate opened for the next names, in order.
         ensures opens { let names = kept_names self.old.disk.extents.items in
             OnOk result (OpensNext G.answers names (self.old.files.items, gate.old) (self.new.files.items, gate.new)) }
         ensures err { let names = kept_names self.old.disk.extents.items in let Reach = ⟦<Vmdk<S> as DriverModel>⟧.coherent self.new in
@@ -107,7 +119,7 @@ impl<S: Storage> Vmdk<S> {
         check_reach(self.disk.extents(), unit as u64)
     }
 
-    // The run from an offset on: all of the range that lies in its extent.
+    // Returns the run from `offset` on: the part of the range that is inside one extent.
     fn run_from(&self, offset: u64, max_length: u64) -> (ShallowMapping, u64)
         ensures run { IsRun (⟦<Vmdk<S> as DriverModel>⟧.layer self.now) offset max_length result.0 result.1 }
         ensures looks { let d = ⟦<Vmdk<S> as DriverModel>⟧ in d.coherent self.now → LooksIn d offset max_length self.now self.now result }
@@ -128,7 +140,7 @@ impl<S: Storage> Vmdk<S> {
         }
     }
 
-    // Why a change of so many bytes is refused before anything is done.
+    // Checks that a change of `length` bytes may begin, and returns the first early error otherwise.
     fn check_change(&self, length: u64) -> Result<(), Fault>
         ensures ok { OnOk result ((unusable_fault (⟦<Vmdk<S> as DriverModel>⟧.layer self.now) ≡ None) × (length ≡ 0)) }
         ensures err { IfErr result (Refuses (⟦<Vmdk<S> as DriverModel>⟧.layer self.now) length) }
@@ -143,7 +155,7 @@ impl<S: Storage> Vmdk<S> {
         Ok(())
     }
 
-    // Asks each storage, in order, up to the first that refuses, if no file is missing.
+    // Calls each storage in order, up to the first that fails, if no file is missing.
     fn keep(&mut self, upkeep: Upkeep) -> Result<(), Fault>
         ensures keeps { Keeps ⟦<Vmdk<S> as DriverModel>⟧ self.old self.new }
         ensures early_outcome { let d = ⟦<Vmdk<S> as DriverModel>⟧ in EarlyOutcome d (unusable_fault (d.layer self.old)) ⊥ result self.old self.new }
@@ -154,7 +166,7 @@ impl<S: Storage> Vmdk<S> {
         keep_up(&mut self.image, &mut self.files, upkeep)
     }
 
-    // Reads a storage from a place on.
+    // Reads a storage from `place` on.
     fn read(
         &mut self,
         alloc: Global,
@@ -175,7 +187,7 @@ impl<S: Storage> Vmdk<S> {
         read_storage(alloc, &mut self.image, &mut self.files, storage, place, buf)
     }
 
-    // A call that would zero or discard a part of a range.
+    // Makes a call that would zero or discard a part of a range. Only an empty range succeeds.
     fn no_part(&mut self, offset: u64, length: u64) -> Result<(u64, u64), Fault>
         ensures part { IfOk result (IsPart offset length) }
         ensures does { (call : PartCall) → DoesPart call ⟦<Vmdk<S> as DriverModel>⟧ offset length result self.old self.new }
@@ -188,14 +200,14 @@ impl<S: Storage> Vmdk<S> {
 }
 
 impl<S: Storage> Vmdk<S> {
-    /// The descriptor's file.
+    /// Returns the descriptor's file.
     pub fn image(&self) -> &S
         ensures { result.now ≡ self.now.image }
     {
         &self.image
     }
 
-    /// The descriptor's file, to be changed. The disk stays what was read of it.
+    /// Returns the descriptor's file by mutable reference. The extents stay those that were parsed at opening.
     pub fn image_mut(&mut self) -> &mut S
         ensures* lends { sem 𝓛 (Lends (the_row S.row) S.row self.entry result (λ w. record self.entry.now { image = w })) }
         ensures value { result.now ≡ self.old.image }
@@ -203,14 +215,14 @@ impl<S: Storage> Vmdk<S> {
         &mut self.image
     }
 
-    /// How many files of extents are open.
+    /// Returns the number of open extent files.
     pub fn extras(&self) -> usize
         ensures { result ≡ length self.now.files.items }
     {
         self.files.len()
     }
 
-    /// The name of one of them, as the descriptor gives it.
+    /// Returns the name of the `i`th extent file, as the descriptor states it.
     pub fn extra_name(&self, i: usize) -> &str
         requires { i < length self.now.files.items }
         ensures { result.now ≡ slice_index_or (kept_names self.now.disk.extents.items) i [] }
@@ -218,7 +230,7 @@ impl<S: Storage> Vmdk<S> {
         name_of(self.disk.extents(), i)
     }
 
-    /// One of them, to be changed. The disk then shows what its bytes are.
+    /// Returns the `i`th extent file by mutable reference. The disk then reads as the file's new bytes.
     pub fn extra_mut(&mut self, i: usize) -> &mut S
         requires { i < length self.old.files.items }
         ensures* lends { sem 𝓛 (Lends (the_row S.row) S.row self.entry result
@@ -228,7 +240,7 @@ impl<S: Storage> Vmdk<S> {
         &mut self.files[i]
     }
 
-    /// The descriptor's file again. The files of extents are dropped.
+    /// Returns the descriptor's file. The files of the extents are dropped.
     pub fn into_image(self) -> S
         ensures { result ≡ self.image }
     {
@@ -389,7 +401,7 @@ impl<S: Storage> FormatDriverInstance for Vmdk<S> {
         ensures marks_failed { IfErr result (MarksFailed ⟦<Vmdk<S> as DriverModel>⟧ self.old self.new) }
         ensures cause { let d = ⟦<Vmdk<S> as DriverModel>⟧ in
             d.coherent self.old → IfErr result (RefusesLookup d offset max_length self.old self.new) }
-        // A run ends with the range or the disk, or with its extent.
+        // A run ends with the range, the disk or its extent.
         ensures whole { IfOk result (λ r. IsWholeRun self.old.disk.extents.items offset max_length r.1) }
     {
         self.ready()?;

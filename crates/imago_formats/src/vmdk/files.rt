@@ -1,4 +1,4 @@
-// The descriptor of a file.
+// Reads the descriptor from a file.
 ghost use Rattle.std.specs.Prelude.{◌≡◌, ◌≤◌, ◌^◌, length, IfOk, IfErr, OnOk, Ok};
 ghost use Rattle.imago_storage.specs.Calls.{CountsFaults, UnchangedButFaults, Reads};
 ghost use Rattle.imago_formats.specs.Descriptor.{descriptor_of, is_signed, text_of};
@@ -10,33 +10,33 @@ use crate::vmdk::words::before_zero;
 use imago_storage::{Fault, Storage, StorageExt};
 use std::alloc::Global;
 
-/// The disk of the extents that the descriptor of a file names. Nothing is written.
+/// Reads a descriptor, and returns the disk of its extents. Nothing is written.
 pub(crate) fn read_descriptor<S: Storage>(alloc: Global, image: &mut S) -> Result<Disk, Fault>
     ensures ok { IfOk result (λ d. descriptor_of (S.state image.old).bytes ≡ Ok (kept_extents d.extents.items)) }
     ensures err { IfErr result (NotRead (descriptor_of (S.state image.old).bytes) (S.state image.old) (S.state image.new)) }
     ensures faults { OnOk result ((S.state image.new).faults ≡ (S.state image.old).faults) }
     ensures unchanged_but_faults { UnchangedButFaults (S.state image.old) (S.state image.new) }
 {
-    // One byte more than a descriptor may have, so that a longer one shows.
+    // This is one byte more than the limit, to detect a descriptor that is too long.
     let count = image.size().min(MOST_BYTES as u64 + 1);
     let bytes = read_front(alloc, image, count as usize)?;
     read_text(alloc, before_zero(&bytes))
 }
 
-/// Whether the first line of a file is that of a descriptor. Nothing is written.
+/// Returns true if the first line of the file is that of a descriptor. Nothing is written.
 pub(crate) fn is_descriptor<S: Storage>(alloc: Global, image: &mut S) -> Result<bool, Fault>
     ensures ok { IfOk result (λ yes. yes ≡ is_signed (text_of (S.state image.old).bytes)) }
     ensures unchanged_but_faults { UnchangedButFaults (S.state image.old) (S.state image.new) }
     ensures faults { CountsFaults (S.state image.old).faults (S.state image.new).faults result }
 {
-    // The line takes 21 bytes, and its end two at most.
+    // The line has 21 bytes, and its end at most 2.
     let mut start = [0u8; 23];
     read_start(alloc, image, &mut start)?;
     let (first, _) = split_line(before_zero(&start));
     Ok(is_signature(first))
 }
 
-// As many bytes from a file's start. Past the file's end it reads zeroes.
+// Reads the first `count` bytes of a file. Bytes past its end read as 0.
 fn read_front<S: Storage>(alloc: Global, image: &mut S, count: usize) -> Result<Vec<u8>, Fault>
     requires { count ≤ 2 ^ 63 }
     ensures read { IfOk result (λ bytes. Reads (S.state image.old).bytes 0 bytes.items) }
@@ -49,7 +49,7 @@ fn read_front<S: Storage>(alloc: Global, image: &mut S, count: usize) -> Result<
     Ok(bytes)
 }
 
-// Fills the buffer with the bytes at a file's start. Past the file's end it reads zeroes.
+// Fills the buffer with the first bytes of a file. Bytes past its end read as 0.
 fn read_start<S: Storage>(alloc: Global, image: &mut S, buf: &mut [u8]) -> Result<(), Fault>
     requires { length buf.old ≤ 2 ^ 63 }
     ensures read { OnOk result (Reads (S.state image.old).bytes 0 buf.new) }

@@ -1,4 +1,4 @@
-// What one line of a descriptor says.
+// Parses one line of a descriptor.
 ghost use Rattle.std.specs.Prelude.{◌≡◌, IfOk, IfErr, Ok, Err, option_map};
 ghost use Rattle.imago_formats.specs.Descriptor.{access_of, extent_of, flat_of, in_file, is_carried, is_skipped, named, said_by, sector_of, setting_of, source_of};
 ghost use Rattle.imago_formats.specs.DescriptorView.{seen_extent, seen_source};
@@ -9,7 +9,7 @@ use crate::vmdk::words::{
 };
 use imago_storage::Fault;
 
-/// The extent that a line names, if it names one.
+/// Parses a line. Returns its extent, if it describes one.
 pub(crate) fn read_line(line: &[u8]) -> Result<Option<Extent<&str>>, Fault>
     ensures ok { IfOk result (λ found. said_by line.now ≡ Ok (option_map seen_extent found)) }
     ensures err { IfErr result (λ e. said_by line.now ≡ Err e) }
@@ -28,14 +28,14 @@ pub(crate) fn read_line(line: &[u8]) -> Result<Option<Extent<&str>>, Fault>
     }
 }
 
-// Whether a text is empty or a comment.
+// Returns true if the text is empty or a comment.
 fn is_skipped(text: &[u8]) -> bool
     ensures { result ≡ is_skipped text.now }
 {
     text.is_empty() || begins_with(b'#', text)
 }
 
-// The access that a word stands for.
+// Parses an access keyword.
 fn access_of(word: &[u8]) -> Option<Access>
     ensures { result ≡ access_of word.now }
 {
@@ -51,7 +51,7 @@ fn access_of(word: &[u8]) -> Option<Access>
     None
 }
 
-// The extent, by what follows its access.
+// Parses an extent, from the text after its access keyword.
 fn read_extent(access: Access, text: &[u8]) -> Result<Extent<&str>, Fault>
     ensures ok { IfOk result (λ x. extent_of access text.now ≡ Ok (seen_extent x)) }
     ensures err { IfErr result (λ e. extent_of access text.now ≡ Err e) }
@@ -66,7 +66,7 @@ fn read_extent(access: Access, text: &[u8]) -> Result<Extent<&str>, Fault>
     })
 }
 
-// Where its bytes come from, by what follows the number of its sectors.
+// Parses the source of an extent, from the text after its number of sectors.
 fn read_source(sectors: u64, text: &[u8]) -> Result<Source<&str>, Fault>
     ensures ok { IfOk result (λ x. source_of sectors text.now ≡ Ok (seen_source x)) }
     ensures err { IfErr result (λ e. source_of sectors text.now ≡ Err e) }
@@ -87,7 +87,7 @@ fn read_source(sectors: u64, text: &[u8]) -> Result<Source<&str>, Fault>
     Err(Fault::Unsupported)
 }
 
-// The file and the sector in it, by what follows the type.
+// Parses the file name and the sector, from the text after the type.
 fn read_file(sectors: u64, text: &[u8]) -> Result<Source<&str>, Fault>
     ensures ok { IfOk result (λ x. flat_of sectors text.now ≡ Ok (seen_source x)) }
     ensures err { IfErr result (λ e. flat_of sectors text.now ≡ Err e) }
@@ -98,7 +98,7 @@ fn read_file(sectors: u64, text: &[u8]) -> Result<Source<&str>, Fault>
     read_quoted(sectors, &text[1..])
 }
 
-// The same, by what follows the opening quote.
+// Parses the file name and the sector, from the text after the opening quote.
 fn read_quoted(sectors: u64, text: &[u8]) -> Result<Source<&str>, Fault>
     ensures ok { IfOk result (λ x. named sectors text.now ≡ Ok (seen_source x)) }
     ensures err { IfErr result (λ e. named sectors text.now ≡ Err e) }
@@ -112,7 +112,7 @@ fn read_quoted(sectors: u64, text: &[u8]) -> Result<Source<&str>, Fault>
     in_file(name, sectors, sector)
 }
 
-// The sector with an extent's first byte, by what follows the closing quote.
+// Parses the sector with the first byte of the extent, from the text after the closing quote.
 fn read_sector(text: &[u8]) -> Result<u64, Fault>
     ensures { result ≡ sector_of text.now }
 {
@@ -127,7 +127,7 @@ fn read_sector(text: &[u8]) -> Result<u64, Fault>
     Err(Fault::DamagedDescriptor)
 }
 
-// These sectors of a file, if their bytes end below 2^64.
+// Returns these sectors of a file, if their bytes end below 2^64.
 fn in_file(name: &str, sectors: u64, sector: u64) -> Result<Source<&str>, Fault>
     ensures ok { IfOk result (λ x. in_file name.now sectors sector ≡ Ok (seen_source x)) }
     ensures err { IfErr result (λ e. in_file name.now sectors sector ≡ Err e) }
@@ -138,7 +138,7 @@ fn in_file(name: &str, sectors: u64, sector: u64) -> Result<Source<&str>, Fault>
     }
 }
 
-// Whether a line that names no extent is a setting that is carried.
+// Checks that a line that describes no extent is a supported setting.
 fn check_setting(text: &[u8]) -> Result<(), Fault>
     ensures ok { IfOk result (λ _. setting_of text.now ≡ Ok None) }
     ensures err { IfErr result (λ e. setting_of text.now ≡ Err e) }
@@ -153,7 +153,7 @@ fn check_setting(text: &[u8]) -> Result<(), Fault>
     Ok(())
 }
 
-// Whether a value is one that this key may have.
+// Returns true if the key may have this value.
 fn is_carried(key: &[u8], value: &[u8]) -> bool
     ensures { result ≡ is_carried key.now value.now }
 {

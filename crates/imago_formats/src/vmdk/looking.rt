@@ -1,11 +1,12 @@
-// What lookups answer: `bdrv_block_status` in qemu, and `get_mapping` in imago.
+// Lookups of the VMDK driver: the location of a guest offset in the files.
 ghost use Rattle.std.specs.Prelude.{◌≡◌};
 ghost use Rattle.imago_formats.specs.VmdkLayer.{mapping_of};
 
 use crate::vmdk::descriptor::{Access, Extent, Source};
 use imago_access::ShallowMapping;
 
-/// Where a place lies: at this offset of the disk, and so far behind the start of its extent, whose file has this number.
+/// Returns the mapping of the disk's `offset`, which is `within` bytes after the start of its extent. `number` is the number of the
+/// extent's file.
 pub(crate) fn mapping_at(
     extent: &Extent<String>,
     number: usize,

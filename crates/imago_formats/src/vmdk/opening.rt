@@ -1,4 +1,4 @@
-// The files that extents ask for are opened.
+// Opens the files of the extents, and checks that reads can reach the extents.
 ghost use Rattle.std.specs.Prelude.{◌≡◌, ◌⊎◌, ◌<◌, ◌≤◌, ◌^◌, ◌++◌, ◌∷◌, [], is_some, length, map, slice_index_or, Ok, Err, IfErr, IfNone, IfSome, IsErr, IsFalse, IsTrue, OnOk};
 ghost use Rattle.std.specs.Option.{option_map, option_to_list};
 ghost use Rattle.std.specs.String.{string_bytes};
@@ -13,10 +13,16 @@ use imago_access::ImplicitOpenGate;
 use imago_storage::{Fault, padded_end};
 use std::alloc::Global;
 
-/// Opens the files that extents ask for, in order, by their names, but for those that are open.
+/// Opens the missing files of the extents by their names, in order.
 ///
-/// It refuses as the gate does, and with `Fault::Memory`, before it asks the gate for a file that it has no room for. What it has opened
-/// stays then.
+/// # Errors
+///
+/// - An error of the gate.
+/// - `Fault::Memory` if memory for a file's entry runs out. The gate isn't called for that file.
+///
+/// # On error
+///
+/// Files that were opened remain open.
 pub(crate) fn open_files<S: Drop, G: ImplicitOpenGate<S>>(
     alloc: Global,
     gate: &mut G,
@@ -44,7 +50,7 @@ pub(crate) fn open_files<S: Drop, G: ImplicitOpenGate<S>>(
     Ok(())
 }
 
-// Opens one more file. Room for it comes first, so that none is opened in vain.
+// Opens one more file. Memory for its entry is reserved first, so that no file is opened in vain.
 fn open_file<S: Drop, G: ImplicitOpenGate<S>>(
     alloc: Global,
     gate: &mut G,
@@ -65,7 +71,7 @@ fn open_file<S: Drop, G: ImplicitOpenGate<S>>(
     Ok(())
 }
 
-// The name of the file that an extent asks for.
+// Returns the name of the file that an extent needs.
 fn file_name(extent: &Extent<String>) -> Option<&str>
     ensures some_if_file { is_some result ≡ has_file extent.now }
     ensures name { option_to_list (option_map (λ name. name.now) result)
@@ -80,7 +86,7 @@ fn file_name(extent: &Extent<String>) -> Option<&str>
     }
 }
 
-/// The name of the file that comes behind so many others, or else no text.
+/// Returns the name of the file with `before` files before it, or an empty text.
 pub(crate) fn name_of(extents: &[Extent<String>], before: usize) -> &str
     ensures { result.now ≡ slice_index_or (kept_names extents.now) before [] }
 {
@@ -98,7 +104,7 @@ pub(crate) fn name_of(extents: &[Extent<String>], before: usize) -> &str
     ""
 }
 
-/// Whether each extent ends in its file where reads reach that are padded to whole units.
+/// Checks that reads padded to whole units can reach the end of each extent in its file.
 pub(crate) fn check_reach(extents: &[Extent<String>], unit: u64) -> Result<(), Fault>
     requires { 0 < unit }
     ensures ok { OnOk result (AreInReach unit extents.now) }
@@ -112,7 +118,7 @@ pub(crate) fn check_reach(extents: &[Extent<String>], unit: u64) -> Result<(), F
     Ok(())
 }
 
-// The same of one extent.
+// Returns true if reads padded to whole units can reach the end of one extent.
 fn is_addressable(extent: &Extent<String>, unit: u64) -> bool
     requires { 0 < unit }
     ensures yes { IsTrue result → round_up unit (end_in_file extent.now.access extent.now.source extent.now.sectors) < 2 ^ 64 }
@@ -124,7 +130,7 @@ fn is_addressable(extent: &Extent<String>, unit: u64) -> bool
     }
 }
 
-// The end of an extent in its file, in bytes, if it is below 2^64: 0 where it has none.
+// Returns the end of an extent in its file, in bytes, if it is below 2^64. An extent without a file ends at 0.
 fn end_of(extent: &Extent<String>) -> Option<u64>
     ensures end_if_some { IfSome result (λ n. n ≡ end_in_file extent.now.access extent.now.source extent.now.sectors) }
     ensures none { IfNone result (2 ^ 64 ≤ end_in_file extent.now.access extent.now.source extent.now.sectors) }

@@ -1,4 +1,4 @@
-// A whole descriptor.
+// Parses a whole descriptor.
 ghost use Rattle.std.specs.Prelude.{◌≡◌, ◌⊎◌, ◌<◌, ◌^◌, ◌≤◌, ◌++◌, ◌∷◌, [], ℕ, length, drop, map, slice_index_or, IfOk, IfErr, OnOk, Ok, Err};
 ghost use Rattle.std.specs.Option.{option_to_list};
 ghost use Rattle.std.specs.Str.{bytes_eq};
@@ -14,13 +14,13 @@ use crate::vmdk::words::{byte_at, text_of};
 use imago_storage::Fault;
 use std::alloc::Global;
 
-/// The most bytes that a descriptor may have.
+/// The greatest size of a descriptor in bytes.
 pub(crate) const MOST_BYTES: usize = 1 << 20;
 
 // The first line of every descriptor.
 const SIGNATURE: &[u8] = b"# Disk DescriptorFile";
 
-/// The disk of the extents that a text names.
+/// Parses a text, and returns the disk of its extents.
 #[tactic(auto, using(crate::specs::VmdkLaws::size_kept))]
 pub(crate) fn read_text(alloc: Global, text: &[u8]) -> Result<Disk, Fault>
     ensures ok { IfOk result (λ d. read_from text.now ≡ Ok (kept_extents d.extents.items)) }
@@ -35,14 +35,14 @@ pub(crate) fn read_text(alloc: Global, text: &[u8]) -> Result<Disk, Fault>
     Disk::new(extents)
 }
 
-/// Whether a line is the first of a descriptor.
+/// Returns true if the line is the first of a descriptor.
 pub(crate) fn is_signature(line: &[u8]) -> bool
     ensures { result ≡ bytes_eq line.now signature }
 {
     line == SIGNATURE
 }
 
-// The extents that lines name, in order.
+// Parses lines, and returns their extents in order.
 fn read_lines(alloc: Global, text: &[u8]) -> Result<Vec<Extent<String>>, Fault>
     ensures ok { IfOk result (λ xs. extents_of (lines text.now) ≡ Ok (kept_extents xs.items)) }
     ensures err { IfErr result (λ e. (e ≡ Memory) ⊎ (extents_of (lines text.now) ≡ Err e)) }
@@ -57,7 +57,7 @@ fn read_lines(alloc: Global, text: &[u8]) -> Result<Vec<Extent<String>>, Fault>
     Ok(extents)
 }
 
-// Adds the extent that a line names, if it names one.
+// Appends the extent that a line describes, if any.
 fn add_line(alloc: Global, extents: &mut Vec<Extent<String>>, line: &[u8]) -> Result<(), Fault>
     ensures ok { OnOk result (AddsLine line.now (kept_extents extents.old.items) (kept_extents extents.new.items)) }
     ensures err { IfErr result (λ e. (e ≡ Memory) ⊎ (said_by line.now ≡ Err e)) }
@@ -73,7 +73,7 @@ fn add_line(alloc: Global, extents: &mut Vec<Extent<String>>, line: &[u8]) -> Re
     }
 }
 
-// An extent with its file's name in memory of its own.
+// Copies an extent with its file's name.
 fn keep(alloc: Global, extent: Extent<&str>) -> Result<Extent<String>, Fault>
     ensures ok { IfOk result (λ x. kept_extent x ≡ seen_extent extent.entry) }
     ensures err { IfErr result (λ e. e ≡ Memory) }
@@ -97,7 +97,7 @@ fn keep(alloc: Global, extent: Extent<&str>) -> Result<Extent<String>, Fault>
     })
 }
 
-/// The first line of a text, without its end, and what follows it.
+/// Returns the first line of a text without its end, and the text after it.
 pub(crate) fn split_line(text: &[u8]) -> (&[u8], &[u8])
     ensures first { result.0.now ≡ slice_index_or (lines text.now) 0 [] }
     ensures remainder { lines result.1.now ≡ drop 1 (lines text.now) }
@@ -113,7 +113,7 @@ pub(crate) fn split_line(text: &[u8]) -> (&[u8], &[u8])
     (without_return(line), rest)
 }
 
-// A line without the carriage return at its end.
+// Returns a line without the carriage return at its end.
 fn without_return(line: &[u8]) -> &[u8]
     ensures { result.now ≡ strip_carriage_return line.now }
 {

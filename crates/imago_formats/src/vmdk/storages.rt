@@ -1,5 +1,4 @@
-// The storages of an image: the file of its descriptor, and those that its extents ask for. A storage is
-// a protocol node in qemu.
+// Calls over all storages of an image: the descriptor's file, and the files of its extents.
 ghost use Rattle.std.specs.Prelude.{IsErrOf, ◌≡◌, ◌<◌, ◌∷◌, map, length, OnOk, IfErr, IsOk};
 ghost use Rattle.imago_storage.specs.Calls.{Cause, IsFaultless};
 ghost use Rattle.imago_formats.specs.VmdkFiles.{IsStopped, states};
@@ -10,7 +9,7 @@ ghost use Rattle.imago_access.specs.Files.{AreRead, UnchangedButMoreFaults, Over
 use imago_storage::{Fault, Storage, StorageExt, larger_alignment};
 use std::alloc::Global;
 
-/// The greatest request alignment, in bytes.
+/// Returns the greatest request alignment, in bytes.
 pub(crate) fn greatest_req_align<S: Storage>(image: &S, files: &[S]) -> usize
     ensures value { result ≡ greatest (λ s. s.shape.req_align) (S.state image.now) (map S.state files.now) }
     ensures alignment { IsAlignment result }
@@ -22,7 +21,7 @@ pub(crate) fn greatest_req_align<S: Storage>(image: &S, files: &[S]) -> usize
     most
 }
 
-/// The greatest memory alignment, in bytes.
+/// Returns the greatest memory alignment, in bytes.
 pub(crate) fn greatest_mem_align<S: Storage>(image: &S, files: &[S]) -> usize
     ensures value { result ≡ greatest (λ s. s.shape.mem_align) (S.state image.now) (map S.state files.now) }
     ensures alignment { IsAlignment result }
@@ -34,18 +33,18 @@ pub(crate) fn greatest_mem_align<S: Storage>(image: &S, files: &[S]) -> usize
     most
 }
 
-/// What a storage is asked to do with what it was handed.
+/// A maintenance call of a storage.
 #[derive(Clone, Copy)]
 pub(crate) enum Upkeep {
-    /// To hand it on.
+    /// Flushes the storage.
     Flush,
-    /// To make it durable.
+    /// Makes the storage's data durable.
     Sync,
-    /// To drop what it has cached.
+    /// Drops cached data.
     Invalidate,
 }
 
-/// Asks the image file and then each of the other files, in order, up to the first that refuses.
+/// Makes the call on the image file and then on the other files, in order, up to the first error.
 pub(crate) fn keep_up<S: Storage>(
     image: &mut S,
     files: &mut [S],
@@ -59,7 +58,7 @@ pub(crate) fn keep_up<S: Storage>(
     keep_files(files, upkeep)
 }
 
-// Asks each of the files, in order, up to the first that refuses.
+// Makes the call on each of the files, in order, up to the first error.
 fn keep_files<S: Storage>(files: &mut [S], upkeep: Upkeep) -> Result<(), Fault>
     ensures unchanged_but_faults { Pairs UnchangedButMoreFaults (map S.state files.old) (map S.state files.new) }
     ensures ok { OnOk result (Pairs IsFaultless (map S.state files.old) (map S.state files.new)) }
@@ -71,7 +70,7 @@ fn keep_files<S: Storage>(files: &mut [S], upkeep: Upkeep) -> Result<(), Fault>
     Ok(())
 }
 
-// Asks one storage.
+// Makes the call on one storage.
 fn keep_one<S: Storage>(storage: &mut S, upkeep: Upkeep) -> Result<(), Fault>
     ensures unchanged_but_faults { UnchangedButMoreFaults (S.state storage.old) (S.state storage.new) }
     ensures ok { OnOk result (IsFaultless (S.state storage.old) (S.state storage.new)) }
@@ -84,8 +83,8 @@ fn keep_one<S: Storage>(storage: &mut S, upkeep: Upkeep) -> Result<(), Fault>
     }
 }
 
-/// Fills the buffer with the bytes of a storage from a place on: 0 is the image file, and the others follow. Of one that isn't there they
-/// are 0.
+/// Fills the buffer with the bytes of a storage from `place` on. Number 0 is the image file, and the other files follow. If the storage
+/// doesn't exist, the bytes are 0.
 pub(crate) fn read_storage<S: Storage>(
     alloc: Global,
     image: &mut S,

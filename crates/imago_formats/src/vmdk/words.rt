@@ -1,4 +1,4 @@
-// Words and numbers of a line.
+// Splits a line at its blanks, and parses its numbers.
 ghost use Rattle.std.specs.Str.{is_utf8};
 ghost use Rattle.imago_storage.specs.declared.fault.Fault.TheVariants.{DamagedDescriptor};
 ghost use Rattle.std.specs.Prelude.{IfOk, IfErr, true, false, ◌≡◌, ◌≤◌, ◌<◌, ◌==◌, length, slice_index};
@@ -8,7 +8,7 @@ ghost use Rattle.imago_formats.specs.DescriptorWords.{begins_with, decimal, is_b
 
 use imago_storage::Fault;
 
-/// Where a byte first stands in a text, or else the text's length.
+/// Returns the position of the first `byte` in a text, or the text's length.
 pub(crate) fn byte_at(text: &[u8], byte: u8) -> usize
     ensures value { result ≡ position_or_len (λ b. b == byte) text.now }
     ensures within { result ≤ length text.now }
@@ -16,14 +16,14 @@ pub(crate) fn byte_at(text: &[u8], byte: u8) -> usize
     text.iter().position(|b| *b == byte).unwrap_or(text.len())
 }
 
-/// What stands before the first byte that is 0.
+/// Returns the bytes before the first 0.
 pub(crate) fn before_zero(bytes: &[u8]) -> &[u8]
     ensures { result.now ≡ text_of bytes.now }
 {
     bytes.split_at(byte_at(bytes, 0)).0
 }
 
-/// Whether a text begins with a byte, which isn't 0.
+/// Returns true if the text begins with the byte, which isn't 0.
 pub(crate) fn begins_with(byte: u8, text: &[u8]) -> bool
     ensures { 0 < byte → result ≡ begins_with byte text.now }
 {
@@ -33,14 +33,14 @@ pub(crate) fn begins_with(byte: u8, text: &[u8]) -> bool
     }
 }
 
-/// Whether a text begins with a blank.
+/// Returns true if the text begins with a blank.
 pub(crate) fn begins_blank(text: &[u8]) -> bool
     ensures { result ≡ is_blank (slice_index text.now 0) }
 {
     begins_with(b' ', text) || begins_with(b'\t', text)
 }
 
-/// A text without the blanks at its start.
+/// Returns the text without the blanks at its start.
 pub(crate) fn past_blanks(text: &[u8]) -> &[u8]
     ensures { result.now ≡ past_blanks text.now }
 {
@@ -51,7 +51,7 @@ pub(crate) fn past_blanks(text: &[u8]) -> &[u8]
     text.split_at(start).1
 }
 
-/// The word at the start of a text, and what follows it and the blanks behind it.
+/// Splits off the text up to the first blank. Returns it, and the text after the blanks that follow.
 pub(crate) fn split_word(text: &[u8]) -> (&[u8], &[u8])
     ensures first { result.0.now ≡ word text.now }
     ensures remainder { result.1.now ≡ past_word text.now }
@@ -61,7 +61,7 @@ pub(crate) fn split_word(text: &[u8]) -> (&[u8], &[u8])
     (first, past_blanks(rest))
 }
 
-/// Whether a text is one word, but for blanks at its end.
+/// Returns true if the text is `one`, with nothing but blanks after it.
 pub(crate) fn is_word(one: &[u8], text: &[u8]) -> bool
     ensures { result ≡ is_word one.now text.now }
 {
@@ -69,7 +69,7 @@ pub(crate) fn is_word(one: &[u8], text: &[u8]) -> bool
     first == one && rest.is_empty()
 }
 
-/// Bytes as text.
+/// Returns the bytes as text.
 #[tactic(auto, using(crate::proofs::WordLemmas::not_text, crate::proofs::WordLemmas::is_text))]
 pub(crate) fn text_of(bytes: &[u8]) -> Result<&str, Fault>
     ensures ok { IfOk result (λ text. (text.now ≡ bytes.now) × (is_utf8 bytes.now ≡ true)) }
@@ -81,7 +81,7 @@ pub(crate) fn text_of(bytes: &[u8]) -> Result<&str, Fault>
     }
 }
 
-/// The number that digits write, if it is below 2^64.
+/// Parses a decimal number below 2^64.
 pub(crate) fn decimal(digits: &[u8]) -> Result<u64, Fault>
     ensures { result ≡ decimal digits.now }
 {
@@ -94,7 +94,7 @@ pub(crate) fn decimal(digits: &[u8]) -> Result<u64, Fault>
     }
 }
 
-// Whether a byte is a space or a tab.
+// Returns true if the byte is a space or a tab.
 fn is_blank(b: u8) -> bool
     ensures { result ≡ is_blank b }
 {

@@ -13,7 +13,7 @@ use Rattle.imago_formats.proofs.vmdk.files.read_descriptor.Given.{Over}
 enough : (size n : ℕ) → n ≡ min size (2 ^ 20 + 1) → (size ≤ n) ⊎ (2 ^ 20 < n)
 enough size n e = elim (cases_lt (2 ^ 20) size) [ inl long ↦ inr (omega arith) | inr short ↦ inl (omega arith) ]
 
--- what was read says what the file says
+-- The bytes that were read have the same meaning as the file.
 said : (g : Over) (c : After-drop-bytes g) → read_from c.before_zero.result.now ≡ descriptor_of (g.S.Storage.state c.args.image.now).bytes
 said g c =
     ap read_from (c.before_zero.ensures ∙ ap text_of c.deref.ensures.value)

@@ -10,7 +10,7 @@ use Rattle.imago_formats.specs.Descriptor.{named, in_file, sector_of}
 use Rattle.imago_formats.specs.DescriptorWords.{◌>>=◌}
 use Rattle.imago_formats.proofs.vmdk.lines.read_quoted.Goals as goal
 
--- by the place of the closing quote, the name and what the sector is read as
+-- The name and the sector, by the position of the closing quote.
 named-at : (sectors end : ℕ) (text name : List ℕ) (sector : Result ℕ Fault) → end ≡ position_or_len (λ b. b == 34) text → end ≤ length text → end ≢ length text
     → (name ≡ take end text) × (is_utf8 (take end text) ≡ true) → sector_of (take (length text - (end + 1)) (drop (end + 1) text)) ≡ sector
     → named sectors text ≡ (sector >>= in_file name sectors)
