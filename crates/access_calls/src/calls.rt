@@ -1,4 +1,5 @@
-// The calls of a disk, each in one function: a call is proved with all that is stated of the driver, which is much.
+// The calls that scripts make on a disk. Each call is in a function of its own, because its proof needs the whole contract of the driver.
+// If a call requires that no mapping is prepared, its function checks this first.
 ghost use Rattle.std.specs.Prelude.{◌≡◌, IsTrue};
 ghost use Rattle.imago_access.specs.Layer.{IsFree, unmapped};
 ghost use Rattle.imago_access.specs.Chain.{Each};
@@ -11,14 +12,15 @@ use imago_storage::Fault;
 use qimg_calls::{Answer, Call};
 use std::alloc::Global;
 
-/// The most bytes that a script reads at once.
+/// The greatest number of bytes that one call of a script can read: 16 MiB.
 pub const MOST: u64 = 16_777_216;
 
-/// A buffer of bytes that are no answer.
+/// Returns a buffer of `n` bytes for a read. Each byte is 7, so that a byte that the read doesn't set shows in the answer.
 ///
 /// # Errors
 ///
-/// [`Trouble::NoCall`] where it is of more than 16 MiB; [`Trouble::Refused`] for want of memory.
+/// - [`Trouble::NoCall`] if `n` is more than 16 MiB.
+/// - [`Trouble::Refused`] if memory runs out.
 pub fn buffer(alloc: Global, n: u64) -> Result<Vec<u8>, Trouble> {
     if n > MOST {
         return Err(Trouble::NoCall);
@@ -26,14 +28,14 @@ pub fn buffer(alloc: Global, n: u64) -> Result<Vec<u8>, Trouble> {
     Ok(vec![in alloc; 7u8; n as usize]?)
 }
 
-/// Whether nothing is prepared in the top layer.
+/// Returns true if no mapping is prepared in the top image. A prepared mapping is a run that is written before it is committed.
 pub fn is_free<D: FormatDriverInstance>(access: &FormatAccess<D>) -> bool
     ensures { IsTrue result → IsFree (D.layer access.now.0) }
 {
     !access.inner().prepared()
 }
 
-/// Changes of a range that take no bytes.
+/// A change of a range that doesn't need bytes to write.
 #[derive(Clone, Copy)]
 pub enum Change {
     Zeroes,
@@ -42,7 +44,12 @@ pub enum Change {
     ToBacking,
 }
 
-/// Makes a change of a range, where nothing is prepared.
+/// Changes a range of the disk.
+///
+/// # Errors
+///
+/// - [`Trouble::NoCall`] if a mapping is prepared.
+/// - [`Trouble::Refused`] if the call fails.
 pub fn change_range<D: FormatDriverInstance>(
     alloc: Global,
     access: &mut FormatAccess<D>,
@@ -65,7 +72,8 @@ pub fn change_range<D: FormatDriverInstance>(
 ///
 /// # Errors
 ///
-/// [`Trouble::NoCall`] where it is of more than 16 MiB; [`Trouble::Refused`] as the call.
+/// - [`Trouble::NoCall`] if the range is longer than 16 MiB.
+/// - [`Trouble::Refused`] if the call fails.
 pub fn read<D: FormatDriverInstance>(
     alloc: Global,
     access: &mut FormatAccess<D>,
@@ -77,6 +85,7 @@ pub fn read<D: FormatDriverInstance>(
     Ok(runs(alloc, &buf)?)
 }
 
+/// Writes bytes to the disk. The errors are those of [`change_range`].
 pub fn write<D: FormatDriverInstance>(
     alloc: Global,
     access: &mut FormatAccess<D>,
@@ -89,6 +98,7 @@ pub fn write<D: FormatDriverInstance>(
     Ok(access.write(alloc, bytes, offset)?)
 }
 
+/// Writes bytes to a mapped run, at this offset of the disk and this offset of the storage.
 pub fn write_mapped<D: FormatDriverInstance>(
     alloc: Global,
     access: &mut FormatAccess<D>,
@@ -99,6 +109,7 @@ pub fn write_mapped<D: FormatDriverInstance>(
     Ok(access.write_mapped(alloc, guest, place, bytes)?)
 }
 
+/// Looks up the mapping of a range through the chain (the image and its backing files).
 pub fn map<D: FormatDriverInstance>(
     alloc: Global,
     access: &mut FormatAccess<D>,
@@ -109,6 +120,7 @@ pub fn map<D: FormatDriverInstance>(
     Ok(deep(alloc, mapping, length)?)
 }
 
+/// Looks up the mapping of a range in the top layer only.
 pub fn map_shallow<D: FormatDriverInstance>(
     alloc: Global,
     access: &mut FormatAccess<D>,
@@ -119,6 +131,7 @@ pub fn map_shallow<D: FormatDriverInstance>(
     Ok(shallow(alloc, mapping, length)?)
 }
 
+/// Maps a run of the disk so that it can be written directly in its storage. The errors are those of [`change_range`].
 pub fn ensure<D: FormatDriverInstance>(
     alloc: Global,
     access: &mut FormatAccess<D>,
@@ -133,11 +146,12 @@ pub fn ensure<D: FormatDriverInstance>(
     Ok(deep(alloc, mapping, length)?)
 }
 
-/// Prepares a run of the top layer, where nothing is prepared in it.
+/// Prepares a run of the top image for writing. What is written becomes part of the disk at a commit.
 ///
 /// # Errors
 ///
-/// [`Trouble::NoCall`] where something is prepared; [`Trouble::Refused`] as the call.
+/// - [`Trouble::NoCall`] if a mapping is prepared.
+/// - [`Trouble::Refused`] if the call fails.
 pub fn prepare<D: FormatDriverInstance>(
     alloc: Global,
     access: &mut FormatAccess<D>,
@@ -154,11 +168,11 @@ pub fn prepare<D: FormatDriverInstance>(
     }
 }
 
-/// Commits a mapping to the top layer.
+/// Commits a prepared mapping to the top layer.
 ///
 /// # Errors
 ///
-/// As the call: why it is refused, and the mapping where it is given back.
+/// The fault of the call, and the mapping if the call returns it.
 pub fn commit<D: FormatDriverInstance>(
     alloc: Global,
     access: &mut FormatAccess<D>,
@@ -167,11 +181,11 @@ pub fn commit<D: FormatDriverInstance>(
     access.commit_data_mapping(alloc, mapping)
 }
 
-/// Gives a mapping of the top layer up.
+/// Cancels a prepared mapping of the top layer.
 ///
 /// # Errors
 ///
-/// As the call: why it is refused, and the mapping.
+/// The fault of the call, and the mapping.
 pub fn cancel<D: FormatDriverInstance>(
     access: &mut FormatAccess<D>,
     mapping: PreparedDataMapping<D::State>,
@@ -179,6 +193,7 @@ pub fn cancel<D: FormatDriverInstance>(
     access.cancel(mapping)
 }
 
+/// Grows the disk to `size` bytes. The errors are those of [`change_range`].
 pub fn grow<D: FormatDriverInstance>(
     alloc: Global,
     access: &mut FormatAccess<D>,
@@ -191,6 +206,7 @@ pub fn grow<D: FormatDriverInstance>(
     Ok(access.resize_grow(alloc, size, mode)?)
 }
 
+/// Shrinks the disk to `size` bytes. The errors are those of [`change_range`].
 pub fn shrink<D: FormatDriverInstance>(
     alloc: Global,
     access: &mut FormatAccess<D>,
@@ -202,6 +218,7 @@ pub fn shrink<D: FormatDriverInstance>(
     Ok(access.resize_shrink(alloc, size)?)
 }
 
+/// Grows or shrinks the disk to `size` bytes. The errors are those of [`change_range`].
 pub fn resize<D: FormatDriverInstance>(
     alloc: Global,
     access: &mut FormatAccess<D>,
@@ -214,6 +231,7 @@ pub fn resize<D: FormatDriverInstance>(
     Ok(access.resize(alloc, size, mode)?)
 }
 
+/// Flushes the disk.
 pub fn flush<D: FormatDriverInstance>(
     alloc: Global,
     access: &mut FormatAccess<D>,
@@ -221,11 +239,12 @@ pub fn flush<D: FormatDriverInstance>(
     Ok(access.flush(alloc)?)
 }
 
+/// Makes what was written to the files of the top layer durable.
 pub fn sync<D: FormatDriverInstance>(access: &mut FormatAccess<D>) -> Result<(), Trouble> {
     Ok(access.sync()?)
 }
 
-// Whether nothing is prepared in any layer.
+// Returns true if no mapping is prepared in any layer.
 fn is_all_free<D: FormatDriverInstance>(access: &FormatAccess<D>) -> bool
     ensures { IsTrue result → Each (λ d. IsFree (D.layer d)) (chain access.now) }
 {
@@ -235,7 +254,12 @@ fn is_all_free<D: FormatDriverInstance>(access: &FormatAccess<D>) -> bool
     }
 }
 
-/// Reads what the layers hold in memory again, where nothing is prepared in any.
+/// Drops what the images of the chain keep in memory, and reloads what they need.
+///
+/// # Errors
+///
+/// - [`Trouble::NoCall`] if a mapping is prepared in any layer.
+/// - [`Trouble::Refused`] if the call fails.
 pub fn invalidate<D: FormatDriverInstance>(
     alloc: Global,
     access: &mut FormatAccess<D>,
@@ -246,7 +270,7 @@ pub fn invalidate<D: FormatDriverInstance>(
     Ok(access.invalidate_cache(alloc)?)
 }
 
-/// The greatest alignments of requests and of memory.
+/// Returns the greatest request alignment and the greatest memory alignment of the chain, in bytes.
 pub fn aligns<D: FormatDriverInstance>(
     alloc: Global,
     access: &FormatAccess<D>,
@@ -254,8 +278,8 @@ pub fn aligns<D: FormatDriverInstance>(
     let (requests, memory) = (access.req_align(), access.mem_align());
     Ok(format!(in alloc; "{requests} {memory}")?)
 }
+/// Returns the sizes of the layers, the top first, in bytes. After the 16th size `more` ends the answer.
 
-/// The sizes of the layers, the highest first.
 pub fn sizes<D: FormatDriverInstance>(
     alloc: Global,
     access: &FormatAccess<D>,
@@ -274,7 +298,7 @@ pub fn sizes<D: FormatDriverInstance>(
     Ok(text)
 }
 
-// Puts at the end of a text whether a layer can be used.
+// Appends `ok` to a text if a layer can be used, and otherwise the fault of its calls.
 fn push_ready<D: FormatDriverInstance>(
     alloc: Global,
     driver: &D,
@@ -288,8 +312,9 @@ fn push_ready<D: FormatDriverInstance>(
         }
     }
 }
+/// Returns for each layer, the top first, `ok` if it can be used, and otherwise the fault of its calls. After the 16th layer `more` ends
+/// the answer.
 
-/// Whether each layer can be used, the highest first: `ok`, or what refuses its calls.
 pub fn ready<D: FormatDriverInstance>(
     alloc: Global,
     access: &FormatAccess<D>,
@@ -307,11 +332,12 @@ pub fn ready<D: FormatDriverInstance>(
     Ok(text)
 }
 
-/// Copies a disk into another, in which nothing is prepared.
+/// Copies a disk into another.
 ///
 /// # Errors
 ///
-/// [`Trouble::NoCall`] where something is prepared in that one; [`Trouble::Refused`] as the call.
+/// - [`Trouble::NoCall`] if a mapping is prepared in the target.
+/// - [`Trouble::Refused`] if the call fails.
 pub fn flatten<S: FormatDriverInstance, T: FormatDriverInstance>(
     alloc: Global,
     source: &mut FormatAccess<S>,
@@ -323,7 +349,12 @@ pub fn flatten<S: FormatDriverInstance, T: FormatDriverInstance>(
     Ok(qimg_calls::flatten(alloc, source, target)?)
 }
 
-/// Makes calls one behind the other, where nothing is prepared, and answers each.
+/// Makes calls one after another, and returns an answer for each.
+///
+/// # Errors
+///
+/// - [`Trouble::NoCall`] if a mapping is prepared.
+/// - [`Trouble::Refused`] if memory for the answers runs out.
 pub fn drive_all<D: FormatDriverInstance>(
     alloc: Global,
     access: &mut FormatAccess<D>,
@@ -335,24 +366,25 @@ pub fn drive_all<D: FormatDriverInstance>(
     Ok(qimg_calls::drive(alloc, access, calls)?)
 }
 
-/// The most layers of which it is told.
+/// The greatest number of layers that an answer lists.
 const MOST_LAYERS: u8 = 16;
 
-/// The answer of a call that succeeds and gives nothing.
+/// Returns `ok`, the answer of a call that succeeds without a value.
 ///
 /// # Errors
 ///
-/// As the call; [`Trouble::Refused`] for want of memory.
+/// - The error of the call, if it failed.
+/// - [`Trouble::Refused`] if memory runs out.
 pub fn done(alloc: Global, answer: Result<(), Trouble>) -> Result<String, Trouble> {
     answer?;
     Ok(ok(alloc)?)
 }
 
-/// The driver of the top layer, where nothing is prepared.
+/// Returns the driver of the top layer by mutable reference.
 ///
 /// # Errors
 ///
-/// [`Trouble::NoCall`] where something is prepared.
+/// - [`Trouble::NoCall`] if a mapping is prepared.
 pub fn top<D: FormatDriverInstance>(disk: &mut FormatAccess<D>) -> Result<&mut D, Trouble> {
     if !is_free(disk) {
         return Err(Trouble::NoCall);
@@ -360,11 +392,15 @@ pub fn top<D: FormatDriverInstance>(disk: &mut FormatAccess<D>) -> Result<&mut D
     Ok(disk.inner_mut())
 }
 
-/// A layer over a disk. The driver has to show the layer below.
+/// Adds an image on top of a disk. The disk becomes the backing file of the image.
+///
+/// # Preconditions
+///
+/// The driver's image reads unallocated bytes from the image below.
 ///
 /// # Errors
 ///
-/// [`Trouble::Refused`] for want of memory; both are let go then.
+/// - [`Trouble::Refused`] if memory runs out. The driver and the disk are dropped.
 pub fn stacked<D: FormatDriverInstance + Drop>(
     alloc: Global,
     driver: D,

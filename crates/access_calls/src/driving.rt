@@ -1,4 +1,4 @@
-// Calls of the top layer's driver itself.
+// The calls that a script makes directly on the driver of the top layer, below `FormatAccess`.
 ghost use Rattle.std.specs.Prelude.{◌≡◌, IsTrue};
 ghost use Rattle.imago_access.specs.Layer.{IsFree};
 
@@ -9,7 +9,7 @@ use imago_access::{FormatDriverInstance, NoBelow, ReadBelow};
 use imago_storage::Storage;
 use std::alloc::Global;
 
-/// Changes of a range by the driver itself, which answers the part that it has done.
+/// A change of a range by the driver, which returns the part that it changed.
 #[derive(Clone, Copy)]
 enum Part {
     Zero,
@@ -88,7 +88,7 @@ fn map<D: FormatDriverInstance>(
     Ok(shallow(alloc, mapping, length)?)
 }
 
-// Its format, size and alignments, and whether it can be written, used and has something prepared.
+// Describes a driver: its format, its size and alignments in bytes, whether it is writable, and `prepared` if a mapping is prepared.
 fn described<D: FormatDriverInstance>(alloc: Global, driver: &D) -> Result<String, Trouble> {
     let format = format_word(driver.format());
     let (size, requests, memory) = (driver.size(), driver.req_align(), driver.mem_align());
@@ -113,12 +113,12 @@ fn ready<D: FormatDriverInstance>(alloc: Global, driver: &D) -> Result<String, T
     Ok("ok".to_string(alloc)?)
 }
 
-// The length of its image file, in bytes.
+// Returns the length of the driver's image file, in bytes.
 fn file<D: FormatDriverInstance>(alloc: Global, driver: &D) -> Result<String, Trouble> {
     Ok(driver.image_file().size().to_string(alloc)?)
 }
 
-// The length of one of its further files, in bytes, if there is one.
+// Returns the length of an extra file, in bytes, or `none` if the driver has no extra file with this index.
 fn extra<D: FormatDriverInstance>(
     alloc: Global,
     driver: &D,
@@ -130,11 +130,12 @@ fn extra<D: FormatDriverInstance>(
     }
 }
 
-/// What no layer below is, and shows.
+/// Describes `NoBelow`, the missing layer below the lowest layer: whether it is present, and the bytes of this range.
 ///
 /// # Errors
 ///
-/// [`Trouble::NoCall`] where the range is of more than 16 MiB; [`Trouble::Refused`] for want of memory.
+/// - [`Trouble::NoCall`] if the range is longer than 16 MiB.
+/// - [`Trouble::Refused`] if memory runs out.
 pub fn nothing_below(alloc: Global, offset: u64, n: u64) -> Result<String, Trouble> {
     let mut below = NoBelow;
     let mut buf = buffer(alloc, n)?;
@@ -153,7 +154,7 @@ fn part_of(word: &str) -> Result<Part, Trouble> {
     }
 }
 
-// What a driver says of itself.
+// Makes a call without arguments that describes the driver.
 fn told<D: FormatDriverInstance>(alloc: Global, driver: &D, word: &str) -> Result<String, Trouble> {
     match word {
         "is" => described(alloc, driver),
@@ -164,7 +165,7 @@ fn told<D: FormatDriverInstance>(alloc: Global, driver: &D, word: &str) -> Resul
     }
 }
 
-// A call with two numbers.
+// Makes a call of a range: `CALL OFFSET N`.
 fn ranged<D: FormatDriverInstance>(
     alloc: Global,
     driver: &mut D,
@@ -179,7 +180,7 @@ fn ranged<D: FormatDriverInstance>(
     }
 }
 
-// A read of one of its storages: its number, the place and the length.
+// Reads from a storage of the driver: `STORAGE PLACE N`, where `PLACE` is the offset in the storage.
 fn read_by<D: FormatDriverInstance>(
     alloc: Global,
     driver: &mut D,
@@ -192,7 +193,7 @@ fn read_by<D: FormatDriverInstance>(
     read_mapped(alloc, driver, storage, place, n)
 }
 
-// A write to a mapped place: of the disk, of the storage, and the bytes.
+// Writes to a mapped run: `GUEST PLACE BYTES`, with the guest offset and the offset in the storage.
 fn write_by<D: FormatDriverInstance>(
     alloc: Global,
     driver: &mut D,
@@ -205,7 +206,7 @@ fn write_by<D: FormatDriverInstance>(
     write_mapped(alloc, driver, guest, place, rest)
 }
 
-/// Makes the call of these words.
+/// Makes the call that `words` describe on the driver. `called` lists the calls.
 pub fn drive<D: FormatDriverInstance>(
     alloc: Global,
     driver: &mut D,

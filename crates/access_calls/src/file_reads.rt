@@ -1,14 +1,14 @@
-// The files of a disk's layers, as they stand.
+// Reads the files of a disk's layers. Dirty data in memory isn't in them.
 use crate::calls::buffer;
 use cases::{Trouble, number, runs, size};
 use imago_access::{FormatAccess, FormatDriverInstance, ReadFiles};
 use std::alloc::Global;
 
-/// How long a file is, in bytes, by the numbers of its layer and of the file.
+/// Returns the length of a file in bytes, or 0 if no file has these numbers. The top is layer 0, and its image file is file 0.
 ///
 /// # Errors
 ///
-/// [`Trouble::Refused`] for want of memory.
+/// - [`Trouble::Refused`] if memory runs out.
 pub fn file_size<D: FormatDriverInstance>(
     alloc: Global,
     disk: &FormatAccess<D>,
@@ -31,11 +31,12 @@ fn read_file<D: ReadFiles>(
     Ok(runs(alloc, &buf)?)
 }
 
-/// Bytes of a file, by these words: the numbers of its layer and of the file, an offset and a length.
+/// Reads bytes of a file: `LAYER FILE OFFSET N`, with the numbers of the layer and of the file.
 ///
 /// # Errors
 ///
-/// [`Trouble::NoCall`] where the words are no such words, or the range is of more than 16 MiB; [`Trouble::Refused`] as the call.
+/// - [`Trouble::NoCall`] if the words don't have this form, or the range is longer than 16 MiB.
+/// - [`Trouble::Refused`] if the call fails.
 pub fn read_by<D: ReadFiles>(
     alloc: Global,
     disk: &mut FormatAccess<D>,

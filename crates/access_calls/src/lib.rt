@@ -1,6 +1,7 @@
-//! Calls of disks by words, for programs of cases whose disks have different drivers.
+//! The calls on a disk (an image and its backing files), written as words of a script. Programs that run test cases share them, although
+//! their disks have different drivers.
 //!
-//! Each call is one function that is generic over the driver, so it is proved once for all of them.
+//! Each call is a function that is generic over the driver, so it is proved once for all drivers. Terms are explained in docs/GLOSSARY.md.
 #![tactic(auto)]
 
 mod calls;

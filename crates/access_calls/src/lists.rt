@@ -1,4 +1,4 @@
-// Lists of calls of a disk, which one call makes.
+// Lists of calls on a disk in a script. One call of `drive` makes the whole list. A mapping stays prepared between the calls of a list.
 use crate::calls::{MOST, drive_all};
 use crate::texts::{deep, prepared_at, shallow};
 use crate::words::{mode_of, only, run_of};
@@ -8,7 +8,7 @@ use imago_storage::Fault;
 use qimg_calls::{Answer, Call};
 use std::alloc::Global;
 
-// A read, whose bytes a script has room for.
+// Returns a read of at most `MOST` bytes.
 fn read_of(offset: u64, n: u64) -> Result<Call, Trouble> {
     if n > MOST {
         return Err(Trouble::NoCall);
@@ -19,7 +19,7 @@ fn read_of(offset: u64, n: u64) -> Result<Call, Trouble> {
     })
 }
 
-// A call with two numbers.
+// Parses a call of a range: `CALL OFFSET N`.
 fn ranged(word: &str, offset: u64, length: u64) -> Result<Call, Trouble> {
     match word {
         "read" => read_of(offset, length),
@@ -33,7 +33,7 @@ fn ranged(word: &str, offset: u64, length: u64) -> Result<Call, Trouble> {
     }
 }
 
-// A run that is prepared, or mapped at once.
+// Parses `prepare` or `ensure`, after the offset.
 fn mapped(word: &str, offset: u64, words: &[&str]) -> Result<Call, Trouble> {
     let (length, overwrite) = run_of(words)?;
     match word {
@@ -50,7 +50,7 @@ fn mapped(word: &str, offset: u64, words: &[&str]) -> Result<Call, Trouble> {
     }
 }
 
-// A write to a mapped place: behind that of the disk come that of the storage, and the bytes.
+// Parses a write to a mapped run, after the guest offset: the offset in the storage, and the bytes.
 fn written_mapped(alloc: Global, guest: u64, words: &[&str]) -> Result<Call, Trouble> {
     let [place, rest @ ..] = words else {
         return Err(Trouble::NoCall);
@@ -62,7 +62,7 @@ fn written_mapped(alloc: Global, guest: u64, words: &[&str]) -> Result<Call, Tro
     })
 }
 
-// A call that begins with a number.
+// Parses a call whose first argument is a number.
 fn call_at(alloc: Global, word: &str, first: u64, words: &[&str]) -> Result<Call, Trouble> {
     match word {
         "write" => Ok(Call::Write {
@@ -80,7 +80,7 @@ fn call_at(alloc: Global, word: &str, first: u64, words: &[&str]) -> Result<Call
     }
 }
 
-// The call of these words.
+// Parses a call.
 fn call_of(alloc: Global, words: &[&str]) -> Result<Call, Trouble> {
     match words {
         ["commit"] => Ok(Call::CommitDataMapping),
@@ -92,7 +92,7 @@ fn call_of(alloc: Global, words: &[&str]) -> Result<Call, Trouble> {
     }
 }
 
-// The calls of these words, with the word `;` between them.
+// Parses calls with the word `;` between them.
 fn calls_of(alloc: Global, words: &[&str]) -> Result<Vec<Call>, Trouble> {
     let mut calls = Vec::new(alloc);
     if words.is_empty() {
@@ -104,7 +104,7 @@ fn calls_of(alloc: Global, words: &[&str]) -> Result<Vec<Call>, Trouble> {
     Ok(calls)
 }
 
-// An answer. Where a call is refused for want of memory the list as a whole is answered so.
+// Returns the text of an answer. If a call fails with `Fault::Memory`, this is the answer of the whole list.
 fn told(alloc: Global, answer: &Answer) -> Result<String, Trouble> {
     match answer {
         Answer::Done => Ok(ok(alloc)?),
@@ -122,7 +122,7 @@ fn told(alloc: Global, answer: &Answer) -> Result<String, Trouble> {
     }
 }
 
-// Answers, with `/` between them; `none` where there are none.
+// Returns the texts of answers, with `/` between them, or `none` if the list is empty.
 fn told_all(alloc: Global, answers: &[Answer]) -> Result<String, Trouble> {
     if answers.is_empty() {
         return Ok("none".to_string(alloc)?);
@@ -138,7 +138,7 @@ fn told_all(alloc: Global, answers: &[Answer]) -> Result<String, Trouble> {
     Ok(text)
 }
 
-/// Makes the calls of these words, with the word `;` between them, by one call: it tells their answers, with `/` between them.
+/// Makes a list of calls, with the word `;` between them. Returns their answers, with `/` between them.
 pub fn list<D: FormatDriverInstance>(
     alloc: Global,
     disk: &mut FormatAccess<D>,

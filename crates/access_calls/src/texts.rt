@@ -1,4 +1,4 @@
-// The texts of what calls answer.
+// The texts of answers: mappings, prepared mappings and formats.
 use imago_access::{Format, Mapping, PreparedDataMapping, ShallowMapping};
 use std::alloc::{AllocError, Global};
 
@@ -10,7 +10,8 @@ fn zero(explicit: bool) -> &'static str {
     if explicit { "explicit zero" } else { "zero" }
 }
 
-/// Where a run of a chain lies.
+/// Returns the text of a mapping in a chain. A run with bytes in a storage has its depth in the chain, storage and offset. The length is in
+/// bytes.
 pub fn deep(alloc: Global, mapping: Mapping, length: u64) -> Result<String, AllocError> {
     match mapping {
         Mapping::Raw {
@@ -33,7 +34,7 @@ pub fn deep(alloc: Global, mapping: Mapping, length: u64) -> Result<String, Allo
     }
 }
 
-/// What a layer says of a run.
+/// Returns the text of a mapping in one image of a chain.
 pub fn shallow(alloc: Global, mapping: ShallowMapping, length: u64) -> Result<String, AllocError> {
     match mapping {
         ShallowMapping::Raw {
@@ -57,7 +58,7 @@ pub fn shallow(alloc: Global, mapping: ShallowMapping, length: u64) -> Result<St
     }
 }
 
-/// A prepared mapping: its storage, offset and length, and whether there is something to commit.
+/// Returns the text of a prepared mapping's storage, offset and length, and of whether it needs a commit.
 pub fn prepared_at(
     alloc: Global,
     (storage, offset, length): (usize, u64, u64),
@@ -67,16 +68,18 @@ pub fn prepared_at(
     format!(in alloc; "{storage} {offset} {length} {state}")
 }
 
-/// A prepared mapping: its storage, offset and length, and whether there is something to commit.
+/// Returns the text of a prepared mapping (a run that is written before it is committed): its storage, its offset and length in bytes, and
+/// whether it needs a commit.
 ///
 /// # Errors
 ///
-/// `AllocError` for want of memory.
+/// - `AllocError` if memory runs out.
 pub fn prepared<T>(alloc: Global, mapping: &PreparedDataMapping<T>) -> Result<String, AllocError> {
     let place = (mapping.storage(), mapping.offset(), mapping.length());
     prepared_at(alloc, place, !mapping.is_nonblocking())
 }
 
+/// Returns the word of a format.
 pub fn format(format: Format) -> &'static str {
     match format {
         Format::Raw => "raw",

@@ -1,4 +1,4 @@
-// The calls of a disk by words.
+// Parses the calls that a script makes on a disk, and makes them. `called` lists the calls.
 use crate::calls::{
     Change, aligns, change_range, done, ensure, flush, grow, invalidate, is_free, map, map_shallow,
     read, ready, resize, shrink, sizes, sync, top, write, write_mapped,
@@ -11,11 +11,11 @@ use imago_access::{FormatAccess, FormatDriverInstance, PreallocateMode, ReadFile
 use std::alloc::Global;
 use std::fmt::Display;
 
-/// How a disk is resized, by `none`, `zero`, `format`, `full` or `data`.
+/// Parses the preallocation mode of a disk: `none`, `zero`, `format`, `full` or `data`.
 ///
 /// # Errors
 ///
-/// [`Trouble::NoCall`] where the word is anything else.
+/// - [`Trouble::NoCall`] if the word is anything else.
 pub fn mode_of(word: &str) -> Result<PreallocateMode, Trouble> {
     match word {
         "none" => Ok(PreallocateMode::None),
@@ -61,7 +61,7 @@ fn written_mapped<D: FormatDriverInstance>(
     write_mapped(alloc, disk, guest, place, &given)
 }
 
-// A call that keeps a disk and its files in step.
+// Makes a `flush`, `sync` or `invalidate`.
 fn kept<D: FormatDriverInstance>(
     alloc: Global,
     disk: &mut FormatAccess<D>,
@@ -75,7 +75,7 @@ fn kept<D: FormatDriverInstance>(
     }
 }
 
-// The one word that there is.
+/// Returns the only word of a list, or `Trouble::NoCall` if the list has another length.
 pub fn only<'x>(words: &[&'x str]) -> Result<&'x str, Trouble> {
     match words {
         [word] => Ok(*word),
@@ -83,11 +83,11 @@ pub fn only<'x>(words: &[&'x str]) -> Result<&'x str, Trouble> {
     }
 }
 
-/// A length, and whether all of the run is going to be written.
+/// Parses `N [overwrite]`. Returns the length in bytes, and true if the caller promises to write the whole run.
 ///
 /// # Errors
 ///
-/// [`Trouble::NoCall`] where the words are no such words.
+/// - [`Trouble::NoCall`] if the words don't have this form.
 pub fn run_of(words: &[&str]) -> Result<(u64, bool), Trouble> {
     match words {
         [n] => Ok((number(n)?, false)),
@@ -96,7 +96,7 @@ pub fn run_of(words: &[&str]) -> Result<(u64, bool), Trouble> {
     }
 }
 
-// A growth or a resize, or a change of a range.
+// Makes a `grow` or `resize`, or a change of a range.
 fn changed<D: FormatDriverInstance>(
     alloc: Global,
     disk: &mut FormatAccess<D>,
@@ -111,7 +111,7 @@ fn changed<D: FormatDriverInstance>(
     }
 }
 
-// A call of a disk that begins with a number and answers nothing.
+// Makes a call whose first argument is a number, and which has no answer but `ok`.
 fn done_at<D: FormatDriverInstance>(
     alloc: Global,
     disk: &mut FormatAccess<D>,
@@ -127,7 +127,7 @@ fn done_at<D: FormatDriverInstance>(
     }
 }
 
-// What a disk says of itself, or a call that keeps it and its files in step.
+// Makes a call without arguments.
 fn said<D: FormatDriverInstance>(
     alloc: Global,
     disk: &mut FormatAccess<D>,
@@ -142,7 +142,7 @@ fn said<D: FormatDriverInstance>(
     }
 }
 
-// A look at a range of a disk.
+// Makes a `read`, `map` or `shallow`.
 fn looked<D: FormatDriverInstance>(
     alloc: Global,
     disk: &mut FormatAccess<D>,
@@ -157,7 +157,7 @@ fn looked<D: FormatDriverInstance>(
     }
 }
 
-// A call of a disk that begins with a number.
+// Makes a call whose first argument is a number.
 fn called_at<D: FormatDriverInstance>(
     alloc: Global,
     disk: &mut FormatAccess<D>,
@@ -175,7 +175,7 @@ fn called_at<D: FormatDriverInstance>(
     }
 }
 
-// What a disk is called.
+// Returns the `Display` text of a disk.
 fn named<D: FormatDriverInstance + Display>(
     alloc: Global,
     disk: &FormatAccess<D>,
@@ -183,7 +183,7 @@ fn named<D: FormatDriverInstance + Display>(
     Ok(format!(in alloc; "{disk}")?)
 }
 
-/// Makes the call of these words of a disk.
+/// Makes the call that `words` describe on a disk.
 ///
 /// # Calls
 ///
@@ -191,20 +191,23 @@ fn named<D: FormatDriverInstance + Display>(
 ///   `write_mapped GUEST PLACE BYTES`.
 /// - `grow` and `resize SIZE MODE`, `shrink SIZE`, with `none`, `zero`, `format`, `full` or `data` as a mode; `flush`, `sync`,
 ///   `invalidate`.
-/// - `list CALL ; CALL ; ..`: these calls by one call, which keeps what is prepared between them: those above but for `resize` and
-///   `invalidate`, and `prepare OFFSET N [overwrite]`, `commit` and `cancel`. It tells their answers, with `/` between them, or `none`.
-/// - `sizes` of the layers, the highest first, and `ready`, whether each can be used; `aligns` of requests and of memory; `named`,
-///   `prepared`.
-/// - `file_size LAYER FILE` and `read_file LAYER FILE OFFSET N` of a layer's file as it stands: the top has the number 0, and so has its
-///   image file.
-/// - `driver CALL` of the top layer's driver: `is`, `granularity`, `ready`; `file` and `extra INDEX`, how long its files are; `map`,
-///   `read_special`, `zero`, `to_zero`, `to_any` and `to_backing OFFSET N`, which tell the part that is done; `read STORAGE PLACE N`;
-///   `write GUEST PLACE BYTES`.
+/// - `list CALL ; CALL ; ..`: several calls by one call of `drive`, which keeps a prepared mapping between them. A list can have the calls
+///   of the two items above except `resize` and `invalidate`, and also `prepare OFFSET N [overwrite]`, `commit` and `cancel`. The answers
+///   have `/` between them. An empty list answers `none`.
+/// - `sizes`: the sizes of the layers, the top first; `ready`: whether each layer can be used; `aligns`: the alignments of requests and of
+///   memory; `named`: the disk's `Display` text; `prepared`: whether a mapping is prepared in the top layer.
+/// - `file_size LAYER FILE` and `read_file LAYER FILE OFFSET N`: the current length and bytes of a layer's file. The top is layer 0, and
+///   the image file is file 0.
+/// - `driver CALL`: a call of the top image's driver. `is` describes it. `granularity` and `ready` have no arguments, either. `file` and
+///   `extra INDEX` answer the lengths of its files. `map` and `read_special OFFSET N` look at a range. `zero`, `to_zero`, `to_any` and
+///   `to_backing OFFSET N` answer the part that was changed. `read STORAGE PLACE N` and `write GUEST PLACE BYTES` use a mapped run.
+///
+/// `PLACE` is an offset in a storage, and `GUEST` an offset of the disk.
 ///
 /// # Errors
 ///
-/// [`Trouble::NoCall`] where the words are no call, or where it is one that may not be made while something is prepared;
-/// [`Trouble::Refused`] as the call.
+/// - [`Trouble::NoCall`] if the words aren't a call, or the call isn't allowed while a mapping is prepared.
+/// - [`Trouble::Refused`] if the call fails.
 pub fn called<D: ReadFiles + Display>(
     alloc: Global,
     disk: &mut FormatAccess<D>,
