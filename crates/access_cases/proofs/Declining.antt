@@ -1,4 +1,4 @@
--- What a refusal leaves of the marks of an image that was not cut off, and a zeroing or a discard of an image that can't.
+-- Lemmas about an image that can't zero or discard by itself, and about its failed flag after an error that isn't a resource error.
 use Rattle.std.proofs.Common.{◌≡◌, refl, sym, subst, inl, ℕ, ◌<◌, arith}
 use Rattle.std.specs.Prelude.{Result, Ok, Err, IfOk}
 use Rattle.imago_storage.specs.declared.fault.Fault.{Fault}
@@ -63,7 +63,7 @@ module _ {D St : Type 0} (g : Ghosts D St) (call : PartCall) (offset n : ℕ) (d
     crash_images = λ well_formed below told. passes_none (Left below (g.layer d) (g.image d).bytes g.sound (g.layer d).size (g.layer d).size (PartGives call below offset n)) (g.image d) (g.image d) refl (refl, refl, refl, refl);
   }
 
-  -- a part of no bytes of an empty range was done, or none
+  -- The call did an empty part of an empty range, or it failed.
   pub does_nothing : (result : Result (ℕ × ℕ) Fault) → 0 < (g.layer d).fixed.unit → IfOk result (λ r. (r ≡ (offset, 0)) × (n ≡ 0)) → DoesPart call g offset n result d d
   does_nothing (Ok r) positive is = subst (λ (part : ℕ × ℕ). DoesPart call g offset n (Ok part) d d) (sym is.0) (done_nothing is.1 positive)
   does_nothing (Err e) positive is = refused_nothing e

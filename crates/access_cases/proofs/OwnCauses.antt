@@ -1,4 +1,4 @@
--- Causes of drivers of words and of raw images.
+-- The own faults of one-cluster images and of raw images.
 use Rattle.std.proofs.Common.{◌≡◌, List, ap}
 use Rattle.std.specs.Prelude.{⊤, Bool, true, false}
 use Rattle.imago_storage.specs.Steps.{Call}
@@ -11,7 +11,7 @@ use Rattle.access_cases.specs.declared.drivers.Driver.{Driver}
 use Rattle.access_cases.specs.Clusters.{cluster_cause}
 use Rattle.access_cases.specs.Drivers.{is_words, kind_cause}
 
--- Where a call has begun in a driver of a kind, its causes are those of that kind.
+-- Once a call has begun in a driver of one kind, its faults are those of that kind.
 pub raw_causes : {S : Type 0} (raw : Raw S) (below : List Layer) (x : Driver S) (call : Call) → false ≡ is_words x
     → (d : Raw S) × ⊤ × ◌≡◌ {A = Fault → Type 0} (RawCause call) (kind_cause (is_words x) call)
 raw_causes raw below x call begun =

@@ -1,4 +1,4 @@
--- What an image of one cluster prepares, and what it makes of a run that is committed.
+-- Lemmas about the run that a one-cluster image prepares, and about the image after the commit.
 use Rattle.std.proofs.Common.{◌≡◌, ℕ, zero, suc, ◌+◌, ◌*◌, ◌<◌, ◌≤◌, Bool, true, false, Option, Some, None, List, get_or, replicate, map, refl, sym, ◌∙◌, ap, subst, inl, inr, ⊎_elim, arith}
 use Rattle.std.proofs.Math.ListN as ListN
 use Rattle.std.proofs.lemmas.Bool.{cases_lt, ltb-false, le-ltb}
@@ -35,7 +35,7 @@ none_written n p = elim (cases_lt p n) [
 home_outside : (start end p : ℕ) → (leb start p && ltb p end) ≡ false → home_in start end p ≡ None
 home_outside start end p out = rw out refl
 
--- a place beside the run holds the 0 that it has
+-- A byte of the disk outside the run holds the 0 that it had.
 beside_holds : (below : ℕ → Value) (layer : Layer) (start n size p : ℕ) (overwrite : Bool) → (leb start p && ltb p (start + n)) ≡ false
     → layer.cell p ≡ own (byte 0) → layer.writable_location p ≡ None → IsHolding below layer start n overwrite p (beside_in size p)
 beside_holds below layer start n size p overwrite out blank home = from (ltb p size) where
@@ -54,19 +54,19 @@ run_holds below layer start n size p overwrite blank home = from (leb start p &&
 loose_past : (size p : ℕ) → size ≤ p → beside_in size p ≡ loose
 loose_past size p past = rw (le-ltb p size past) refl
 
--- a place in a cluster that a run of the disk doesn't touch is no place of the disk
+-- If a run of the disk doesn't touch a cluster, no byte of that cluster is on the disk. A cluster is at least as long as the disk.
 behind_disk : (cluster size start n p u : ℕ) → size ≤ cluster → 0 < n → start + n ≤ size → u * cluster ≤ p → (u * cluster + cluster ≤ start) ⊎ (start + n ≤ u * cluster) → size ≤ p
 behind_disk cluster size start n p zero long some within from out = absurd (⊎_elim (λ before. omega (arith, before, long, some, within)) (λ behind. omega (arith, behind, some)) out)
 behind_disk cluster size start n p (suc u) long some within from out = omega (arith, from, long)
 
--- and it is free
+-- Such a byte isn't held.
 pub apart_loose : (size start n p : ℕ) (overwrite : Bool) (written : List (Option ℕ)) → 0 < n → start + n ≤ size → IsApart (max size 1) start n p
     → held_in size start (start + n) overwrite written p ≡ loose
 apart_loose size start n p overwrite written some within apart =
     let past = behind_disk (max size 1) size start n p apart.0 (omega arith) some within apart.1 apart.3 in
     rw (is_outside start n p (inr (omega (arith, past, within)))) (loose_past size p past)
 
--- A run that is prepared: it can be written where it is, and nothing is written to it yet.
+-- DEL
 pub run_prepared : (below : ℕ → Value) (old new : Layer) (start n size mapping_id : ℕ) (overwrite : Bool) → 0 < n
     → new.fixed ≡ old.fixed → new.size ≡ old.size → new.cell ≡ old.cell → new.unspent ≡ Some mapping_id
     → ((p : ℕ) → new.cell p ≡ own (byte 0)) → new.writable_location ≡ home_in start (start + n) → new.held ≡ held_in size start (start + n) overwrite (replicate size None)
@@ -81,7 +81,7 @@ run_prepared below old new start n size mapping_id overwrite some fixed same cel
   some_held = λ c is. (start, None, (omega arith, omega arith), rw held (rw (is_inside start n start (omega arith) (omega arith)) (ap (λ (w : Option ℕ). inside None w overwrite) (none_written size start))));
 }
 
--- nothing is written to it yet, and it lies on the disk
+-- DEL
 pub run_fits : (size start n : ℕ) (backed : Bool) (written : List (Option ℕ)) → written ≡ replicate size None → start + n ≤ size → backed ≡ false → IsRunOf size backed start (start + n) written
 run_fits size start n backed written unwritten within alone = rw unwritten (record {
   all = omega (arith, length-replicate {A = Option ℕ});
@@ -96,11 +96,11 @@ is_between start end p ge lt = grind (arith, nat_tests)
 pub home_between : (start end p : ℕ) → start ≤ p → p < end → home_in start end p ≡ Some (0, p)
 home_between start end p ge lt = rw (is_between start end p ge lt) refl
 
--- a place that can be written lies in the run
+-- DEL
 pub between_home : (start end p : ℕ) (at : ℕ × ℕ) → home_in start end p ≡ Some at → (start ≤ p) × (p < end)
 between_home start end p at is = let parts = cond_some (leb start p && ltb p end) (0, p) at is in let tested = parts.0 in (grind (arith, nat_tests), grind (arith, nat_tests))
 
--- a place of the run notes a byte, and another stays
+-- A write changes the held state of a written byte of the run.
 pub takes_byte : (size start end p b : ℕ) (announced : Bool) (old new : List (Option ℕ)) (cell : Cell) → start ≤ p → p < end → get_or new p None ≡ Some b
     → TakesByte b (held_in size start end announced old p) cell (held_in size start end announced new p) cell
 takes_byte size start end p b announced old new cell ge lt noted = rw (is_between start end p ge lt) (refl, ap (λ (w : Option ℕ). inside None w announced) noted)
@@ -120,14 +120,14 @@ settled_to (Some b) announced v is = ap (λ x. own (byte x)) is
 settled_to None true v is = inl (ap (λ x. own (byte x)) is)
 settled_to None false v is = ap (λ x. own (byte x)) is
 
--- a place beside it has the 0 that it had
+-- DEL
 beside_settles : (size p : ℕ) (c : Cell) → c ≡ own (byte 0) → CommitsPlace (beside_in size p) (own (byte 0)) c
 beside_settles size p c is = from (ltb p size) where
   from : (b : Bool) → CommitsPlace (if b then beside 0 else loose) (own (byte 0)) c
   from true = is
   from false = is
 
--- A place of a run that is committed has what was written to it, and else what it had.
+-- After the commit, a byte has the value that was written, or else its old value.
 pub settled_cell : (size start end p : ℕ) (backed announced : Bool) (written : List (Option ℕ)) (bytes : List ℕ) → IsRunOf size backed start end written
     → bytes ≡ map (λ w. unwrap_or w 0) written → CommitsPlace (held_in size start end announced written p) (blank_of backed) (own (byte (get_or bytes p 0)))
 settled_cell size start end p backed announced written bytes run is = rw run.alone (from (leb start p && ltb p end) refl) where
@@ -139,7 +139,7 @@ settled_cell size start end p backed announced written bytes run is = rw run.alo
   from false out = beside_settles size p (own (byte (get_or bytes p 0)))
       (ap (λ x. own (byte x)) (place ∙ ap (λ (w : Option ℕ). unwrap_or w 0) (run.others p (outside start end p out))))
 
--- It can be written in the same place.
+-- A byte of the run keeps its writable location.
 pub home_kept : (size start end p : ℕ) (writable : Bool) (at : ℕ × ℕ) → end ≤ size → IsTrue writable → home_in start end p ≡ Some at → home_in 0 (if writable then size else 0) p ≡ Some at
 home_kept size start end p writable at within opened is =
     let parts = cond_some (leb start p && ltb p end) (0, p) at is in
@@ -148,13 +148,13 @@ home_kept size start end p writable at within opened is =
     let there : (leb 0 p && ltb p size) ≡ true = grind (arith, nat_tests) in
     rw opened (rw there (ap (λ (x : ℕ × ℕ). Some x) parts.1))
 
--- each place of a disk that is mapped can be written
+-- DEL
 pub mapped_home : (size p : ℕ) (writable : Bool) → IsTrue writable → p < size → home_in 0 (if writable then size else 0) p ≡ Some (0, p)
 mapped_home size p writable opened lt =
     let there : (leb 0 p && ltb p size) ≡ true = grind (arith, nat_tests) in
     rw opened (rw there refl)
 
--- the bytes of a cluster that is mapped are what its file means
+-- DEL
 pub file_means : (blank : Cell) (bytes : List ℕ) (p : ℕ) → p < length bytes → cell_of blank bytes p ≡ own (byte (slice_index bytes p))
 file_means blank [] p lt = absurd (omega (arith, lt))
 file_means blank (first ∷ bytes) p lt = refl
@@ -171,15 +171,15 @@ taken_past size start end p announced written is = from (leb start p && ltb p en
   from true is = absurd (cc is)
   from false is = beside_past size p is
 
--- A run that is prepared holds each place of the disk.
+-- A prepared run holds every byte of the disk.
 pub free_past : (content : Content) (run : PreparedRun) (size p : ℕ) → content ≡ variant.Prepared run → held_of content size p ≡ loose → size ≤ p
 free_past content run size p is free = taken_past size run.start run.end p run.overwrite run.written.items (subst (λ (c : Content). held_of c size p ≡ loose) is free)
 
--- what room there is, by what the image holds
+-- DEL
 pub room_by : (content other : Content) (size p : ℕ) → content ≡ other → HasRoom content size p → HasRoom other size p
 room_by content other size p is room = subst (λ (c : Content). HasRoom c size p) is room
 
--- no place of a disk that is mapped is bare, nor one that can't be read
+-- No byte of a mapped or barred disk is unallocated.
 pub mapped_bare : (content : Content) (size p : ℕ) → content ≡ variant.Mapped → p < size → IsBare content size p → ⊥
 mapped_bare content size p is before bare = ⊎_elim (λ past. absurd (omega (arith, past, before))) (λ none. none) (subst (λ (c : Content). IsBare c size p) is bare)
 

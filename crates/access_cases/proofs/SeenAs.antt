@@ -1,4 +1,4 @@
--- A driver of one kind, seen as a driver of several.
+-- Lemmas that carry the contracts of one kind of driver over to the enum of several kinds.
 use Rattle.std.proofs.Common.{◌≡◌, ℕ, List, ◌++◌, subst, sym, inl, inr}
 use Rattle.std.specs.Prelude.{⊤, Result, Ok, Err, Option, OnOk, IfErr, IfOk}
 use Rattle.imago_storage.specs.Steps.{Call, IsIn, shrink}
@@ -19,7 +19,7 @@ use Rattle.imago_access.specs.PreparingCalls.{RunRefused, WritesMapped, WritingR
 use Rattle.imago_formats.proofs.RawSteps.{on_ok_always}
 use Rattle.imago_access.specs.PartCalls.{PartCall, ensures_zero, discards_to_zero, discards_to_any, discards_to_backing, LeavesPart, IsDone, DoesPart, PartRefused}
 
--- what contracts see of a driver of one kind, by what they see of it as one of several
+-- The ghosts of one kind of driver, taken from those of the enum.
 abbrev pub as_kind : {D E St Su : Type 0} → (D → E) → Ghosts E Su → Ghosts D St → Ghosts D St
 as_kind f h g = record {
   layer = λ d. h.layer (f d);
@@ -46,7 +46,7 @@ pub on_ok_weaker : {T F : Type 0} (result : Result T F) (P Q : Type 0) → (P �
 on_ok_weaker (Ok x) P Q more holds = more holds
 on_ok_weaker (Err e) P Q more holds = tt
 
--- A driver of one kind before and after a call, where what had begun as one of several has begun still.
+-- A driver of one kind before and after a call. If a larger call had begun for the enum before, it still has after (`on`).
 module _ {D E St Su : Type 0} (f : D → E) (h : Ghosts E Su) (g : Ghosts D St) (same : as_kind f h g ≡ g) (a b : D)
     (on : (x : E) (call : Call) → h.began x call (f a) → h.began x call (f b)) where
   takes_in : (spared : ℕ → Type 0) → Takes (as_kind f h g) spared a b → Takes h spared (f a) (f b)
@@ -78,16 +78,16 @@ module _ {D E St Su : Type 0} (f : D → E) (h : Ghosts E Su) (g : Ghosts D St) 
       → EarlyOutcome h refusal nothing result (f a) (f b)
   at_once_in refusal nothing result k = record { refused = k.refused; idle = k.idle; unchanged = λ none. unchanged_in (k.unchanged none) }
 
-  -- all is as it was
+  -- DEL
   pub unchanged_as : IsUnchanged g a b → IsUnchanged h (f a) (f b)
   unchanged_as unchanged = unchanged_in (subst (λ k. IsUnchanged k a b) (sym same) unchanged)
 
-  -- what a call does at once
+  -- DEL
   pub at_once_as : {T : Type 0} (refusal : Option Fault) (nothing : Type 0) (result : Result T Fault) → EarlyOutcome g refusal nothing result a b
       → EarlyOutcome h refusal nothing result (f a) (f b)
   at_once_as refusal nothing result once = at_once_in refusal nothing result (subst (λ k. EarlyOutcome k refusal nothing result a b) (sym same) once)
 
-  -- what a resize does at once
+  -- DEL
   pub resizes_as : (first second : ℕ) (result : Result Unit Fault) → Resizes g first second result a b → Resizes h first second result (f a) (f b)
   resizes_as first second result resizes = let k = subst (λ x. Resizes x first second result a b) (sym same) resizes in record {
     nothing = k.nothing;
@@ -107,7 +107,7 @@ module _ {D E St Su : Type 0} (f : D → E) (h : Ghosts E Su) (g : Ghosts D St) 
     excess_refcount = w.excess_refcount;
   }
 
-  -- a read of a file as it stands
+  -- DEL
   pub files_read_as : (whole : Type 0) → FilesRead g whole a b → FilesRead h whole (f a) (f b)
   files_read_as whole read = let r = subst (λ k. FilesRead k whole a b) (sym same) read in record {
     layer = r.layer;
@@ -138,7 +138,7 @@ module _ {D E St Su : Type 0} (f : D → E) (h : Ghosts E Su) (g : Ghosts D St) 
   given_as call (Ok r) given = λ p there. done_as call p (given p there)
   given_as call (Err e) given = tt
 
-  -- a call that zeroes or discards a part, which leaves what had begun
+  -- DEL
   pub does_as : (call : PartCall) (offset n : ℕ) (result : Result (ℕ × ℕ) Fault) → DoesPart call g offset n result a b → DoesPart call h offset n result (f a) (f b)
   does_as call offset n result does = let k = subst (λ x. DoesPart call x offset n result a b) (sym same) does in record {
     ok = k.ok;
@@ -161,7 +161,7 @@ module _ {D E St Su : Type 0} (f : D → E) (h : Ghosts E Su) (g : Ghosts D St) 
   marks_as (Ok x) marks = tt
   marks_as (Err e) marks = marks_one e (subst (λ k. MarksFailed k a b e) (sym same) marks)
 
-  -- what refuses it, where each driver for which a call has begun has the causes of one of this kind
+  -- For each driver whose call has begun, its own faults are those of some driver of this kind.
   pub refused_as : (call : PartCall) (offset n : ℕ) (result : Result (ℕ × ℕ) Fault)
       → ((below : List Layer) (x : E) (whole : Call) → h.began x whole (f a) → (d : D) × g.began d whole a × (g.own_cause d below whole ≡ h.own_cause x below whole))
       → PartRefused call g offset n result a b → PartRefused call h offset n result (f a) (f b)
@@ -173,7 +173,7 @@ module _ {D E St Su : Type 0} (f : D → E) (h : Ghosts E Su) (g : Ghosts D St) 
         subst (λ c. IfErr result (DeclinableCause below (h.layer (f a)) offset n c (files h (f a)) (files h (f b)))) own.2 (k.cause well_formed below own.0 whole own.1 part is_for);
   }
 
-  -- a write to a mapping
+  -- DEL
   pub writes_as : (guest place : ℕ) (bytes : List ℕ) (result : Result Unit Fault) → WritesMapped g guest place bytes result a b → WritesMapped h guest place bytes result (f a) (f b)
   writes_as guest place bytes result writes = let k = subst (λ x. WritesMapped x guest place bytes result a b) (sym same) writes in record {
     mapped = k.mapped;
@@ -203,7 +203,7 @@ module _ {D E St Su : Type 0} (f : D → E) (h : Ghosts E Su) (g : Ghosts D St) 
   marks_over_as (Ok x) marks = tt
   marks_over_as (Err e) marks = marks_over_one e (subst (λ k. MarksFailedOver k a b e) (sym same) marks)
 
-  -- what refuses a mapping
+  -- DEL
   pub run_refused_as : {B T : Type 0} (u : GhostsBelow B) (x y : B) (asked : Asked) (result : Result T Fault)
       → ((below : List Layer) (e : E) (call : Call) → h.began e call (f a) → (d : D) × g.began d call a × (g.own_cause d below call ≡ h.own_cause e below call))
       → RunRefused g u asked result (a, x) (b, y) → RunRefused h u asked result (f a, x) (f b, y)
@@ -216,7 +216,7 @@ module _ {D E St Su : Type 0} (f : D → E) (h : Ghosts E Su) (g : Ghosts D St) 
         (k.cause well_formed coherent own.0 call own.1 part announced);
   }
 
-  -- the same of a refusal in place of another answer
+  -- `run_refused_as` for a result of another type.
   pub run_refused_err : {B T U : Type 0} (u : GhostsBelow B) (x y : B) (asked : Asked) (e : Fault)
       → ((below : List Layer) (z : E) (call : Call) → h.began z call (f a) → (d : D) × g.began d call a × (g.own_cause d below call ≡ h.own_cause z below call))
       → RunRefused {T = T} g u asked (Err e) (a, x) (b, y) → RunRefused {T = U} h u asked (Err e) (f a, x) (f b, y)
@@ -226,7 +226,7 @@ module _ {D E St Su : Type 0} (f : D → E) (h : Ghosts E Su) (g : Ghosts D St) 
     cause = k.cause;
   }
 
-  -- what refuses a shrink
+  -- DEL
   pub shrink_refused_as : (size : ℕ) (result : Result Unit Fault) → ((below : List Layer) (call : Call) → g.own_cause a below call ≡ h.own_cause (f a) below call)
       → ShrinkRefused g size result a b → ShrinkRefused h size result (f a) (f b)
   shrink_refused_as size result causes refused = let k = subst (λ x. ShrinkRefused x size result a b) (sym same) refused in record {
@@ -235,7 +235,7 @@ module _ {D E St Su : Type 0} (f : D → E) (h : Ghosts E Su) (g : Ghosts D St) 
     cause = λ well_formed below. subst (λ c. IfErr result (ShrinkCause below (h.layer (f a)) size c (files h (f a)) (files h (f b)))) (causes below (shrink size)) (k.cause well_formed below);
   }
 
-  -- what refuses a growth
+  -- DEL
   pub growth_refused_as : {B : Type 0} (u : GhostsBelow B) (x y : B) (size : ℕ) (mode : PreallocateMode) (result : Result Unit Fault)
       → ((below : List Layer) → g.growth_cause a below size mode ≡ h.growth_cause (f a) below size mode)
       → GrowthRefused g u size mode result (a, x) (b, y) → GrowthRefused h u size mode result (f a, x) (f b, y)

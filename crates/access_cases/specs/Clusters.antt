@@ -1,4 +1,5 @@
--- An image of one cluster over a file, of which nothing is mapped until its first mapping is committed.
+-- The one-cluster image of `clusters.rt` as contracts see it: a layer of a chain (an image without its backing files). Nothing of the image
+-- is mapped, and its file is empty, until the first prepared mapping is committed.
 use Rattle.std.specs.Prelude.{◌≡◌, ◌⊎◌, ⊤, ℕ, ◌<◌, ◌≤◌, max, length, ◌&&◌, Bool, true, false, Option, Some, None, List, [], ◌∷◌, IsTrue, if◌then◌else◌, ltb, leb, slice_index, slice_index_or}
 use Rattle.imago_storage.specs.State.{Shape, StorageState}
 use Rattle.imago_storage.specs.Disk.{byte, barred}
@@ -10,17 +11,17 @@ use Rattle.access_cases.specs.declared.clusters.Content.{Content}
 use Rattle.access_cases.specs.declared.clusters.Content.TheVariants.{Unmapped, Zeroed, Barred, Prepared, Mapped}
 use Rattle.access_cases.specs.declared.clusters.OneCluster.{OneCluster}
 
--- what a place says that isn't mapped, with or without layers below
+-- The cell (a value, or nothing) of an unmapped byte, with or without layers below.
 abbrev pub blank_of : Bool → Cell
 blank_of true = unmapped
 blank_of false = own (byte 0)
 
--- what a file says of a place: nothing where it is empty, and else its byte
+-- The cell that file `f` gives at `p`: `blank` if the file is empty, else its byte.
 abbrev pub cell_of : Cell → List ℕ → ℕ → Cell
 cell_of blank [] p = blank
 cell_of blank (first ∷ bytes) p = own (byte (slice_index (first ∷ bytes) p))
 
--- what each file means, by what the image holds: one that states the same of each place needs no bytes
+-- The cell at `p` if the image's file were `f`. A zeroed or barred image has the same cell everywhere, for every file.
 abbrev pub meant_by : Content → Cell → List ℕ → ℕ → Cell
 meant_by Zeroed blank f p = own (byte 0)
 meant_by Barred blank f p = own barred
@@ -28,7 +29,7 @@ meant_by Unmapped blank f p = cell_of blank f p
 meant_by (Prepared run) blank f p = cell_of blank f p
 meant_by Mapped blank f p = cell_of blank f p
 
--- what the image says of a place, with this file
+-- The cell of the image at `p`, with file `f`.
 abbrev pub says : Content → Cell → List ℕ → ℕ → Cell
 says Zeroed blank f p = own (byte 0)
 says Barred blank f p = own barred
@@ -36,7 +37,7 @@ says Unmapped blank f p = blank
 says (Prepared run) blank f p = blank
 says Mapped blank f p = own (byte (slice_index f p))
 
--- what never changes of it, over a storage of this shape: its one cluster is as long as the disk
+-- The fixed properties of the image over a storage of shape `shape`. Its single cluster is as long as the disk.
 abbrev pub cluster_fixed : {S : Type 0} → Shape → OneCluster S → Fixed
 cluster_fixed shape d = record {
   format = format.Qcow2;
@@ -58,26 +59,26 @@ cluster_fixed shape d = record {
   unit = max d.size 1;
 }
 
--- the places from the first up to the second can be written at their own number
+-- The bytes from `start` up to `end` can be written, each at its own offset.
 abbrev pub home_in : ℕ → ℕ → ℕ → Option (ℕ × ℕ)
 home_in start end p = if leb start p && ltb p end then Some (0, p) else None
 
--- what of a disk of this size isn't in the run: it lies beside it in the cluster, where its bytes, which are 0, were copied
+-- The state of a byte outside the prepared run. The bytes of the disk are copied into the cluster, and all copied bytes are 0.
 abbrev pub beside_in : ℕ → ℕ → Held
 beside_in size p = if ltb p size then beside 0 else loose
 
--- the places of the run are held, with what was written to them
+-- The bytes of the prepared run are held until a commit, with what was written to them.
 abbrev pub held_in : ℕ → ℕ → ℕ → Bool → List (Option ℕ) → ℕ → Held
 held_in size start end announced written p =
     if leb start p && ltb p end then inside None (slice_index_or written p None) announced else beside_in size p
 
--- where a place can be written: in a run that is prepared, or below this size where the disk is mapped
+-- The writable location of a byte: in a prepared run, or below `size` if the disk is mapped.
 abbrev pub home_of : Content → ℕ → ℕ → Option (ℕ × ℕ)
 home_of (Prepared run) size p = home_in run.start run.end p
 home_of Mapped size p = home_in 0 size p
 home_of content size p = None
 
--- what a run that is prepared holds of it, on a disk of this size
+-- The state of a byte in the prepared run, on a disk of `size` bytes.
 abbrev pub held_of : Content → ℕ → ℕ → Held
 held_of (Prepared run) size p = held_in size run.start run.end run.overwrite run.written.items p
 held_of content size p = loose
@@ -86,7 +87,7 @@ abbrev pub unspent_of : Content → Option ℕ
 unspent_of (Prepared run) = Some run.mapping_id
 unspent_of content = None
 
--- the image as a layer, with its file in this state
+-- The image as a layer, with its file in state `state`.
 abbrev pub cluster_layer : {S : Type 0} → StorageState → OneCluster S → Layer
 cluster_layer state d = record {
   fixed = cluster_fixed state.shape d;
@@ -98,8 +99,8 @@ cluster_layer state d = record {
   unspent = unspent_of d.content;
 }
 
--- Nothing is allocated for the cluster, and it isn't read. One that is said to be 0 is not kept, and one that is prepared is allocated by
--- its commit. One that can't be read is allocated, and isn't the image's own.
+-- Nothing is allocated for the cluster, and it isn't read. A zeroed image stores no zeroes, and a prepared run is allocated by its commit.
+-- A barred cluster (its bytes can't be read) is allocated, and isn't the image's own.
 abbrev pub TakesNone : Content → Type 0
 TakesNone Unmapped = ⊤
 TakesNone Zeroed = ⊤
@@ -107,23 +108,23 @@ TakesNone Barred = ⊥
 TakesNone (Prepared run) = ⊤
 TakesNone Mapped = ⊥
 
--- the same of a place of a disk of this size, or the place lies past its end
+-- The byte at `p` is past the end of the disk, or nothing is allocated for it.
 abbrev pub IsBare : Content → ℕ → ℕ → Type 0
 IsBare content size p = (size ≤ p) ⊎ TakesNone content
 
--- the place has room of its own
+-- The image has allocated space for the byte.
 abbrev pub HasRoom : Content → ℕ → ℕ → Type 0
 HasRoom Mapped size p = p < size
 HasRoom content size p = ⊥
 
--- a run that is prepared in a cluster without layers below: it lies on the disk, and nothing is written to other places
+-- A run prepared in a cluster without layers below. It is inside the disk, and nothing is written to bytes outside it.
 pub record IsRunOf (size : ℕ) (backed : Bool) (start end : ℕ) (written : List (Option ℕ)) : Type 0 where
   pub all : length written ≡ size
   pub inside : end ≤ size
   pub alone : backed ≡ false
   pub others : (p : ℕ) → (p < start) ⊎ (end ≤ p) → slice_index_or written p None ≡ None
 
--- what it holds fits its file: an empty one until a mapping is committed, and then one of at least the disk's size
+-- The content fits file `f`: an empty file until a mapping is committed, and at least as long as the disk afterwards.
 abbrev pub IsHeldIn : ℕ → Bool → List ℕ → Content → Type 0
 IsHeldIn size backed f Unmapped = f ≡ []
 IsHeldIn size backed f Zeroed = ⊤
@@ -131,19 +132,19 @@ IsHeldIn size backed f Barred = ⊤
 IsHeldIn size backed f (Prepared run) = (f ≡ []) × IsRunOf size backed run.start run.end run.written.items
 IsHeldIn size backed f Mapped = size ≤ length f
 
--- It has not failed, its file keeps what is written, and what it holds fits that file.
+-- The image hasn't failed, its file keeps what is written, and its content fits the file.
 pub record IsWellFormed {S : Type 0} (state : StorageState) (d : OneCluster S) : Type 0 where
   pub runs : d.failed ≡ false
   pub keeps : IsTrue state.shape.keeps
   pub fits : IsHeldIn d.size d.backed state.bytes d.content
 
--- The causes of its own to refuse a change: it can't zero or discard by itself, and maps nothing where it would have to copy.
+-- The image's own faults for a change. It can't zero or discard by itself, and prepares nothing if a copy would be needed.
 abbrev pub cluster_cause : Fault → Type 0
 cluster_cause Unsupported = ⊤
 cluster_cause (Limit bound) = bound ≡ 0
 cluster_cause fault = ⊥
 
--- want of memory or a fault of its file that cuts a call off marks it failed
+-- A resource error (`Fault::Memory`, `Fault::Storage`) of the file sets the image to failed.
 abbrev pub failed_by : Fault → Bool → Bool
 failed_by Memory failed = true
 failed_by Storage failed = true

@@ -1,4 +1,5 @@
--- Where the places of an image of one cluster can be written, what is held of them, and what room they have.
+-- Lemmas about a one-cluster image: where its bytes can be written in place, which bytes a prepared mapping holds until a commit, and what
+-- is allocated.
 use Rattle.std.specs.Prelude.{◌≡◌, ◌⊎◌, ℕ, ◌<◌, ◌≤◌, max, ◌&&◌, Bool, true, false, Some, None, IsSome, if◌then◌else◌, ltb, leb}
 use Rattle.std.proofs.Common.{ap, refl, inl, inr, arith}
 use Rattle.std.proofs.lemmas.Bool.{ltb-true, le-ltb}
@@ -9,7 +10,7 @@ use Rattle.access_cases.specs.declared.clusters.Content.{Content}
 use Rattle.access_cases.specs.declared.clusters.Content.TheVariants.{Unmapped, Zeroed, Barred, Prepared, Mapped}
 use Rattle.access_cases.specs.Clusters.{blank_of, home_in, home_of, held_of, unspent_of, IsBare, HasRoom}
 
--- a place can be written at its own number alone
+-- A byte can only be written at its own offset.
 home_once : (start end p q : ℕ) (at : ℕ × ℕ) → home_in start end p ≡ Some at → home_in start end q ≡ Some at → p ≡ q
 home_once start end p q at first second = from (leb start p && ltb p end) (leb start q && ltb q end) first second where
   from : (a b : Bool) → (if a then Some (0, p) else None) ≡ Some at → (if b then Some (0, q) else None) ≡ Some at → p ≡ q
@@ -24,7 +25,7 @@ one_writable_location Unmapped size p q at first second = absurd (cc first)
 one_writable_location Zeroed size p q at first second = absurd (cc first)
 one_writable_location Barred size p q at first second = absurd (cc first)
 
--- while nothing is prepared, no place is held
+-- While nothing is prepared, no byte is held.
 pub free_loose : (content : Content) (size p : ℕ) → unspent_of content ≡ None → held_of content size p ≡ loose
 free_loose (Prepared run) size p free = absurd (cc free)
 free_loose Mapped size p free = refl
@@ -32,11 +33,11 @@ free_loose Unmapped size p free = refl
 free_loose Zeroed size p free = refl
 free_loose Barred size p free = refl
 
--- the one cluster has at least one byte
+-- The single cluster has at least one byte.
 pub some_cluster : (size : ℕ) → 0 < max size 1
 some_cluster size = Prim.omega arith
 
--- a bare place has no room
+-- A byte can't be both unallocated and allocated.
 pub not_both : (content : Content) (size p : ℕ) → IsBare content size p → HasRoom content size p → ⊥
 not_both Mapped size p (inl past) room = absurd (Prim.omega (arith, past, room))
 not_both Mapped size p (inr none) room = none
@@ -45,7 +46,7 @@ not_both Zeroed size p bare room = room
 not_both Barred size p bare room = room
 not_both (Prepared run) size p bare room = room
 
--- what can be written ends with the disk at the latest
+-- The part that can be written doesn't reach past the end of the disk.
 end_of : (writable : Bool) (size : ℕ) → (if writable then size else 0) ≤ size
 end_of true size = le_refl size
 end_of false size = Prim.omega arith
@@ -68,7 +69,7 @@ home_past end p past = rw (and_false (leb 0 p) (ltb p end) (le-ltb p end past)) 
 home_before : (end p : ℕ) → IsSome (home_in 0 end p) → p < end
 home_before end p some = ltb-true p end (and_right (leb 0 p) (ltb p end) (is_there (leb 0 p && ltb p end) (0, p) some))
 
--- while nothing is prepared, no bare place can be written where it is
+-- While nothing is prepared, an unallocated byte has no writable location.
 pub bare_homeless : (content : Content) (writable : Bool) (size p : ℕ) → unspent_of content ≡ None → IsBare content size p
     → home_of content (if writable then size else 0) p ≡ None
 bare_homeless Mapped writable size p free (inl past) =
@@ -79,7 +80,7 @@ bare_homeless Zeroed writable size p free bare = refl
 bare_homeless Barred writable size p free bare = refl
 bare_homeless (Prepared run) writable size p free bare = absurd (cc free)
 
--- and a place that can be written has room
+-- While nothing is prepared, a byte with a writable location is allocated.
 pub housed_room : (content : Content) (writable : Bool) (size p : ℕ) → unspent_of content ≡ None
     → IsSome (home_of content (if writable then size else 0) p) → HasRoom content size p
 housed_room Mapped writable size p free some = Prim.omega (arith, home_before (if writable then size else 0) p some, end_of writable size)
@@ -88,7 +89,7 @@ housed_room Zeroed writable size p free some = absurd (cc some)
 housed_room Barred writable size p free some = absurd (cc some)
 housed_room (Prepared run) writable size p free some = absurd (cc free)
 
--- a place that isn't mapped shows the layer below, or is 0
+-- An unmapped byte is read from the layer below (the backing file), or is 0.
 pub blanks : (backed : Bool) → (blank_of backed ≡ unmapped) ⊎ (blank_of backed ≡ own (byte 0))
 blanks true = inl refl
 blanks false = inr refl

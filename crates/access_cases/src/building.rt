@@ -1,4 +1,4 @@
-// How images are opened and created, option by option.
+// Opens and creates raw images with their builders, option by option, and returns what a script prints of them.
 use cases::{Trouble, joined, runs};
 use imago_access::{
     DenyImplicitOpenGate, FormatCreateBuilder, FormatCreateBuilderBase, FormatDriverBuilder,
@@ -8,11 +8,14 @@ use imago_formats::{Raw, RawCreateBuilder, RawOpenBuilder};
 use imago_storage::{Fault, MemStorage, Storage, StorageOpenOptions};
 use std::alloc::{AllocError, Global};
 
-/// What an opening is told.
+/// The options of an opening.
 #[derive(Clone, Copy)]
 pub struct Told<'a> {
+    /// True if the image is opened for writing.
     pub is_writing: bool,
+    /// True if the host's page cache is bypassed.
     pub is_direct: bool,
+    /// The name of the file, if any.
     pub file: Option<&'a str>,
 }
 
@@ -24,7 +27,7 @@ fn options_of(alloc: Global, told: Told<'_>) -> Result<StorageOpenOptions, Alloc
     }
 }
 
-// Options as words.
+// Returns the text of storage options.
 fn text_of(alloc: Global, options: &StorageOpenOptions) -> Result<String, AllocError> {
     let writing = if options.get_writable() {
         "writing"
@@ -36,7 +39,7 @@ fn text_of(alloc: Global, options: &StorageOpenOptions) -> Result<String, AllocE
     format!(in alloc; "{writing} {direct} {file}")
 }
 
-// What is told of the options.
+// Returns the text of an opening: whether it is writable, and its storage options.
 fn options_text(
     alloc: Global,
     writable: bool,
@@ -50,13 +53,13 @@ fn options_text(
     Ok(text)
 }
 
-// A storage of three bytes.
+// Creates a storage of three bytes.
 fn three(alloc: Global) -> Result<MemStorage, Trouble> {
     Ok(MemStorage::from_bytes(vec![in alloc; 7u8; 3]?)?)
 }
 
-/// What the base of an opening says before it is told anything, or after, the options that it makes, and the
-/// bytes of the image file that it opens.
+/// Returns what the base of an opening reports, before or after its options are set. The text has the options that it makes, and the bytes
+/// of the image file that it opens.
 pub fn opening(alloc: Global, told: Option<Told<'_>>) -> Result<String, Trouble> {
     let mut base = FormatDriverBuilderBase::new(three(alloc)?);
     if let Some(told) = told {
@@ -72,7 +75,7 @@ pub fn opening(alloc: Global, told: Option<Told<'_>>) -> Result<String, Trouble>
     Ok(text)
 }
 
-/// What the base of a creation says before and after it is told a size and a mode, and how long its storage is.
+/// Returns what the base of a creation reports before and after its size and mode are set, and the length of its storage.
 pub fn creating(alloc: Global, size: u64, mode: PreallocateMode) -> Result<String, Trouble> {
     let mut base = FormatCreateBuilderBase::new(three(alloc)?);
     let (first, is_first) = (
@@ -87,7 +90,7 @@ pub fn creating(alloc: Global, size: u64, mode: PreallocateMode) -> Result<Strin
     Ok(format!(in alloc; "{first} {is_first} {second} {is_second} {lent} {given}")?)
 }
 
-/// Opens a raw image by its builder. What the builder says is put at the end of a text.
+/// Opens a raw image with its builder. The builder's options are appended to `text`.
 pub fn open<S: Storage + Drop>(
     alloc: Global,
     storage: S,
@@ -108,14 +111,14 @@ pub fn open<S: Storage + Drop>(
     Ok(builder.open(alloc, &mut DenyImplicitOpenGate)?)
 }
 
-/// How a raw image is created.
+/// The way a raw image is created and opened.
 #[derive(Clone, Copy)]
 pub enum Creation {
-    /// Its storage is opened for writing by itself.
+    /// The image is created, and its storage is then opened for writing without the builder.
     Alone,
-    /// It is opened by the builder.
+    /// The builder opens the image.
     Opened,
-    /// The builder that opens it is refused.
+    /// The function that makes the opening builder returns an error.
     Unopened,
 }
 
@@ -156,7 +159,7 @@ pub fn create<S: Storage + Drop>(
     }
 }
 
-/// What a new builder of raw images says of its size and mode, and once it is told these.
+/// Returns the size and mode of a new builder of raw images, before and after they are set.
 pub fn create_builder(alloc: Global, size: u64, mode: PreallocateMode) -> Result<String, Trouble> {
     let builder = Raw::create_builder(MemStorage::new(alloc));
     let (first, is_first) = (
@@ -168,7 +171,7 @@ pub fn create_builder(alloc: Global, size: u64, mode: PreallocateMode) -> Result
     Ok(format!(in alloc; "{first} {is_first} {second} {is_second}")?)
 }
 
-/// What the closed gate answers for a name.
+/// Returns the answer of the closed gate, which opens no referenced file, to a name.
 pub fn gate(alloc: Global, name: &str) -> Result<String, Trouble> {
     let opened: Result<MemStorage, Fault> = DenyImplicitOpenGate.open_storage(alloc, name);
     opened?;

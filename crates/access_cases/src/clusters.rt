@@ -1,6 +1,6 @@
-// A driver of words: an image of one cluster over a storage. Nothing of it is mapped, and its file is empty, until its first mapping is
-// committed, which has state; then each place of the disk lies at the same place of the file. Or it says of all its places that they are
-// 0 or can't be read, and can't be changed then.
+// A small driver for test scripts: an image with a single cluster, stored in one file. The file is empty and nothing is mapped until the
+// first prepared mapping (a run that is written and not yet committed) is committed. From then on, each byte of the disk is at the same
+// offset of the file. An image may instead report that all of its bytes are 0 or can't be read. Such an image can't be changed.
 ghost use Rattle.std.specs.Prelude.{◌≡◌, ◌⊎◌, ◌+◌, ◌≤◌, ◌<◌, [], ⊤, refl, ℕ, List, length, slice_index, slice_index_or, map, replicate, OnOk, IfOk, IfErr, IsTrue, IsOk, None, Some, true, false, if◌then◌else◌};
 ghost use Rattle.std.specs.Option.{unwrap_or};
 ghost use Rattle.std.proofs.Common.{inl, inr};
@@ -33,29 +33,31 @@ use imago_access::{
 use imago_storage::{Fault, Storage, StorageExt, larger_alignment};
 use std::alloc::{AllocError, Global};
 
-// A mapping that an image has prepared, as the image knows it again.
+/// The state of a prepared mapping (a run that is written and not yet committed). The image uses it to recognise the mapping.
 #[derive(Clone, Copy, Drop)]
 pub struct PreparedCluster {
-    // The number of the image.
+    /// The number of the image.
     pub image: u64,
-    // Which of its mappings it is.
+    /// The number of the mapping within the image.
     pub mapping_id: u64,
 }
 
-// A run that is mapped, and isn't part of the disk yet.
+/// A run that is prepared and not yet committed.
 #[derive(Drop)]
 pub struct PreparedRun {
+    /// The number of the mapping.
     pub mapping_id: u64,
-    // The places that can be written, from the first up to the second.
+    /// The offsets that can be written: from `start` up to `end`, without `end`.
     pub start: u64,
     pub end: u64,
+    /// True if the caller promised to write the whole run.
     pub overwrite: bool,
-    // What was written to each place of the disk.
+    /// The byte that was written at each offset of the disk, if any.
     pub written: Vec<Option<u8>>,
 }
 
 impl PreparedRun {
-    // Whether a range of places can be written.
+    // Returns true if a range of offsets can be written.
     fn takes(&self, start: u64, end: u64) -> bool
         ensures yes { IsTrue result → (self.now.start ≤ start) × (end ≤ self.now.end) × (end ≤ length self.now.written.items) }
         ensures no { result ≡ false → (start < self.now.start) ⊎ ((self.now.end < end) ⊎ (length self.now.written.items < end)) }
@@ -64,50 +66,57 @@ impl PreparedRun {
     }
 }
 
-/// What an image holds.
+/// The content of an image.
 #[derive(Drop)]
 pub enum Content {
     Unmapped,
-    // It says itself that each place is 0.
+    // The image itself maps each byte as 0.
     Zeroed,
-    // No place can be read.
+    // No byte can be read.
     Barred,
     Prepared(PreparedRun),
-    // All of the disk's bytes are those of the file.
+    // All bytes of the disk are those of the file.
     Mapped,
 }
 
+/// An image with a single cluster, over a file.
 #[derive(Drop)]
 pub struct OneCluster<S> {
+    /// The file that stores the cluster.
     pub file: S,
+    /// The size of the disk, in bytes.
     pub size: u64,
-    // No other open image has it.
+    /// A number that no other open image has.
     pub number: u64,
+    /// True if the image was opened for writing.
     pub writable: bool,
-    // It shows the layer below where it has no bytes.
+    /// True if bytes that the image has no data for are read from the layer below (the backing file).
     pub backed: bool,
-    // It says of places of the layer below that they could be written there, where it was opened for writing.
+    /// True if a writable image reports that bytes of the layer below can be written in place in that layer.
     pub through: bool,
+    /// True if a read, a write or the commit of a run has ended with a resource error (`Fault::Memory`, `Fault::Storage`). A case can also
+    /// set it.
     pub failed: bool,
-    // A file that it needs was not handed in.
+    /// True if a file that the image needs wasn't passed in.
     pub missing: bool,
-    // How often a commit has failed by its file.
+    /// The number of commits that failed with a storage fault of the file.
     pub faults: u64,
-    // How many mappings it has prepared.
+    /// The number of mappings that the image has prepared.
     pub claims: u64,
-    // How many lookups it was asked for.
+    /// The number of lookups that the image has answered.
     pub lookups: u64,
+    /// The content of the image.
     pub content: Content,
 }
 
-// So many places that nothing was written to.
+// Returns `size` offsets at which nothing was written.
 fn unwritten(alloc: Global, size: u64) -> Result<Vec<Option<u8>>, AllocError>
     ensures { IfOk result (λ written. written.items ≡ replicate size None) }
 {
     vec![in alloc; None; size as usize]
 }
 
-// Notes bytes that are written from a place on.
+// Records that `bytes` are written from offset `at` on.
 fn note(written: &mut Vec<Option<u8>>, at: usize, bytes: &[u8])
     requires { at + length bytes.now ≤ length written.old.items }
     ensures len { length written.new.items ≡ length written.old.items }
@@ -120,7 +129,7 @@ fn note(written: &mut Vec<Option<u8>>, at: usize, bytes: &[u8])
     }
 }
 
-// The bytes of a disk whose other places are 0.
+// Returns the bytes of a disk. Bytes that weren't written are 0.
 fn settled(alloc: Global, written: &[Option<u8>]) -> Result<Vec<u8>, AllocError>
     ensures { IfOk result (λ bytes. bytes.items ≡ map (λ w. unwrap_or w 0) written.now) }
 {
@@ -128,7 +137,7 @@ fn settled(alloc: Global, written: &[Option<u8>]) -> Result<Vec<u8>, AllocError>
 }
 
 impl<S: Storage> OneCluster<S> {
-    // An image of so many bytes of 0 over an empty file, opened for writing. Nothing of it is mapped.
+    /// Creates a writable image of `size` bytes over an empty file. It reads as 0, and nothing is mapped.
     pub fn new(file: S, size: u64, number: u64) -> Self
         ensures free { IsFree (⟦<OneCluster<S> as DriverModel>⟧.layer result) }
         ensures well_formed { (S.state file).bytes ≡ [] → IsTrue (S.state file).shape.keeps → ⟦<OneCluster<S> as DriverModel>⟧.well_formed result }
@@ -150,7 +159,7 @@ impl<S: Storage> OneCluster<S> {
         }
     }
 
-    // Why a change of a range is refused before anything is done.
+    // Checks that a range may be changed, before anything is done.
     fn check(&self, offset: u64, length: u64) -> Result<(), Fault>
         ensures ok { let d = ⟦<OneCluster<S> as DriverModel>⟧ in OnOk result (own_refusal (d.layer self.now) offset length ≡ None) }
         ensures writing { 0 < length → OnOk result (IsTrue self.now.writable) }
@@ -167,7 +176,8 @@ impl<S: Storage> OneCluster<S> {
         check_range(self.writable, unit as u64, self.size, offset, length)
     }
 
-    // The part of a range that it zeroes or discards by itself: none.
+    // Zeroes or discards a part of a range. The driver can't do this itself: unless the range is empty, the call fails with
+    // `Fault::Unsupported` or an earlier fault.
     fn change(&self, offset: u64, length: u64) -> Result<(u64, u64), Fault>
         ensures ok { IfOk result (λ r. (r ≡ (offset, 0)) × (length ≡ 0)) }
         ensures not_resource_error { IfErr result IsNotResourceError }
@@ -186,7 +196,7 @@ impl<S: Storage> OneCluster<S> {
         Err(Fault::Unsupported)
     }
 
-    // Whether a mapping that is handed in to be committed is taken.
+    // Checks that a mapping may be committed.
     fn check_commit(&self, mapping: PreparedCluster) -> Result<(), Fault>
         ensures ok { let d = ⟦<OneCluster<S> as DriverModel>⟧ in OnOk result (commit_refusal d (Some mapping) (d.layer self.now) ≡ None) }
         ensures own { OnOk result (mapping.image ≡ self.now.number) }
@@ -198,7 +208,7 @@ impl<S: Storage> OneCluster<S> {
         check_commit(self.ready(), self.writable, self.number, mapping.image)
     }
 
-    // Makes the run that is prepared part of the disk, if it is the mapping's: all other places are 0.
+    // Makes the prepared run part of the disk if `mapping` belongs to it. All other bytes become 0.
     fn settle(&mut self, alloc: Global, mapping: PreparedCluster) -> Result<(), Fault>
         requires { IsTrue self.old.writable }
         ensures ok { let d = ⟦<OneCluster<S> as DriverModel>⟧ in OnOk result ((d.layer self.old).unspent ≡ Some mapping.mapping_id
@@ -233,7 +243,7 @@ impl<S: Storage> OneCluster<S> {
         }
     }
 
-    // Writes to the file from a place on.
+    // Writes to the file at an offset.
     fn write_file(&mut self, alloc: Global, at: u64, bytes: &[u8]) -> Result<(), Fault>
         requires mapped { self.old.content ≡ content.Mapped }
         requires nonempty { 0 < length bytes.now }
@@ -248,7 +258,7 @@ impl<S: Storage> OneCluster<S> {
         }
     }
 
-    // Marks the image failed by the cause that its file has refused with, where that has cut a call off.
+    // Sets the image to failed if `cause` is a resource error. Returns `cause`.
     fn cut_off(&mut self, cause: Fault) -> Fault
         ensures same { result ≡ cause }
         ensures marked { self.new ≡ record self.old { failed = failed_by cause self.old.failed } }
@@ -260,7 +270,8 @@ impl<S: Storage> OneCluster<S> {
         cause
     }
 
-    // Gives up the run that is prepared and marks the image failed, for this cause, and answers what the commit is refused with.
+    // Abandons the prepared run and sets the image to failed. Returns the fault of the commit: `Fault::Storage` if `cause` is that, else
+    // `Fault::Memory`.
     fn spend(&mut self, cause: Fault) -> Fault
         ensures spent { self.new ≡ record self.old { failed = true; faults = self.new.faults; content = content.Unmapped } }
         ensures kind { IsSpending result × (IsNotResourceError result → ⊥) }
@@ -476,7 +487,7 @@ impl<S: Storage> FormatDriverInstance for OneCluster<S> {
             Content::Barred => return Err(Fault::Limit(0)),
             Content::Unmapped => {}
         }
-        // What the layer below shows would have to be copied.
+        // The data of the layer below would be copied here, and this driver doesn't copy.
         if self.backed {
             return Err(Fault::Limit(0));
         }

@@ -1,4 +1,4 @@
-// The disks of a case, its prepared mappings, and the calls of its lines.
+// The two disks of a test script, its prepared mappings (runs that are written and not yet committed), and the calls that its lines make.
 use crate::building::{Creation, Told, create, create_builder, creating, gate, open, opening};
 use crate::clusters::PreparedCluster;
 use crate::drivers::Driver;
@@ -16,7 +16,7 @@ use std::mem;
 
 type Prepared = PreparedDataMapping<PreparedCluster>;
 
-/// The disk that calls go to, another one, and a prepared mapping beside each.
+/// The disk that calls go to, another disk, and a prepared mapping (a run that is written and not yet committed) for each.
 pub struct Disks<'a> {
     disk: Option<Disk<'a>>,
     other: Option<Disk<'a>>,
@@ -25,7 +25,7 @@ pub struct Disks<'a> {
     notes: Notebook<'a>,
 }
 
-// A mapping is forgotten.
+// Drops a mapping.
 fn let_go(mapping: Option<Prepared>) {
     if let Some(mapping) = mapping {
         let _state = mapping.into_state();
@@ -42,7 +42,7 @@ fn written_to_storage<'a>(
     write_storage(alloc, top(disk)?, &given, offset)
 }
 
-// A call of a disk.
+// Makes a call of a disk.
 fn call<'a>(alloc: Global, disk: &mut Disk<'a>, words: &[&str]) -> Result<String, Trouble> {
     match words {
         ["lookups"] => lookups(alloc, disk),
@@ -56,7 +56,7 @@ fn call<'a>(alloc: Global, disk: &mut Disk<'a>, words: &[&str]) -> Result<String
     }
 }
 
-// What an opening is told: `writing` or `reading`, `direct` or `cached`, and a name.
+// Parses how an image is opened: `writing` or `reading`, `direct` or `cached`, and a name or `-`.
 fn told_of<'x>(words: &[&'x str]) -> Result<Told<'x>, Trouble> {
     let [writing, direct, file] = words else {
         return Err(Trouble::NoCall);
@@ -76,7 +76,7 @@ fn is_writable(word: &str) -> Result<bool, Trouble> {
     }
 }
 
-// Whether a range may be changed: access, unit, size, offset and length.
+// Checks that a range may be changed. The words are access, unit, size, offset and length.
 fn checked(alloc: Global, words: [&str; 5]) -> Result<String, Trouble> {
     let [access, unit, size, offset, n] = words;
     let (writable, unit) = (is_writable(access)?, number(unit)?);
@@ -88,7 +88,7 @@ fn checked(alloc: Global, words: [&str; 5]) -> Result<String, Trouble> {
     Ok(ok(alloc)?)
 }
 
-// A call with two words that needs no disk.
+// Makes a call that takes two words and needs no disk.
 fn alone_of_two(alloc: Global, word: &str, first: u64, last: &str) -> Result<String, Trouble> {
     match word {
         "creating" => creating(alloc, first, mode_of(last)?),
@@ -98,7 +98,7 @@ fn alone_of_two(alloc: Global, word: &str, first: u64, last: &str) -> Result<Str
     }
 }
 
-// A call that needs no disk.
+// Makes a call that needs no disk.
 fn alone(alloc: Global, words: &[&str]) -> Result<String, Trouble> {
     match words {
         ["gate", name] => gate(alloc, name),
@@ -113,6 +113,7 @@ fn alone(alloc: Global, words: &[&str]) -> Result<String, Trouble> {
 }
 
 impl<'a> Disks<'a> {
+    /// Creates the disks of a script, without any layer (image).
     pub fn new(notes: Notebook<'a>) -> Self {
         Disks {
             disk: None,
@@ -123,7 +124,7 @@ impl<'a> Disks<'a> {
         }
     }
 
-    /// Lets go of all.
+    /// Drops both disks and both mappings.
     pub fn close(self) {
         let Disks {
             disk,
@@ -149,12 +150,12 @@ impl<'a> Disks<'a> {
         Ok(ok(alloc)?)
     }
 
-    // Puts a raw image in the place of the disk.
+    // Replaces the disk with a raw image.
     fn put(&mut self, raw: Raw<Base<'a>>) {
         self.disk = Some(FormatAccess::new(Driver::Raw(raw)));
     }
 
-    // Opens a raw image by its builder; the answer is what that says of itself.
+    // Opens a raw image with its builder. The answer is the builder's options.
     fn open(
         &mut self,
         alloc: Global,
@@ -168,7 +169,7 @@ impl<'a> Disks<'a> {
         Ok(text)
     }
 
-    // Creates a raw image of a size, in a mode.
+    // Creates a raw image with a size and a mode.
     fn create(
         &mut self,
         alloc: Global,
@@ -209,7 +210,7 @@ impl<'a> Disks<'a> {
         }
     }
 
-    // Commits the mapping; one that is given back stays.
+    // Commits the mapping. A mapping that the call gives back is kept.
     fn commit(&mut self, alloc: Global) -> Result<String, Trouble> {
         let Some(disk) = &mut self.disk else {
             return Err(Trouble::NoCall);
@@ -226,7 +227,7 @@ impl<'a> Disks<'a> {
         }
     }
 
-    // Gives the mapping up; one that is given back stays.
+    // Cancels the mapping. A mapping that the call gives back is kept.
     fn cancel(&mut self, alloc: Global) -> Result<String, Trouble> {
         let Some(disk) = &mut self.disk else {
             return Err(Trouble::NoCall);
@@ -243,7 +244,7 @@ impl<'a> Disks<'a> {
         }
     }
 
-    // Copies the disk into the other one.
+    // Copies the disk into the other disk.
     fn flatten(&mut self, alloc: Global) -> Result<(), Trouble> {
         let Some(source) = &mut self.disk else {
             return Err(Trouble::NoCall);
@@ -254,7 +255,7 @@ impl<'a> Disks<'a> {
         flatten(alloc, source, target)
     }
 
-    // A mapping of these words: its storage, offset and length, and what it is known by, if it has state.
+    // Makes a mapping from its words: storage, offset and length, then the image and the number of its state, if any.
     fn make_mapping(&mut self, alloc: Global, words: &[&str]) -> Result<String, Trouble> {
         let mapping = match words {
             [storage, offset, n] => {
@@ -273,7 +274,7 @@ impl<'a> Disks<'a> {
         self.told_mapping(alloc)
     }
 
-    // A call of the disk, or one that needs none.
+    // Makes a call of the disk, or a call that needs none.
     fn call(&mut self, alloc: Global, words: &[&str]) -> Result<String, Trouble> {
         match &mut self.disk {
             None => alone(alloc, words),
@@ -281,7 +282,7 @@ impl<'a> Disks<'a> {
         }
     }
 
-    // The mappings of a case, and what its storages note.
+    // Makes a call about the mappings of a case, or about what its storages record.
     fn mapped(&mut self, alloc: Global, words: &[&str]) -> Result<String, Trouble> {
         match words {
             ["prepare", offset, rest @ ..] => {

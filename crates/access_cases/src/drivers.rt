@@ -1,4 +1,4 @@
-// The driver of a chain of cases: raw images, and images of words.
+// The driver of the test scripts' chains (an image over its backing files). A layer is a raw image or a one-cluster image.
 ghost use Rattle.std.specs.Prelude.{◌≡◌, ◌≤◌, [], ⊤, refl, List, length, IsTrue, if◌then◌else◌};
 ghost use Rattle.std.proofs.Common.{inl, inr};
 ghost use Rattle.std.proofs.Math.Nat.{le_refl};
@@ -22,14 +22,14 @@ use imago_storage::{Fault, Storage};
 use std::alloc::Global;
 use std::fmt::{self, Display, Formatter, Write};
 
-/// A layer of a chain.
+/// A layer of a chain (an image over its backing files).
 #[derive(Drop)]
 pub enum Driver<S> {
     Raw(Raw<S>),
     Words(OneCluster<S>),
 }
 
-// A mapping of a raw image, which has no state, as one of either kind.
+// Converts a mapping of a raw image, which has no state (nothing to commit).
 fn stateless(mapping: PreparedDataMapping<NoState>) -> PreparedDataMapping<PreparedCluster>
     ensures value { result ≡ record { storage = mapping.storage; offset = mapping.offset; length = mapping.length; state = None } }
     ensures none { mapping.state ≡ None }
@@ -42,7 +42,7 @@ fn stateless(mapping: PreparedDataMapping<NoState>) -> PreparedDataMapping<Prepa
 }
 
 impl<S: Storage> Driver<S> {
-    /// Whether it can stand over another layer.
+    /// Returns true if bytes that the layer has no data for are read from the layer below (the backing file).
     pub fn shows_below(&self) -> bool
         ensures { IsTrue result → (⟦<Driver<S> as DriverModel>⟧.layer self.now).fixed.blank ≡ unmapped }
     {

@@ -1,4 +1,4 @@
-// The files of layers of cases, as they stand.
+// Reads the bytes of an image's own file, without the mapping of the disk.
 use crate::clusters::OneCluster;
 use crate::drivers::Driver;
 use imago_access::ReadFiles;

@@ -1,4 +1,4 @@
-// The layers of a disk, by words.
+// Builds the layers of a disk (an image and its backing files) from the words of a script's line.
 use crate::clusters::{Content, OneCluster};
 use crate::drivers::Driver;
 use crate::storages::{Base, Notebook, storage_of};
@@ -12,7 +12,7 @@ use std::alloc::{AllocError, Global};
 /// A disk of a script.
 pub type Disk<'a> = FormatAccess<Driver<Base<'a>>>;
 
-// What a word says of an image.
+// Applies one mark to an image: `read_only`, `backed`, `failed` and so on.
 fn mark<S>(words: &mut OneCluster<S>, word: &str) -> Result<(), Trouble> {
     match word {
         "read_only" => words.writable = false,
@@ -27,7 +27,7 @@ fn mark<S>(words: &mut OneCluster<S>, word: &str) -> Result<(), Trouble> {
     Ok(())
 }
 
-// Which call of an image's file fails, 0 for none, by the words `fuse N` where they stand first; and the words behind them.
+// Splits off leading words `fuse N`. Returns N, or 0 without them, and the words after them.
 fn fuse_of<'x, 'y>(words: &'y [&'x str]) -> (&'x str, &'y [&'x str]) {
     match words {
         ["fuse", n, rest @ ..] => (*n, rest),
@@ -35,7 +35,7 @@ fn fuse_of<'x, 'y>(words: &'y [&'x str]) -> (&'x str, &'y [&'x str]) {
     }
 }
 
-// The file of an image of words, which holds these bytes: `n` is the number of its call that fails, if one does.
+// Builds the file of a one-cluster image. The file holds the bytes `held`. Its call number `n` fails; with 0, none does.
 fn file_of<'a, 'x>(
     alloc: Global,
     n: &'x str,
@@ -47,7 +47,7 @@ fn file_of<'a, 'x>(
     storage_of(alloc, &words, notes)
 }
 
-// An image of which nothing is mapped, or what a word says.
+// Builds an image with nothing mapped, and applies its marks.
 fn marked<'a>(
     alloc: Global,
     size: u64,
@@ -63,7 +63,7 @@ fn marked<'a>(
     Ok(words)
 }
 
-// An image that holds the bytes that stand last.
+// Builds a mapped image that holds the bytes of the last words.
 fn holding<'a>(
     alloc: Global,
     number: u64,
@@ -93,7 +93,7 @@ fn raw<'a>(
     Ok(Driver::Raw(Raw::open_image(storage, writable)))
 }
 
-/// The driver of these words.
+/// Builds the driver of one layer that `words` describe.
 pub fn driver_of<'a>(
     alloc: Global,
     words: &[&str],
@@ -113,7 +113,7 @@ pub fn driver_of<'a>(
     }
 }
 
-// A layer over others.
+// Stacks a layer on a disk.
 fn over<S: Storage + Drop>(
     alloc: Global,
     driver: Driver<S>,
@@ -125,7 +125,7 @@ fn over<S: Storage + Drop>(
     stacked(alloc, driver, below)
 }
 
-/// A layer over a disk, if there is one.
+/// Stacks a layer on a disk. Without a disk, the layer is the lowest.
 pub fn add<'a>(
     alloc: Global,
     driver: Driver<Base<'a>>,
@@ -137,7 +137,7 @@ pub fn add<'a>(
     }
 }
 
-// How many lookups a layer was asked for; those of raw images aren't counted.
+// Appends the number of lookups of a layer. Raw images don't count them.
 fn push_lookups<S>(alloc: Global, driver: &Driver<S>, text: &mut String) -> Result<(), AllocError> {
     match driver {
         Driver::Raw(_) => Ok(()),
@@ -148,10 +148,10 @@ fn push_lookups<S>(alloc: Global, driver: &Driver<S>, text: &mut String) -> Resu
     }
 }
 
-/// The most layers whose lookups are told.
+/// The most layers whose lookups are printed.
 const MOST_LAYERS: u8 = 16;
 
-/// How many lookups each layer was asked for, the highest first.
+/// Returns how many lookups each layer has answered, the top layer first.
 pub fn lookups<S: Storage>(
     alloc: Global,
     disk: &FormatAccess<Driver<S>>,
@@ -169,7 +169,7 @@ pub fn lookups<S: Storage>(
     Ok(text)
 }
 
-/// What the top layer's driver tells of its storage, or of its file.
+/// Returns what the top layer's driver reports of its storage or its file.
 pub fn kept_by<S: Storage>(
     alloc: Global,
     driver: &mut Driver<FuseStorage<S>>,
@@ -184,14 +184,14 @@ pub fn kept_by<S: Storage>(
     }
 }
 
-// All bytes of a storage, which is asked for one read.
+// Reads all bytes of a storage, in one read.
 fn storage<S: Storage>(alloc: Global, storage: &mut S) -> Result<String, Trouble> {
     let mut buf = buffer(alloc, storage.size())?;
     storage.read(alloc, &mut buf, 0)?;
     Ok(runs(alloc, &buf)?)
 }
 
-/// Writes to the storage of the top layer itself.
+/// Writes directly to the storage of the top layer.
 pub fn write_storage<S: Storage>(
     alloc: Global,
     driver: &mut Driver<S>,
@@ -204,7 +204,7 @@ pub fn write_storage<S: Storage>(
     }
 }
 
-/// Whether a storage can be opened as a raw image.
+/// Returns whether a storage can be opened as a raw image.
 pub fn probe<S>(alloc: Global, storage: &mut S) -> Result<String, Trouble> {
     Ok(Raw::probe(storage)?.to_string(alloc)?)
 }

@@ -1,29 +1,32 @@
-//! Calls of disks and their answers, by scripts: chains of raw images and of images of words.
+//! Runs scripts of calls to disks and checks their answers. The disks are chains of raw images and of one-cluster images (a small format
+//! for tests). Terms are explained in docs/GLOSSARY.md.
 //!
 //! # Layers
 //!
-//! A disk is built from the bottom up: each `layer` stands over those before it, and all but the lowest have to be `backed`.
+//! A disk is built from the bottom up. Each `layer` is stacked on the layers before it, and each layer except the lowest must be `backed`.
 //!
-//! - `layer raw [read_only] STORAGE`: a raw image. A STORAGE is `[fixed | fuse N] MEM REQ ZERO DISCARD HAS BYTES`: `fixed` refuses
-//!   resizes, `fuse N` the Nth call; then its four alignments, what it has (`z` zeroes, `d` discards, `zd`, `-`), and its bytes.
-//! - `layer words SIZE IMAGE [fuse N] [MARK ..]`: an image of which nothing is mapped, with its number. `fuse N` has the Nth call of its
-//!   file fail. Marks: `read_only`, `backed` (it shows the layer below), `through` (places below can be written, by what it says of them),
-//!   `zeroed` and `barred` (it says so of all its places), `failed`, `missing` (a file).
-//! - `layer holding IMAGE [fuse N] [backed] BYTES`: an image that is mapped, and holds these bytes.
+//! - `layer raw [read_only] STORAGE`: a raw image. A STORAGE is `[fixed | fuse N] MEM REQ ZERO DISCARD HAS BYTES`. With `fixed`, it
+//!   refuses resizes. With `fuse N`, its Nth call fails. Then follow its four alignments, what it supports (`z` zeroes, `d` discards, `zd`
+//!   both, `-` neither), and its bytes.
+//! - `layer words SIZE IMAGE [fuse N] [MARK ..]`: a one-cluster image of SIZE bytes, with nothing mapped. IMAGE is its number. With
+//!   `fuse N`, the Nth call of its file fails. Marks: `read_only`, `backed` (a byte that it has no data for is read from the layer
+//!   below), `through` (it reports that the layers below can be written), `zeroed` and `barred` (all of its bytes are 0, or can't be
+//!   read), `failed`, `missing` (a file).
+//! - `layer holding IMAGE [fuse N] [backed] BYTES`: a one-cluster image that is mapped and holds these bytes.
 //! - `open STORAGE`, `open_told WRITING DIRECT FILE STORAGE`, `create`, `create_open` and `create_unopened SIZE MODE STORAGE`: a raw image
-//!   by its builders.
-//! - `close` lets go of the disk. `other` goes to the other disk, and back. `flatten` copies the disk into the other one, where nothing is
-//!   prepared in that.
+//!   from its builders.
+//! - `close` drops the disk. `other` swaps the disk with the other disk. `flatten` copies the disk into the other disk, which must have
+//!   nothing prepared.
 //!
 //! # Calls
 //!
-//! - Those of a disk and of the driver of its top layer that `access_calls::called` has.
-//! - `prepare OFFSET N [overwrite]`, `commit`, `cancel`; `mapping` tells the one that is kept; `mapping STORAGE OFFSET N [IMAGE CLAIM]`
-//!   makes one; `other_mapping` exchanges it for the other one.
-//! - Of the top layer's storage: `storage` (its bytes), `write_storage OFFSET BYTES`, `count` (by its fuse), `asked` (what all storages
-//!   were asked for), `resized` (the mode of the last resize). Of images of words: `lookups` of each, `faults`.
-//! - With no disk: `opening [WRITING DIRECT FILE]`, `creating` and `create_builder SIZE MODE`, `gate NAME`, `nothing_below OFFSET N`,
-//!   `check_range ACCESS UNIT SIZE OFFSET N`; at any time `probe STORAGE`.
+//! - The calls of a disk, and of the driver of its top layer, that `access_calls::called` has.
+//! - `prepare OFFSET N [overwrite]`, `commit`, `cancel`. `mapping` prints the mapping that the script keeps between calls, prepared and not
+//!   yet committed. `mapping STORAGE OFFSET N [IMAGE CLAIM]` makes one. `other_mapping` swaps it with the other mapping.
+//! - Of the top layer's storage: `storage` (its bytes), `write_storage OFFSET BYTES`, `count` (the count of its fuse), `asked` (the
+//!   requests of all storages), `resized` (the mode of the last resize). Of one-cluster images: `lookups` of each layer, `faults`.
+//! - Without a disk: `opening [WRITING DIRECT FILE]`, `creating` and `create_builder SIZE MODE`, `gate NAME`, `nothing_below OFFSET N`,
+//!   `check_range ACCESS UNIT SIZE OFFSET N`. At any time: `probe STORAGE`.
 #![tactic(auto)]
 
 mod building;

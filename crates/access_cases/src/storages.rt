@@ -1,13 +1,13 @@
-// The storages of raw images: `cases::Shaped` behind one that may be of one size, behind a fuse.
+// The storages of raw images: a `cases::Shaped`, wrapped so that it may refuse resizes, and wrapped in a fuse, which makes one call fail.
 use cases::{Notes, Shaped, Trouble, number};
 use imago_storage::{Fault, FuseStorage, PreallocateMode, Storage};
 use std::alloc::Global;
 use std::cell::Cell;
 
-/// What a storage was last resized with, since this was told.
+/// The mode of the last resize, since it was last printed.
 pub type Mode = Option<PreallocateMode>;
 
-/// A storage that notes the mode of its last resize, and may refuse each.
+/// A storage that records the mode of its last resize, and may refuse every resize.
 #[derive(Drop)]
 pub struct Resizing<'a, S> {
     inner: S,
@@ -88,14 +88,16 @@ impl<'a, S: Storage> Storage for Resizing<'a, S> {
 /// The storage of each raw image.
 pub type Base<'a> = FuseStorage<Resizing<'a, Shaped<'a>>>;
 
-/// What the storages of a case note.
+/// The records that the storages of a script keep.
 #[derive(Clone, Copy)]
 pub struct Notebook<'a> {
+    /// The requests of the storages.
     pub asked: &'a Cell<Notes>,
+    /// The mode of the last resize.
     pub mode: &'a Cell<Mode>,
 }
 
-// A storage by its words, behind a fuse.
+// Builds a storage from its words and wraps it in a fuse.
 fn fused<'a>(
     alloc: Global,
     n: u64,
@@ -111,8 +113,10 @@ fn fused<'a>(
     Ok(FuseStorage::new(resizing, n))
 }
 
-/// The storage of these words: `fixed` for one that refuses resizes, `fuse N` for one whose Nth call fails, then alignments, what it has
-/// and its bytes.
+/// Builds the storage that `words` describe.
+///
+/// `fixed` makes a storage that refuses resizes. `fuse N` makes one whose Nth call fails. Then follow the alignments, what the storage
+/// supports, and its bytes.
 pub fn storage_of<'a>(
     alloc: Global,
     words: &[&str],

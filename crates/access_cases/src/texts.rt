@@ -1,7 +1,7 @@
-// The texts of what calls answer.
+// The texts that a script prints for answers.
 use imago_storage::PreallocateMode;
 
-/// The mode in which a storage was resized.
+/// Returns the text of the mode of the last resize, if any.
 pub fn mode(mode: Option<PreallocateMode>) -> &'static str {
     match mode {
         None => "nothing",
