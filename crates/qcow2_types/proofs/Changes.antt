@@ -1,4 +1,4 @@
--- What a request that changes one table, block or cluster leaves of an image.
+-- Lemmas on the image after a request that changes one table, one block or one cluster.
 pub mod BlockSteps
 pub mod BlockWordSteps
 pub mod DataSteps

@@ -1,4 +1,4 @@
--- How often clusters are named and counted, and what follows for a whole image.
+-- Lemmas on references and refcounts of clusters, and on whole images.
 pub mod Bounded
 pub mod Consistent
 pub mod Counters

@@ -1,4 +1,4 @@
--- The fields of a header, and the bytes that they stand in.
+-- Lemmas on the fields of a header and their bytes.
 pub mod HeaderFields
 pub mod HeaderFrame
 pub mod HeaderLimits

@@ -1,4 +1,4 @@
--- Numbers and the bytes of a file that spell them.
+-- Lemmas on numbers and on the bytes that spell them.
 pub mod BlockBytes
 pub mod BytesLemmas
 pub mod Digits

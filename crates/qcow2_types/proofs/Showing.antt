@@ -1,4 +1,4 @@
--- What the places of a disk show.
+-- Lemmas on the bytes that the guest reads.
 pub mod ShownLemmas
 pub mod Shows
 pub mod Values

@@ -1,4 +1,4 @@
--- The header comes to name another table, or gets another size.
+-- Lemmas on headers that are switched to another table or another disk size.
 pub mod HeaderSwitch
 pub mod L1Switch
 pub mod RefcountTableSwitch

@@ -1,4 +1,4 @@
--- The worked image, and images near it.
+-- Lemmas on the worked image and on changed copies of it.
 pub mod Consistent
 pub mod Counts
 pub mod Disk

@@ -1,47 +1,47 @@
--- The bytes of a file, and the big-endian numbers that they spell.
+-- A file as a function from offsets to bytes, with the big-endian numbers in it, and writes to it.
 use Rattle.std.specs.Prelude.{ℕ, zero, suc, ◌+◌, ◌-◌, ◌*◌, Bool, true, ◌&&◌, List, [], ◌∷◌, length, slice_index, nat_le, nat_lt, if◌then◌else◌}
 
--- what a file holds at each place, 0 past its end
+-- the byte at each offset of a file, 0 past its end
 abbrev pub Bytes : Type 0
 Bytes = ℕ → ℕ
 
--- the places of a file of these bytes
+-- the file with these bytes
 abbrev pub bytes_of : List ℕ → Bytes
 bytes_of file i = slice_index file i
 
--- the number that the n bytes from place i on spell, the first of them the highest
+-- the big-endian number in the n bytes at offset i
 unfoldable pub be : Bytes → ℕ → ℕ → ℕ
 be f i zero = 0
 be f i (suc n) = be f i n * 256 + f (i + n)
 
--- word i of the table at this place
+-- raw entry i of the table at this offset
 unfoldable pub raw_entry : Bytes → ℕ → ℕ → ℕ
 raw_entry f offset i = be f (offset + 8 * i) 8
 
--- the n bytes from place i on
+-- the n bytes at offset i
 unfoldable pub run : Bytes → ℕ → ℕ → List ℕ
 run f i zero = []
 run f i (suc n) = f i ∷ run f (i + 1) n
 
--- the file with these bytes from place i on
+-- the file with these bytes spliced in at offset i
 unfoldable pub splice : Bytes → ℕ → List ℕ → Bytes
 splice f i bytes p = if nat_le i p && nat_lt p (i + length bytes) then slice_index bytes (p - i) else f p
 
--- the sum of what f gives below n, and whether p passes everywhere below n
+-- the sum of f over the numbers below n
 unfoldable pub sum_below : ℕ → (ℕ → ℕ) → ℕ
 sum_below zero f = 0
 sum_below (suc n) f = f n + sum_below n f
 
--- whether p passes everywhere below n
+-- p is true of each number below n
 unfoldable pub all_below : ℕ → (ℕ → Bool) → Bool
 all_below zero p = true
 all_below (suc n) p = p n && all_below n p
 
--- bytes that are to be written, with their place
+-- an offset, and bytes to write there
 abbrev pub Patch : Type 0
 Patch = ℕ × List ℕ
 
--- the file with all of them over it, the first on top
+-- the file with all patches written to it, the first on top
 unfoldable pub over : Bytes → List Patch → Bytes
 over f [] = f
 over f (e ∷ es) = splice (over f es) e.0 e.1

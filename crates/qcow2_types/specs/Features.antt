@@ -1,4 +1,4 @@
--- The numbers of feature bits, and of their kinds, as a feature's name has them.
+-- The numbers of feature types and feature bits, as the feature name extension has them.
 use Rattle.std.specs.Prelude.{ℕ}
 use Rattle.qcow2_types.specs.declared.features.FeatureType.{FeatureType}
 use Rattle.qcow2_types.specs.declared.features.FeatureType.TheVariants.{Incompatible, Compatible, Autoclear}
@@ -9,13 +9,13 @@ use Rattle.qcow2_types.specs.declared.features.CompatibleFeatures.TheVariants.{L
 use Rattle.qcow2_types.specs.declared.features.AutoclearFeatures.{AutoclearFeatures}
 use Rattle.qcow2_types.specs.declared.features.AutoclearFeatures.TheVariants.{Bitmaps, RawExternalData}
 
--- the kind of a feature's name
+-- the number of a feature type
 abbrev pub kind_of : FeatureType → ℕ
 kind_of Incompatible = 0
 kind_of Compatible = 1
 kind_of Autoclear = 2
 
--- the bit in the header's incompatible features
+-- the bit of a feature in the header's incompatible features
 abbrev pub incompatible_bit : IncompatibleFeatures → ℕ
 incompatible_bit Dirty = 0
 incompatible_bit Corrupt = 1
@@ -23,11 +23,11 @@ incompatible_bit ExternalDataFile = 2
 incompatible_bit CompressionType = 3
 incompatible_bit ExtendedL2Entries = 4
 
--- the bit in the header's compatible features
+-- the bit of a feature in the header's compatible features
 abbrev pub compatible_bit : CompatibleFeatures → ℕ
 compatible_bit LazyRefcounts = 0
 
--- the bit in the header's autoclear features
+-- the bit of a feature in the header's autoclear features
 abbrev pub autoclear_bit : AutoclearFeatures → ℕ
 autoclear_bit Bitmaps = 0
 autoclear_bit RawExternalData = 1

@@ -1,4 +1,4 @@
--- The header of an image: its fields, and the rules under which it loads, in the order in which they are checked.
+-- The header of an image: its fields, and the rules under which it loads. A broken rule is reported in the order of the rules here.
 use Rattle.std.specs.Prelude.{IsTrue, ℕ, ◌<◌, ◌≤◌, zero, suc, ◌+◌, ◌-◌, ◌*◌, ◌/◌, ◌^◌, Bool, true, false, ◌&&◌, ◌||◌, not, ◌==◌, nat_lt, nat_le, if◌then◌else◌, List, [], ◌∷◌, ◌++◌, length, take, drop, take_while, Option, Some, None, Result, Ok, Err}
 use Rattle.std.specs.Str.{is_utf8}
 use Rattle.qcow2_types.specs.Bytes.{Bytes, be, run}
@@ -6,13 +6,13 @@ use Rattle.qcow2_types.specs.Words.{Layout, has_bit, is_cluster_offset}
 use Rattle.imago_storage.specs.declared.fault.Fault.{Fault}
 use Rattle.imago_storage.specs.declared.fault.Fault.TheVariants.{DamagedHeader, Unsupported, Limit}
 
--- a feature's name: its kind (0 incompatible, 1 compatible, 2 autoclear), its bit, and its text
+-- a feature name: its type (0 incompatible, 1 compatible, 2 autoclear), its bit, and its text
 pub record Feature : Type 0 where
   pub kind : ℕ
   pub bit : ℕ
   pub name : List ℕ
 
--- the fields of fixed size
+-- the header fields of fixed size
 pub record Fields : Type 0 where
   pub version : ℕ
   pub backing_offset : ℕ
@@ -40,13 +40,13 @@ pub record Header : Type 0 where
   pub data_file_name : Option (List ℕ)
   pub features : List Feature
 
--- the bounds on the widths of counters and of clusters that each header that loads keeps
+-- the bounds on refcount width and cluster size of every header that loads
 pub record Shaped (h : Fields) : Type 0 where
   pub order : h.refcount_order ≤ 6
   pub low : 9 ≤ h.cluster_bits
   pub high : h.cluster_bits ≤ 21
 
--- The fields as they stand. Version 2 has no field past byte 71: counters of 16 bits, and every feature bit 0.
+-- The fields in the file. Version 2 has no field after byte 71: its refcounts have 16 bits, and every feature bit is 0.
 unfoldable pub fields_of : Bytes → Fields
 fields_of f =
     let newer = be f 4 4 == 3 in
@@ -70,31 +70,31 @@ fields_of f =
       header_length = if newer then be f 100 4 else 72;
     }
 
--- the bytes of a cluster
+-- the cluster size, in bytes
 abbrev pub cluster_size : Fields → ℕ
 cluster_size h = 2 ^ h.cluster_bits
 
--- the words of a table of one cluster
+-- the number of entries of a table of one cluster
 abbrev pub entries_of_cluster : Fields → ℕ
 entries_of_cluster h = cluster_size h / 8
 
--- the words of the refcount table
+-- the number of entries of the refcount table
 abbrev pub refcount_table_entries : Fields → ℕ
 refcount_table_entries h = h.refcount_table_clusters * entries_of_cluster h
 
--- whether the header is of version 3
+-- The header has version 3.
 abbrev pub is_version_3 : Fields → Bool
 is_version_3 h = h.version == 3
 
--- whether the data is in an external file
+-- The guest's data is in an external data file.
 abbrev pub has_external_data : Fields → Bool
 has_external_data h = has_bit h.incompatible 2
 
--- what the words of the image depend on
+-- the fields that the meaning of entries depends on
 abbrev pub layout_of : Fields → Layout
 layout_of h = record { cluster_bits = h.cluster_bits; version = h.version; external_data = has_external_data h }
 
--- the bounds on sizes and places that each header that loads keeps
+-- the bounds on sizes and offsets of every header that loads
 pub record Limited (h : Fields) : Type 0 where
   pub size : h.size < 2 ^ 63
   pub l1_entries : h.l1_entries ≤ 2 ^ 22
@@ -102,29 +102,29 @@ pub record Limited (h : Fields) : Type 0 where
   pub l1_place : IsTrue (is_cluster_offset h.cluster_bits h.l1_offset)
   pub refcount_place : IsTrue (is_cluster_offset h.cluster_bits h.refcount_table_offset)
 
--- A rule: whether it is broken, and the refusal where it is.
+-- A rule: true if it is broken, and the fault of a broken rule.
 abbrev pub Rule : Type 0
 Rule = Bool × Fault
 
--- the refusal of the first rule broken
+-- the fault of the first broken rule
 abbrev pub first_fault : List Rule → Option Fault
 first_fault [] = None
 first_fault (rule ∷ rules) = if rule.0 then Some rule.1 else first_fault rules
 
 infixr 10 ◌and-then◌
--- a refusal, or else what follows
+-- the fault if there was one, otherwise what follows
 abbrev pub ◌and-then◌ : {A : Type 0} → Option Fault → Result A Fault → Result A Fault
 None and-then r = r
 (Some e) and-then r = Err e
 
--- The rules on the fields, in order.
+-- The rules on the magic number and the version.
 abbrev pub rules_of_kind : Bytes → List Rule
 rules_of_kind f =
     (not (be f 0 4 == 0x5146_49fb), DamagedHeader)
     ∷ (not ((be f 4 4 == 2) || (be f 4 4 == 3)), Unsupported)
     ∷ []
 
--- The widths, the header's length, and the features.
+-- The rules on sizes of clusters and refcounts, the header's length, encryption and features.
 abbrev pub rules_of_shape : Fields → List Rule
 rules_of_shape h =
     (nat_lt h.cluster_bits 9 || nat_lt 21 h.cluster_bits, DamagedHeader)
@@ -134,7 +134,7 @@ rules_of_shape h =
     ∷ (nat_lt 15 h.incompatible, Unsupported)
     ∷ []
 
--- The limits on sizes, and the places of the tables.
+-- The rules on the sizes of the disk and the tables, and on the tables' offsets.
 abbrev pub rules_of_size : Fields → List Rule
 rules_of_size h =
     (nat_lt (2 ^ 63 - 1) h.size, Limit h.size)
@@ -144,23 +144,23 @@ rules_of_size h =
     ∷ (not (is_cluster_offset h.cluster_bits h.refcount_table_offset), DamagedHeader)
     ∷ []
 
--- There is no name of a backing file where its offset or its length is 0.
+-- The image has no backing file name if the name's offset or its length is 0.
 abbrev pub has_backing_name : Fields → Bool
 has_backing_name h = not (h.backing_offset == 0) && not (h.backing_length == 0)
 
--- The dirty bit, the corrupt bit and the autoclear bits are in nobody's way who only reads, nor is a backing file's name that begins
--- in bytes 0 to 63, which are written whole where the size or a table's place changes.
+-- The rules for writing, on the dirty bit, the corrupt bit, the autoclear bits and the backing name. The name can't start in bytes 0 to
+-- 63: these bytes are written as a whole when the size or a table's offset changes.
 abbrev pub rules_of_writing : Bool → Fields → List Rule
 rules_of_writing for_writing h =
     (for_writing && (has_bit h.incompatible 0 || has_bit h.incompatible 1 || not (h.autoclear == 0)), Unsupported)
     ∷ (for_writing && has_backing_name h && nat_lt h.backing_offset 64, Unsupported)
     ∷ []
 
--- The backing file's name lies inside the first cluster and is UTF-8: its bytes.
+-- The bytes of the backing file's name.
 abbrev pub backing_name_of : Bytes → Fields → List ℕ
 backing_name_of f h = let name = run f h.backing_offset h.backing_length in name
 
--- the name, where there is one, or the refusal
+-- the backing file's name, if any, or the fault: it has at most 1,023 bytes, is inside the first cluster, and is UTF-8
 abbrev pub backing_name_read : Bytes → Fields → Result (Option (List ℕ)) Fault
 backing_name_read f h =
     let bytes = backing_name_of f h in
@@ -172,29 +172,29 @@ backing_name_read f h =
       ]
     ]
 
--- an extension of the header: its type and its data
+-- a header extension: its type and its data
 abbrev pub Extension : Type 0
 Extension = ℕ × List ℕ
 
--- one extension more
+-- the list with one more extension at the front
 abbrev pub with_front : Extension → Result (List Extension) Fault → Result (List Extension) Fault
 with_front x (Ok xs) = Ok (x ∷ xs)
 with_front x (Err e) = Err e
 
--- The area of the extensions ends where the backing name begins, if that is behind the header, and else with the cluster.
+-- The extensions end at the backing file's name if that is after the header, otherwise at the end of the cluster.
 abbrev pub extensions_end : Fields → ℕ
 extensions_end h = if has_backing_name h && nat_le h.header_length h.backing_offset then h.backing_offset else cluster_size h
 
--- the extension at this place, whose data lies in the area, or the refusal
+-- the extension at this offset, or a fault if its data ends after the extensions' end
 abbrev pub extension_data : Bytes → ℕ → ℕ → Result (Option Extension) Fault
 extension_data f end at =
     if nat_lt end (at + 8 + be f (at + 4) 4) then Err DamagedHeader else Ok (Some (be f at 4, run f (at + 8) (be f (at + 4) 4)))
 
--- The extension at this place, or none: type 0, or fewer than 8 bytes left, ends them.
+-- The extension at this offset, or none: type 0, or fewer than 8 bytes left, ends the extensions.
 unfoldable pub extension_at : Bytes → ℕ → ℕ → Result (Option Extension) Fault
 extension_at f end at = if nat_lt end (at + 8) || (be f at 4 == 0) then Ok None else extension_data f end at
 
--- The next one follows the data, padded to a multiple of 8.
+-- The next extension follows the data, padded to a multiple of 8 bytes.
 abbrev pub after : ℕ → Extension → ℕ
 after at x = at + 8 + (length x.1 + 7) / 8 * 8
 
@@ -203,13 +203,13 @@ abbrev pub and_more : (Extension → Result (List Extension) Fault) → Option E
 and_more more None = Ok []
 and_more more (Some x) = with_front x (more x)
 
--- what follows, unless there was a refusal
+-- applies a function to a result, unless the result is a fault
 infixl 10 ◌>>=◌
 abbrev pub ◌>>=◌ : {A B : Type 0} → Result A Fault → (A → Result B Fault) → Result B Fault
 (Ok x) >>= f = f x
 (Err e) >>= f = Err e
 
--- the extensions from this place on, at most n
+-- the extensions from this offset on, at most n
 unfoldable pub extensions_at : ℕ → Bytes → ℕ → ℕ → Result (List Extension) Fault
 extensions_at zero f end at = Ok []
 extensions_at (suc n) f end at = extension_at f end at >>= and_more (λ x. extensions_at n f end (after at x))
@@ -219,39 +219,39 @@ abbrev pub last_of : ℕ → List Extension → Option (List ℕ)
 last_of kind [] = None
 last_of kind (x ∷ xs) = elim (last_of kind xs) [ Some found ↦ Some found | None ↦ if x.0 == kind then Some x.1 else None ]
 
--- Where there is one it is UTF-8.
+-- The text must be UTF-8 if the extension exists.
 abbrev pub text_read : Option (List ℕ) → Result (Option (List ℕ)) Fault
 text_read None = Ok None
 text_read (Some bytes) = if is_utf8 bytes then Ok (Some bytes) else Err DamagedHeader
 
--- A feature's name has 48 bytes: the kind, the bit, and 46 bytes of text that ends at the first 0. One of another kind, or
--- with a text that isn't UTF-8, is skipped, and so is a rest of less than 48 bytes.
+-- A feature name has 48 bytes: the type, the bit, and 46 bytes of text that ends at the first 0. An entry with another type, or with a
+-- text that isn't UTF-8, is skipped.
 abbrev pub feature_in : List ℕ → List Feature
 feature_in (kind ∷ bit ∷ rest) =
     let name = take_while (λ x. not (x == 0)) rest in
     if nat_lt kind 3 && is_utf8 name then record { kind = kind; bit = bit; name = name } ∷ [] else []
 feature_in _ = []
 
--- the names in at most n entries of 48 bytes
+-- the features of at most n entries of 48 bytes
 abbrev pub features_of : ℕ → List ℕ → List Feature
 features_of zero bytes = []
 features_of (suc n) bytes = feature_in (take 48 bytes) ++ features_of n (drop 48 bytes)
 
--- A header has its names by rising kind, and those of one kind by rising bit.
+-- A header lists its feature names by increasing type, and within a type by increasing bit.
 abbrev pub comes_before : Feature → Feature → Bool
 comes_before x y = nat_lt x.kind y.kind || ((x.kind == y.kind) && nat_lt x.bit y.bit)
 
--- the names with one more, which takes the place of one of the same kind and bit
+-- the names with one more, which replaces a name of the same type and bit
 abbrev pub with_name : Feature → List Feature → List Feature
 with_name x [] = x ∷ []
 with_name x (y ∷ ys) = if comes_before y x then y ∷ with_name x ys else if comes_before x y then x ∷ y ∷ ys else x ∷ ys
 
--- the same of several, one after the other: of two of the same kind and bit the last counts
+-- the names with several more, added one after another: of two with the same type and bit, the last counts
 abbrev pub with_names : List Feature → List Feature → List Feature
 with_names known [] = known
 with_names known (x ∷ xs) = with_names (with_name x known) xs
 
--- the names in the extension, where there is one
+-- the features of the extension, if any; a rest of less than 48 bytes is skipped
 abbrev pub features_read : Option (List ℕ) → List Feature
 features_read None = []
 features_read (Some bytes) = with_names [] (features_of (length bytes / 48) bytes)
@@ -262,7 +262,7 @@ extensions_read f h =
     let found = extensions_at (cluster_size h / 8) f (extensions_end h) h.header_length in
     elim (is_version_3 h) [ true ↦ found | false ↦ Ok [] ]
 
--- the parts of a header that vary in length
+-- the header with its parts of variable length
 unfoldable pub texts_of : Bytes → Fields → Result Header Fault
 texts_of f h = do
   backing ← backing_name_read f h
@@ -277,7 +277,7 @@ texts_of f h = do
     features = features_read (last_of 0x6803_F857 extensions);
   })
 
--- The header of a file, for reading or for writing, or the first refusal.
+-- The header of a file, for reading or for writing, or the first fault.
 unfoldable pub header_of : Bool → Bytes → Result Header Fault
 header_of for_writing f =
     let h = fields_of f in

@@ -19,7 +19,7 @@ first_bytes h =
     ++ to_be_bytes w32 h.refcount_table_clusters
     ++ to_be_bytes w32 h.snapshots
 
--- bytes 72 to 103, which version 3 has
+-- bytes 72 to 103, which only version 3 has
 unfoldable pub newer_bytes : Fields → List ℕ
 newer_bytes h =
     to_be_bytes w64 h.incompatible
@@ -28,56 +28,56 @@ newer_bytes h =
     ++ to_be_bytes w32 h.refcount_order
     ++ to_be_bytes w32 h.header_length
 
--- the fields: 104 bytes in version 3, 72 in version 2
+-- the bytes of the fields: 104 in version 3, 72 in version 2
 unfoldable pub fields_bytes : Fields → List ℕ
 fields_bytes h = first_bytes h ++ to_be_bytes w64 h.snapshots_offset ++ (if is_version_3 h then newer_bytes h else [])
 
--- how many they are
+-- the number of bytes of the fields
 abbrev pub fields_length : Fields → ℕ
 fields_length h = if is_version_3 h then 104 else 72
 
--- zeroes that fill up n bytes to a multiple of 8
+-- zeroes that pad n bytes to a multiple of 8
 unfoldable pub padding : ℕ → List ℕ
 padding n = replicate ((n + 7) / 8 * 8 - n) 0
 
--- an extension: its type, its length, and its data, padded
+-- the bytes of an extension: its type, its length, and its data, padded
 unfoldable pub extension_bytes : Extension → List ℕ
 extension_bytes x = to_be_bytes w32 x.0 ++ to_be_bytes w32 (length x.1) ++ x.1 ++ padding (length x.1)
 
--- the name of a feature bit in 48 bytes: its kind, its bit, and its text, cut to 46 bytes or filled up with 0
+-- the 48 bytes of a feature name: its type, its bit, and its text, cut or padded with 0 to 46 bytes
 unfoldable pub feature_bytes : Feature → List ℕ
 feature_bytes x = x.kind ∷ x.bit ∷ take 46 x.name ++ replicate (46 - length x.name) 0
 
--- an extension of this type, where there is data for one
+-- a list of the extension of this type, or an empty list without data
 abbrev pub extension_of : ℕ → Option (List ℕ) → List Extension
 extension_of kind None = []
 extension_of kind (Some bytes) = (kind, bytes) ∷ []
 
--- the data of the extension that names feature bits: none where none is named
+-- the data of the feature name extension; none if the list is empty
 abbrev pub names_data : List Feature → Option (List ℕ)
 names_data [] = None
 names_data (x ∷ xs) = Some (flat_map feature_bytes (x ∷ xs))
 
--- The extensions of a header in the order in which they are written: backing format, data file's name, names of feature bits.
+-- The extensions in the order in which they are written: backing format, data file name, feature names.
 unfoldable pub extensions_of : Header → List Extension
 extensions_of h = extension_of 0xE279_2ACA h.backing_format ++ extension_of 0x4441_5441 h.data_file_name
     ++ extension_of 0x6803_F857 (names_data h.features)
 
--- Version 3 alone has extensions. They end with one of type 0 and length 0, which version 2 has too.
+-- Only version 3 has extensions. The end marker of type 0 and length 0 is written in both versions.
 unfoldable pub extensions_bytes : Header → List ℕ
 extensions_bytes h = (if is_version_3 h.fields then flat_map extension_bytes (extensions_of h) else []) ++ replicate 8 0
 
--- the backing file's name, where there is one
+-- the bytes of the backing file's name, if any
 abbrev pub name_bytes : Option (List ℕ) → List ℕ
 name_bytes None = []
 name_bytes (Some name) = name
 
--- The name follows the extensions. Where there is none its place is 0.
+-- The offset of the backing file's name, which follows the extensions. It is 0 without a name.
 abbrev pub backing_name_offset : Header → Option (List ℕ) → ℕ
 backing_name_offset h None = 0
 backing_name_offset h (Some name) = fields_length h.fields + length (extensions_bytes h)
 
--- the fields as they are written: with the name's place and length, and the length of a header that has no more fields
+-- the fields as they are written: with the name's offset and length, and the length of a header without further fields
 unfoldable pub written_fields : Header → Fields
 written_fields h = record h.fields {
   backing_offset = backing_name_offset h h.backing_name;
@@ -89,15 +89,15 @@ written_fields h = record h.fields {
 abbrev pub written : Header → Header
 written h = record h { fields = written_fields h }
 
--- all that is written of a header: its fields, its extensions and the backing file's name
+-- the bytes of a header: its fields, its extensions and the backing file's name
 unfoldable pub header_bytes : Header → List ℕ
 header_bytes h = fields_bytes (written_fields h) ++ extensions_bytes h ++ name_bytes h.backing_name
 
--- It fits the first cluster, and the backing file's name has at most 1,023 bytes.
+-- The header fits in the first cluster, and the backing file's name has at most 1,023 bytes.
 abbrev pub fits_first_cluster : Header → Bool
 fits_first_cluster h = nat_le (length (header_bytes h)) (cluster_size h.fields) && nat_le (length (name_bytes h.backing_name)) 1023
 
--- the names that a new header gives to feature bits
+-- the feature names of a new header
 abbrev pub first_features : List Feature
 first_features =
     record { kind = 0; bit = 0; name = codes "dirty bit" }
@@ -105,7 +105,7 @@ first_features =
     ∷ record { kind = 0; bit = 2; name = codes "external data file" }
     ∷ []
 
--- The fields of a new header: no size, no tables and no snapshots. Incompatible feature bit 2 is that of the external data file.
+-- The fields of a new header, without size, tables and snapshots. Incompatible feature bit 2 is the external data file's.
 abbrev pub new_fields : ℕ → ℕ → Bool → Fields
 new_fields cluster_bits order has_data_file = record {
   version = 3;

@@ -1,8 +1,8 @@
--- What a write of the first fields of a header changes: the disk's size, and where the tables stand and how long they are.
+-- A write of the first 64 bytes of a header, which can change the disk's size, and the offsets and lengths of the tables.
 use Rattle.std.specs.Prelude.{◌≡◌, ◌<◌, ◌≤◌, ◌^◌, true}
 use Rattle.qcow2_types.specs.Header.{Fields, Header, has_backing_name}
 
--- the fields with the size and the tables of others
+-- the fields h, with the size and the tables of `other`
 abbrev pub with_tables_of : Fields → Fields → Fields
 with_tables_of other h = record h {
   size = other.size;
@@ -12,15 +12,15 @@ with_tables_of other h = record h {
   refcount_table_clusters = other.refcount_table_clusters;
 }
 
--- the header with the size and the tables of other fields
+-- the header H, with the size and the tables of `other`
 abbrev pub with_places : Fields → Header → Header
 with_places other H = record H { fields = with_tables_of other H.fields }
 
--- The new header differs from the old one in these alone.
+-- The new header differs from the old one only in the size and the tables.
 pub record OnlyPlaces (old new : Header) : Type 0 where
   pub same : new ≡ with_places new.fields old
 
--- each number in bytes 0 to 63 has at most the bits of its field
+-- each number in bytes 0 to 63 fits in its field
 pub record FirstFieldsFit (h : Fields) : Type 0 where
   pub version : h.version < 2 ^ 32
   pub backing_offset : h.backing_offset < 2 ^ 64
@@ -34,6 +34,6 @@ pub record FirstFieldsFit (h : Fields) : Type 0 where
   pub refcount_table_clusters : h.refcount_table_clusters < 2 ^ 32
   pub snapshots : h.snapshots < 2 ^ 32
 
--- A backing file's name lies behind bytes 0 to 63, where there is one: else a write of these would change the name.
+-- The backing file's name, if any, starts after bytes 0 to 63. Otherwise a write of these bytes would change the name.
 abbrev pub IsNameAfterFields : Fields → Type 0
 IsNameAfterFields h = has_backing_name h ≡ true → 64 ≤ h.backing_offset

@@ -1,4 +1,4 @@
--- What one write into a consistent image f leaves in the file g: an image that is consistent under the same header.
+-- Specifies how the image file g after one write is related to the consistent image file f before the write. The header H doesn't change.
 use Rattle.std.specs.Prelude.{Bool, true, Ok, ◌≡◌, ◌≢◌, ℕ, ◌+◌, ◌*◌, ◌/◌, ◌%◌, ◌<◌, ◌⊎◌}
 use Rattle.imago_storage.specs.Disk.{Value}
 use Rattle.qcow2_types.specs.Bytes.{Bytes, raw_entry, sum_below}
@@ -13,13 +13,13 @@ use Rattle.qcow2_types.specs.Slots.{slot, Live}
 use Rattle.qcow2_types.specs.Frames.{Same, SameStructureOutside, nothing, block, table, l1_word, block_word, ShowsAs}
 use Rattle.qcow2_types.specs.Versions.{KeepsSlots, SamePlaces}
 
--- Each place whose guest cluster has the mapping that it had, but perhaps for the mark of its cluster, shows what it did.
+-- Each guest cluster whose mapping is the same, apart from the COPIED flag, reads as before.
 abbrev pub ShownWithoutCopied : Bytes → Bytes → Header → Type 0
 ShownWithoutCopied f g H = (external : Bytes) (p : ℕ) (below : Value)
     → mapping_without_copied (entry g H.fields (p / cluster_size H.fields)) ≡ mapping_without_copied (entry f H.fields (p / cluster_size H.fields))
     → shown g external H.fields p below ≡ shown f external H.fields p below
 
--- A data cluster was written that word j of L2 table i names: no guest cluster's mapping changes, and what shows at no other one.
+-- The data cluster of entry j of L2 table i was written: no mapping changes, and other guest clusters read as before.
 pub record DataWritten (f g : Bytes) (H : Header) (i j : ℕ) : Type 0 where
   pub consistent : IsConsistent g H
   pub same_structure_outside : SameStructureOutside f g H.fields nothing
@@ -30,7 +30,7 @@ pub record DataWritten (f g : Bytes) (H : Header) (i j : ℕ) : Type 0 where
   pub elsewhere : (guest : ℕ) → (guest / entries_of_cluster H.fields ≢ i) ⊎ (guest % entries_of_cluster H.fields ≢ j)
       → ShowsAs g f H.fields guest
 
--- A cluster was written that nothing names, or that is kept for zeroes: the image stays as it is, and shows the same.
+-- A cluster was written that nothing references, or a preallocated zero cluster: each guest cluster reads as before.
 pub record FreeWritten (f g : Bytes) (H : Header) : Type 0 where
   pub consistent : IsConsistent g H
   pub same_structure_outside : SameStructureOutside f g H.fields nothing
@@ -39,8 +39,8 @@ pub record FreeWritten (f g : Bytes) (H : Header) : Type 0 where
   pub counts : (c : ℕ) → count g H.fields c ≡ count f H.fields c
   pub shows : (guest : ℕ) → ShowsAs g f H.fields guest
 
--- Clusters c to c + k were written, in which no table, block or header is: the image stays as it is, with the mapping of each guest
--- cluster, and what shows changes at those alone whose data is in one of them.
+-- Clusters c to c + k, which contain no header, table or refcount block, were written. No mapping changes, and only guest clusters whose
+-- data is in one of these clusters read differently.
 pub record RunWritten (f g : Bytes) (H : Header) (c k : ℕ) : Type 0 where
   pub consistent : IsConsistent g H
   pub same_structure_outside : SameStructureOutside f g H.fields nothing
@@ -51,8 +51,8 @@ pub record RunWritten (f g : Bytes) (H : Header) (c k : ℕ) : Type 0 where
   pub elsewhere : (guest : ℕ) → ((d : ℕ) (copied : Bool) → entry f H.fields guest ≡ data_at d copied → (d < c) ⊎ (c + k < d))
       → ShowsAs g f H.fields guest
 
--- Refcount block b was written: no count of another block changes, and the image shows the same. Clusters that nothing names keep
--- their bytes, and so do those that words name, also those kept for zeroes.
+-- Refcount block b was written: no refcount of another block changes, and each guest cluster reads as before. Clusters that nothing
+-- references keep their bytes. So do clusters that L2 entries reference, including preallocated zero clusters.
 pub record BlockWritten (f g : Bytes) (H : Header) (b : ℕ) : Type 0 where
   pub consistent : IsConsistent g H
   pub same_structure_outside : SameStructureOutside f g H.fields (block b)
@@ -64,14 +64,14 @@ pub record BlockWritten (f g : Bytes) (H : Header) (b : ℕ) : Type 0 where
   pub mapped : (c : ℕ) → 0 < contents_sum f H.fields (of_mapping H.fields (meets H.fields c))
       → Same f g (c * cluster_size H.fields) (cluster_size H.fields)
 
--- The counter of cluster c was written, and is this number: no other count changes.
+-- The refcount of cluster c was set to `number`: no other refcount changes.
 pub record CounterWritten (f g : Bytes) (H : Header) (c number : ℕ) : Type 0 where
   pub block : BlockWritten f g H (c / counters_of_block H.fields)
   pub here : count g H.fields c ≡ number
   pub others : (d : ℕ) → d ≢ c → count g H.fields d ≡ count f H.fields d
 
--- Word j of L2 table i was written, and means `new`: no other word and no count changes, and so what other guest clusters show.
--- Clusters that nothing names keep their bytes, and so do those that words name.
+-- Entry j of L2 table i was written, and means `new`. No other entry and no refcount changes, and other guest clusters read as before.
+-- Clusters that nothing references keep their bytes, and so do clusters that L2 entries reference.
 pub record SlotWritten (f g : Bytes) (H : Header) (i j : ℕ) (new : Mapping) : Type 0 where
   pub consistent : IsConsistent g H
   pub same_structure_outside : SameStructureOutside f g H.fields (table i)
@@ -87,12 +87,12 @@ pub record SlotWritten (f g : Bytes) (H : Header) (i j : ℕ) (new : Mapping) : 
   pub mapped : (c : ℕ) → 0 < contents_sum f H.fields (of_mapping H.fields (meets H.fields c))
       → Same f g (c * cluster_size H.fields) (cluster_size H.fields)
 
--- summed over what the words of L2 table i mean
+-- the sum over the mappings of L2 table i
 abbrev pub table_sum : Bytes → Fields → (Mapping → ℕ) → ℕ → ℕ
 table_sum f h of i = sum_below (entries_of_cluster h) (λ j. of (slot f h i j))
 
--- L2 table i was written, whole or in part: no word of another table and no count changes. What is named changes by what the words of
--- the table name. Clusters that nothing names keep their bytes, and so do those that words name.
+-- L2 table i was written, as a whole or in part: no entry of another table and no refcount changes. References change only by the entries
+-- of this table. Clusters that nothing references keep their bytes, and so do clusters that L2 entries reference.
 pub record TableWritten (f g : Bytes) (H : Header) (i : ℕ) : Type 0 where
   pub header : header_of true g ≡ Ok H
   pub same_structure_outside : SameStructureOutside f g H.fields (table i)
@@ -108,8 +108,8 @@ pub record TableWritten (f g : Bytes) (H : Header) (i : ℕ) : Type 0 where
   pub mapped : (c : ℕ) → 0 < contents_sum f H.fields (of_mapping H.fields (meets H.fields c))
       → Same f g (c * cluster_size H.fields) (cluster_size H.fields)
 
--- The same, and the image is consistent: guest clusters of other tables, and those of this one whose word means what it did, show what
--- they did. The mark of a cluster plays no part in what is shown.
+-- Like `TableWritten`, and the image is consistent. Guest clusters of other tables, and those whose entry means the same, read as before.
+-- The COPIED flag doesn't affect what the guest reads.
 pub record TableRewritten (f g : Bytes) (H : Header) (i : ℕ) : Type 0 where
   pub written : TableWritten f g H i
   pub consistent : IsConsistent g H
@@ -120,13 +120,13 @@ pub record TableRewritten (f g : Bytes) (H : Header) (i : ℕ) : Type 0 where
       → ShowsAs g f H.fields guest
   pub values : ShownWithoutCopied f g H
 
--- Word j of L2 table i was written, and names cluster c as copied data, which nothing named: no other cluster's references change.
+-- Entry j of L2 table i was set to data in cluster c, with the COPIED flag. Nothing referenced c, and no other references change.
 pub record ClusterMapped (f g : Bytes) (H : Header) (i j c : ℕ) : Type 0 where
   pub slot : SlotWritten f g H i j (data_at c true)
   pub named_once : refs g H.fields c ≡ 1
   pub references : (d : ℕ) → d ≢ c → refs g H.fields d ≡ refs f H.fields d
 
--- Word i of the L1 table, which named no table, was written and names one of zeroes in cluster c, at this place.
+-- L1 entry i, which referenced no table, was set to reference a table of zeroes in cluster c, at offset `place`.
 pub record TableEntered (f g : Bytes) (H : Header) (i c place : ℕ) : Type 0 where
   pub consistent : IsConsistent g H
   pub same_structure_outside : SameStructureOutside f g H.fields (l1_word i)
@@ -144,9 +144,9 @@ pub record TableEntered (f g : Bytes) (H : Header) (i c place : ℕ) : Type 0 wh
   pub mapped : (d : ℕ) → 0 < contents_sum f H.fields (of_mapping H.fields (meets H.fields d))
       → Same f g (d * cluster_size H.fields) (cluster_size H.fields)
 
--- Word i of the L1 table was written and names the L2 table at this place: no word of another table and no count changes. What is
--- named changes by the old table, with what its words name, and the new one with what its words name. Clusters that nothing names keep
--- their bytes, and so do those that words name.
+-- L1 entry i was set to reference the L2 table at offset `place`: no entry of another table and no refcount changes. References change
+-- only by the old and the new table and by their entries. Clusters that nothing references keep their bytes, and so do clusters that L2
+-- entries reference.
 pub record TableReplaced (f g : Bytes) (H : Header) (i place : ℕ) : Type 0 where
   pub header : header_of true g ≡ Ok H
   pub same_structure_outside : SameStructureOutside f g H.fields (l1_word i)
@@ -168,8 +168,8 @@ pub record TableReplaced (f g : Bytes) (H : Header) (i place : ℕ) : Type 0 whe
   pub mapped : (d : ℕ) → 0 < contents_sum f H.fields (of_mapping H.fields (meets H.fields d))
       → Same f g (d * cluster_size H.fields) (cluster_size H.fields)
 
--- The same, and the image is consistent: guest clusters of other tables, and those of this one for which the new table has the
--- mapping that they had, show what they did. The mark of a cluster plays no part in what is shown.
+-- Like `TableReplaced`, and the image is consistent. Guest clusters of other tables, and those that the new table maps as before, read as
+-- before. The COPIED flag doesn't affect what the guest reads.
 pub record TableSwapped (f g : Bytes) (H : Header) (i place : ℕ) : Type 0 where
   pub replaced : TableReplaced f g H i place
   pub consistent : IsConsistent g H
@@ -179,8 +179,8 @@ pub record TableSwapped (f g : Bytes) (H : Header) (i place : ℕ) : Type 0 wher
       ⊎ (l2_mapping f H.fields place (guest % entries_of_cluster H.fields) ≡ entry f H.fields guest) → ShowsAs g f H.fields guest
   pub values : ShownWithoutCopied f g H
 
--- Word i of the refcount table, which named no block, was written and names the one in cluster c, at this place. The clusters that it
--- counts, c perhaps among them, are counted as its bytes say.
+-- Refcount table entry i, which referenced no block, was set to reference the block in cluster c, at offset `place`. The block's bytes
+-- give the refcounts of its clusters, and c may be one of these.
 pub record BlockEntered (f g : Bytes) (H : Header) (i c place : ℕ) : Type 0 where
   pub consistent : IsConsistent g H
   pub same_structure_outside : SameStructureOutside f g H.fields (block_word i)

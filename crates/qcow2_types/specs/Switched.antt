@@ -1,6 +1,5 @@
--- What is left of an image when its header names another L1 table, another refcount table or another size: of f with header H in g.
--- Behind the header the structure of f stands as it was, with the words of the new table; clusters that nothing names keep their bytes,
--- and so do those that words name.
+-- The image after its header was switched to another L1 table, another refcount table or another disk size: f with header H becomes g.
+-- Only the first cluster is written. Clusters that nothing references keep their bytes, and so do clusters that L2 entries reference.
 use Rattle.std.specs.Prelude.{◌≡◌, ◌≢◌, ℕ, ◌+◌, ◌*◌, ◌/◌, ◌<◌, ◌==◌, if◌then◌else◌}
 use Rattle.imago_storage.specs.Disk.{Value}
 use Rattle.qcow2_types.specs.Bytes.{Bytes, raw_entry, sum_below}
@@ -40,7 +39,7 @@ with_l1 h offset entries = record {
 abbrev pub with_l1_table : Header → ℕ → ℕ → Header
 with_l1_table H offset entries = record H { fields = with_l1 H.fields offset entries }
 
--- The L1 table moved to this place, and has so many more words, which name no table.
+-- The L1 table is now at `offset`, and has `more` more entries, which reference no table.
 pub record L1Switched (f g : Bytes) (H : Header) (offset more : ℕ) : Type 0 where
   pub consistent : IsConsistent g (with_l1_table H offset (H.fields.l1_entries + more))
   pub same_structure_outside : SameStructureOutside f g H.fields first_cluster
@@ -50,7 +49,7 @@ pub record L1Switched (f g : Bytes) (H : Header) (offset more : ℕ) : Type 0 wh
       → slot g (with_l1 H.fields offset (H.fields.l1_entries + more)) i j ≡ slot f H.fields i j
   pub blocks : (i : ℕ) → block_at g (with_l1 H.fields offset (H.fields.l1_entries + more)) i ≡ block_at f H.fields i
   pub counts : (d : ℕ) → count g (with_l1 H.fields offset (H.fields.l1_entries + more)) d ≡ count f H.fields d
-  -- the new table's clusters are named, and no longer the old one's
+  -- the new table's clusters are referenced, and the old table's are no longer
   pub structure : (weight : Weight) → structure_sum g
       (with_l1 H.fields offset (H.fields.l1_entries + more)) weight + weight H.fields.l1_offset (H.fields.l1_entries * 8)
       ≡ structure_sum f H.fields weight + weight offset ((H.fields.l1_entries + more) * 8)
@@ -72,16 +71,15 @@ with_reftable h offset clusters = record h { refcount_table_offset = offset; ref
 abbrev pub with_refcount_table : Header → ℕ → ℕ → Header
 with_refcount_table H offset clusters = record H { fields = with_reftable H.fields offset clusters }
 
--- Summed over a refcount table of so many clusters at this place, and over the blocks that its words name where the old ones named
--- none.
+-- The sum of weights over a refcount table of `clusters` clusters at `offset`, and over its blocks where the old table had none.
 abbrev pub newly_referenced : Bytes → Fields → ℕ → ℕ → Weight → ℕ
 newly_referenced f h offset clusters weight =
     weight offset (clusters * cluster_size h)
     + sum_below (clusters * entries_of_cluster h) (λ i.
     if block_at f h i == 0 then of_cluster h weight (block_at f (with_reftable h offset clusters) i) else 0)
 
--- The refcount table moved to this place, and has so many clusters: its words name the blocks that the old ones named, and perhaps new
--- ones. The clusters of these are counted as their bytes say.
+-- The refcount table is now at `offset`, and has `clusters` clusters. Its entries reference the blocks of the old table, and may
+-- reference new ones, whose bytes give the refcounts of their clusters.
 pub record RefcountTableSwitched (f g : Bytes) (H : Header) (offset clusters : ℕ) : Type 0 where
   pub consistent : IsConsistent g (with_refcount_table H offset clusters)
   pub same_structure_outside : SameStructureOutside f g H.fields first_cluster
@@ -93,7 +91,7 @@ pub record RefcountTableSwitched (f g : Bytes) (H : Header) (offset clusters : �
   pub counts : (d : ℕ) → count g (with_reftable H.fields offset clusters) d ≡ count f (with_reftable H.fields offset clusters) d
   pub old_counts : (d : ℕ) → block_at f H.fields (d / counters_of_block H.fields) ≢ 0
       → count g (with_reftable H.fields offset clusters) d ≡ count f H.fields d
-  -- the new table's clusters and the new blocks are named, and no longer the old table's
+  -- the new table's clusters and the new blocks are referenced, and the old table's clusters are no longer
   pub structure : (weight : Weight) → structure_sum g
       (with_reftable H.fields offset clusters) weight + weight H.fields.refcount_table_offset
       (H.fields.refcount_table_clusters * cluster_size H.fields)
@@ -109,15 +107,15 @@ pub record RefcountTableSwitched (f g : Bytes) (H : Header) (offset clusters : �
   pub mapped : (d : ℕ) → 0 < contents_sum f H.fields (of_mapping H.fields (meets H.fields d))
       → Same f g (d * cluster_size H.fields) (cluster_size H.fields)
 
--- the fields with another size of the disk
+-- the fields with another disk size
 abbrev pub sized : Fields → ℕ → Fields
 sized h n = record h { size = n }
 
--- the header with another size
+-- the header with another disk size
 abbrev pub with_size : Header → ℕ → Header
 with_size H n = record H { fields = sized H.fields n }
 
--- The disk has another size, and each place shows what it did.
+-- The disk has another size, and each guest byte is the same.
 pub record SizeSwitched (f g : Bytes) (H : Header) (n : ℕ) : Type 0 where
   pub consistent : IsConsistent g (with_size H n)
   pub same_structure_outside : SameStructureOutside f g H.fields first_cluster

@@ -1,10 +1,11 @@
--- The bytes of an image of 65,536 bytes with clusters of 512, after 01 02 03 at 510: its nonzero words, by their places.
+-- The worked image, an example for laws, by its nonzero bytes. Its disk has 65,536 bytes, in clusters of 512, and 01 02 03 was written at
+-- offset 510.
 use Rattle.std.specs.Prelude.{ℕ, ◌+◌, ◌-◌, List, [], ◌∷◌, length, nat_lt, nat_le, slice_index, if◌then◌else◌, ◌&&◌, None, codes}
 use Rattle.imago_storage.specs.Disk.{Value, byte}
 use Rattle.qcow2_types.specs.Bytes.{Bytes, splice}
 use Rattle.qcow2_types.specs.Header.{Fields, Header}
 
--- a file that is 0 but for these pieces, the first of which that holds a place decides
+-- a file given by pieces of bytes at offsets: the first piece that covers an offset counts, and other bytes are 0
 abbrev pub Pieces : Type 0
 Pieces = List (ℕ × List ℕ)
 
@@ -45,23 +46,23 @@ image =
     ∷
     []
 
--- the worked image with these bytes from that place on
+-- the worked image with these bytes at this offset
 abbrev pub with_bytes : ℕ → List ℕ → Bytes
 with_bytes place bytes = of_pieces ((place, bytes) ∷ image)
 
--- The worked image with a refcount block in cluster 256, which it doesn't name, and which counts clusters 256 to 258 once.
+-- The worked image with a refcount block in cluster 256, which nothing references. The refcounts of clusters 256 to 258 are 1.
 unfoldable pub block_written : Bytes
 block_written = splice (of_pieces image) 131072 (0 ∷ 1 ∷ 0 ∷ 1 ∷ 0 ∷ 1 ∷ [])
 
--- the same, with a refcount table of two clusters in clusters 257 and 258, which names the image's block and, second, that one
+-- `block_written` with a refcount table in clusters 257 and 258. It references the image's block, and as the second the new block.
 unfoldable pub table_written : Bytes
 table_written = splice block_written 131584 (0 ∷ 0 ∷ 0 ∷ 0 ∷ 0 ∷ 0 ∷ 4 ∷ 0 ∷ 0 ∷ 0 ∷ 0 ∷ 0 ∷ 0 ∷ 2 ∷ 0 ∷ 0 ∷ [])
 
--- the same, with a header that names this table
+-- `table_written` with a header that references the new table
 unfoldable pub grown : Bytes
 grown = splice table_written 48 (0 ∷ 0 ∷ 0 ∷ 0 ∷ 0 ∷ 2 ∷ 2 ∷ 0 ∷ 0 ∷ 0 ∷ 0 ∷ 2 ∷ [])
 
--- the fields of its header
+-- the fields of the worked image's header
 unfoldable pub image_fields : Fields
 image_fields = record {
   version = 3;
@@ -83,7 +84,7 @@ image_fields = record {
   header_length = 104;
 }
 
--- its header
+-- the worked image's header
 unfoldable pub image_header : Header
 image_header = record {
   fields = image_fields;
@@ -97,26 +98,26 @@ image_header = record {
       ∷ [];
 }
 
--- its header with other incompatible feature bits
+-- the worked image's header with other incompatible feature bits
 abbrev pub header_with_features : ℕ → Header
 header_with_features bits = record image_header { fields = record image_fields { incompatible = bits } }
 
--- its fields with counters of 2 to this power of bits
+-- the worked image's fields with another refcount order
 abbrev pub fields_with_order : ℕ → Fields
 fields_with_order order = record image_fields { refcount_order = order }
 
--- its header with that many snapshots
+-- the worked image's header with `many` snapshots
 abbrev pub header_with_snapshots : ℕ → Header
 header_with_snapshots many = record image_header { fields = record image_fields { snapshots = many } }
 
--- its header as version 2 reads it: without extensions
+-- the worked image's fields as version 2, without the later fields
 abbrev pub older_fields : Fields
 older_fields = record image_fields { version = 2; header_length = 72 }
 
--- the header as version 2 reads it
+-- the worked image's header as version 2, without extensions
 abbrev pub older_header : Header
 older_header = record image_header { fields = older_fields; features = [] }
 
--- what the image shows to its guest at 508 to 515
+-- the guest bytes of the worked image at offsets 508 to 515
 abbrev pub written_bytes : List Value
 written_bytes = byte 0 ∷ byte 0 ∷ byte 1 ∷ byte 2 ∷ byte 3 ∷ byte 0 ∷ byte 0 ∷ byte 0 ∷ []

@@ -1,8 +1,8 @@
-//! A number taken apart at a bit, and put together.
+//! Functions that split a number at a bit, and join the two parts.
 
 ghost use Rattle.std.specs.Prelude.{◌≡◌, ◌+◌, ◌*◌, ◌%◌, ◌^◌, ◌<◌};
 
-/// The lowest `bits` bits of a number.
+/// Returns the lowest `bits` bits of a number.
 pub fn low_bits(value: u64, bits: u32) -> u64
     requires { bits < 64 }
     ensures { result ≡ value % 2 ^ bits }
@@ -10,7 +10,7 @@ pub fn low_bits(value: u64, bits: u32) -> u64
     value & ((1 << bits) - 1)
 }
 
-/// The number whose lowest `bits` bits are `low`, with `high` above them.
+/// Returns the number whose lowest `bits` bits are `low`, with `high` above them.
 pub fn join_bits(high: u64, low: u64, bits: u32) -> u64
     requires bits { bits < 64 }
     requires low { low < 2 ^ bits }

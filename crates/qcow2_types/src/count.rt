@@ -1,4 +1,4 @@
-// Numbers of clusters: qemu's `nb_clusters`.
+// Numbers of clusters, and conversions between clusters and bytes.
 
 ghost use Rattle.std.specs.Prelude.{◌≡◌, ℕ, ◌+◌, ◌-◌, ◌*◌, ◌/◌, ◌%◌, ◌^◌, ◌<◌, ◌≤◌, Some, SomeIff};
 ghost use Rattle.std.specs.Fmt.{decimal};
@@ -8,9 +8,9 @@ use std::fmt;
 use std::marker::Model;
 use std::ops::{Add, AddAssign, Sub, SubAssign};
 
-/// A number of clusters, of the guest's disk or of the image file. Contracts see the number.
+/// A number of clusters, of the guest's disk or of the image file. In contracts it is a number.
 ///
-/// Where a call takes cluster bits, a cluster has 2^`cluster_bits` bytes.
+/// In calls that take `cluster_bits`, a cluster has 2^`cluster_bits` bytes.
 #[derive(Clone, Copy, PartialEq, Eq, PartialOrd, Ord, Debug, Hash)]
 pub struct ClusterCount(pub u64);
 
@@ -23,7 +23,7 @@ impl Model for ClusterCount {
 }
 
 impl ClusterCount {
-    /// The clusters that hold `byte_size` bytes, of which the last may be filled in part.
+    /// Returns the number of clusters that hold `byte_size` bytes, rounded up to whole clusters.
     pub fn from_byte_size(byte_size: u64, cluster_bits: u32) -> ClusterCount
         requires bits { (9 ≤ cluster_bits) × (cluster_bits ≤ 21) }
         ensures { result ≡ (byte_size + (2 ^ cluster_bits - 1)) / 2 ^ cluster_bits }
@@ -36,7 +36,7 @@ impl ClusterCount {
         }
     }
 
-    /// The clusters that `byte_size` bytes fill, or none where the last is filled in part.
+    /// Returns the number of clusters that `byte_size` bytes fill, or `None` if they don't fill the last cluster completely.
     pub fn checked_from_byte_size(byte_size: u64, cluster_bits: u32) -> Option<ClusterCount>
         requires bits { (9 ≤ cluster_bits) × (cluster_bits ≤ 21) }
         ensures { SomeIff result (byte_size % 2 ^ cluster_bits ≡ 0) (byte_size / 2 ^ cluster_bits) }
@@ -48,7 +48,7 @@ impl ClusterCount {
         }
     }
 
-    /// The bytes of this many clusters.
+    /// Returns the size of the clusters, in bytes.
     pub fn byte_size(self, cluster_bits: u32) -> u64
         requires bits { (9 ≤ cluster_bits) × (cluster_bits ≤ 21) }
         requires fits { self * 2 ^ cluster_bits < 2 ^ 64 }

@@ -1,4 +1,4 @@
-// Places in the guest's disk, which are guest offsets in qemu and imago, and where the tables map them.
+// Guest offsets and guest clusters, and their indices in the L1 and L2 tables. The tables themselves are defined in specs/Entries.antt.
 
 ghost use Rattle.std.specs.Prelude.{◌≡◌, ℕ, ◌+◌, ◌-◌, ◌*◌, ◌/◌, ◌%◌, ◌^◌, ◌<◌, ◌≤◌, ◌++◌, codes, Some, SomeIff, false};
 ghost use Rattle.std.specs.Fmt.{digits};
@@ -10,17 +10,17 @@ use std::fmt;
 use std::marker::Model;
 use std::ops::{Add, AddAssign, Sub, SubAssign};
 
-/// A byte of the guest's disk, by its place in bytes. Contracts see the number.
+/// An offset in the guest's disk, in bytes. In contracts it is a number.
 ///
-/// Where a call takes cluster bits, a cluster has 2^`cluster_bits` bytes.
+/// In calls that take `cluster_bits`, a cluster has 2^`cluster_bits` bytes.
 #[derive(Clone, Copy, PartialEq, Eq, PartialOrd, Ord, Debug, Hash)]
 pub struct GuestOffset(pub u64);
 
-/// A cluster of the guest's disk, by its number. Contracts see the number.
+/// A cluster of the guest's disk, by its index. In contracts it is a number.
 ///
-/// Where a call takes cluster bits, a cluster has 2^`cluster_bits` bytes. An L2 table fills one with e words of 8 bytes each, and
-/// guest cluster g has word g mod e of the table that word g / e of the L1 table names (the section "Cluster mapping" of the
-/// format).
+/// In calls that take `cluster_bits`, a cluster has 2^`cluster_bits` bytes. An L2 table fills one cluster and has e entries of 8 bytes.
+/// Guest cluster g uses entry g / e of the L1 table, and entry g mod e of the L2 table that it references. See the section "Cluster
+/// mapping" of the format.
 #[derive(Clone, Copy, PartialEq, Eq, PartialOrd, Ord, Debug, Hash)]
 pub struct GuestCluster(pub u64);
 
@@ -41,7 +41,7 @@ impl Model for GuestCluster {
 }
 
 impl GuestOffset {
-    /// The place of this byte in its cluster.
+    /// Returns the offset within the cluster, in bytes.
     pub fn in_cluster_offset(self, cluster_bits: u32) -> usize
         requires bits { (9 ≤ cluster_bits) × (cluster_bits ≤ 21) }
         ensures { result ≡ self % 2 ^ cluster_bits }
@@ -49,7 +49,7 @@ impl GuestOffset {
         low_bits(self.0, cluster_bits) as usize
     }
 
-    /// The cluster that holds this byte.
+    /// Returns the cluster that contains this offset.
     pub fn cluster(self, cluster_bits: u32) -> GuestCluster
         requires bits { (9 ≤ cluster_bits) × (cluster_bits ≤ 21) }
         ensures { result ≡ self / 2 ^ cluster_bits }
@@ -57,7 +57,7 @@ impl GuestOffset {
         GuestCluster(self.0 >> cluster_bits)
     }
 
-    /// The cluster that begins with this byte, or none where it lies inside one.
+    /// Returns the cluster that starts at this offset, or `None` if the offset isn't a multiple of the cluster size.
     pub fn checked_cluster(self, cluster_bits: u32) -> Option<GuestCluster>
         requires bits { (9 ≤ cluster_bits) × (cluster_bits ≤ 21) }
         ensures { SomeIff result (self % 2 ^ cluster_bits ≡ 0) (self / 2 ^ cluster_bits) }
@@ -69,7 +69,7 @@ impl GuestOffset {
         }
     }
 
-    /// The index of its cluster's word in the L2 table.
+    /// Returns the index of the cluster's entry in its L2 table.
     pub fn l2_index(self, cluster_bits: u32) -> usize
         requires bits { (9 ≤ cluster_bits) × (cluster_bits ≤ 21) }
         ensures { result ≡ self / 2 ^ cluster_bits % l2_entries cluster_bits }
@@ -77,7 +77,7 @@ impl GuestOffset {
         self.cluster(cluster_bits).l2_index(cluster_bits)
     }
 
-    /// The index of its L2 table's word in the L1 table.
+    /// Returns the index in the L1 table of the entry for the cluster's L2 table.
     pub fn l1_index(self, cluster_bits: u32) -> usize
         requires bits { (9 ≤ cluster_bits) × (cluster_bits ≤ 21) }
         ensures { result ≡ self / 2 ^ cluster_bits / l2_entries cluster_bits }
@@ -85,7 +85,7 @@ impl GuestOffset {
         self.cluster(cluster_bits).l1_index(cluster_bits)
     }
 
-    /// The bytes from this one to its cluster's end, this one among them.
+    /// Returns the number of bytes from this offset to the end of its cluster. The byte at this offset is included.
     pub fn remaining_in_cluster(self, cluster_bits: u32) -> u64
         requires bits { (9 ≤ cluster_bits) × (cluster_bits ≤ 21) }
         ensures { result ≡ 2 ^ cluster_bits - self % 2 ^ cluster_bits }
@@ -93,7 +93,7 @@ impl GuestOffset {
         (1 << cluster_bits) - low_bits(self.0, cluster_bits)
     }
 
-    /// The bytes from this one to the end of what its L2 table maps, this one among them.
+    /// Returns the number of bytes from this offset to the end of the range that its L2 table maps. The byte at this offset is included.
     #[tactic(auto, using(crate::proofs::Counting::TableSizes::mapped_power))]
     pub fn remaining_in_l2_table(self, cluster_bits: u32) -> u64
         requires bits { (9 ≤ cluster_bits) × (cluster_bits ≤ 21) }
@@ -105,7 +105,7 @@ impl GuestOffset {
 }
 
 impl GuestCluster {
-    /// The place of the cluster's first byte.
+    /// Returns the offset of the cluster's first byte.
     pub fn offset(self, cluster_bits: u32) -> GuestOffset
         requires bits { (9 ≤ cluster_bits) × (cluster_bits ≤ 21) }
         requires fits { self * 2 ^ cluster_bits < 2 ^ 64 }
@@ -114,7 +114,7 @@ impl GuestCluster {
         GuestOffset(self.0 << cluster_bits)
     }
 
-    /// The index of its word in the L2 table.
+    /// Returns the index of the cluster's entry in its L2 table.
     #[tactic(auto, using(crate::proofs::Counting::TableSizes::entries_power))]
     pub fn l2_index(self, cluster_bits: u32) -> usize
         requires bits { (9 ≤ cluster_bits) × (cluster_bits ≤ 21) }
@@ -123,7 +123,7 @@ impl GuestCluster {
         low_bits(self.0, cluster_bits - 3) as usize
     }
 
-    /// The index of its L2 table's word in the L1 table.
+    /// Returns the index in the L1 table of the entry for the cluster's L2 table.
     #[tactic(auto, using(crate::proofs::Counting::TableSizes::entries_power))]
     pub fn l1_index(self, cluster_bits: u32) -> usize
         requires bits { (9 ≤ cluster_bits) × (cluster_bits ≤ 21) }
@@ -132,7 +132,7 @@ impl GuestCluster {
         (self.0 >> (cluster_bits - 3)) as usize
     }
 
-    /// The cluster whose word has these two indices.
+    /// Returns the cluster that is mapped by entry `l2_index` of the L2 table that L1 entry `l1_index` references.
     #[tactic(auto, using(crate::proofs::Counting::TableSizes::entries_power))]
     pub fn from_l1_l2_indices(l1_index: usize, l2_index: usize, cluster_bits: u32) -> GuestCluster
         requires bits { (9 ≤ cluster_bits) × (cluster_bits ≤ 21) }
@@ -143,7 +143,7 @@ impl GuestCluster {
         GuestCluster(join_bits(l1_index as u64, l2_index as u64, cluster_bits - 3))
     }
 
-    /// The next cluster, or none where another L2 table maps it.
+    /// Returns the next cluster, or `None` if this cluster is the last one that its L2 table maps.
     #[tactic(auto, using(crate::proofs::Counting::TableSizes::entries_power))]
     pub fn next_in_l2(self, cluster_bits: u32) -> Option<GuestCluster>
         requires bits { (9 ≤ cluster_bits) × (cluster_bits ≤ 21) }
@@ -157,7 +157,7 @@ impl GuestCluster {
         }
     }
 
-    /// The first cluster that the next L2 table maps.
+    /// Returns the first cluster that the next L2 table maps.
     #[tactic(auto, using(crate::proofs::Counting::TableSizes::entries_power))]
     pub fn first_in_next_l2(self, cluster_bits: u32) -> GuestCluster
         requires bits { (9 ≤ cluster_bits) × (cluster_bits ≤ 21) }
@@ -193,7 +193,7 @@ impl Sub<u64> for GuestOffset {
     }
 }
 
-/// The bytes from the one offset to the other.
+/// Returns the number of bytes from `rhs` to `self`.
 impl Sub<GuestOffset> for GuestOffset {
     type Output = u64;
 
@@ -260,7 +260,7 @@ impl SubAssign<ClusterCount> for GuestCluster {
     }
 }
 
-/// The clusters from the one to the other.
+/// Returns the number of clusters from `rhs` to `self`.
 impl Sub<GuestCluster> for GuestCluster {
     type Output = ClusterCount;
 

@@ -1,4 +1,5 @@
-// Places in the image file, which are host offsets in qemu and imago, and where clusters of it are counted: their refcounts.
+// Host offsets and host clusters, and the indices of a cluster's refcount in the refcount table and in its refcount block. The refcounts
+// themselves are defined in specs/Counts.antt.
 
 ghost use Rattle.std.specs.Prelude.{◌≡◌, ℕ, ◌+◌, ◌-◌, ◌*◌, ◌/◌, ◌%◌, ◌^◌, ◌<◌, ◌≤◌, ◌++◌, codes, Some, SomeIff, false};
 ghost use Rattle.std.specs.Fmt.{digits};
@@ -10,17 +11,17 @@ use std::fmt;
 use std::marker::Model;
 use std::ops::{Add, AddAssign, Sub, SubAssign};
 
-/// A byte of the image file, or of the external data file, by its place in bytes. Contracts see the number.
+/// An offset in the image file or in the external data file, in bytes. In contracts it is a number.
 ///
-/// Where a call takes cluster bits, a cluster has 2^`cluster_bits` bytes.
+/// In calls that take `cluster_bits`, a cluster has 2^`cluster_bits` bytes.
 #[derive(Clone, Copy, PartialEq, Eq, PartialOrd, Ord, Debug, Hash)]
 pub struct HostOffset(pub u64);
 
-/// A cluster of the image file, or of the external data file, by its number. Contracts see the number.
+/// A cluster of the image file or of the external data file, by its index. In contracts it is a number.
 ///
-/// Where a call takes cluster bits, a cluster has 2^`cluster_bits` bytes. Where it takes block bits, a refcount block has
-/// k = 2^`rb_bits` counters, and host cluster c has counter c mod k of the block that word c / k of the refcount table names (the
-/// section "Host cluster management" of the format).
+/// In calls that take `cluster_bits`, a cluster has 2^`cluster_bits` bytes. In calls that take `rb_bits`, a refcount block has k =
+/// 2^`rb_bits` refcounts. The refcount of host cluster c is number c mod k of the block that refcount table entry c / k references. See
+/// the section "Host cluster management" of the format.
 #[derive(Clone, Copy, PartialEq, Eq, PartialOrd, Ord, Debug, Hash)]
 pub struct HostCluster(pub u64);
 
@@ -41,7 +42,7 @@ impl Model for HostCluster {
 }
 
 impl HostOffset {
-    /// The place of this byte in its cluster.
+    /// Returns the offset within the cluster, in bytes.
     pub fn in_cluster_offset(self, cluster_bits: u32) -> usize
         requires bits { (9 ≤ cluster_bits) × (cluster_bits ≤ 21) }
         ensures { result ≡ self % 2 ^ cluster_bits }
@@ -49,7 +50,7 @@ impl HostOffset {
         low_bits(self.0, cluster_bits) as usize
     }
 
-    /// The cluster that holds this byte.
+    /// Returns the cluster that contains this offset.
     pub fn cluster(self, cluster_bits: u32) -> HostCluster
         requires bits { (9 ≤ cluster_bits) × (cluster_bits ≤ 21) }
         ensures { result ≡ self / 2 ^ cluster_bits }
@@ -57,7 +58,7 @@ impl HostOffset {
         HostCluster(self.0 >> cluster_bits)
     }
 
-    /// The cluster that begins with this byte, or none where it lies inside one.
+    /// Returns the cluster that starts at this offset, or `None` if the offset isn't a multiple of the cluster size.
     pub fn checked_cluster(self, cluster_bits: u32) -> Option<HostCluster>
         requires bits { (9 ≤ cluster_bits) × (cluster_bits ≤ 21) }
         ensures { SomeIff result (self % 2 ^ cluster_bits ≡ 0) (self / 2 ^ cluster_bits) }
@@ -71,7 +72,7 @@ impl HostOffset {
 }
 
 impl HostCluster {
-    /// The place of the cluster's first byte.
+    /// Returns the offset of the cluster's first byte.
     pub fn offset(self, cluster_bits: u32) -> HostOffset
         requires bits { (9 ≤ cluster_bits) × (cluster_bits ≤ 21) }
         requires fits { self * 2 ^ cluster_bits < 2 ^ 64 }
@@ -80,7 +81,7 @@ impl HostCluster {
         HostOffset(self.0 << cluster_bits)
     }
 
-    /// The place in this cluster that `guest_offset` has in its own.
+    /// Returns the offset in this cluster that corresponds to `guest_offset` in its guest cluster.
     pub fn relative_offset(self, guest_offset: GuestOffset, cluster_bits: u32) -> HostOffset
         requires bits { (9 ≤ cluster_bits) × (cluster_bits ≤ 21) }
         requires fits { self * 2 ^ cluster_bits + guest_offset % 2 ^ cluster_bits < 2 ^ 64 }
@@ -89,7 +90,7 @@ impl HostCluster {
         self.offset(cluster_bits) + guest_offset.in_cluster_offset(cluster_bits) as u64
     }
 
-    /// The index of its counter in the refcount block.
+    /// Returns the index of the cluster's refcount in its refcount block.
     pub fn rb_index(self, rb_bits: u32) -> usize
         requires bits { rb_bits ≤ 24 }
         ensures { result ≡ self % 2 ^ rb_bits }
@@ -97,7 +98,7 @@ impl HostCluster {
         low_bits(self.0, rb_bits) as usize
     }
 
-    /// The index of its refcount block's word in the refcount table.
+    /// Returns the index in the refcount table of the entry for the cluster's refcount block.
     pub fn rt_index(self, rb_bits: u32) -> usize
         requires bits { rb_bits ≤ 24 }
         ensures { result ≡ self / 2 ^ rb_bits }
@@ -105,7 +106,7 @@ impl HostCluster {
         (self.0 >> rb_bits) as usize
     }
 
-    /// Its index in the refcount table, and that in the block.
+    /// Returns `rt_index` and `rb_index` of the cluster: its block's index in the refcount table, and its refcount's index in the block.
     pub fn rt_rb_indices(self, rb_bits: u32) -> (usize, usize)
         requires bits { rb_bits ≤ 24 }
         ensures { result ≡ (self / 2 ^ rb_bits, self % 2 ^ rb_bits) }
@@ -113,7 +114,7 @@ impl HostCluster {
         (self.rt_index(rb_bits), self.rb_index(rb_bits))
     }
 
-    /// The cluster whose counter has these two indices.
+    /// Returns the cluster whose refcount is number `rb_index` of the refcount block that refcount table entry `rt_index` references.
     pub fn from_ref_indices(rt_index: usize, rb_index: usize, rb_bits: u32) -> HostCluster
         requires bits { rb_bits ≤ 24 }
         requires in_block { rb_index < 2 ^ rb_bits }
@@ -148,7 +149,7 @@ impl Sub<u64> for HostOffset {
     }
 }
 
-/// The bytes from the one offset to the other.
+/// Returns the number of bytes from `rhs` to `self`.
 impl Sub<HostOffset> for HostOffset {
     type Output = u64;
 
@@ -215,7 +216,7 @@ impl SubAssign<ClusterCount> for HostCluster {
     }
 }
 
-/// The clusters from the one to the other.
+/// Returns the number of clusters from `rhs` to `self`.
 impl Sub<HostCluster> for HostCluster {
     type Output = ClusterCount;
 

@@ -1,6 +1,6 @@
-//! The qcow2 format: its constants, its meaning as definitions over the bytes of a file, and the small values of its metadata.
-//!
-//! In qemu and imago a word of a table is its entry, a counter a refcount, a place an offset, and a cluster that is named is referenced.
+//! The qcow2 format: its constants, the meaning of its metadata, and small types for offsets, clusters and header fields. The meaning is
+//! given as definitions over the bytes of a file, in `specs`. The modules `laws`, `steps` and `two_versions` state theorems that follow
+//! from the definitions. Terms are explained in docs/GLOSSARY.md.
 #![tactic(auto)]
 
 pub mod bits;
@@ -22,15 +22,15 @@ pub use host::{HostCluster, HostOffset};
 pub use on_disk::{OnDiskStruct, V2Header, V3HeaderBase};
 pub use pending::{ClustersToFreeEntry, PendingClusters};
 
-/// The number that the first four bytes of an image spell: `QFI` and 0xfb.
+/// The magic number in the first four bytes of an image: `QFI` and 0xfb.
 pub const MAGIC: u32 = 0x5146_49fb;
-/// The least size of a cluster, in bytes.
+/// The smallest cluster size, in bytes.
 pub const MIN_CLUSTER_SIZE: usize = 512;
-/// The greatest size of a cluster, in bytes.
+/// The largest cluster size, in bytes.
 pub const MAX_CLUSTER_SIZE: usize = 2_097_152;
-/// The least number of bits of a counter.
+/// The smallest refcount width, in bits.
 pub const MIN_REFCOUNT_WIDTH: usize = 1;
-/// The greatest number of bits of a counter.
+/// The largest refcount width, in bits.
 pub const MAX_REFCOUNT_WIDTH: usize = 64;
-/// The greatest place of a file that a table's word can name.
+/// The largest file offset that an L1 entry or a standard L2 entry can hold, in bytes.
 pub const MAX_OFFSET: u64 = 0x00ff_ffff_ffff_fe00;

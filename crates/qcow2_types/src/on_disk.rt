@@ -1,62 +1,63 @@
-// The parts of the header that have a fixed size, as structs and as bytes. In qemu they are one struct, `QCowHeader`.
+// The header fields of fixed size as two structs, for bytes 0 to 71 and for bytes 72 to 103, with conversions from and to bytes. The bytes
+// are defined in specs/OnDisk.antt.
 
 ghost use Rattle.std.specs.Prelude.{◌≡◌, ◌+◌, ◌≤◌, ◌++◌, ℕ, List, length, take};
 ghost use Rattle.std.specs.Int.{w32, w64, to_be_bytes};
 ghost use Rattle.qcow2_types.specs.OnDisk.{v2_bytes, v3_bytes};
 
-/// A value that a file holds as bytes: its fields in order, each a big-endian number.
+/// A value that is stored in a file as bytes: its fields in order, each a big-endian number.
 pub trait OnDiskStruct: Sized {
     ghost SIZE: { ℕ };
 
     ghost on_disk: { Self → List ℕ };
 
-    /// How many bytes a value has.
+    /// The size of a value, in bytes.
     const SIZE: usize;
 
-    /// The value with these bytes, of which there are `SIZE`. Each list of so many bytes is that of a value.
+    /// Reads a value from `bytes`, which has a length of `SIZE`. Every slice of this length is a valid value.
     fn from_bytes(bytes: &[u8]) -> Self
         requires size { length bytes.now ≡ SIZE }
         ensures { on_disk result ≡ bytes.now };
 
-    /// Overwrites all of `bytes`, of which there are `SIZE`, with those of the value.
+    /// Writes the value to `bytes`, which has a length of `SIZE`.
     fn to_bytes(&self, bytes: &mut [u8])
         requires size { length bytes.old ≡ SIZE }
         ensures { bytes.new ≡ on_disk self.now };
 }
 
-/// The fields in bytes 0 to 71 of an image, which each version has (the section "Header" of the format). Places and sizes are in
+/// The fields in bytes 0 to 71 of an image, which versions 2 and 3 have (the section "Header" of the format). Offsets and sizes are in
 /// bytes.
 #[derive(Clone, Copy, PartialEq, Eq, Debug)]
 pub struct V2Header {
-    /// `MAGIC` in each image.
+    /// The magic number, `MAGIC` in each image.
     pub magic: u32,
     /// The version, 2 or 3.
     pub version: u32,
-    /// Where the name of the backing file begins, 0 for none.
+    /// The offset of the backing file's name, 0 for none.
     pub backing_filename_offset: u64,
-    /// How many bytes that name has.
+    /// The length of the backing file's name, in bytes.
     pub backing_filename_size: u32,
-    /// A cluster has 2^`cluster_bits` bytes.
+    /// The cluster bits: a cluster has 2^`cluster_bits` bytes.
     pub cluster_bits: u32,
     /// The size of the guest's disk.
     pub size: u64,
-    /// How the guest's data is encrypted, 0 for not at all.
+    /// The encryption method, 0 for none.
     pub crypt_method: u32,
-    /// How many words the L1 table has.
+    /// The number of entries of the L1 table.
     pub l1_size: u32,
-    /// Where the L1 table begins.
+    /// The offset of the L1 table.
     pub l1_table_offset: u64,
-    /// Where the refcount table begins.
+    /// The offset of the refcount table.
     pub refcount_table_offset: u64,
-    /// How many clusters the refcount table fills.
+    /// The size of the refcount table, in clusters.
     pub refcount_table_clusters: u32,
-    /// How many snapshots there are.
+    /// The number of snapshots.
     pub nb_snapshots: u32,
-    /// Where the table of snapshots begins.
+    /// The offset of the snapshot table.
     pub snapshots_offset: u64,
 }
 
-/// The fields in bytes 72 to 103 of an image, which version 3 has (the section "Header" of the format).
+/// The fields in bytes 72 to 103 of an image, which only version 3 has (the section "Header" of the format).
 #[derive(Clone, Copy, PartialEq, Eq, Debug)]
 pub struct V3HeaderBase {
     /// The incompatible features, by their bits (`IncompatibleFeatures`).
@@ -65,13 +66,13 @@ pub struct V3HeaderBase {
     pub compatible_features: u64,
     /// The autoclear features, by their bits (`AutoclearFeatures`).
     pub autoclear_features: u64,
-    /// A counter has 2^`refcount_order` bits.
+    /// The refcount order: a refcount has 2^`refcount_order` bits.
     pub refcount_order: u32,
-    /// How many bytes the header has, from byte 0 on, without its extensions.
+    /// The length of the header from byte 0, without its extensions, in bytes.
     pub header_length: u32,
 }
 
-/// No feature, counters of 16 bits, and no field past byte 103.
+/// The default has no feature bit, refcounts of 16 bits, and no field after byte 103.
 impl Default for V3HeaderBase {
     ghost is_default = { λ h. h ≡ record {
       incompatible_features = 0;
@@ -92,7 +93,7 @@ impl Default for V3HeaderBase {
     }
 }
 
-// The number in the 4 bytes from `at` on.
+// Returns the number in the 4 bytes at `at`.
 fn u32_at(bytes: &[u8], at: usize) -> u32
     requires { at + 4 ≤ length bytes.now }
     ensures { take (at + 4) bytes.now ≡ take at bytes.now ++ to_be_bytes w32 result }
@@ -102,7 +103,7 @@ fn u32_at(bytes: &[u8], at: usize) -> u32
     u32::from_be_bytes(number)
 }
 
-// The number in the 8 bytes from `at` on.
+// Returns the number in the 8 bytes at `at`.
 fn u64_at(bytes: &[u8], at: usize) -> u64
     requires { at + 8 ≤ length bytes.now }
     ensures { take (at + 8) bytes.now ≡ take at bytes.now ++ to_be_bytes w64 result }
@@ -112,7 +113,7 @@ fn u64_at(bytes: &[u8], at: usize) -> u64
     u64::from_be_bytes(number)
 }
 
-// Writes a number over the 4 bytes from `at` on, and keeps those before.
+// Writes a number to the 4 bytes at `at`. The bytes before `at` don't change.
 fn put_u32(bytes: &mut [u8], at: usize, number: u32)
     requires { at + 4 ≤ length bytes.old }
     ensures { take (at + 4) bytes.new ≡ take at bytes.old ++ to_be_bytes w32 number }
@@ -120,7 +121,7 @@ fn put_u32(bytes: &mut [u8], at: usize, number: u32)
     bytes[at..at + 4].copy_from_slice(&number.to_be_bytes());
 }
 
-// Writes a number over the 8 bytes from `at` on, and keeps those before.
+// Writes a number to the 8 bytes at `at`. The bytes before `at` don't change.
 fn put_u64(bytes: &mut [u8], at: usize, number: u64)
     requires { at + 8 ≤ length bytes.old }
     ensures { take (at + 8) bytes.new ≡ take at bytes.old ++ to_be_bytes w64 number }

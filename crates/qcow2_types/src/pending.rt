@@ -1,5 +1,5 @@
-// Clusters that are handed over, as values that nothing lets go by accident. What is
-// pending is in qemu an allocation that no table names yet.
+// Clusters that a caller must take care of: newly allocated ones that nothing references yet, and ones to free. The compiler rejects code
+// that drops these values, so that no cluster leaks by accident.
 
 ghost use Rattle.std.specs.Prelude.{◌≡◌, true, false};
 ghost use Rattle.qcow2_types.specs.Pending.{FreeEntry};
@@ -8,9 +8,10 @@ use crate::count::ClusterCount;
 use crate::host::HostCluster;
 use std::marker::Model;
 
-/// Host clusters that nothing names any more and that are still counted: to be freed. Contracts see `FreeEntry`.
+/// Consecutive host clusters to free: nothing references them any more, but their refcount is still above 0. In contracts the value is a
+/// `FreeEntry`.
 ///
-/// It can't be dropped, since its clusters would leak: it is spent by `into_parts`.
+/// The value can't be dropped, because its clusters would leak. `into_parts` consumes it.
 #[derive(Debug)]
 pub struct ClustersToFreeEntry {
     first_cluster: HostCluster,
@@ -25,7 +26,7 @@ impl Model for ClustersToFreeEntry {
 }
 
 impl ClustersToFreeEntry {
-    /// `count` clusters of the guest's data, from `first_cluster` on.
+    /// Creates an entry of `count` clusters of guest data, starting at `first_cluster`.
     pub fn data(first_cluster: HostCluster, count: ClusterCount) -> ClustersToFreeEntry
         ensures { result ≡ record { first = first_cluster; count = count; metadata = false } }
     {
@@ -36,7 +37,7 @@ impl ClustersToFreeEntry {
         }
     }
 
-    /// `count` clusters of metadata, as tables and refcount blocks, from `first_cluster` on.
+    /// Creates an entry of `count` clusters of metadata, such as tables and refcount blocks, starting at `first_cluster`.
     pub fn metadata(first_cluster: HostCluster, count: ClusterCount) -> ClustersToFreeEntry
         ensures { result ≡ record { first = first_cluster; count = count; metadata = true } }
     {
@@ -47,29 +48,30 @@ impl ClustersToFreeEntry {
         }
     }
 
-    /// The first of the clusters.
+    /// Returns the first of the clusters.
     pub fn first_cluster(&self) -> HostCluster
         ensures { result ≡ self.now.first }
     {
         self.first_cluster
     }
 
-    /// How many clusters there are, in a row.
+    /// Returns the number of clusters.
     pub fn count(&self) -> ClusterCount
         ensures { result ≡ self.now.count }
     {
         self.count
     }
 
-    /// Whether they held metadata.
+    /// Returns true if the clusters held metadata.
     pub fn is_metadata(&self) -> bool
         ensures { result ≡ self.now.metadata }
     {
         self.is_metadata
     }
 
-    /// Spends the entry: the first cluster, how many there are, and whether they held metadata. The caller has to lower their
-    /// counts, or they leak.
+    /// Consumes the entry. Returns the first cluster, the number of clusters, and true if they held metadata.
+    ///
+    /// The caller must lower the refcounts of the clusters, or the clusters leak.
     pub fn into_parts(self) -> (HostCluster, ClusterCount, bool)
         ensures { result ≡ (self.first, self.count, self.metadata) }
     {
@@ -82,10 +84,11 @@ impl ClustersToFreeEntry {
     }
 }
 
-/// Host clusters that are counted and that nothing names yet. Contracts see `FreeEntry`: what is freed if nothing ever does.
+/// Newly allocated host clusters: their refcount is above 0, but nothing references them yet. In contracts the value is a `FreeEntry`: the
+/// clusters that must be freed if nothing ever references them.
 ///
-/// It can't be dropped: `make_persistent` spends it once a table names the clusters, and `into_entry` where none will, or where
-/// the caller keeps the clusters as plain data until one does.
+/// The value can't be dropped. Once a table references the clusters, consume it with `make_persistent`. Use `into_entry` if no table will
+/// reference them, or to keep the clusters as plain data until one does.
 #[derive(Debug)]
 pub struct PendingClusters {
     entry: ClustersToFreeEntry,
@@ -98,27 +101,27 @@ impl Model for PendingClusters {
 }
 
 impl PendingClusters {
-    /// The clusters of `entry`, to be named.
+    /// Creates pending clusters (allocated, and not yet referenced): the clusters of `entry`.
     pub fn new(entry: ClustersToFreeEntry) -> PendingClusters
         ensures { result ≡ entry }
     {
         PendingClusters { entry }
     }
 
-    /// The first of the clusters.
+    /// Returns the first of the clusters.
     pub fn cluster(&self) -> HostCluster
         ensures { result ≡ self.now.first }
     {
         self.entry.first_cluster()
     }
 
-    /// Spends the value: a table names the clusters now.
+    /// Consumes the value. Call it when a table references the clusters.
     pub fn make_persistent(self) {
         let PendingClusters { entry } = self;
         let _parts = entry.into_parts();
     }
 
-    /// Spends the value: the clusters are to be freed, or are plain data from here on, of which the caller takes care.
+    /// Consumes the value and returns its entry. The caller must free the clusters, or keep track of them itself.
     pub fn into_entry(self) -> ClustersToFreeEntry
         ensures { result ≡ self }
     {

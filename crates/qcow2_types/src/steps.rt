@@ -1,5 +1,6 @@
-//! What one write into a consistent image leaves. The functions do nothing, and their contracts are the laws: f is the file
-//! before the write, and the image stays consistent under the same header. What is named is referenced in qemu and imago.
+//! Laws (functions without code whose contracts are theorems) on one write to a consistent image. In a consistent image, refcounts cover
+//! the references, and clusters of the metadata and COPIED clusters are referenced once. The file before the write is f. The image stays
+//! consistent. Only the laws that switch the header change its fields. Definitions: specs/Steps.antt and specs/Switched.antt.
 
 ghost use Rattle.std.specs.Prelude.{◌≡◌, ◌≢◌, ◌≤◌, ◌<◌, ◌+◌, ◌*◌, ◌/◌, ◌%◌, ◌^◌, ℕ, List, [], ◌∷◌, length, true, map, IsTrue, IsFalse, Some, Ok};
 ghost use Rattle.std.specs.Int.{w64, to_be_bytes};
@@ -18,7 +19,8 @@ ghost use Rattle.imago_storage.specs.Disk.{byte};
 ghost use Rattle.qcow2_types.specs.Disk.{at, qcow2};
 ghost use Rattle.qcow2_types.specs.WorkedImage.{of_pieces, image, image_fields, image_header, table_written, grown};
 
-/// A write into a cluster that a word of an L2 table names as copied data shows at that word's guest cluster alone.
+/// Law: if bytes are written to a data cluster that an L2 entry references with the COPIED flag, only the guest cluster of this entry
+/// changes.
 pub fn data_write_stays_in_its_cluster()
     ensures { (f : Bytes) (h : Header) → IsConsistent f h → (c i j : ℕ) → Live (l2_table f h.fields) h.fields i j
         → slot f h.fields i j ≡ data_at c true
@@ -26,7 +28,7 @@ pub fn data_write_stays_in_its_cluster()
         → DataWritten f g h i j }
 {}
 
-/// A write into a cluster that a word of an L2 table keeps for zeroes, and names as copied, shows nowhere.
+/// Law: if bytes are written to a preallocated zero cluster that an L2 entry references with the COPIED flag, no guest data changes.
 pub fn kept_cluster_write_shows_nowhere()
     ensures { (f : Bytes) (h : Header) → IsConsistent f h → (c i j : ℕ) → Live (l2_table f h.fields) h.fields i j
         → slot f h.fields i j ≡ zeroes (Some c) true
@@ -34,14 +36,14 @@ pub fn kept_cluster_write_shows_nowhere()
         → FreeWritten f g h }
 {}
 
-/// A write into clusters c to c + k, which nothing names, shows nowhere.
+/// Law: if bytes are written to clusters c to c + k, and nothing references these clusters, no guest data changes.
 pub fn free_write_shows_nowhere()
     ensures { (f : Bytes) (h : Header) → IsConsistent f h → (c k : ℕ) → ((d : ℕ) → c ≤ d → d ≤ c + k → refs f h.fields d ≡ 0)
         → (g : Bytes) (at n : ℕ) → Outside f g at n → c * cluster_size h.fields ≤ at → at + n ≤ (c + k + 1) * cluster_size h.fields
         → FreeWritten f g h }
 {}
 
-/// A write into clusters c to c + k, in which no table, block or header is, shows at those guest clusters alone whose data is in one
+/// Law: if clusters c to c + k contain no header, table or refcount block, a write to them only changes guest clusters whose data is in one
 /// of them.
 pub fn run_write_stays_in_its_clusters()
     ensures { (f : Bytes) (h : Header) → IsConsistent f h → (c k : ℕ)
@@ -50,8 +52,8 @@ pub fn run_write_stays_in_its_clusters()
         → RunWritten f g h c k }
 {}
 
-/// A write into a refcount block that leaves its clusters counted as often as they are named changes no other count, and a
-/// counter of whole bytes can be set to any number that is no less than what names its cluster.
+/// Law: if a refcount block is written, no refcount outside the block changes. The refcounts in the block must still cover the references.
+/// A refcount of 8 bits or more can be set to any number that is at least the cluster's references.
 pub fn counter_write_keeps_other_counts()
     ensures block { (f : Bytes) (h : Header) → IsConsistent f h → (b : ℕ) → block_at f h.fields b ≢ 0
         → (g : Bytes) (at n : ℕ) → Outside f g at n → block_at f h.fields b ≤ at → at + n ≤ block_at f h.fields b + cluster_size h.fields
@@ -64,7 +66,7 @@ pub fn counter_write_keeps_other_counts()
         (be (bytes_of bytes) 0 (length bytes)) }
 {}
 
-/// A word of an L2 table that left its guest cluster unmapped can name a counted cluster that nothing names.
+/// Law: if an L2 entry is unmapped, it can be set to data in an allocated cluster that nothing references, with the COPIED flag.
 pub fn mapping_a_free_cluster()
     ensures { (f : Bytes) (h : Header) → IsConsistent f h → (i j : ℕ) → Live (l2_table f h.fields) h.fields i j
         → (w : ℕ) → w < 2 ^ 64 → (c : ℕ) → mapping_of (layout_of h.fields) w ≡ data_at c true
@@ -72,9 +74,11 @@ pub fn mapping_a_free_cluster()
         → ClusterMapped f (splice f (l2_table f h.fields i + 8 * j) (to_be_bytes w64 w)) h i j c }
 {}
 
-/// A word of an L2 table can be any other that has a meaning, if then each cluster that is named is counted, and each that the
-/// structure or a copied word names is named once. What the old word named it names no more. The references of each cluster change only by
-/// what the old and the new word name.
+/// Law: if an L2 entry is set to another valid entry, the references of each cluster change only by the old entry and the new entry.
+///
+/// The image stays consistent if, after the write:
+/// - each refcount covers the references;
+/// - each cluster of the header, tables and refcount blocks, and each cluster with the COPIED flag, is referenced once.
 pub fn rewriting_an_entry()
     ensures written { (f : Bytes) (h : Header) → IsConsistent f h → (i j : ℕ) → Live (l2_table f h.fields) h.fields i j
         → (w : ℕ) → w < 2 ^ 64 → IsFalse (is_damaged (mapping_of (layout_of h.fields) w))
@@ -92,10 +96,16 @@ pub fn rewriting_an_entry()
         ≡ refs f h.fields c + of_mapping h.fields (meets h.fields c) (mapping_of (layout_of h.fields) w) }
 {}
 
-/// A write into an L2 table, of one word, of some, or of the whole, changes no count and no word of another table; what is named
-/// changes by what the table's words name. Where they have a meaning, each cluster that is named is counted, and each that the
-/// structure or a copied word names is named once, the image stays consistent, and guest clusters of other tables, or whose word means
-/// what it did, but perhaps for the copied mark, show the same.
+/// Law: if an L2 table is written, as a whole or in part, no refcount and no entry of another table changes. References change only by the
+/// entries of the written table.
+///
+/// The image stays consistent if, after the write:
+/// - the entries of the table are valid;
+/// - each refcount covers the references;
+/// - each cluster of the header, tables and refcount blocks, and each cluster with the COPIED flag, is referenced once.
+///
+/// If the image stays consistent, guest clusters of other tables read as before. Guest clusters whose entry means the same as before, apart
+/// from the COPIED flag, read as before, too.
 pub fn writing_into_a_table()
     ensures written { (f : Bytes) (h : Header) → IsConsistent f h → (i : ℕ) → l2_table f h.fields i ≢ 0
         → (g : Bytes) (at n : ℕ) → Outside f g at n → l2_table f h.fields i ≤ at → at + n ≤ l2_table f h.fields i + cluster_size h.fields
@@ -110,7 +120,7 @@ pub fn writing_into_a_table()
         → TableRewritten f g h i }
 {}
 
-/// A word of the L1 table that named no table can name a counted cluster of zeroes that nothing names.
+/// Law: if an L1 entry references no table, it can be set to reference an allocated cluster of zeroes that nothing references.
 pub fn entering_a_table_of_zeroes()
     ensures { (f : Bytes) (h : Header) → IsConsistent f h → (i : ℕ) → i < h.fields.l1_entries → l2_table f h.fields i ≡ 0
         → (w : ℕ) → w < 2 ^ 64 → IsTrue (l1_entry_valid h.fields.cluster_bits w)
@@ -119,11 +129,16 @@ pub fn entering_a_table_of_zeroes()
         → TableEntered f (splice f (h.fields.l1_offset + 8 * i) (to_be_bytes w64 w)) h i c t }
 {}
 
-/// A word of the L1 table can name another table in a cluster that nothing names: no count and no word of another table changes, and
-/// what is named changes by the old table, with what its words name, and the new one with what its words name. Where these have a
-/// meaning, each cluster that is named is counted, and each that the structure or a copied word names is named once, the image stays
-/// consistent, and guest clusters of other tables, or that have the same mapping in the new one, but perhaps for the copied mark, show
-/// the same.
+/// Law: if an L1 entry is set to reference another L2 table, in a cluster that nothing references, no refcount and no entry of another
+/// table changes. References change only by the old and the new table and by their entries.
+///
+/// The image stays consistent if, after the write:
+/// - the entries of the new table are valid;
+/// - each refcount covers the references;
+/// - each cluster of the header, tables and refcount blocks, and each cluster with the COPIED flag, is referenced once.
+///
+/// If the image stays consistent, guest clusters of other tables read as before. Guest clusters that the new table maps as before, apart
+/// from the COPIED flag, read as before, too.
 pub fn linking_another_table()
     ensures replaced { (f : Bytes) (h : Header) → IsConsistent f h → (i : ℕ) → i < h.fields.l1_entries
         → (w : ℕ) → w < 2 ^ 64 → IsTrue (l1_entry_valid h.fields.cluster_bits w)
@@ -140,8 +155,8 @@ pub fn linking_another_table()
         → TableSwapped f (splice f (h.fields.l1_offset + 8 * i) (to_be_bytes w64 w)) h i t }
 {}
 
-/// A refcount block that is written whole counts its clusters as its bytes say. Where no word names it yet, its counters are still
-/// those of its bytes.
+/// Law: if a whole refcount block is written, the refcounts of its clusters are those in the written bytes. The block may be one that no
+/// refcount table entry references yet.
 pub fn block_write_sets_its_counts()
     ensures counts { (f : Bytes) (h : Header) → IsConsistent f h → (b : ℕ) → block_at f h.fields b ≢ 0
         → (bytes : List ℕ) → length bytes ≡ cluster_size h.fields → (c : ℕ) → c / counters_of_block h.fields ≡ b
@@ -152,8 +167,8 @@ pub fn block_write_sets_its_counts()
         → counter (splice f place bytes) h place i ≡ counter_of (bytes_of bytes) (counter_bits h) 0 i }
 {}
 
-/// A word of the refcount table that named no block can name one in a cluster that nothing names, if that is counted, by its
-/// own block or by the new one.
+/// Law: if a refcount table entry references no block, it can be set to reference one, in a cluster that nothing references. The refcount
+/// of the new block's cluster must be above 0, in an old block or in the new block.
 pub fn entering_a_block()
     ensures { (f : Bytes) (h : Header) → IsConsistent f h → (i : ℕ) → i < refcount_table_entries h.fields → block_at f h.fields i ≡ 0
         → (w : ℕ) → w < 2 ^ 64 → IsTrue (reftable_entry_valid h.fields.cluster_bits w)
@@ -163,8 +178,9 @@ pub fn entering_a_block()
         → BlockEntered f (splice f (h.fields.refcount_table_offset + 8 * i) (to_be_bytes w64 w)) h i c t }
 {}
 
-/// A header that names another L1 table, in counted clusters that nothing names, whose words are the old ones and then 0, leaves
-/// the image as it is, but for the old table, which nothing names then.
+/// Law: if another L1 table has the entries of the old table, followed by entries of 0, the header can be switched to it. The clusters of
+/// the new table are allocated, and nothing references them. The rest of the image doesn't change. Nothing references the old table any
+/// more.
 pub fn switching_the_l1_table()
     ensures { (f g : Bytes) (h : Header) → IsConsistent f h → (offset more : ℕ)
         → header_of true g ≡ Ok (with_l1_table h offset (h.fields.l1_entries + more)) → Outside f g 0 64
@@ -174,9 +190,9 @@ pub fn switching_the_l1_table()
         → L1Switched f g h offset more }
 {}
 
-/// A header that names another refcount table, whose words name the blocks that the old ones named, and perhaps new ones where these
-/// named none, leaves the image as it is, but for the old table, which nothing names then. The table and the new blocks stand apart,
-/// in clusters that nothing named and that the new table counts.
+/// Law: if another refcount table references the blocks of the old table, the header can be switched to it. The new table may also
+/// reference new blocks where the old table had none. The new table and the new blocks don't overlap. Nothing referenced their clusters,
+/// and their refcounts in the new table are above 0. The rest of the image doesn't change. Nothing references the old table any more.
 pub fn switching_the_refcount_table()
     ensures { (f g : Bytes) (h : Header) → IsConsistent f h → (offset clusters : ℕ)
         → header_of true g ≡ Ok (with_refcount_table h offset clusters) → Outside f g 0 64
@@ -188,15 +204,15 @@ pub fn switching_the_refcount_table()
         → RefcountTableSwitched f g h offset clusters }
 {}
 
-/// A header with another size of the disk leaves the rest of the image as it is: what is counted, named and leaked, and what each
-/// place shows.
+/// Law: if the disk size in the header is changed, the refcounts, the references, the leaks and the value of each guest byte are unchanged.
 pub fn switching_the_size()
     ensures { (f g : Bytes) (h : Header) → IsConsistent f h → (n : ℕ) → header_of true g ≡ Ok (with_size h n) → Outside f g 0 64
         → SizeSwitched f g h n }
 {}
 
-/// The refcount table of the worked image grows: a block in cluster 256, below the reach of the old table, which names no block there,
-/// then a table in clusters 257 and 258 that names it, then the header. Clusters 0, 1, 255 to 259 are then counted and named as follows.
+/// Law: an example in which the refcount table of the worked image (the one of `worked_image`) grows. First a block is written to cluster
+/// 256, which the old table can refcount but has no block for. Then a table that references the block is written to clusters 257 and 258,
+/// and then the header. The clauses list the refcounts and the references of clusters 0, 1, and 255 to 259.
 pub fn growing_the_refcount_table_of_the_worked_image()
     ensures switched { RefcountTableSwitched table_written grown image_header 131584 2 }
     ensures counts { map (count grown (with_reftable image_fields 131584 2)) (0 ∷ 1 ∷ 255 ∷ 256 ∷ 257 ∷ 258 ∷ 259 ∷ [])
@@ -205,7 +221,8 @@ pub fn growing_the_refcount_table_of_the_worked_image()
         ≡ 1 ∷ 0 ∷ 0 ∷ 1 ∷ 1 ∷ 1 ∷ 0 ∷ [] }
 {}
 
-/// In the worked image, cluster 7 is counted, and then named by the word of guest cluster 2, after 09 was written to it.
+/// Law: an example in which cluster 7 of the worked image (the one of `worked_image`) is allocated. Then 09 is written to cluster 7, and
+/// the entry of guest cluster 2 is set to reference cluster 7.
 pub fn allocating_in_the_worked_image()
     ensures counted { CounterWritten (of_pieces image) (splice (of_pieces image) 1038 (0 ∷ 1 ∷ [])) image_header 7 1 }
     ensures mapped { IsConsistent (splice (splice (splice (of_pieces image) 1038 (0 ∷ 1 ∷ [])) 3600 (9 ∷ [])) 2064

@@ -1,6 +1,6 @@
-//! Two versions of an image: f, the file's, and g, that of the words in memory, which are to be written over it. The functions do
-//! nothing, and their contracts are the laws. They say nothing of how the words in memory are kept: only what each of them means.
-//! In qemu and imago these are the entries and refcounts of the caches, where dirty ones differ from the file's.
+//! Laws (functions without code whose contracts are theorems) on writing cached metadata to the image file. In each law f is the file, and
+//! g is the file with all dirty L2 entries and refcounts of the caches written to it. The laws don't say how the caches are organised.
+//! Definitions: specs/Versions.antt.
 
 ghost use Rattle.std.specs.Prelude.{◌≡◌, ◌≤◌, ◌+◌, ◌⊎◌, ℕ};
 ghost use Rattle.imago_storage.specs.Disk.{Value};
@@ -14,13 +14,15 @@ ghost use Rattle.qcow2_types.specs.Slots.{slot, Live};
 ghost use Rattle.qcow2_types.specs.Frames.{ShowsAs};
 ghost use Rattle.qcow2_types.specs.Versions.{of_either, references_in_either, copied, ReferencedOnce, SamePlaces, IsBetween, KeepsSlots, ChangesSlot, BlocksFirst, TablesFirst};
 
-/// A file x, each of whose words means what it does in the one version or in the other, names no cluster more often than the two
-/// together, each word counted once, and marks none as copied more often. With it in place of f the two name no cluster more often
-/// than before, and what was named once by the structure or as copied still is. It shows at each place what the one version or the
-/// other does, where it does so for each guest cluster. Where no word differs, the two name what f does.
+/// Law: if each L2 entry of a file x means the same as in f or the same as in g, x has no references that neither f nor g has.
+///
+/// Each cluster has at most as many references in x as f and g have together, if an entry counts once for both. Each cluster also has at
+/// most as many references with the COPIED flag in x as f and g have together. If x replaces f, the references of x and g together don't
+/// increase. Clusters of the structure (header, tables, refcount blocks) and COPIED clusters that were referenced once still are. If each
+/// guest cluster reads in x as in f or as in g, so does each guest byte. If no entry differs, f and g together have the references of f.
 pub fn a_file_between_two_versions()
     ensures references { (f x g : Bytes) (h : Fields) (c : ℕ) → IsBetween f x g h → refs x h c ≤ references_in_either f g h c }
-    ensures marks_failed { (f x g : Bytes) (h : Fields) → IsBetween f x g h → (c : ℕ) → contents x h (of_copied h (meets h c)) ≤ copied f g h c }
+    ensures copied_references { (f x g : Bytes) (h : Fields) → IsBetween f x g h → (c : ℕ) → contents x h (of_copied h (meets h c)) ≤ copied f g h c }
     ensures falls { (f x g : Bytes) (h : Fields) (c : ℕ) → IsBetween f x g h → references_in_either x g h c ≤ references_in_either f g h c }
     ensures apart { (f x g : Bytes) (h : Fields) → IsBetween f x g h → ReferencedOnce f g h → ReferencedOnce x g h }
     ensures shows { (f x g external : Bytes) (h : Fields) → ((guest : ℕ) → ShowsAs x f h guest ⊎ ShowsAs x g h guest)
@@ -30,8 +32,10 @@ pub fn a_file_between_two_versions()
         → references_in_either f g h c ≡ refs f h c }
 {}
 
-/// Where one word in memory changes, what the two versions name changes by what the word names in either, and what the words in
-/// memory name by what it named and names.
+/// Law: if one L2 entry changes in memory, references change only by this entry.
+///
+/// The references of both versions together change by what the entry references in either version. The references in memory change by what
+/// its old and its new value reference.
 pub fn changing_an_entry_in_memory()
     ensures either { (f g new : Bytes) (h : Fields) (i j c : ℕ) → ChangesSlot f g new h i j
         → references_in_either f new h c + of_either h (meets h c) (slot f h i j) (slot g h i j)
@@ -40,9 +44,12 @@ pub fn changing_an_entry_in_memory()
         → refs new h c + of_mapping h (meets h c) (slot g h i j) ≡ refs g h c + of_mapping h (meets h c) (slot new h i j) }
 {}
 
-/// Writes that keep what holds of the counts. While blocks go first, a table is written once no count differs, and blocks at any
-/// time. While tables go first, a table is written at any time, and blocks once no word differs. While no order is set both hold, and
-/// tables and blocks are written at any time. x is the file after the write.
+/// Law: if L2 tables and refcount blocks are written in the order of the caches' dependency, the invariant of the refcounts (`BlocksFirst`
+/// or `TablesFirst`) still holds. The file after the write is x.
+///
+/// If blocks are written first, a table can be written once no refcount differs, and a block at any time. If tables are written first, a
+/// table can be written at any time. A block can be written once no entry differs and the refcounts in memory cover the references in
+/// memory. If neither depends on the other, both invariants hold, and tables and blocks can be written at any time.
 pub fn writing_in_order()
     ensures table_after_blocks { (f x g : Bytes) (h : Fields) → BlocksFirst f g h → ((c : ℕ) → count g h c ≡ count f h c)
         → IsBetween f x g h
@@ -60,8 +67,8 @@ pub fn writing_in_order()
         → ((c : ℕ) → (count x h c ≡ count f h c) ⊎ (count x h c ≡ count g h c)) → TablesFirst x g h }
 {}
 
-/// Blocks may wait for the tables from where no count differs, and tables for the blocks from where no word differs and the counts in
-/// memory cover what the words there name.
+/// Law: if no refcount differs between the file and memory, refcount blocks can depend on L2 tables (tables are written first). If no L2
+/// entry differs, and the refcounts in memory cover the references in memory, tables can depend on blocks.
 pub fn changing_the_order()
     ensures tables_first { (f g : Bytes) (h : Fields) → BlocksFirst f g h → ((c : ℕ) → count g h c ≡ count f h c) → TablesFirst f g h }
     ensures blocks_first { (f g : Bytes) (h : Fields) → TablesFirst f g h → KeepsSlots f g h → ((c : ℕ) → refs g h c ≤ count g h c)

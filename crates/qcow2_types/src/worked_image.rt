@@ -1,5 +1,5 @@
-//! What the definitions say of one image, byte for byte: 65,536 bytes in clusters of 512, after a write of 01 02 03 at 510.
-//! Each function does nothing, and its contract is what was computed.
+//! Laws (functions without code whose contracts are theorems) that compute the format's definitions for one small image, byte for byte. Its
+//! disk has 65,536 bytes, in clusters of 512, and 01 02 03 was written at guest offset 510. Read them as examples of the definitions.
 
 ghost use Rattle.std.specs.Prelude.{◌≡◌, ◌+◌, ◌^◌, [], ◌∷◌, Ok, Err, None, map, true, false};
 ghost use Rattle.imago_storage.specs.Disk.{byte, barred};
@@ -14,14 +14,14 @@ ghost use Rattle.qcow2_types.specs.Consistency.Finding.{header, snapshots, exter
 ghost use Rattle.qcow2_types.specs.Disk.{at, qcow2, raw};
 ghost use Rattle.qcow2_types.specs.WorkedImage.{of_pieces, image, image_fields, image_header, with_bytes, header_with_features, fields_with_order, older_fields, older_header, written_bytes};
 
-/// The image is consistent and leaks nothing.
+/// Law: the image is consistent (its refcounts cover the references) and leaks nothing.
 pub fn is_consistent()
     ensures consistent { IsConsistent (of_pieces image) image_header }
     ensures leaks { leaks (of_pieces image) image_fields ≡ [] }
     ensures verdict { IsVerdict (of_pieces image) (Ok []) }
 {}
 
-/// Its tables: where guest clusters 0, 1, 2 and 64 are, and how often host clusters 0 to 7 are counted and named.
+/// Law: guest clusters 0, 1, 2 and 64 have these mappings, and host clusters 0 to 7 have these refcounts and references.
 pub fn tables()
     ensures entries { map (entry (of_pieces image) image_fields) (0 ∷ 1 ∷ 2 ∷ 64 ∷ [])
         ≡ data_at 5 true ∷ data_at 6 true ∷ unmapped ∷ unmapped ∷ [] }
@@ -30,7 +30,8 @@ pub fn tables()
         ≡ 1 ∷ 1 ∷ 1 ∷ 1 ∷ 1 ∷ 1 ∷ 1 ∷ 0 ∷ [] }
 {}
 
-/// What the guest sees at 508 to 515, over a raw file of one byte, and where a word is compressed.
+/// Law: the guest reads these bytes at offsets 508 to 515, with no backing file, and at offsets 510 and 1024 over a raw backing file of one
+/// byte. If guest cluster 0 is compressed, its bytes can't be read.
 pub fn shown_bytes()
     ensures alone { map (at (qcow2 (of_pieces image) (λ _. 0) ∷ [])) (508 ∷ 509 ∷ 510 ∷ 511 ∷ 512 ∷ 513 ∷ 514 ∷ 515 ∷ []) ≡ written_bytes }
     ensures over_raw { map (at (qcow2 (of_pieces image) (λ _. 0) ∷ raw (9 ∷ []) ∷ [])) (510 ∷ 1024 ∷ []) ≡ byte 1 ∷ byte 0 ∷ [] }
@@ -38,13 +39,13 @@ pub fn shown_bytes()
     ensures compressed_entry { entry (with_bytes 2048 (64 ∷ [])) image_fields 0 ≡ packed 2560 512 }
 {}
 
-/// With a counter of 0 for cluster 5, that cluster is the first finding.
+/// Law: if the refcount of cluster 5 is 0, a check reports cluster 5 as its first finding (error).
 pub fn under_counted_cluster()
     ensures { IsVerdict (with_bytes 1034 (0 ∷ 0 ∷ [])) (Err (under_counted 5)) }
 {}
 
-/// What a checker answers on changed images: two copied words for one cluster; a counter for a cluster that nothing
-/// names; two words that aren't copied for a cluster that is counted twice; a compressed cluster.
+/// Law: a check has these results for changed images: two COPIED entries that reference one cluster; a refcount of 1 for a cluster that
+/// nothing references; two entries without the COPIED flag that reference a cluster of refcount 2; and a compressed cluster.
 pub fn changed_counts_and_words()
     ensures false_copied { IsVerdict (with_bytes 2056 (128 ∷ 0 ∷ 0 ∷ 0 ∷ 0 ∷ 0 ∷ 10 ∷ 0 ∷ [])) (Err (false_copied 5)) }
     ensures counted_only { IsVerdict (with_bytes 1042 (0 ∷ 1 ∷ [])) (Ok ((9, 1) ∷ [])) }
@@ -55,8 +56,8 @@ pub fn changed_counts_and_words()
     ensures compressed { IsVerdict (with_bytes 2048 (64 ∷ 0 ∷ 0 ∷ 0 ∷ 0 ∷ 0 ∷ 10 ∷ 0 ∷ [])) (Ok []) }
 {}
 
-/// What a checker finds before it looks at clusters, and the L1 table named as an L2 table: a header that doesn't load, a
-/// snapshot, external data, a damaged L2 word, and cluster 3 shared.
+/// Law: a check reports these findings (errors) before it looks at the refcounts: a header that doesn't load, a snapshot, external data, a
+/// damaged L2 entry, and a shared cluster. In the last image an L1 entry references the L1 table in cluster 3.
 pub fn changed_structure()
     ensures header { IsVerdict (with_bytes 23 (8 ∷ [])) (Err header) }
     ensures snapshots { IsVerdict (with_bytes 60 (0 ∷ 0 ∷ 0 ∷ 1 ∷ [])) (Err snapshots) }
@@ -65,7 +66,7 @@ pub fn changed_structure()
     ensures shared_table { IsVerdict (with_bytes 1536 (128 ∷ 0 ∷ 0 ∷ 0 ∷ 0 ∷ 0 ∷ 6 ∷ 0 ∷ [])) (Err (shared_table 3)) }
 {}
 
-/// The headers that load: as it stands, as one of version 2, and for reading alone where it is dirty.
+/// Law: these headers load: the image's own, its fields as version 2, and one with the dirty bit, which loads only for reading.
 pub fn loaded_headers()
     ensures newer { header_of true (of_pieces image) ≡ Ok image_header }
     ensures older { header_of true (with_bytes 4 (0 ∷ 0 ∷ 0 ∷ 2 ∷ [])) ≡ Ok older_header }
@@ -77,7 +78,7 @@ pub fn loaded_headers()
     ensures dirty_written { header_of true (with_bytes 79 (1 ∷ [])) ≡ Err Unsupported }
 {}
 
-/// The headers that are refused: by version, cluster bits, refcount order, features, size, L1 entries and L1 place.
+/// Law: these headers don't load, by their version, cluster bits, refcount order, features, size, L1 entries and L1 offset.
 pub fn refused_headers()
     ensures version { header_of false (with_bytes 4 (0 ∷ 0 ∷ 0 ∷ 4 ∷ [])) ≡ Err Unsupported }
     ensures small_clusters { header_of false (with_bytes 23 (8 ∷ [])) ≡ Err DamagedHeader }
@@ -89,8 +90,8 @@ pub fn refused_headers()
     ensures l1_place { header_of false (with_bytes 47 (1 ∷ [])) ≡ Err DamagedHeader }
 {}
 
-/// What other words of the first guest cluster mean, over a raw file that begins with 9: unmapped, zero, which version 2
-/// doesn't have, and compressed in two sectors.
+/// Law: with these entries, the first guest cluster reads as given, over a raw backing file that starts with 9: unmapped, zero, zero in
+/// version 2 (damaged), and compressed in two sectors.
 pub fn other_words()
     ensures unmapped { at (qcow2 (with_bytes 2048 (0 ∷ 0 ∷ 0 ∷ 0 ∷ 0 ∷ 0 ∷ 0 ∷ 0 ∷ [])) (λ _. 0) ∷ raw (9 ∷ []) ∷ []) 0 ≡ byte 9 }
     ensures unmapped_alone { at (qcow2 (with_bytes 2048 (0 ∷ 0 ∷ 0 ∷ 0 ∷ 0 ∷ 0 ∷ 0 ∷ 0 ∷ [])) (λ _. 0) ∷ []) 0 ≡ byte 0 }
@@ -101,7 +102,7 @@ pub fn other_words()
     ensures compressed { entry (with_bytes 2048 (96 ∷ 0 ∷ 0 ∷ 0 ∷ 0 ∷ 0 ∷ 10 ∷ 1 ∷ [])) image_fields 0 ≡ packed 2561 1023 }
 {}
 
-/// Counters of whole bytes: of 8, 32 and 64 bits.
+/// Law: refcounts of 8, 32 and 64 bits, which fill whole bytes, are decoded like this.
 pub fn wide_counters()
     ensures eight_bits { map (count (with_bytes 1024 (1 ∷ 2 ∷ 3 ∷ 4 ∷ 5 ∷ 6 ∷ 255 ∷ 0 ∷ 0 ∷ 0 ∷ 0 ∷ 0 ∷ 0 ∷ 0 ∷ [])) (fields_with_order 3))
         (0 ∷ 1 ∷ 6 ∷ 7 ∷ 8 ∷ []) ≡ 1 ∷ 2 ∷ 255 ∷ 0 ∷ 0 ∷ [] }
@@ -111,7 +112,7 @@ pub fn wide_counters()
         (fields_with_order 6)) (0 ∷ 1 ∷ 2 ∷ []) ≡ 1 ∷ 4294967298 ∷ 0 ∷ [] }
 {}
 
-/// Counters of one, two and four bits, which share bytes.
+/// Law: refcounts of 1, 2 and 4 bits, which share bytes, are decoded like this.
 pub fn narrow_counters()
     ensures one_bit { map (count (with_bytes 1024 (127 ∷ 0 ∷ 0 ∷ 0 ∷ 0 ∷ 0 ∷ 0 ∷ 0 ∷ 0 ∷ 0 ∷ 0 ∷ 0 ∷ 0 ∷ 0 ∷ [])) (fields_with_order 0))
         (0 ∷ 1 ∷ 6 ∷ 7 ∷ 8 ∷ []) ≡ 1 ∷ 1 ∷ 1 ∷ 0 ∷ 0 ∷ [] }
@@ -121,7 +122,7 @@ pub fn narrow_counters()
         (0 ∷ 1 ∷ 6 ∷ 7 ∷ 8 ∷ []) ≡ 1 ∷ 1 ∷ 1 ∷ 0 ∷ 0 ∷ [] }
 {}
 
-/// How often clusters 5, 6 and 7 are named where a compressed range begins with the last byte of cluster 5.
+/// Law: if a compressed range starts at the last byte of cluster 5, clusters 5, 6 and 7 have these references.
 pub fn compressed_ranges()
     ensures one_sector { map (refs (with_bytes 2048 (64 ∷ 0 ∷ 0 ∷ 0 ∷ 0 ∷ 0 ∷ 11 ∷ 255 ∷ [])) image_fields) (5 ∷ 6 ∷ 7 ∷ [])
         ≡ 1 ∷ 1 ∷ 0 ∷ [] }

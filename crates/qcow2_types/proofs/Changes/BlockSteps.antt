@@ -1,4 +1,4 @@
--- A write into a refcount block.
+-- A write to a refcount block.
 use Rattle.std.proofs.Common.{◌≡◌, ◌≢◌, ℕ, suc, ◌+◌, ◌*◌, ◌/◌, ◌%◌, ◌^◌, ◌<◌, ◌≤◌, refl, arith, sym, subst, ◌∙◌, ap, List, [], ◌∷◌, length, inl, inr}
 use Rattle.std.specs.Prelude.{true, ◌==◌, nat_lt, nat_le, ◌⊎◌, IsTrue, if◌then◌else◌}
 use Rattle.std.proofs.lemmas.Bool.{cases_eq, cases_lt, lt-ltb}
@@ -23,7 +23,7 @@ use Rattle.qcow2_types.proofs.Counting.Sound.{sound-words}
 use Rattle.qcow2_types.proofs.Numbers.Splices.{be-splice-same, be-splice-apart, splice-inside}
 use Rattle.qcow2_types.proofs.Changes.WriteBack.{place-whole}
 
--- the place of a block is one that a cluster can begin at
+-- the offset of a block is one of a cluster
 pub block-place : (f : Bytes) (h : Fields) (b : ℕ) → ValidEntries f h → b < refcount_table_entries h → IsTrue (is_cluster_offset h.cluster_bits (block_at f h b))
 block-place f h b sound lt =
     let within : nat_lt b (refcount_table_entries h) ≡ true = lt-ltb _ _ lt in
@@ -31,11 +31,10 @@ block-place f h b sound lt =
     rw within (grind (arith, nat_tests))
 
 module _ (f : Bytes) (H : Header) (was : IsConsistent f H) (b : ℕ) (there : block_at f H.fields b ≢ 0) where
-  -- its cluster
   block-begin : block_at f H.fields b / cluster_size H.fields * cluster_size H.fields ≡ block_at f H.fields b
   block-begin = place-whole H.fields.cluster_bits (block_at f H.fields b) (block-place f H.fields b (sound-words f H.fields was.readable.tables) (block-inside f H.fields b there))
 
-  -- the structure is in its cluster
+  -- the structure has weight in the block's cluster
   block-weighs : 1 ≤ structure f H.fields (meets H.fields (block_at f H.fields b / cluster_size H.fields))
   block-weighs =
       let part : meets H.fields (block_at f H.fields b / cluster_size H.fields) (block_at f H.fields b) (cluster_size H.fields) ≤ structure f H.fields (meets H.fields (block_at f H.fields b / cluster_size H.fields)) =
@@ -47,14 +46,14 @@ module _ (f : Bytes) (H : Header) (was : IsConsistent f H) (b : ℕ) (there : bl
       omega arith
 
   module _ (g : Bytes) where
-    -- a write into it leaves the rest of the structure
+    -- a write to the block changes no other part of the structure
     pub block-kept : (at n : ℕ) → 0 < n → Outside f g at n → block_at f H.fields b ≤ at → at + n ≤ block_at f H.fields b + cluster_size H.fields → SameStructureOutside f g H.fields (block b)
     block-kept at n some out low high =
         let begin : block_at f H.fields b / cluster_size H.fields * cluster_size H.fields ≡ block_at f H.fields b = block-begin in
         let once : structure f H.fields (touches at n) ≤ 1 = touches-once f H.fields (block_at f H.fields b / cluster_size H.fields) at n (was.structure_apart _) (omega arith) (omega arith) in
         kept-block f g H.fields at n out some once b (block-inside f H.fields b there) there low high
 
-    -- the same of at least one byte
+    -- a write of at least one byte
     some-written : (at n : ℕ) → 0 < n → Outside f g at n → block_at f H.fields b ≤ at → at + n ≤ block_at f H.fields b + cluster_size H.fields
         → ((c : ℕ) → c / counters_of_block H.fields ≡ b → refs f H.fields c ≤ count g H.fields c) → BlockWritten f g H b
     some-written at n some out low high covered =
@@ -87,7 +86,7 @@ module _ (f : Bytes) (H : Header) (was : IsConsistent f H) (b : ℕ) (there : bl
               omega arith
         ]
 
-    -- A write into it that leaves its clusters counted.
+    -- A write to the block after which its refcounts cover the references.
     pub block-written : (at n : ℕ) → Outside f g at n → block_at f H.fields b ≤ at → at + n ≤ block_at f H.fields b + cluster_size H.fields
         → ((c : ℕ) → c / counters_of_block H.fields ≡ b → refs f H.fields c ≤ count g H.fields c) → BlockWritten f g H b
     block-written at n out low high covered = elim (cases_lt 0 n) [
@@ -100,22 +99,19 @@ module _ (f : Bytes) (H : Header) (was : IsConsistent f H) (b : ℕ) (there : bl
         anywhere : n ≤ 0 → (p : ℕ) → (p < at) ⊎ (at + n ≤ p)
         anywhere none p = elim (cases_lt p at) [ inl lt ↦ inl lt | inr le ↦ inr (omega arith) ]
 
--- Counters of whole bytes: where one is spliced in, it is the number that the bytes spell, and every other is as it was.
+-- Refcounts of 8 bits or more: one is written, and each other one is the same.
 module _ (f : Bytes) (h : Fields) (block i : ℕ) (bytes : List ℕ) (wide : 8 ≤ counter_bits h) (size : length bytes ≡ counter_bits h / 8) where
-  -- the file with the counter written
   abbrev counted : Bytes
   counted = splice f (block + i * (counter_bits h / 8)) bytes
 
-  -- a counter of whole bytes is a big-endian number
+  -- a refcount of 8 bits or more is a big-endian number
   wide-counter-is : (x : Bytes) (k : ℕ) → counter x h block k ≡ wide_counter x (counter_bits h) block k
   unfolding counter
   wide-counter-is x k = let test : nat_le 8 (counter_bits h) ≡ true = grind (arith, nat_tests) in rw test refl
 
-  -- the counter is the number that the bytes spell
   pub counter-written : counter counted h block i ≡ be (bytes_of bytes) 0 (length bytes)
   counter-written = wide-counter-is counted i ∙ (ap (be counted (block + i * (counter_bits h / 8))) (sym size) ∙ be-splice-same f (block + i * (counter_bits h / 8)) bytes)
 
-  -- and every other counter is as it was
   pub counter-other : (k : ℕ) → k ≢ i → counter counted h block k ≡ counter f h block k
   counter-other k apart = wide-counter-is counted k ∙ (be-splice-apart f (block + i * (counter_bits h / 8)) bytes (block + k * (counter_bits h / 8)) (counter_bits h / 8) (beside (cases_lt k i)) ∙ sym (wide-counter-is f k))
     where
@@ -123,7 +119,7 @@ module _ (f : Bytes) (h : Fields) (block i : ℕ) (bytes : List ℕ) (wide : 8 �
       beside (inl lt) = let lt' : k + 1 ≤ i = omega arith in let le : (k + 1) * (counter_bits h / 8) ≤ i * (counter_bits h / 8) = mul-le-mul_right (counter_bits h / 8) lt' in inl (omega arith)
       beside (inr ge) = let lt' : i + 1 ≤ k = omega arith in let le : (i + 1) * (counter_bits h / 8) ≤ k * (counter_bits h / 8) = mul-le-mul_right (counter_bits h / 8) lt' in inr (omega arith)
 
--- the count of a cluster whose block there is
+-- the refcount of a cluster whose block exists
 pub count-there : (f : Bytes) (h : Fields) (c : ℕ) → block_at f h (c / counters_of_block h) ≢ 0 → count f h c ≡ counter f h (block_at f h (c / counters_of_block h)) (c % counters_of_block h)
 unfolding count
 count-there f h c there = choose (block_at f h (c / counters_of_block h)) _ there
@@ -131,7 +127,7 @@ count-there f h c there = choose (block_at f h (c / counters_of_block h)) _ ther
     choose : (t x : ℕ) → t ≢ 0 → (if t == 0 then 0 else x) ≡ x
     choose t x apart = grind (arith, nat_tests)
 
--- A block's bytes were written at a place: the counters there are those of the bytes.
+-- The bytes of a block were written at an offset: the refcounts there are those in the bytes.
 pub counters-written : (f : Bytes) (h : Fields) (place : ℕ) (bytes : List ℕ) → length bytes ≡ cluster_size h → (i : ℕ) → i < counters_of_block h → counter (splice f place bytes) h place i ≡ counter_of (bytes_of bytes) (counter_bits h) 0 i
 unfolding counter
 counters-written f h place bytes long i lt =
@@ -142,7 +138,7 @@ counters-written f h place bytes long i lt =
     let zeroth : 0 + k ≡ k = omega arith in
     splice-inside f place bytes k less ∙ ap (bytes_of bytes) (sym zeroth))
 
--- A block was written whole: each cluster that it counts is counted as its bytes say.
+-- A whole block was written: its clusters have the refcounts in the bytes.
 pub block-counts : (f : Bytes) (H : Header) → IsConsistent f H → (b : ℕ) → block_at f H.fields b ≢ 0 → (bytes : List ℕ) → length bytes ≡ cluster_size H.fields → (c : ℕ) → c / counters_of_block H.fields ≡ b
     → count (splice f (block_at f H.fields b) bytes) H.fields c ≡ counter_of (bytes_of bytes) (counter_bits H.fields) 0 (c % counters_of_block H.fields)
 block-counts f H was b there bytes long c e =
@@ -157,7 +153,7 @@ block-counts f H was b there bytes long c e =
     ∙ (ap (λ p. counter g H.fields p (c % counters_of_block H.fields)) at
     ∙ counters-written f H.fields (block_at f H.fields b) bytes long (c % counters_of_block H.fields) (mod_below c (counters_of_block H.fields) (some-counters H.fields shaped)))
 
--- a counter of whole bytes lies in its block
+-- a refcount of 8 bits or more is inside its block
 pub counter-room : (h : Fields) (i : ℕ) → i < counters_of_block h → 8 ≤ counter_bits h → i * (counter_bits h / 8) + counter_bits h / 8 ≤ cluster_size h
 counter-room h i lt wide =
     let a : suc i * counter_bits h ≤ counters_of_block h * counter_bits h = mul-le-mul_right (counter_bits h) lt in
@@ -168,47 +164,44 @@ counter-room h i lt wide =
     let all : i * (d * 8) + d * 8 ≤ cluster_size h * 8 = rw w room in
     omega arith
 
--- The counter of cluster c is set to a number that covers what names the cluster.
+-- The refcount of cluster c is set to a number.
 module _ (f : Bytes) (H : Header) (was : IsConsistent f H) (c : ℕ) (there : block_at f H.fields (c / counters_of_block H.fields) ≢ 0) (bytes : List ℕ)
     (wide : 8 ≤ counter_bits H.fields) (size : length bytes ≡ counter_bits H.fields / 8) where
-  -- the file with the counter of cluster c written
   abbrev set : Bytes
   set = splice f (block_at f H.fields (c / counters_of_block H.fields) + c % counters_of_block H.fields * (counter_bits H.fields / 8)) bytes
 
-  -- the counter lies in its block
+  -- the refcount is inside its block
   inside : c % counters_of_block H.fields * (counter_bits H.fields / 8) + length bytes ≤ cluster_size H.fields
   inside =
       let below : c % counters_of_block H.fields < counters_of_block H.fields = mod_below c (counters_of_block H.fields) (some-counters H.fields (consistent-shaped f H was)) in
       let room : c % counters_of_block H.fields * (counter_bits H.fields / 8) + counter_bits H.fields / 8 ≤ cluster_size H.fields = counter-room H.fields (c % counters_of_block H.fields) below wide in
       omega arith
 
-  -- the rest of the structure is kept
+  -- the rest of the structure is the same
   set-kept : SameStructureOutside f set H.fields (block (c / counters_of_block H.fields))
   set-kept = block-kept f H was (c / counters_of_block H.fields) there set _ (length bytes) (omega arith) (splice-is-outside f _ bytes) (omega arith) (omega (arith, inside))
 
-  -- and so are the places of all blocks
+  -- and so are the offsets of all blocks
   set-block : (b : ℕ) → block_at set H.fields b ≡ block_at f H.fields b
   set-block b = block_at-kept f set H.fields (block (c / counters_of_block H.fields)) set-kept b (λ e. cc)
 
-  -- the count of a cluster of the same block
+  -- the refcount of a cluster of the same block, after the write
   set-count : (d : ℕ) → d / counters_of_block H.fields ≡ c / counters_of_block H.fields
       → count set H.fields d ≡ counter set H.fields (block_at f H.fields (c / counters_of_block H.fields)) (d % counters_of_block H.fields)
   set-count d same =
       count-there set H.fields d (λ e. there (sym (ap (block_at f H.fields) same) ∙ (sym (set-block (d / counters_of_block H.fields)) ∙ e)))
       ∙ ap (λ b. counter set H.fields b (d % counters_of_block H.fields)) (set-block (d / counters_of_block H.fields) ∙ ap (block_at f H.fields) same)
 
-  -- the count before of a cluster of the same block
+  -- and before the write
   was-count : (d : ℕ) → d / counters_of_block H.fields ≡ c / counters_of_block H.fields
       → count f H.fields d ≡ counter f H.fields (block_at f H.fields (c / counters_of_block H.fields)) (d % counters_of_block H.fields)
   was-count d same =
       count-there f H.fields d (λ e. there (sym (ap (block_at f H.fields) same) ∙ e))
       ∙ ap (λ b. counter f H.fields b (d % counters_of_block H.fields)) (ap (block_at f H.fields) same)
 
-  -- The count of c is the number that the bytes spell.
   pub count-written : count set H.fields c ≡ be (bytes_of bytes) 0 (length bytes)
   count-written = set-count c refl ∙ counter-written f H.fields (block_at f H.fields (c / counters_of_block H.fields)) (c % counters_of_block H.fields) bytes wide size
 
-  -- Every other count is as it was.
   pub count-other : (d : ℕ) → d ≢ c → count set H.fields d ≡ count f H.fields d
   count-other d apart = elim (cases_eq (d / counters_of_block H.fields) (c / counters_of_block H.fields)) [
     | inl same ↦ set-count d same ∙ (counter-other f H.fields (block_at f H.fields (c / counters_of_block H.fields)) (c % counters_of_block H.fields) bytes wide size (d % counters_of_block H.fields) (λ e. apart (whole-of same e)) ∙ sym (was-count d same))
@@ -222,7 +215,7 @@ module _ (f : Bytes) (H : Header) (was : IsConsistent f H) (c : ℕ) (there : bl
       whole-of : d / counters_of_block H.fields ≡ c / counters_of_block H.fields → d % counters_of_block H.fields ≡ c % counters_of_block H.fields → d ≡ c
       whole-of q r = sym (div-add-mod d (counters_of_block H.fields)) ∙ (ap (λ x. counters_of_block H.fields * x + d % counters_of_block H.fields) q ∙ (ap (λ x. counters_of_block H.fields * (c / counters_of_block H.fields) + x) r ∙ div-add-mod c (counters_of_block H.fields)))
 
-  -- The image stays consistent where the number covers what names the cluster.
+  -- The image stays consistent if the number covers the references of c.
   pub counter-set : refs f H.fields c ≤ be (bytes_of bytes) 0 (length bytes) → CounterWritten f set H c (be (bytes_of bytes) 0 (length bytes))
   counter-set covered = record {
     block = block-written f H was (c / counters_of_block H.fields) there set _ (length bytes) (splice-is-outside f _ bytes) (omega arith) (omega (arith, inside)) (λ d same. all d);
@@ -236,7 +229,7 @@ module _ (f : Bytes) (H : Header) (was : IsConsistent f H) (c : ℕ) (there : bl
         | inr apart ↦ let same : count set H.fields d ≡ count f H.fields d = count-other d apart in let le : refs f H.fields d ≤ count f H.fields d = named-counted f H was d in omega arith
       ]
 
--- A counter of 16 bits that is 0 is raised to 1.
+-- A refcount of 16 bits that is 0 is set to 1.
 pub counter-raised : (f : Bytes) (H : Header) → IsConsistent f H → (c : ℕ) → H.fields.refcount_order ≡ 4 → block_at f H.fields (c / counters_of_block H.fields) ≢ 0 → count f H.fields c ≡ 0
     → CounterWritten f (splice f (block_at f H.fields (c / counters_of_block H.fields) + c % counters_of_block H.fields * 2) (0 ∷ 1 ∷ [])) H c 1
 unfolding be

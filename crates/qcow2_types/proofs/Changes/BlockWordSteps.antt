@@ -1,4 +1,4 @@
--- One word of the refcount table is written: a block is entered where there was none.
+-- A refcount table entry that referenced no block is set to reference one.
 use Rattle.std.proofs.Common.{◌≡◌, ◌≢◌, ℕ, ◌+◌, ◌*◌, ◌/◌, ◌%◌, ◌^◌, ◌<◌, ◌≤◌, refl, arith, sym, subst, ◌∙◌, ap, inl, inr}
 use Rattle.std.specs.Prelude.{true, cond, ◌&&◌, ◌==◌, nat_lt, IsTrue}
 use Rattle.std.specs.Int.{w64, to_be_bytes}
@@ -34,11 +34,10 @@ use Rattle.qcow2_types.proofs.Counting.TableSizes.{word-in-cluster}
 module _ (f g : Bytes) (H : Header) (was : IsConsistent f H) (i : ℕ) (lt : i < refcount_table_entries H.fields) (empty : block_at f H.fields i ≡ 0) (out : Outside f g (H.fields.refcount_table_offset + 8 * i) 8) (w : ℕ)
     (written : raw_entry g H.fields.refcount_table_offset i ≡ w) (sane : IsTrue (reftable_entry_valid H.fields.cluster_bits w)) (c t : ℕ) (names : block_offset w ≡ t) (there : t ≢ 0) (begins : t ≡ c * cluster_size H.fields)
     (not_referenced : refs f H.fields c ≡ 0) (counted : c / counters_of_block H.fields ≢ i → 1 ≤ count f H.fields c) (counted_here : c / counters_of_block H.fields ≡ i → 1 ≤ counter f H.fields t (c % counters_of_block H.fields)) where
-  -- the cluster in which the word lies begins before it
+  -- the cluster of the entry starts at or before the entry, and ends at or after its end
   low : (H.fields.refcount_table_offset + 8 * i) / cluster_size H.fields * cluster_size H.fields ≤ H.fields.refcount_table_offset + 8 * i
   low = div-mul-le_self (H.fields.refcount_table_offset + 8 * i) (cluster_size H.fields)
 
-  -- and ends behind it
   high : H.fields.refcount_table_offset + 8 * i + 8 ≤ ((H.fields.refcount_table_offset + 8 * i) / cluster_size H.fields + 1) * cluster_size H.fields
   high =
       let shaped : Shaped H.fields = consistent-shaped f H was in
@@ -47,7 +46,7 @@ module _ (f g : Bytes) (H : Header) (was : IsConsistent f H) (i : ℕ) (lt : i <
       let multiple : H.fields.refcount_table_offset % 2 ^ H.fields.cluster_bits ≡ 0 = grind (arith, nat_tests) in
       word-in-cluster H.fields.refcount_table_offset (cluster_size H.fields) (entries_of_cluster H.fields) i (omega arith) (whole H.fields.cluster_bits (omega arith)) multiple
 
-  -- the bytes of the refcount table, by its words
+  -- the length of the refcount table in bytes, by its entries
   table-bytes : H.fields.refcount_table_clusters * cluster_size H.fields ≡ refcount_table_entries H.fields * 8
   table-bytes =
       let shaped : Shaped H.fields = consistent-shaped f H was in
@@ -56,7 +55,7 @@ module _ (f g : Bytes) (H : Header) (was : IsConsistent f H) (i : ℕ) (lt : i <
       let a : H.fields.refcount_table_clusters * (entries_of_cluster H.fields * 8) ≡ H.fields.refcount_table_clusters * cluster_size H.fields = ap (λ x. H.fields.refcount_table_clusters * x) raw_entries in
       omega arith
 
-  -- the structure is in that cluster
+  -- the structure has weight in that cluster
   table-weighs : 1 ≤ structure f H.fields (meets H.fields ((H.fields.refcount_table_offset + 8 * i) / cluster_size H.fields))
   table-weighs =
       let bytes : H.fields.refcount_table_clusters * cluster_size H.fields ≡ refcount_table_entries H.fields * 8 = table-bytes in
@@ -74,33 +73,29 @@ module _ (f g : Bytes) (H : Header) (was : IsConsistent f H) (i : ℕ) (lt : i <
   number (block_word r) = r
   number _ = i + 1
 
-  -- the rest of the structure is kept
+  -- the rest of the structure is the same
   pub entered-kept : SameStructureOutside f g H.fields (block_word i)
   entered-kept = kept-block_word f g H.fields i out (touches-once f H.fields _ (H.fields.refcount_table_offset + 8 * i) 8 (was.structure_apart _) low high) lt
 
-  -- the word names the new block
   pub entered-here : block_at g H.fields i ≡ t
   entered-here = let within : nat_lt i (refcount_table_entries H.fields) ≡ true = lt-ltb _ _ lt in rw within (ap block_offset written ∙ names)
 
-  -- every other names what it did
+  -- every other entry references the same block
   pub entered-blocks : (b : ℕ) → b ≢ i → block_at g H.fields b ≡ block_at f H.fields b
   unfolding number
   entered-blocks b apart = block_at-kept f g H.fields (block_word i) entered-kept b (λ e. apart (sym (ap number e)))
 
-  -- all tables stay in place
   pub entered-tables : (k : ℕ) → l2_table g H.fields k ≡ l2_table f H.fields k
   entered-tables k = l2_table-kept f g H.fields (block_word i) entered-kept k (λ e. cc)
 
-  -- every word means what it did
   pub entered-slots : (k m : ℕ) → Live (l2_table f H.fields) H.fields k m → slot g H.fields k m ≡ slot f H.fields k m
   entered-slots k m live = slot-kept f g H.fields (block_word i) entered-kept k m live (λ e. cc) (λ e. cc)
 
-  -- no count of another block changes
   pub entered-counts : (d : ℕ) → d / counters_of_block H.fields ≢ i → count g H.fields d ≡ count f H.fields d
   unfolding number
   entered-counts d apart = count-kept f g H.fields (block_word i) entered-kept d (consistent-shaped f H was) (λ e. apart (sym (ap number e))) (λ e. cc)
 
-  -- the new block lies apart from the word
+  -- the new block doesn't overlap the entry
   apart-from-word : touches (H.fields.refcount_table_offset + 8 * i) 8 t (cluster_size H.fields) ≡ 0
   unfolding refs touches
   apart-from-word =
@@ -114,7 +109,7 @@ module _ (f g : Bytes) (H : Header) (was : IsConsistent f H) (i : ℕ) (lt : i <
           → cond {A = ℕ} (nat_lt 0 size && nat_lt t (offset + 8 * i + 8) && nat_lt (offset + 8 * i) (t + size)) 1 0 ≡ 0
       numbers offset entries size off less is = grind (arith, nat_tests)
 
-  -- and so its counters are what they were
+  -- so its refcounts are the same in both files
   pub entered-new-counts : (d : ℕ) → d / counters_of_block H.fields ≡ i → count g H.fields d ≡ counter f H.fields t (d % counters_of_block H.fields)
   entered-new-counts d e =
       let at : block_at g H.fields (d / counters_of_block H.fields) ≡ t = ap (block_at g H.fields) e ∙ entered-here in
@@ -124,7 +119,7 @@ module _ (f g : Bytes) (H : Header) (was : IsConsistent f H) (i : ℕ) (lt : i <
       ∙ (ap (λ p. counter g H.fields p (d % counters_of_block H.fields)) at
       ∙ counter-same f g H.fields t (untouched f g (H.fields.refcount_table_offset + 8 * i) 8 t (cluster_size H.fields) out apart-from-word) (d % counters_of_block H.fields) (mod_below d (counters_of_block H.fields) some))
 
-  -- what the structure weighs more
+  -- the weight of the structure grows by the new block
   entered-structure : (v : Weight) → structure g H.fields v ≡ structure f H.fields v + v t (cluster_size H.fields)
   unfolding structure
   entered-structure v =
@@ -139,7 +134,6 @@ module _ (f g : Bytes) (H : Header) (was : IsConsistent f H) (i : ℕ) (lt : i <
       weighs : (p : ℕ) → p ≢ 0 → (x : ℕ) → cond (p == 0) 0 x ≡ x
       weighs p is x = grind (arith, nat_tests)
 
-  -- and what the mappings weigh
   entered-contents : (of : Mapping → ℕ) → contents g H.fields of ≡ contents f H.fields of
   unfolding over_slots
   entered-contents of = contents-slots g H.fields of ∙ (sum-same _ _ _ (λ k less. row k) ∙ sym (contents-slots f H.fields of))
@@ -152,7 +146,6 @@ module _ (f g : Bytes) (H : Header) (was : IsConsistent f H) (i : ℕ) (lt : i <
             ∙ ap (or_none (l2_table f H.fields k)) (sum-same _ _ _ (λ j less. ap of (entered-slots k j record { in_l1 = table-inside f H.fields k is; is_there = is; in_table = less })))
       ]
 
-  -- the references, with the new block's
   entered-sum : (d : ℕ) → refs g H.fields d ≡ refs f H.fields d + meets H.fields d t (cluster_size H.fields)
   unfolding refs
   entered-sum d =
@@ -160,11 +153,11 @@ module _ (f g : Bytes) (H : Header) (was : IsConsistent f H) (i : ℕ) (lt : i <
       let rest : contents g H.fields (of_mapping H.fields (meets H.fields d)) ≡ contents f H.fields (of_mapping H.fields (meets H.fields d)) = entered-contents (of_mapping H.fields (meets H.fields d)) in
       omega arith
 
-  -- the new block is its cluster
+  -- the new block fills its cluster
   entered-meets : (d : ℕ) → meets H.fields d t (cluster_size H.fields) ≡ meets H.fields d (c * cluster_size H.fields) (cluster_size H.fields)
   entered-meets d = ap (λ p. meets H.fields d p (cluster_size H.fields)) begins
 
-  -- The cluster of the new block is named by its word alone, and every other as before.
+  -- Only the entry references the new block's cluster. The references of every other cluster are the same.
   pub entered-once : refs g H.fields c ≡ 1
   entered-once =
       let sum : refs g H.fields c ≡ refs f H.fields c + meets H.fields c t (cluster_size H.fields) = entered-sum c in
@@ -177,7 +170,7 @@ module _ (f g : Bytes) (H : Header) (was : IsConsistent f H) (i : ℕ) (lt : i <
       let none : meets H.fields d t (cluster_size H.fields) ≡ 0 = entered-meets d ∙ meets-other H.fields d c (λ e. apart (sym e)) in
       omega arith
 
-  -- the tables stay sound
+  -- all entries stay valid
   entered-sound : ValidEntries g H.fields
   unfolding number
   entered-sound =
@@ -193,14 +186,14 @@ module _ (f g : Bytes) (H : Header) (was : IsConsistent f H) (i : ℕ) (lt : i <
             ap is_damaged (entered-slots k m old) ∙ sound.slots k m old;
       }
 
-  -- the new block's cluster is counted, by its own counters or by another block
+  -- the refcount of the new block's cluster is above 0, in the new block or in another one
   new-counted : 1 ≤ count g H.fields c
   new-counted = elim (cases_eq (c / counters_of_block H.fields) i) [
     | inl e ↦ subst (λ n. 1 ≤ n) (sym (entered-new-counts c e)) (counted_here e)
     | inr apart ↦ subst (λ n. 1 ≤ n) (sym (entered-counts c apart)) (counted apart)
   ]
 
-  -- what no block counted is not named
+  -- a cluster without a block had no references
   uncounted : (d : ℕ) → d / counters_of_block H.fields ≡ i → refs f H.fields d ≡ 0
   unfolding count
   uncounted d e =
@@ -209,7 +202,6 @@ module _ (f g : Bytes) (H : Header) (was : IsConsistent f H) (i : ℕ) (lt : i <
       let le : refs f H.fields d ≤ count f H.fields d = named-counted f H was d in
       omega arith
 
-  -- and the image consistent
   entered-consistent : IsConsistent g H
   entered-consistent = consistent-from g H (header-kept true f g H was.readable.loads (entered-kept.start (λ e. cc))) was.readable.no_snapshots was.readable.data_inside entered-sound alone single covered
     where
@@ -247,7 +239,7 @@ module _ (f g : Bytes) (H : Header) (was : IsConsistent f H) (i : ℕ) (lt : i <
             ]
       ]
 
-  -- each guest cluster has the same mapping
+  -- the mapping of each guest cluster is the same
   entered-guest : 0 < entries_of_cluster H.fields → (guest : ℕ) → guest_slot g H.fields guest ≡ guest_slot f H.fields guest
   entered-guest raw_entries guest = elim (cases_eq (l2_table f H.fields (guest / entries_of_cluster H.fields)) 0) [
     | inl z ↦ guest-slot-none g H.fields guest (entered-tables (guest / entries_of_cluster H.fields) ∙ z) ∙ sym (guest-slot-none f H.fields guest z)
@@ -256,7 +248,7 @@ module _ (f g : Bytes) (H : Header) (was : IsConsistent f H) (i : ℕ) (lt : i <
         ∙ (entered-slots (guest / entries_of_cluster H.fields) (guest % entries_of_cluster H.fields) (guest-live f H.fields guest raw_entries is) ∙ sym (guest-slot-there f H.fields guest is))
   ]
 
-  -- The image stays consistent, with the new block, and shows the same.
+  -- The image stays consistent, and each guest cluster reads as before.
   pub block-entered : BlockEntered f g H i c t
   block-entered =
       let raw_entries : 0 < entries_of_cluster H.fields = some-words H.fields (consistent-shaped f H was) in
@@ -278,7 +270,7 @@ module _ (f g : Bytes) (H : Header) (was : IsConsistent f H) (i : ℕ) (lt : i <
         mapped = data-stays f g H was _ (H.fields.refcount_table_offset + 8 * i) 8 out low high table-weighs;
       }
 
--- By the bytes of the word.
+-- The written bytes are those of the raw entry.
 pub block-entered-spliced : (f : Bytes) (H : Header) → IsConsistent f H → (i : ℕ) → i < refcount_table_entries H.fields → block_at f H.fields i ≡ 0 → (w : ℕ) → w < 2 ^ 64 → IsTrue (reftable_entry_valid H.fields.cluster_bits w)
     → (c t : ℕ) → block_offset w ≡ t → t ≢ 0 → t ≡ c * cluster_size H.fields → refs f H.fields c ≡ 0 → (c / counters_of_block H.fields ≢ i → 1 ≤ count f H.fields c)
     → (c / counters_of_block H.fields ≡ i → 1 ≤ counter f H.fields t (c % counters_of_block H.fields)) → BlockEntered f (splice f (H.fields.refcount_table_offset + 8 * i) (to_be_bytes w64 w)) H i c t

@@ -1,4 +1,4 @@
--- A write into a data cluster, or into clusters that nothing names.
+-- A write to a data cluster, or to clusters that nothing references.
 use Rattle.std.proofs.Common.{◌≡◌, ◌≢◌, ℕ, ◌+◌, ◌*◌, ◌<◌, ◌≤◌, refl, arith, sym, ◌∙◌, ap, inl, inr}
 use Rattle.std.specs.Prelude.{◌/◌, ◌%◌, Bool, true, Some, ◌⊎◌}
 use Rattle.std.proofs.lemmas.Bool.{cases_eq, cases_lt}
@@ -27,25 +27,22 @@ use Rattle.qcow2_types.proofs.Changes.Frames.{untouched, touches-cluster}
 use Rattle.qcow2_types.proofs.Counting.Views.{run-untouched}
 use Rattle.std.proofs.Math.Nat.{mul-le-mul_right}
 
--- what is summed over the mappings is the same where they are
+-- sums over the same mappings are the same
 pub contents-kept : (f x : Bytes) (h : Fields) (of : Mapping → ℕ) → KeepsSlots f x h → contents x h of ≡ contents f h of
 contents-kept f x h of keeps =
     contents-slots x h of
     ∙ (tables-same (l2_table f h) (l2_table x h) h _ keeps.places.l1
     ∙ (slots-same (l2_table f h) h _ _ (λ i j live. ap of (keeps.slots i j live)) ∙ sym (contents-slots f h of)))
 
--- Where the words of the tables, all mappings and the header are kept, and what is named is counted, the image stays consistent.
+-- If no table entry and no mapping changes, and the refcounts cover the references, the image stays consistent.
 module _ (f g : Bytes) (H : Header) (was : IsConsistent f H) (skip : Skipped) (kept : SameStructureOutside f g H.fields skip) (no_l1 : (i : ℕ) → skip ≢ l1_word i) (no_block : (i : ℕ) → skip ≢ block_word i)
     (no_table : (i : ℕ) → skip ≢ table i) where
-  -- all mappings are kept
   pub kept-keeps : KeepsSlots f g H.fields
   kept-keeps = keeps-slots f g H.fields skip kept no_l1 no_block no_table
 
-  -- each cluster is named as often
   pub kept-references : (c : ℕ) → refs g H.fields c ≡ refs f H.fields c
   kept-references c = refs-kept f g H.fields c kept-keeps
 
-  -- the tables stay sound
   pub kept-sound : ValidEntries g H.fields
   kept-sound =
       let sound : ValidEntries f H.fields = sound-words f H.fields was.readable.tables in
@@ -57,7 +54,6 @@ module _ (f g : Bytes) (H : Header) (was : IsConsistent f H) (skip : Skipped) (k
             ap is_damaged (kept-keeps.slots i j live') ∙ sound.slots i j live';
       }
 
-  -- and the image consistent
   pub kept-consistent : skip ≢ first_cluster → ((c : ℕ) → refs f H.fields c ≤ count g H.fields c) → IsConsistent g H
   kept-consistent no_start counted = consistent-from g H (header-kept true f g H was.readable.loads (kept.start no_start)) was.readable.no_snapshots was.readable.data_inside kept-sound
       (λ c some.
@@ -75,28 +71,24 @@ module _ (f g : Bytes) (H : Header) (was : IsConsistent f H) (skip : Skipped) (k
       let le : refs f H.fields c ≤ count g H.fields c = counted c in
       omega arith)
 
-  -- and shows the same where the write lies in a cluster that no mapping names
+  -- a write to a cluster that no mapping references changes nothing for the guest
   pub kept-shows : IsConsistent g H → (c at n : ℕ) → Outside f g at n → c * cluster_size H.fields ≤ at → at + n ≤ (c + 1) * cluster_size H.fields
       → contents f H.fields (of_mapping H.fields (meets H.fields c)) ≡ 0 → (guest : ℕ) → ShowsAs g f H.fields guest
   kept-shows after c at n out low high none guest =
       let some : 0 < entries_of_cluster H.fields = some-words H.fields (consistent-shaped f H was) in
       shows-outside f g H.fields was.readable.tables after.readable.tables some guest (guest-kept f g H.fields kept-keeps some guest) c at n out low high none
 
--- Where no part of the structure is touched.
+-- The write touches no part of the structure.
 module _ (f g : Bytes) (H : Header) (was : IsConsistent f H) (kept : SameStructureOutside f g H.fields nothing) where
-  -- all mappings are kept
   pub untouched-keeps : KeepsSlots f g H.fields
   untouched-keeps = kept-keeps f g H was nothing kept (λ i e. cc) (λ i e. cc) (λ i e. cc)
 
-  -- each cluster is named as often
   pub untouched-references : (c : ℕ) → refs g H.fields c ≡ refs f H.fields c
   untouched-references = kept-references f g H was nothing kept (λ i e. cc) (λ i e. cc) (λ i e. cc)
 
-  -- and counted as often
   pub untouched-counts : (c : ℕ) → count g H.fields c ≡ count f H.fields c
   untouched-counts c = count-kept f g H.fields nothing kept c (consistent-shaped f H was) (λ e. cc) (λ e. cc)
 
-  -- and the image stays consistent
   pub untouched-consistent : IsConsistent g H
   untouched-consistent = kept-consistent f g H was nothing kept (λ i e. cc) (λ i e. cc) (λ i e. cc) (λ e. cc)
       (λ c.
@@ -104,9 +96,8 @@ module _ (f g : Bytes) (H : Header) (was : IsConsistent f H) (kept : SameStructu
       let same : count g H.fields c ≡ count f H.fields c = untouched-counts c in
       omega arith)
 
--- A cluster that a live word names as copied is named by it alone.
+-- A COPIED cluster is referenced only by its own L2 entry.
 module _ (f : Bytes) (H : Header) (was : IsConsistent f H) (c i j : ℕ) (live : Live (l2_table f H.fields) H.fields i j) (marked : of_copied H.fields (meets H.fields c) (slot f H.fields i j) ≡ 1) where
-  -- it is named once
   pub marked-named-once : refs f H.fields c ≡ 1
   marked-named-once =
       let one : of_copied H.fields (meets H.fields c) (slot f H.fields i j) ≤ over_slots (l2_table f H.fields) H.fields (λ k m. of_copied H.fields (meets H.fields c) (slot f H.fields k m)) =
@@ -115,11 +106,10 @@ module _ (f : Bytes) (H : Header) (was : IsConsistent f H) (c i j : ℕ) (live :
       contents-slots f H.fields (of_copied H.fields (meets H.fields c)) in
       copied-named-once f H was c (omega arith)
 
-  -- by that word
   marked-weighs : 1 ≤ of_mapping H.fields (meets H.fields c) (slot f H.fields i j)
   marked-weighs = omega (arith, copied-named H.fields (meets H.fields c) (slot f H.fields i j))
 
-  -- and so no table, block or header is in it
+  -- so it contains no header, table or block
   pub marked-apart-from-structure : structure f H.fields (meets H.fields c) ≡ 0
   unfolding refs
   marked-apart-from-structure =
@@ -130,7 +120,7 @@ module _ (f : Bytes) (H : Header) (was : IsConsistent f H) (c i j : ℕ) (live :
       let once : structure f H.fields (meets H.fields c) + contents f H.fields (of_mapping H.fields (meets H.fields c)) ≡ 1 = marked-named-once in
       omega (arith, marked-weighs)
 
-  -- A write into it.
+  -- A write to this cluster.
   pub marked-written : (g : Bytes) (at n : ℕ) → Outside f g at n → c * cluster_size H.fields ≤ at → at + n ≤ (c + 1) * cluster_size H.fields → DataWritten f g H i j
   marked-written g at n out low high =
       let kept : SameStructureOutside f g H.fields nothing = kept-all f g H.fields at n out (touches-none f H.fields c at n marked-apart-from-structure low high) in
@@ -150,12 +140,12 @@ module _ (f : Bytes) (H : Header) (was : IsConsistent f H) (c i j : ℕ) (live :
         elsewhere = λ guest apart. data-write-elsewhere f f g H.fields c i j at n (omega arith) live (omega arith) out low high was.readable.tables after.readable.tables some guest apart (guest-kept f g H.fields keeps some);
       }
 
--- Where the word names it as data.
+-- The entry references the cluster as data.
 pub data-written : (f : Bytes) (H : Header) → IsConsistent f H → (c i j : ℕ) → Live (l2_table f H.fields) H.fields i j → slot f H.fields i j ≡ data_at c true
     → (g : Bytes) (at n : ℕ) → Outside f g at n → c * cluster_size H.fields ≤ at → at + n ≤ (c + 1) * cluster_size H.fields → DataWritten f g H i j
 data-written f H was c i j live names = marked-written f H was c i j live (ap (of_copied H.fields (meets H.fields c)) names ∙ meets-own H.fields c)
 
--- Where the word keeps it for zeroes: then the write shows nowhere.
+-- The entry keeps the cluster as a preallocated zero cluster: the write changes nothing for the guest.
 pub kept-zero-written : (f : Bytes) (H : Header) → IsConsistent f H → (c i j : ℕ) → Live (l2_table f H.fields) H.fields i j → slot f H.fields i j ≡ zeroes (Some c) true
     → (g : Bytes) (at n : ℕ) → Outside f g at n → c * cluster_size H.fields ≤ at → at + n ≤ (c + 1) * cluster_size H.fields → FreeWritten f g H
 kept-zero-written f H was c i j live names g at n out low high =
@@ -179,19 +169,18 @@ kept-zero-written f H was c i j live names g at n out low high =
         let bad : zeroes (Some c) true ≡ data_at d copied = sym names ∙ (sym (ap (λ k. slot f H.fields k j) row) ∙ (sym (ap (slot f H.fields (guest / entries_of_cluster H.fields)) column) ∙ is)) in
         absurd cc)
 
--- A cluster that nothing names.
+-- A cluster that nothing references.
 module _ (f : Bytes) (H : Header) (was : IsConsistent f H) (c : ℕ) (not_referenced : refs f H.fields c ≡ 0) where
-  -- no table, block or header is in it
+  -- it contains no header, table or block, and no mapping references it
   pub free-apart-from-structure : structure f H.fields (meets H.fields c) ≡ 0
   unfolding refs
   free-apart-from-structure = let none : structure f H.fields (meets H.fields c) + contents f H.fields (of_mapping H.fields (meets H.fields c)) ≡ 0 = not_referenced in omega arith
 
-  -- and no mapping names it
   pub free-unmapped : contents f H.fields (of_mapping H.fields (meets H.fields c)) ≡ 0
   unfolding refs
   free-unmapped = let none : structure f H.fields (meets H.fields c) + contents f H.fields (of_mapping H.fields (meets H.fields c)) ≡ 0 = not_referenced in omega arith
 
-  -- A write into it.
+  -- A write to this cluster.
   pub free-written : (g : Bytes) (at n : ℕ) → Outside f g at n → c * cluster_size H.fields ≤ at → at + n ≤ (c + 1) * cluster_size H.fields → FreeWritten f g H
   free-written g at n out low high =
       let kept : SameStructureOutside f g H.fields nothing = kept-all f g H.fields at n out (touches-none f H.fields c at n free-apart-from-structure low high) in
@@ -205,7 +194,7 @@ module _ (f : Bytes) (H : Header) (was : IsConsistent f H) (c : ℕ) (not_refere
         shows = kept-shows f g H was nothing kept (λ i e. cc) (λ i e. cc) (λ i e. cc) after c at n out low high free-unmapped;
       }
 
--- A write into one cluster leaves the bytes of each other.
+-- A write to one cluster doesn't change the bytes of the others.
 pub other-stays : (f g : Bytes) (h : Fields) (d at n : ℕ) → Outside f g at n → d * cluster_size h ≤ at → at + n ≤ (d + 1) * cluster_size h → (c : ℕ) → c ≢ d → Same f g (c * cluster_size h) (cluster_size h)
 other-stays f g h d at n out low high c apart = untouched f g at n (c * cluster_size h) (cluster_size h) out off
   where
@@ -215,7 +204,7 @@ other-stays f g h d at n out low high c apart = untouched f g at n (c * cluster_
         let none : meets h d (c * cluster_size h) (cluster_size h) ≡ 0 = meets-other h d c apart in
         omega arith
 
--- A write into a cluster of the structure leaves the bytes of each cluster that nothing names.
+-- A write to a cluster of the structure doesn't change clusters that nothing references,
 pub free-stays : (f g : Bytes) (H : Header) (d at n : ℕ) → Outside f g at n → d * cluster_size H.fields ≤ at → at + n ≤ (d + 1) * cluster_size H.fields → 1 ≤ structure f H.fields (meets H.fields d)
     → (c : ℕ) → refs f H.fields c ≡ 0 → Same f g (c * cluster_size H.fields) (cluster_size H.fields)
 free-stays f g H d at n out low high weighs c not_referenced = other-stays f g H.fields d at n out low high c apart
@@ -226,7 +215,7 @@ free-stays f g H d at n out low high weighs c not_referenced = other-stays f g H
         let le : structure f H.fields (meets H.fields d) ≤ refs f H.fields d = structure-le-refs f H.fields d in
         absurd (omega arith)
 
--- and of each that a mapping names
+-- or clusters that a mapping references
 pub data-stays : (f g : Bytes) (H : Header) → IsConsistent f H → (d at n : ℕ) → Outside f g at n → d * cluster_size H.fields ≤ at → at + n ≤ (d + 1) * cluster_size H.fields → 1 ≤ structure f H.fields (meets H.fields d)
     → (c : ℕ) → 0 < contents f H.fields (of_mapping H.fields (meets H.fields c)) → Same f g (c * cluster_size H.fields) (cluster_size H.fields)
 data-stays f g H was d at n out low high weighs c references_in_either = other-stays f g H.fields d at n out low high c apart
@@ -237,19 +226,19 @@ data-stays f g H was d at n out low high weighs c references_in_either = other-s
         let same : contents f H.fields (of_mapping H.fields (meets H.fields c)) ≡ 0 = ap (λ k. contents f H.fields (of_mapping H.fields (meets H.fields k))) e ∙ none in
         absurd (omega arith)
 
--- A write into a run of clusters c to c + k in which no table, block or header is.
+-- A write to clusters c to c + k, which contain no header, table or block.
 module _ (f : Bytes) (H : Header) (was : IsConsistent f H) (c k : ℕ) (apart : (d : ℕ) → c ≤ d → d ≤ c + k → structure f H.fields (meets H.fields d) ≡ 0) (g : Bytes) (at n : ℕ) (out : Outside f g at n)
     (low : c * cluster_size H.fields ≤ at) (high : at + n ≤ (c + k + 1) * cluster_size H.fields) where
-  -- the write lies in the run
+  -- the write is inside the run
   run-out : Outside f g (c * cluster_size H.fields) ((k + 1) * cluster_size H.fields)
   run-out p (inl before) = out p (inl (omega arith))
   run-out p (inr behind) = out p (inr (omega arith))
 
-  -- no part of the structure is touched
+  -- the write touches no part of the structure
   run-kept : SameStructureOutside f g H.fields nothing
   run-kept = kept-all f g H.fields (c * cluster_size H.fields) ((k + 1) * cluster_size H.fields) run-out (run-untouched f H.fields c k apart)
 
-  -- a cluster out of the run keeps its bytes
+  -- a cluster outside the run keeps its bytes
   run-apart : (d : ℕ) → (d < c) ⊎ (c + k < d) → Same f g (d * cluster_size H.fields) (cluster_size H.fields)
   run-apart d (inl lt) =
       let lt' : d + 1 ≤ c = omega arith in
@@ -260,7 +249,7 @@ module _ (f : Bytes) (H : Header) (was : IsConsistent f H) (c k : ℕ) (apart : 
       let above : (c + k + 1) * cluster_size H.fields ≤ d * cluster_size H.fields = mul-le-mul_right (cluster_size H.fields) lt' in
       λ m less. out (d * cluster_size H.fields + m) (inr (omega arith))
 
-  -- The image stays as it is, and shows the same elsewhere.
+  -- The image stays consistent, and guest clusters with other data clusters read as before.
   pub run-written : RunWritten f g H c k
   run-written =
       let after : IsConsistent g H = untouched-consistent f g H was run-kept in
@@ -278,7 +267,7 @@ module _ (f : Bytes) (H : Header) (was : IsConsistent f H) (c k : ℕ) (apart : 
             (λ live d copied names. run-apart d (off d copied (entry-slot f H.fields guest was.readable.tables ∙ (guest-slot-there f H.fields guest live.is_there ∙ names))));
       }
 
--- A cluster that a guest cluster's mapping names is named by the words.
+-- The data cluster of a guest cluster is referenced by an L2 entry.
 pub data-named : (f : Bytes) (H : Header) → IsConsistent f H → (guest d : ℕ) (copied : Bool) → entry f H.fields guest ≡ data_at d copied → 1 ≤ contents f H.fields (of_mapping H.fields (meets H.fields d))
 data-named f H was guest d copied is = elim (cases_eq (l2_table f H.fields (guest / entries_of_cluster H.fields)) 0) [
   | inl none ↦ let bad : unmapped ≡ data_at d copied = sym (guest-slot-none f H.fields guest none) ∙ (sym (entry-slot f H.fields guest was.readable.tables) ∙ is) in absurd cc
@@ -292,7 +281,7 @@ data-named f H was guest d copied is = elim (cases_eq (l2_table f H.fields (gues
       omega arith
 ]
 
--- A write into a run of clusters c to c + k that nothing names.
+-- A write to clusters c to c + k, which nothing references.
 pub free-run-written : (f : Bytes) (H : Header) → IsConsistent f H → (c k : ℕ) → ((d : ℕ) → c ≤ d → d ≤ c + k → refs f H.fields d ≡ 0) → (g : Bytes) (at n : ℕ) → Outside f g at n
     → c * cluster_size H.fields ≤ at → at + n ≤ (c + k + 1) * cluster_size H.fields → FreeWritten f g H
 free-run-written f H was c k not_referenced g at n out low high =

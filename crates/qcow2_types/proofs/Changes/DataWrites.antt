@@ -1,4 +1,4 @@
--- What a write into a data cluster leaves, and where it shows.
+-- A write to a data cluster only changes its own guest cluster.
 use Rattle.std.proofs.Common.{◌≡◌, ◌≢◌, ℕ, ◌+◌, ◌*◌, ◌/◌, ◌%◌, ◌<◌, ◌≤◌, refl, arith, ap, sym, subst, ◌∙◌, inl, inr}
 use Rattle.std.specs.Prelude.{Bool, false, ◌==◌, nat_lt, if◌then◌else◌, ◌⊎◌, max, IsTrue}
 use Rattle.std.proofs.lemmas.Bool.{cases_eq, cases_lt, le-ltb}
@@ -19,7 +19,7 @@ use Rattle.qcow2_types.proofs.Counting.Parts.{sum-two}
 use Rattle.qcow2_types.specs.Versions.{references_in_either, of_either}
 use Rattle.qcow2_types.proofs.Showing.Values.{entry-slot}
 
--- two words are no more than all
+-- two terms are at most the sum
 pub slots-two : (t : ℕ → ℕ) (h : Fields) (p : ℕ → ℕ → ℕ) (i j k m : ℕ) → Live t h i j → Live t h k m → (k ≢ i) ⊎ (m ≢ j) → p i j + p k m ≤ over_slots t h p
 unfolding over_slots
 slots-two t h p i j k m live live' apart =
@@ -44,9 +44,8 @@ slots-two t h p i j k m live live' apart =
     other e (inl bad) = absurd (bad e)
     other e (inr good) = λ e'. good (sym e')
 
--- A cluster that a word names, and that is named once, is in no table or block, and no other word names it.
+-- A cluster that an entry references and that is referenced once: no table, block or other entry references it.
 module _ (f g : Bytes) (h : Fields) (c i j : ℕ) (once : references_in_either f g h c ≤ 1) (live : Live (l2_table f h) h i j) (here : 1 ≤ of_either h (meets h c) (slot f h i j) (slot g h i j)) where
-  -- it is in no table or block
   pub alone-structure : structure f h (meets h c) ≡ 0
   unfolding references_in_either
   alone-structure =
@@ -54,7 +53,6 @@ module _ (f g : Bytes) (h : Fields) (c i j : ℕ) (once : references_in_either f
       slot-le (l2_table f h) h (λ k m. of_either h (meets h c) (slot f h k m) (slot g h k m)) i j live in
       omega arith
 
-  -- and no other word names it
   pub alone-slot : (k m : ℕ) → Live (l2_table f h) h k m → (k ≢ i) ⊎ (m ≢ j) → of_either h (meets h c) (slot f h k m) (slot g h k m) ≡ 0
   unfolding references_in_either
   alone-slot k m live' apart =
@@ -62,7 +60,7 @@ module _ (f g : Bytes) (h : Fields) (c i j : ℕ) (once : references_in_either f
       slots-two (l2_table f h) h (λ r s. of_either h (meets h c) (slot f h r s) (slot g h r s)) i j k m live live' apart in
       omega arith
 
--- the clusters that it doesn't name keep their bytes
+-- other data clusters keep their bytes
 pub data-apart : (f x : Bytes) (h : Fields) (c at n : ℕ) → Outside f x at n → c * cluster_size h ≤ at → at + n ≤ (c + 1) * cluster_size h → (m : Mapping) → of_mapping h (meets h c) m ≡ 0
     → (d : ℕ) (copied : Bool) → m ≡ data_at d copied → Same f x (d * cluster_size h) (cluster_size h)
 data-apart f x h c at n out low high m none d copied e =
@@ -73,7 +71,7 @@ data-apart f x h c at n out low high m none d copied e =
     none-left : (a b : ℕ) → a ≤ b → b ≡ 0 → a ≡ 0
     none-left a b le z = omega arith
 
--- So it shows at the guest cluster of that word alone: guest clusters are numbered by table and word.
+-- Only the guest cluster of that entry reads differently.
 pub data-write-elsewhere : (f g x : Bytes) (h : Fields) (c i j at n : ℕ) → references_in_either f g h c ≤ 1 → Live (l2_table f h) h i j → 1 ≤ of_either h (meets h c) (slot f h i j) (slot g h i j)
     → Outside f x at n → c * cluster_size h ≤ at → at + n ≤ (c + 1) * cluster_size h → IsTrue (tables_sound f h) → IsTrue (tables_sound x h) → 0 < entries_of_cluster h
     → (guest : ℕ) → (guest / entries_of_cluster h ≢ i) ⊎ (guest % entries_of_cluster h ≢ j) → ((k : ℕ) → guest_slot x h k ≡ guest_slot f h k) → ShowsAs x f h guest

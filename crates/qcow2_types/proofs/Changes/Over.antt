@@ -1,4 +1,4 @@
--- Files with other bytes put over some of their ranges.
+-- Files with several patches written to them.
 use Rattle.std.proofs.Common.{◌≡◌, ℕ, zero, suc, ◌+◌, ◌-◌, ◌*◌, ◌<◌, refl, arith, ap, sym, ◌∙◌, List, [], ◌∷◌, ◌++◌, length, get_or, inl, inr, length-append}
 use Rattle.std.specs.List.{AllByRecursion}
 use Rattle.std.specs.Prelude.{cond, ◌≤◌, ◌&&◌, nat_lt, nat_le, ◌⊎◌, slice_index}
@@ -11,23 +11,22 @@ use Rattle.qcow2_types.specs.Bytes.{Bytes, be, raw_entry, splice, bytes_of, Patc
 use Rattle.qcow2_types.specs.TableBytes.{AreFit, table_bytes}
 use Rattle.qcow2_types.proofs.Numbers.Splices.{be-same, splice-outside, splice-inside, be-of-bytes}
 
--- one of them
+-- the patch is in the list
 pub IsIn : Patch → List Patch → Type 0
 IsIn e [] = ⊥
 IsIn e (x ∷ xs) = (x ≡ e) ⊎ IsIn e xs
 
--- a splice at a place where both files agree
+-- a patch, and a list of patches, give equal bytes at an offset where the files are equal
 splice-at : (f g : Bytes) (at : ℕ) (bytes : List ℕ) (p : ℕ) → f p ≡ g p → splice f at bytes p ≡ splice g at bytes p
 unfolding splice
 splice-at f g at bytes p e = ap (cond (nat_le at p && nat_lt p (at + length bytes)) (slice_index bytes (p - at))) e
 
--- and several
 over-at : (f g : Bytes) (es : List Patch) (p : ℕ) → f p ≡ g p → over f es p ≡ over g es p
 unfolding over
 over-at f g [] p e = e
 over-at f g (x ∷ es) p e = splice-at (over f es) (over g es) x.0 x.1 p (over-at f g es p e)
 
--- the splice, of a splice or not, of the same bytes
+-- a patch below the same patch has no effect
 splice-twice : (f : Bytes) (at : ℕ) (bytes : List ℕ) (es : List Patch) (p : ℕ) → splice (over (splice f at bytes) es) at bytes p ≡ splice (over f es) at bytes p
 splice-twice f at bytes es p = elim (cases_lt p at) [
   | inl lt ↦ splice-at _ _ at bytes p (over-at _ _ es p (splice-outside f at bytes p (inl lt)))
@@ -41,7 +40,7 @@ splice-twice f at bytes es p = elim (cases_lt p at) [
   ]
 ]
 
--- Where one of them is written, the file with all of them over it stays.
+-- If one of the patches is written to the file, the file with all patches is the same.
 pub over-written : (f : Bytes) (e : Patch) (es : List Patch) → IsIn e es → (p : ℕ) → over (splice f e.0 e.1) es p ≡ over f es p
 unfolding over IsIn
 over-written f e [] inside p = elim inside [ ]
@@ -49,11 +48,11 @@ over-written f e (x ∷ es) (inl same) p =
     ap (λ (y : Patch). splice (over (splice f e.0 e.1) es) y.0 y.1 p) same ∙ (splice-twice f e.0 e.1 es p ∙ sym (ap (λ (y : Patch). splice (over f es) y.0 y.1 p) same))
 over-written f e (x ∷ es) (inr later) p = splice-at _ _ x.0 x.1 p (over-written f e es later p)
 
--- as files
+-- the same for whole files
 pub over-stays : (f : Bytes) (e : Patch) (es : List Patch) → IsIn e es → over (splice f e.0 e.1) es ≡ over f es
 over-stays f e es inside = fun_ext (over-written f e es inside)
 
--- it touches no byte of the range
+-- the patch touches no byte of the range
 abbrev pub IsClear : ℕ → ℕ → Patch → Type 0
 IsClear at n e = (e.0 + length e.1 ≤ at) ⊎ (at + n ≤ e.0)
 
@@ -61,13 +60,13 @@ clear-of : (f : Bytes) (at n : ℕ) (e : Patch) (k : ℕ) → IsClear at n e →
 clear-of f at n e k (inl before) lt = splice-outside f e.0 e.1 (at + k) (inr (omega (arith, before)))
 clear-of f at n e k (inr after) lt = splice-outside f e.0 e.1 (at + k) (inl (omega (arith, after, lt)))
 
--- Bytes that none of them covers stay.
+-- A range that no patch touches is the same.
 pub over-clear : (f : Bytes) (at n : ℕ) (es : List Patch) → AllByRecursion (IsClear at n) es → (k : ℕ) → k < n → over f es (at + k) ≡ f (at + k)
 unfolding over
 over-clear f at n [] clear k lt = refl
 over-clear f at n (e ∷ es) clear k lt = clear-of (over f es) at n e k clear.0 lt ∙ over-clear f at n es clear.1 k lt
 
--- One that none above covers shows its bytes.
+-- A patch that no patch above it touches determines its bytes.
 pub over-shows : (f : Bytes) (pre : List Patch) (e : Patch) (post : List Patch) → AllByRecursion (IsClear e.0 (length e.1)) pre → (k : ℕ) → k < length e.1 → over f (pre ++ e ∷ post) (e.0 + k) ≡ slice_index e.1 k
 unfolding over
 over-shows f [] e post clear k lt = splice-inside (over f post) e.0 e.1 k lt
@@ -86,7 +85,7 @@ has-already f e es clear has p = elim (cases_lt p e.0) [
   ]
 ]
 
--- One whose bytes the file has plays no part, where none below covers it.
+-- A patch whose bytes the file already has can be dropped, if no patch below it touches it.
 pub over-drop : (f : Bytes) (pre : List Patch) (e : Patch) (post : List Patch) → AllByRecursion (IsClear e.0 (length e.1)) post → ((k : ℕ) → k < length e.1 → f (e.0 + k) ≡ slice_index e.1 k)
     → (p : ℕ) → over f (pre ++ e ∷ post) p ≡ over f (pre ++ post) p
 unfolding over
@@ -98,12 +97,12 @@ unfolding IsIn
 is-in [] e post = inl refl
 is-in (x ∷ pre) e post = inr (is-in pre e post)
 
--- Where one of them is written and goes, the file with all others over it is what it was with that one.
+-- If a patch is written to the file and dropped from the list, the file with all patches is the same.
 pub over-settled : (f : Bytes) (pre : List Patch) (e : Patch) (post : List Patch) → AllByRecursion (IsClear e.0 (length e.1)) post → over (splice f e.0 e.1) (pre ++ post) ≡ over f (pre ++ e ∷ post)
 over-settled f pre e post clear =
     sym (fun_ext (over-drop (splice f e.0 e.1) pre e post clear (λ k lt. splice-inside f e.0 e.1 k lt))) ∙ over-stays f e (pre ++ e ∷ post) (is-in pre e post)
 
--- One that none above covers may go first.
+-- A patch that no patch above it touches can be moved to the top.
 pub over-first : (f : Bytes) (pre : List Patch) (e : Patch) (post : List Patch) → AllByRecursion (IsClear e.0 (length e.1)) pre → over f (pre ++ e ∷ post) ≡ over f (e ∷ pre ++ post)
 unfolding over
 over-first f pre e post clear = fun_ext (λ p. elim (cases_lt p e.0) [
@@ -125,7 +124,7 @@ over-first f pre e post clear = fun_ext (λ p. elim (cases_lt p e.0) [
     without : (p : ℕ) → (p < e.0) ⊎ (e.0 + length e.1 ≤ p) → over f (pre ++ e ∷ post) p ≡ over f (pre ++ post) p
     without = without-in pre
 
--- each word is read again
+-- each raw entry is read back
 pub words-read : (ws : List ℕ) (j : ℕ) → AreFit ws → j < length ws → be (bytes_of (table_bytes ws)) (8 * j) 8 ≡ get_or ws j 0
 words-read [] j fit lt = absurd (omega arith)
 words-read (w ∷ ws) zero fit lt =
@@ -136,12 +135,11 @@ words-read (w ∷ ws) (suc j) fit lt =
     (λ k less. let place : (8 * suc j + k) - 8 ≡ 8 * j + k = omega arith in get_or-append_right (to_be_bytes w64 w) (table_bytes ws) 8 (8 * suc j + k) 0 refl (omega arith) ∙ ap (λ m. get_or (table_bytes ws) m 0) place)
     ∙ words-read ws j (λ i less. fit (suc i) (omega (arith, less))) (omega arith)
 
--- a word has 8 bytes
 pub words-length : (ws : List ℕ) → length (table_bytes ws) ≡ 8 * length ws
 words-length [] = refl
 words-length (w ∷ ws) = let more : length (table_bytes ws) ≡ 8 * length ws = words-length ws in omega (arith, length-append (to_be_bytes w64 w) (table_bytes ws))
 
--- A cached table over the file shows its words.
+-- A cached table written over the file has its raw entries.
 pub table-over : (f : Bytes) (t : ℕ) (ws : List ℕ) (j : ℕ) → AreFit ws → j < length ws → raw_entry (splice f t (table_bytes ws)) t j ≡ get_or ws j 0
 unfolding raw_entry
 table-over f t ws j fit lt =

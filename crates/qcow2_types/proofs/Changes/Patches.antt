@@ -1,4 +1,4 @@
--- Tables and blocks that are to be written over a consistent image.
+-- Dirty tables and blocks that will be written over a consistent image.
 use Rattle.std.proofs.Common.{◌≡◌, ◌≢◌, ℕ, ◌+◌, ◌*◌, ◌/◌, ◌<◌, ◌≤◌, refl, arith, ap, sym, subst, ◌∙◌, List, [], ◌∷◌, length, inl, inr, replicate}
 use Rattle.std.specs.Prelude.{◌⊎◌, IsTrue}
 use Rattle.std.specs.List.{AllByRecursion}
@@ -22,13 +22,13 @@ use Rattle.qcow2_types.proofs.Counting.Sound.{sound-words}
 use Rattle.qcow2_types.proofs.Changes.WriteBack.{place-whole, table-place}
 use Rattle.qcow2_types.proofs.Changes.BlockSteps.{block-place}
 
--- where a table or a block stands
+-- the offset of a table or a block; 0 for other parts
 abbrev pub part_place : Bytes → Fields → Part → ℕ
 part_place f h (block_of i) = block_at f h i
 part_place f h (table_of i) = l2_table f h i
 part_place f h part = 0
 
--- the patch is for one of them, and fills it
+-- the patch replaces a whole table or block
 pub record IsPatch (f : Bytes) (h : Fields) (e : Patch) : Type 0 where
   pub part : Part
   pub inside : IsPart h part
@@ -44,7 +44,7 @@ module _ (f : Bytes) (H : Header) (was : IsConsistent f H) where
   place-of-part (block_of i) inside there = block-place f H.fields i (sound-words f H.fields was.readable.tables) inside
   place-of-part (table_of i) inside there = table-place f H.fields i (sound-words f H.fields was.readable.tables) inside
 
-  -- it touches one part of the structure
+  -- it touches one part of the structure: its own
   pub part-once : (part : Part) → IsPart H.fields part → part_place f H.fields part ≢ 0 → structure f H.fields (touches (part_place f H.fields part) (cluster_size H.fields)) ≤ 1
   part-once part inside there =
       let at : ℕ = part_place f H.fields part in
@@ -52,7 +52,6 @@ module _ (f : Bytes) (H : Header) (was : IsConsistent f H) where
       let place : at / cluster_size H.fields * cluster_size H.fields ≡ at = place-whole H.fields.cluster_bits at (place-of-part part inside there) in
       touches-once f H.fields (at / cluster_size H.fields) at (cluster_size H.fields) (was.structure_apart _) (omega arith) (omega arith)
 
-  -- itself
   weighs-one : (part : Part) → part_place f H.fields part ≢ 0 → 1 ≤ part_weight f H.fields (touches (part_place f H.fields part) (cluster_size H.fields)) part
   weighs-one header there = absurd (there refl)
   weighs-one l1_table there = absurd (there refl)
@@ -73,7 +72,7 @@ module _ (f : Bytes) (H : Header) (was : IsConsistent f H) where
   weighs-none w (block_of i) there none = grind (arith, nat_tests)
   weighs-none w (table_of i) there none = grind (arith, nat_tests)
 
-  -- what one part touches no other does
+  -- a range touched by one part is touched by no other part
   touches-none-of : (p q : Part) → IsPart H.fields p → IsPart H.fields q → part_place f H.fields p ≢ 0 → p ≢ q → part_weight f H.fields (touches (part_place f H.fields p) (cluster_size H.fields)) q ≡ 0
   touches-none-of p q inside inside' there apart = other-part f H.fields (touches (part_place f H.fields p) (cluster_size H.fields)) p q inside inside' apart (part-once p inside there) (weighs-one p there)
 
@@ -87,7 +86,7 @@ module _ (f : Bytes) (H : Header) (was : IsConsistent f H) where
     | inr le ↦ inl le
   ]
 
-  -- Patches for different parts touch no byte of each other.
+  -- Patches for different parts don't overlap.
   pub clear-of-other : (a b : Patch) (x : IsPatch f H.fields a) (y : IsPatch f H.fields b) → x.part ≢ y.part → IsClear a.0 (length a.1) b
   clear-of-other a b x y apart =
       let some : 0 < cluster_size H.fields = pow_pos H.fields.cluster_bits in
@@ -101,11 +100,11 @@ module _ (f : Bytes) (H : Header) (was : IsConsistent f H) where
       both-ways (inl after) = inr (omega (arith, after, x.place, y.place, x.long))
       both-ways (inr before) = inl (omega (arith, before, x.place, y.place, y.long))
 
-  -- and so do those at different places
+  -- neither do patches at different offsets
   pub clear-apart : (a b : Patch) → IsPatch f H.fields a → IsPatch f H.fields b → a.0 ≢ b.0 → IsClear a.0 (length a.1) b
   clear-apart a b x y apart = clear-of-other a b x y (λ e. apart (sym x.place ∙ ap (part_place f H.fields) e ∙ y.place))
 
-  -- No two parts stand at one place.
+  -- Two parts never have the same offset.
   pub parts-differ : (p q : Part) → IsPart H.fields p → IsPart H.fields q → part_place f H.fields p ≢ 0 → p ≢ q → part_place f H.fields p ≢ part_place f H.fields q
   parts-differ p q inside inside' there apart same =
       let some : 0 < cluster_size H.fields = pow_pos H.fields.cluster_bits in
@@ -117,7 +116,7 @@ module _ (f : Bytes) (H : Header) (was : IsConsistent f H) where
         | inr before ↦ omega (arith, before, same, some)
       ]
 
-  -- A table or block for which there is no patch stays.
+  -- A table or a block without a patch is the same.
   pub part-same : (part : Part) → IsPart H.fields part → part_place f H.fields part ≢ 0 → (es : List Patch) → AllByRecursion (IsPatch f H.fields) es → AllByRecursion (λ e. e.0 ≢ part_place f H.fields part) es
       → Same f (over f es) (part_place f H.fields part) (cluster_size H.fields)
   part-same part inside there es all others k lt = over-clear f (part_place f H.fields part) (cluster_size H.fields) es (clear-of-each es all others) k lt
@@ -136,7 +135,7 @@ module _ (f : Bytes) (H : Header) (was : IsConsistent f H) where
         clear-of-each es all.1 others.1,
       )
 
-  -- a range of a part that is no table and no block stays
+  -- a range of the header, the L1 table or the refcount table is the same
   module _ (q : Part) (inside : IsPart H.fields q) (nowhere : part_place f H.fields q ≡ 0) (at n : ℕ) (weight : (w : ℕ → ℕ → ℕ) → part_weight f H.fields w q ≡ w at n) where
     clear-of-range : (e : Patch) → IsPatch f H.fields e → 0 < n → IsClear at n e
     clear-of-range e x some =
@@ -156,7 +155,7 @@ module _ (f : Bytes) (H : Header) (was : IsConsistent f H) where
     range-same : (es : List Patch) → AllByRecursion (IsPatch f H.fields) es → Same f (over f es) at n
     range-same es all k lt = over-clear f at n es (clear-of-all es all (omega (arith, lt))) k lt
 
-  -- Tables and blocks stay in their places.
+  -- Tables and blocks keep their offsets.
   pub places-over : (es : List Patch) → AllByRecursion (IsPatch f H.fields) es → SamePlaces f (over f es) H.fields
   places-over es all = record {
     l1 = l2_table-same f (over f es) H.fields (range-same l1_table tt refl H.fields.l1_offset (H.fields.l1_entries * 8) (λ w. refl) es all);

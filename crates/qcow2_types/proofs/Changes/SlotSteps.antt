@@ -1,4 +1,4 @@
--- One word of an L2 table is written.
+-- A write of one L2 entry.
 use Rattle.std.proofs.Common.{◌≡◌, ◌≢◌, ℕ, ◌+◌, ◌*◌, ◌/◌, ◌%◌, ◌^◌, ◌<◌, ◌≤◌, arith, sym, subst, ◌∙◌, ap, inl, inr}
 use Rattle.std.specs.Prelude.{true, ◌⊎◌, IsFalse}
 use Rattle.std.specs.Int.{w64, to_be_bytes}
@@ -27,13 +27,11 @@ use Rattle.qcow2_types.proofs.Showing.Values.{entry-slot}
 use Rattle.qcow2_types.proofs.Numbers.Splices.{word-written}
 use Rattle.qcow2_types.proofs.Changes.WriteBack.{place-whole, table-place}
 
--- the cluster of an L2 table
+-- the cluster of an L2 table: it starts with the table, and the structure has weight in it
 module _ (f : Bytes) (H : Header) (was : IsConsistent f H) (i : ℕ) (there : l2_table f H.fields i ≢ 0) where
-  -- it begins with the table
   pub table-begin : l2_table f H.fields i / cluster_size H.fields * cluster_size H.fields ≡ l2_table f H.fields i
   table-begin = place-whole H.fields.cluster_bits (l2_table f H.fields i) (table-place f H.fields i (sound-words f H.fields was.readable.tables) (table-inside f H.fields i there))
 
-  -- and the structure is in it
   pub table-weighs : 1 ≤ structure f H.fields (meets H.fields (l2_table f H.fields i / cluster_size H.fields))
   table-weighs =
       let part : meets H.fields (l2_table f H.fields i / cluster_size H.fields) (l2_table f H.fields i) (cluster_size H.fields) ≤ structure f H.fields (meets H.fields (l2_table f H.fields i / cluster_size H.fields)) =
@@ -44,10 +42,10 @@ module _ (f : Bytes) (H : Header) (was : IsConsistent f H) (i : ℕ) (there : l2
       ap (λ p. meets H.fields (l2_table f H.fields i / cluster_size H.fields) p (cluster_size H.fields)) (sym table-begin) ∙ own in
       omega arith
 
--- g is f but for word j of L2 table i, which is w there.
+-- Files f and g that differ only in entry j of L2 table i.
 module _ (f g : Bytes) (H : Header) (was : IsConsistent f H) (i j : ℕ) (live : Live (l2_table f H.fields) H.fields i j) (out : Outside f g (l2_table f H.fields i + 8 * j) 8) (w : ℕ)
     (written : raw_entry g (l2_table f H.fields i) j ≡ w) where
-  -- the word lies in the table
+  -- the entry is inside the table
   word-inside : 8 * j + 8 ≤ cluster_size H.fields
   word-inside =
       let lt : j < entries_of_cluster H.fields = live.in_table in
@@ -60,19 +58,17 @@ module _ (f g : Bytes) (H : Header) (was : IsConsistent f H) (i j : ℕ) (live :
       let begin : l2_table f H.fields i / cluster_size H.fields * cluster_size H.fields ≡ l2_table f H.fields i = table-begin f H was i live.is_there in
       touches-once f H.fields (l2_table f H.fields i / cluster_size H.fields) (l2_table f H.fields i + 8 * j) 8 (was.structure_apart _) (omega arith) (omega (arith, word-inside))
 
-  -- the rest of it is kept
+  -- the rest of the structure is the same
   pub slot-table-kept : SameStructureOutside f g H.fields (table i)
   slot-table-kept = kept-table f g H.fields (l2_table f H.fields i + 8 * j) 8 out (omega arith) slot-once i live.in_l1 live.is_there (omega arith) (omega (arith, word-inside))
 
-  -- all tables and blocks stay in place
+  -- all tables and blocks keep their offsets
   pub slot-places : SamePlaces f g H.fields
   slot-places = record { l1 = λ k. l2_table-kept f g H.fields (table i) slot-table-kept k (λ e. cc); blocks = λ k. block_at-kept f g H.fields (table i) slot-table-kept k (λ e. cc) }
 
-  -- the word means what was written
   pub slot-here : slot g H.fields i j ≡ mapping_of (layout_of H.fields) w
   slot-here = ap (λ t. l2_mapping g H.fields t j) (slot-places.l1 i) ∙ ap (mapping_of (layout_of H.fields)) written
 
-  -- a word of another table means what it did
   other-table : (k m : ℕ) → Live (l2_table f H.fields) H.fields k m → k ≢ i → slot g H.fields k m ≡ slot f H.fields k m
   other-table k m live' apart = slot-kept f g H.fields (table i) slot-table-kept k m live' (λ e. cc) (λ e. apart (sym (ap number e)))
     where
@@ -80,11 +76,10 @@ module _ (f g : Bytes) (H : Header) (was : IsConsistent f H) (i j : ℕ) (live :
       number (table r) = r
       number _ = i
 
-  -- and another word of the same table
   other-row : (m : ℕ) → m ≢ j → slot g H.fields i m ≡ slot f H.fields i m
   other-row m apart = ap (λ t. l2_mapping g H.fields t m) (slot-places.l1 i) ∙ ap (mapping_of (layout_of H.fields)) (other-word f g (l2_table f H.fields i) j m out (λ e. apart (sym e)))
 
-  -- and so each other word
+  -- every other entry has the same mapping
   pub slot-others : (k m : ℕ) → Live (l2_table f H.fields) H.fields k m → (k ≢ i) ⊎ (m ≢ j) → slot g H.fields k m ≡ slot f H.fields k m
   slot-others k m live' (inl apart) = other-table k m live' apart
   slot-others k m live' (inr apart) = elim (cases_eq k i) [
@@ -92,21 +87,19 @@ module _ (f g : Bytes) (H : Header) (was : IsConsistent f H) (i j : ℕ) (live :
     | inr other ↦ other-table k m live' other
   ]
 
-  -- no count changes
   pub slot-counts : (c : ℕ) → count g H.fields c ≡ count f H.fields c
   slot-counts c = count-kept f g H.fields (table i) slot-table-kept c (consistent-shaped f H was) (λ e. cc) (λ e. cc)
 
-  -- one word changed
   slot-changes : ChangesSlot f f g H.fields i j
   slot-changes = record { live = live; others = slot-others }
 
-  -- what names a cluster: all that did but for the old word, and the new one
+  -- references change only by the old entry and the new entry
   pub slot-references : (c : ℕ) → refs g H.fields c + of_mapping H.fields (meets H.fields c) (slot f H.fields i j) ≡ refs f H.fields c + of_mapping H.fields (meets H.fields c) (mapping_of (layout_of H.fields) w)
   slot-references c =
       refs-change f f g H.fields i j c (places-refl f H.fields) slot-places slot-changes
       ∙ ap (λ m. refs f H.fields c + of_mapping H.fields (meets H.fields c) m) slot-here
 
-  -- a sum over all mappings changes by the old and the new one
+  -- and so does each sum over the mappings
   pub slot-contents : (of : Mapping → ℕ) → contents g H.fields of + of (slot f H.fields i j) ≡ contents f H.fields of + of (mapping_of (layout_of H.fields) w)
   slot-contents of =
       let before : contents f H.fields of ≡ over_slots (l2_table f H.fields) H.fields (λ k m. of (slot f H.fields k m)) = contents-slots f H.fields of in
@@ -116,7 +109,7 @@ module _ (f g : Bytes) (H : Header) (was : IsConsistent f H) (i j : ℕ) (live :
       let new : of (slot g H.fields i j) ≡ of (mapping_of (layout_of H.fields) w) = ap of slot-here in
       omega arith
 
-  -- the tables stay sound
+  -- all entries stay valid
   slot-sound : IsFalse (is_damaged (mapping_of (layout_of H.fields) w)) → ValidEntries g H.fields
   slot-sound sane =
       let sound : ValidEntries f H.fields = sound-words f H.fields was.readable.tables in
@@ -134,8 +127,8 @@ module _ (f g : Bytes) (H : Header) (was : IsConsistent f H) (i j : ℕ) (live :
             ];
       }
 
-  -- The image stays consistent where each cluster that is named is counted, and each of the structure, or named as copied, is
-  -- named once. Then the write shows at the word's own guest cluster alone.
+  -- The image stays consistent if, in g, refcounts cover the references, and clusters of the structure and COPIED clusters are referenced
+  -- once.
   pub slot-written : IsFalse (is_damaged (mapping_of (layout_of H.fields) w))
       → ((c : ℕ) → refs g H.fields c ≤ count f H.fields c)
       → ((c : ℕ) → 0 < structure f H.fields (meets H.fields c) + contents g H.fields (of_copied H.fields (meets H.fields c)) → refs g H.fields c ≤ 1)
@@ -175,8 +168,7 @@ module _ (f g : Bytes) (H : Header) (was : IsConsistent f H) (i j : ℕ) (live :
             ∙ (slot-others (guest / entries_of_cluster H.fields) (guest % entries_of_cluster H.fields) (guest-live f H.fields guest raw_entries there) off ∙ sym (guest-slot-there f H.fields guest there))
       ]
 
-  -- The same by what f names and counts: with the new word in place of the old one, each cluster that is named is counted, and
-  -- each of the structure, or named as copied, is named once.
+  -- Like `slot-written`, with the conditions in terms of f and of the old and new mappings.
   pub slot-rewritten : IsFalse (is_damaged (mapping_of (layout_of H.fields) w))
       → ((c : ℕ) → refs f H.fields c + of_mapping H.fields (meets H.fields c) (mapping_of (layout_of H.fields) w) ≤ count f H.fields c + of_mapping H.fields (meets H.fields c) (slot f H.fields i j))
       → ((c : ℕ) → 0 < structure f H.fields (meets H.fields c) + contents f H.fields (of_copied H.fields (meets H.fields c)) + of_copied H.fields (meets H.fields c) (mapping_of (layout_of H.fields) w)
@@ -194,11 +186,11 @@ module _ (f g : Bytes) (H : Header) (was : IsConsistent f H) (i j : ℕ) (live :
       let le : refs f H.fields c + of_mapping H.fields (meets H.fields c) (mapping_of (layout_of H.fields) w) ≤ 1 + of_mapping H.fields (meets H.fields c) (slot f H.fields i j) = apart c (omega arith) in
       omega arith)
 
--- A free, counted cluster c is named as copied data by a word that named none.
+-- An unmapped entry is set to data in an allocated cluster c that nothing references, with the COPIED flag.
 module _ (f g : Bytes) (H : Header) (was : IsConsistent f H) (i j : ℕ) (live : Live (l2_table f H.fields) H.fields i j) (out : Outside f g (l2_table f H.fields i + 8 * j) 8) (w : ℕ)
     (written : raw_entry g (l2_table f H.fields i) j ≡ w) (c : ℕ) (means : mapping_of (layout_of H.fields) w ≡ data_at c true) (old : slot f H.fields i j ≡ unmapped)
     (not_referenced : refs f H.fields c ≡ 0) (counted : 1 ≤ count f H.fields c) where
-  -- the references, with the new word's
+  -- the references grow by those of the new entry
   mapped-sum : (d : ℕ) → refs g H.fields d ≡ refs f H.fields d + meets H.fields d (c * cluster_size H.fields) (cluster_size H.fields)
   mapped-sum d =
       let sum : refs g H.fields d + of_mapping H.fields (meets H.fields d) (slot f H.fields i j) ≡ refs f H.fields d + of_mapping H.fields (meets H.fields d) (mapping_of (layout_of H.fields) w) = slot-references f g H was i j live out w written d in
@@ -206,7 +198,7 @@ module _ (f g : Bytes) (H : Header) (was : IsConsistent f H) (i j : ℕ) (live :
       let new : of_mapping H.fields (meets H.fields d) (mapping_of (layout_of H.fields) w) ≡ meets H.fields d (c * cluster_size H.fields) (cluster_size H.fields) = ap (of_mapping H.fields (meets H.fields d)) means in
       omega arith
 
-  -- and what is named as copied
+  -- and so do the COPIED references
   mapped-copied : (d : ℕ) → contents g H.fields (of_copied H.fields (meets H.fields d)) ≡ contents f H.fields (of_copied H.fields (meets H.fields d)) + meets H.fields d (c * cluster_size H.fields) (cluster_size H.fields)
   mapped-copied d =
       let sum : contents g H.fields (of_copied H.fields (meets H.fields d)) + of_copied H.fields (meets H.fields d) (slot f H.fields i j) ≡ contents f H.fields (of_copied H.fields (meets H.fields d)) + of_copied H.fields (meets H.fields d) (mapping_of (layout_of H.fields) w) =
@@ -215,18 +207,17 @@ module _ (f g : Bytes) (H : Header) (was : IsConsistent f H) (i j : ℕ) (live :
       let new : of_copied H.fields (meets H.fields d) (mapping_of (layout_of H.fields) w) ≡ meets H.fields d (c * cluster_size H.fields) (cluster_size H.fields) = ap (of_copied H.fields (meets H.fields d)) means in
       omega arith
 
-  -- the cluster is named once
+  -- the cluster is referenced once
   pub mapped-once : refs g H.fields c ≡ 1
   mapped-once = let sum : refs g H.fields c ≡ refs f H.fields c + meets H.fields c (c * cluster_size H.fields) (cluster_size H.fields) = mapped-sum c in let own : meets H.fields c (c * cluster_size H.fields) (cluster_size H.fields) ≡ 1 = meets-own H.fields c in omega arith
 
-  -- every other is named as often as before
+  -- the references of every other cluster are the same
   pub mapped-references : (d : ℕ) → d ≢ c → refs g H.fields d ≡ refs f H.fields d
   mapped-references d apart =
       let sum : refs g H.fields d ≡ refs f H.fields d + meets H.fields d (c * cluster_size H.fields) (cluster_size H.fields) = mapped-sum d in
       let none : meets H.fields d (c * cluster_size H.fields) (cluster_size H.fields) ≡ 0 = meets-other H.fields d c (λ e. apart (sym e)) in
       omega arith
 
-  -- the write is one of a word
   mapped-slot : SlotWritten f g H i j (data_at c true)
   mapped-slot = subst (SlotWritten f g H i j) means (slot-written f g H was i j live out w written (ap is_damaged means) covered once)
     where
@@ -249,23 +240,23 @@ module _ (f g : Bytes) (H : Header) (was : IsConsistent f H) (i j : ℕ) (live :
             ]
       ]
 
-  -- The image stays consistent, and the cluster is named by the word alone.
+  -- The image stays consistent, and only the entry references the cluster.
   pub cluster-mapped : ClusterMapped f g H i j c
   cluster-mapped = record { slot = mapped-slot; named_once = mapped-once; references = mapped-references }
 
--- By the bytes of the word.
+-- The written bytes are those of the raw entry.
 pub cluster-mapped-spliced : (f : Bytes) (H : Header) → IsConsistent f H → (i j : ℕ) → Live (l2_table f H.fields) H.fields i j → (w : ℕ) → w < 2 ^ 64 → (c : ℕ) → mapping_of (layout_of H.fields) w ≡ data_at c true
     → slot f H.fields i j ≡ unmapped → refs f H.fields c ≡ 0 → 1 ≤ count f H.fields c → ClusterMapped f (splice f (l2_table f H.fields i + 8 * j) (to_be_bytes w64 w)) H i j c
 cluster-mapped-spliced f H was i j live w fits c means old not_referenced counted =
     cluster-mapped f (splice f (l2_table f H.fields i + 8 * j) (to_be_bytes w64 w)) H was i j live (splice-is-outside f (l2_table f H.fields i + 8 * j) (to_be_bytes w64 w)) w
     (word-written f (l2_table f H.fields i) j w fits) c means old not_referenced counted
 
--- Any word that has a meaning, by its bytes.
+-- Like the modules above, for the bytes of any valid raw entry.
 module _ (f : Bytes) (H : Header) (was : IsConsistent f H) (i j : ℕ) (live : Live (l2_table f H.fields) H.fields i j) (w : ℕ) (fits : w < 2 ^ 64) where
   abbrev spliced : Bytes
   spliced = splice f (l2_table f H.fields i + 8 * j) (to_be_bytes w64 w)
 
-  -- The image stays consistent with the new word in place of the old one.
+  -- The image stays consistent with the new entry.
   pub slot-rewritten-spliced : IsFalse (is_damaged (mapping_of (layout_of H.fields) w))
       → ((c : ℕ) → refs f H.fields c + of_mapping H.fields (meets H.fields c) (mapping_of (layout_of H.fields) w) ≤ count f H.fields c + of_mapping H.fields (meets H.fields c) (slot f H.fields i j))
       → ((c : ℕ) → 0 < structure f H.fields (meets H.fields c) + contents f H.fields (of_copied H.fields (meets H.fields c)) + of_copied H.fields (meets H.fields c) (mapping_of (layout_of H.fields) w)
@@ -273,6 +264,6 @@ module _ (f : Bytes) (H : Header) (was : IsConsistent f H) (i j : ℕ) (live : L
       → SlotWritten f (splice f (l2_table f H.fields i + 8 * j) (to_be_bytes w64 w)) H i j (mapping_of (layout_of H.fields) w)
   slot-rewritten-spliced = slot-rewritten f spliced H was i j live (splice-is-outside f (l2_table f H.fields i + 8 * j) (to_be_bytes w64 w)) w (word-written f (l2_table f H.fields i) j w fits)
 
-  -- what the old word named is named no more, and what the new one names is
+  -- references change only by the old entry and the new entry
   pub slot-references-spliced : (c : ℕ) → refs (splice f (l2_table f H.fields i + 8 * j) (to_be_bytes w64 w)) H.fields c + of_mapping H.fields (meets H.fields c) (slot f H.fields i j) ≡ refs f H.fields c + of_mapping H.fields (meets H.fields c) (mapping_of (layout_of H.fields) w)
   slot-references-spliced = slot-references f spliced H was i j live (splice-is-outside f (l2_table f H.fields i + 8 * j) (to_be_bytes w64 w)) w (word-written f (l2_table f H.fields i) j w fits)

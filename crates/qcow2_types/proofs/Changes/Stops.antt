@@ -1,4 +1,4 @@
--- What holds of a file that a write of one table or block leaves.
+-- The crash images of a write of one table or block.
 use Rattle.std.proofs.Common.{◌≡◌, ◌≢◌, ℕ, ◌+◌, ◌*◌, ◌<◌, ◌≤◌, refl, arith, ap, sym, subst, ◌∙◌, List, length, inl, inr}
 use Rattle.std.specs.Prelude.{false, nat_lt, ◌⊎◌, max, slice_index}
 use Rattle.std.proofs.lemmas.Bool.{cases_eq, le-ltb}
@@ -22,32 +22,31 @@ use Rattle.qcow2_types.proofs.Counting.Parts.{kept-table, l2_table-kept, block_a
 use Rattle.qcow2_types.proofs.Counting.Either.{refs-between, named-falls, structure-same, table-after-blocks, table-before-blocks, tables-same}
 use Rattle.qcow2_types.specs.Versions.{SamePlaces, IsBetween, references_in_either, BlocksFirst, TablesFirst, copied, ReferencedOnce}
 
--- a word of a table lies in its cluster
+-- an entry is inside the cluster of its table
 words-fit : (h : Fields) (j : ℕ) → j < entries_of_cluster h → 8 * j + 8 ≤ cluster_size h
 words-fit h j lt = let whole : entries_of_cluster h * 8 ≤ cluster_size h = div-mul-le_self (cluster_size h) 8 in omega arith
 
--- One table is written: t is its place, and the bytes are those that g has there.
+-- One table is written with the bytes that g has at its offset.
 module _ (f g : Bytes) (h : Fields) (i : ℕ) (bytes : List ℕ) (shaped : Shaped h) (lt : i < h.l1_entries) (there : l2_table f h i ≢ 0)
     (all : length bytes ≡ cluster_size h) (cached : (k : ℕ) → k < cluster_size h → slice_index bytes k ≡ g (l2_table f h i + k))
     (once : structure f h (touches (l2_table f h i) (length bytes)) ≤ 1) (places : SamePlaces f g h) where
-  -- the rest of the structure is kept
+  -- the rest of the structure is the same
   pub write-keeps : SameStructureOutside f (splice f (l2_table f h i) bytes) h (table i)
   write-keeps =
       let some : 0 < cluster_size h = pow_pos h.cluster_bits in
       kept-table f (splice f (l2_table f h i) bytes) h (l2_table f h i) (length bytes) (splice-is-outside f (l2_table f h i) bytes) (omega arith) once i lt there (omega arith) (omega arith)
 
-  -- all tables and blocks stay in place
+  -- all tables and blocks keep their offsets
   write-places : SamePlaces f (splice f (l2_table f h i) bytes) h
   write-places = record {
     l1 = λ k. l2_table-kept f _ h (table i) write-keeps k (λ e. cc);
     blocks = λ k. block_at-kept f _ h (table i) write-keeps k (λ e. cc);
   }
 
-  -- no count changes
   pub write-counts : (c : ℕ) → count (splice f (l2_table f h i) bytes) h c ≡ count f h c
   write-counts c = count-kept f _ h (table i) write-keeps c shaped (λ e. cc) (λ e. cc)
 
-  -- the words are those to be written
+  -- the entries are those of g
   write-word : (j : ℕ) → j < entries_of_cluster h → raw_entry (splice f (l2_table f h i) bytes) (l2_table f h i) j ≡ raw_entry g (l2_table f h i) j
   unfolding raw_entry
   write-word j less =
@@ -58,13 +57,13 @@ module _ (f g : Bytes) (h : Fields) (i : ℕ) (bytes : List ℕ) (shaped : Shape
       let there' : slice_index bytes (8 * j + k) ≡ g (l2_table f h i + (8 * j + k)) = cached (8 * j + k) (omega arith) in
       rw place at (here ∙ there'))
 
-  -- and so their mappings
+  -- and so are their mappings
   write-slot : (j : ℕ) → j < entries_of_cluster h → slot (splice f (l2_table f h i) bytes) h i j ≡ slot g h i j
   write-slot j less =
       ap (λ t. mapping_of (layout_of h) (raw_entry (splice f (l2_table f h i) bytes) t j)) (write-places.l1 i)
       ∙ (ap (mapping_of (layout_of h)) (write-word j less) ∙ sym (ap (λ t. mapping_of (layout_of h) (raw_entry g t j)) (places.l1 i)))
 
-  -- the file lies between the two versions
+  -- the file is between the two versions
   pub write-between : IsBetween f (splice f (l2_table f h i) bytes) g h
   write-between = record {
     places = write-places;
@@ -78,17 +77,17 @@ module _ (f g : Bytes) (h : Fields) (i : ℕ) (bytes : List ℕ) (shaped : Shape
       number (table m) = m
       number _ = i
 
-  -- so both orders stay
+  -- so the invariants of both dependencies are preserved
   pub write-after-blocks : BlocksFirst f g h → ((c : ℕ) → count g h c ≡ count f h c) → BlocksFirst (splice f (l2_table f h i) bytes) g h
   write-after-blocks well_formed clean = table-after-blocks f _ g h well_formed clean write-between write-counts
 
--- what is named as copied in one version is among both
+-- the COPIED references of an entry in one version are among those of both
 one-copied : (h : Fields) (w : Weight) (m n x : Mapping) → (x ≡ m) ⊎ (x ≡ n) → of_copied h w x ≤ max (of_copied h w m) (of_copied h w n)
 one-copied h w m n x (inl e) = rw e (le-max_left _ _)
 one-copied h w m n x (inr e) = rw e (le-max_right _ _)
 
 module _ (f x g : Bytes) (h : Fields) (between : IsBetween f x g h) where
-  -- a file between names as copied what either version does
+  -- the COPIED references of a file between the versions are among those of both
   pub copied-between : (c : ℕ) → contents x h (of_copied h (meets h c)) ≤ copied f g h c
   unfolding copied
   copied-between c =
@@ -98,7 +97,7 @@ module _ (f x g : Bytes) (h : Fields) (between : IsBetween f x g h) where
       slots-mono (l2_table f h) h _ _ (λ i j live. one-copied h (meets h c) (slot f h i j) (slot g h i j) (slot x h i j) (between.slots i j live)) in
       omega arith
 
-  -- and with what is still to be written
+  -- and they never increase
   pub copied-falls : (c : ℕ) → copied x g h c ≤ copied f g h c
   unfolding copied
   copied-falls c =
@@ -108,7 +107,7 @@ module _ (f x g : Bytes) (h : Fields) (between : IsBetween f x g h) where
       slots-mono (l2_table f h) h _ _ (λ i j live. max-le (one-copied h (meets h c) (slot f h i j) (slot g h i j) (slot x h i j) (between.slots i j live)) (le-max_right _ _)) in
       omega arith
 
-  -- what was named once stays so
+  -- clusters that were referenced once still are
   pub apart-falls : ReferencedOnce f g h → ReferencedOnce x g h
   apart-falls apart c some =
       let base : structure x h (meets h c) ≡ structure f h (meets h c) = structure-same f x h between.places (meets h c) in
@@ -117,7 +116,7 @@ module _ (f x g : Bytes) (h : Fields) (between : IsBetween f x g h) where
       let one : references_in_either f g h c ≤ 1 = apart c (omega arith) in
       omega arith
 
-  -- a file that a stop leaves is consistent, tables and header aside
+  -- in a crash image no cluster of the structure is shared
   pub stop-structure : ReferencedOnce f g h → (c : ℕ) → shares_structure x h c ≡ false
   unfolding shares_structure
   stop-structure apart c = elim (cases_eq (structure x h (meets h c)) 0) [
@@ -132,7 +131,7 @@ module _ (f x g : Bytes) (h : Fields) (between : IsBetween f x g h) where
         grind (arith, nat_tests)
   ]
 
-  -- no cluster is wrongly marked as copied
+  -- in a crash image no COPIED cluster is shared
   pub stop-copied : ReferencedOnce f g h → (c : ℕ) → is_false_copied x h c ≡ false
   unfolding is_false_copied
   stop-copied apart c = elim (cases_eq (contents x h (of_copied h (meets h c))) 0) [
@@ -147,7 +146,7 @@ module _ (f x g : Bytes) (h : Fields) (between : IsBetween f x g h) where
         grind (arith, nat_tests)
   ]
 
--- no cluster is counted too rarely
+-- in a crash image the refcounts cover the references
 pub stop-counted : (x g : Bytes) (h : Fields) → ((c : ℕ) → refs x h c ≤ count x h c) → (c : ℕ) → is_under_counted x h c ≡ false
 unfolding is_under_counted
 stop-counted x g h well_formed c = le-ltb _ _ (well_formed c)

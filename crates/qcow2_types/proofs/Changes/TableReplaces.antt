@@ -1,4 +1,4 @@
--- A word of the L1 table is written, and names another L2 table.
+-- An L1 entry is set to reference another L2 table.
 use Rattle.std.proofs.Common.{◌≡◌, ◌≢◌, ℕ, ◌+◌, ◌*◌, ◌/◌, ◌%◌, ◌^◌, ◌<◌, ◌≤◌, refl, arith, sym, subst, ◌∙◌, ap, inl, inr, Ok}
 use Rattle.std.specs.Prelude.{true, cond, ◌==◌, ◌⊎◌, nat_lt, IsTrue, IsFalse}
 use Rattle.std.specs.Int.{w64, to_be_bytes}
@@ -30,20 +30,19 @@ use Rattle.qcow2_types.proofs.Numbers.Sums.{sum-same, sum-change}
 use Rattle.qcow2_types.proofs.Counting.TableSizes.{word-in-cluster}
 use Rattle.qcow2_types.proofs.Showing.Values.{entry-slot}
 
--- the number of a word of the L1 table, or else this one
+-- the index of an L1 entry that is skipped, otherwise i
 abbrev l1_number : ℕ → Skipped → ℕ
 l1_number i (l1_word r) = r
 l1_number i _ = i
 
--- g is f but for word i of the L1 table, which names the table at t there, in a cluster that nothing named.
+-- Files f and g that differ only in L1 entry i. In g it references the table at t, whose cluster nothing referenced.
 module _ (f g : Bytes) (H : Header) (was : IsConsistent f H) (i : ℕ) (lt : i < H.fields.l1_entries) (out : Outside f g (H.fields.l1_offset + 8 * i) 8) (w : ℕ)
     (written : raw_entry g H.fields.l1_offset i ≡ w) (sane : IsTrue (l1_entry_valid H.fields.cluster_bits w)) (c t : ℕ) (names : table_offset w ≡ t) (there : t ≢ 0) (begins : t ≡ c * cluster_size H.fields)
     (not_referenced : refs f H.fields c ≡ 0) where
-  -- the cluster in which the word lies begins before it
+  -- the cluster of the entry starts at or before the entry, and ends at or after its end
   pub low : (H.fields.l1_offset + 8 * i) / cluster_size H.fields * cluster_size H.fields ≤ H.fields.l1_offset + 8 * i
   low = div-mul-le_self (H.fields.l1_offset + 8 * i) (cluster_size H.fields)
 
-  -- and ends behind it
   pub high : H.fields.l1_offset + 8 * i + 8 ≤ ((H.fields.l1_offset + 8 * i) / cluster_size H.fields + 1) * cluster_size H.fields
   high =
       let shaped : Shaped H.fields = consistent-shaped f H was in
@@ -52,7 +51,7 @@ module _ (f g : Bytes) (H : Header) (was : IsConsistent f H) (i : ℕ) (lt : i <
       let multiple : H.fields.l1_offset % 2 ^ H.fields.cluster_bits ≡ 0 = grind (arith, nat_tests) in
       word-in-cluster H.fields.l1_offset (cluster_size H.fields) (entries_of_cluster H.fields) i (omega arith) (whole H.fields.cluster_bits (omega arith)) multiple
 
-  -- the structure is in that cluster
+  -- the structure has weight in that cluster
   pub l1-weighs : 1 ≤ structure f H.fields (meets H.fields ((H.fields.l1_offset + 8 * i) / cluster_size H.fields))
   l1-weighs =
       let part : meets H.fields ((H.fields.l1_offset + 8 * i) / cluster_size H.fields) H.fields.l1_offset (H.fields.l1_entries * 8) ≤ structure f H.fields (meets H.fields ((H.fields.l1_offset + 8 * i) / cluster_size H.fields)) =
@@ -65,39 +64,36 @@ module _ (f g : Bytes) (H : Header) (was : IsConsistent f H) (i : ℕ) (lt : i <
       let here : meets H.fields ((H.fields.l1_offset + 8 * i) / cluster_size H.fields) H.fields.l1_offset (H.fields.l1_entries * 8) ≡ 1 = rw (lt-ltb _ _ some, lt-ltb _ _ front, lt-ltb _ _ back) refl in
       omega arith
 
-  -- the rest of the structure is kept
+  -- the rest of the structure is the same
   kept : SameStructureOutside f g H.fields (l1_word i)
   kept = kept-l1 f g H.fields i out (touches-once f H.fields _ (H.fields.l1_offset + 8 * i) 8 (was.structure_apart _) low high) lt
 
-  -- the word names the new table
   here : l2_table g H.fields i ≡ t
   here = let within : nat_lt i H.fields.l1_entries ≡ true = lt-ltb _ _ lt in rw within (ap table_offset written ∙ names)
 
-  -- every other names what it did
+  -- every other entry references the same table
   tables : (k : ℕ) → k ≢ i → l2_table g H.fields k ≡ l2_table f H.fields k
   tables k apart = l2_table-kept f g H.fields (l1_word i) kept k (λ e. apart (sym (ap (l1_number i) e)))
 
-  -- and blocks stay in place
   blocks : (b : ℕ) → block_at g H.fields b ≡ block_at f H.fields b
   blocks b = block_at-kept f g H.fields (l1_word i) kept b (λ e. cc)
 
-  -- no count changes
   counts : (d : ℕ) → count g H.fields d ≡ count f H.fields d
   counts d = count-kept f g H.fields (l1_word i) kept d (consistent-shaped f H was) (λ e. cc) (λ e. cc)
 
-  -- clusters that nothing names keep their bytes
+  -- clusters that nothing references keep their bytes
   free : (d : ℕ) → refs f H.fields d ≡ 0 → Same f g (d * cluster_size H.fields) (cluster_size H.fields)
   free = free-stays f g H _ (H.fields.l1_offset + 8 * i) 8 out low high l1-weighs
 
-  -- among them the new table
+  -- so does the new table
   new-words : (j : ℕ) → j < entries_of_cluster H.fields → raw_entry g t j ≡ raw_entry f t j
   new-words j less = word-same f g t (cluster_size H.fields) j (subst (λ p. Same f g p (cluster_size H.fields)) (sym begins) (free c not_referenced)) (words-fit H.fields j less)
 
-  -- every word of another table means what it did
+  -- the entries of other tables have the same mappings
   others : (k m : ℕ) → Live (l2_table f H.fields) H.fields k m → k ≢ i → slot g H.fields k m ≡ slot f H.fields k m
   others k m live apart = slot-kept f g H.fields (l1_word i) kept k m live (λ e. apart (sym (ap (l1_number i) e))) (λ e. cc)
 
-  -- what the structure weighs
+  -- the weight of the structure, with the old table replaced by the new one
   weighs : (v : Weight) → structure g H.fields v + of_cluster H.fields v (l2_table f H.fields i) ≡ structure f H.fields v + v t (cluster_size H.fields)
   unfolding structure
   weighs v =
@@ -111,7 +107,7 @@ module _ (f g : Bytes) (H : Header) (was : IsConsistent f H) (i : ℕ) (lt : i <
       some-cluster : (p : ℕ) → p ≢ 0 → (x : ℕ) → cond (p == 0) 0 x ≡ x
       some-cluster p is x = grind (arith, nat_tests)
 
-  -- and what the mappings weigh
+  -- the sums over the mappings, with those of the old table replaced
   sums : (of : Mapping → ℕ) → contents g H.fields of + of_table_or_none f H.fields of (l2_table f H.fields i) ≡ contents f H.fields of + of_table f H.fields of t
   unfolding over_slots of_table
   sums of =
@@ -140,7 +136,6 @@ module _ (f g : Bytes) (H : Header) (was : IsConsistent f H) (i : ℕ) (lt : i <
           ap (λ p. or_none p (sum_below (entries_of_cluster H.fields) (λ j. of (slot g H.fields k j)))) (tables k apart)
           ∙ ap (or_none (l2_table f H.fields k)) (sum-same _ _ _ (λ j within. ap of (others k j record { in_l1 = less; is_there = is; in_table = within } apart)))
 
-  -- and so how often a cluster is named
   references : (d : ℕ) → refs g H.fields d + (of_cluster H.fields (meets H.fields d) (l2_table f H.fields i) + of_table_or_none f H.fields (of_mapping H.fields (meets H.fields d)) (l2_table f H.fields i))
       ≡ refs f H.fields d + (meets H.fields d t (cluster_size H.fields) + of_table f H.fields (of_mapping H.fields (meets H.fields d)) t)
   unfolding refs
@@ -150,11 +145,10 @@ module _ (f g : Bytes) (H : Header) (was : IsConsistent f H) (i : ℕ) (lt : i <
       sums (of_mapping H.fields (meets H.fields d)) in
       omega arith
 
-  -- the header stays
   loads : header_of true g ≡ Ok H
   loads = header-kept true f g H was.readable.loads (kept.start (λ e. cc))
 
-  -- What the write leaves.
+  -- The state after the write.
   pub table-replaced : TableReplaced f g H i t
   table-replaced = record {
     header = loads;
@@ -172,7 +166,7 @@ module _ (f g : Bytes) (H : Header) (was : IsConsistent f H) (i : ℕ) (lt : i <
     mapped = data-stays f g H was _ (H.fields.l1_offset + 8 * i) 8 out low high l1-weighs;
   }
 
-  -- the tables stay sound
+  -- all entries stay valid if those of the new table are
   sound : ((j : ℕ) → j < entries_of_cluster H.fields → IsFalse (is_damaged (l2_mapping f H.fields t j))) → ValidEntries g H.fields
   sound plain =
       let old : ValidEntries f H.fields = sound-words f H.fields was.readable.tables in
@@ -190,8 +184,8 @@ module _ (f g : Bytes) (H : Header) (was : IsConsistent f H) (i : ℕ) (lt : i <
         ];
       }
 
-  -- The image stays consistent where the new table's words have a meaning, each cluster that is named is counted, and each of the
-  -- structure, or named as copied, is named once.
+  -- The image stays consistent if the new table's entries are valid, refcounts cover references, and clusters of the structure and COPIED
+  -- clusters are referenced once.
   pub table-swapped : ((j : ℕ) → j < entries_of_cluster H.fields → IsFalse (is_damaged (l2_mapping f H.fields t j)))
       → ((d : ℕ) → refs g H.fields d ≤ count f H.fields d)
       → ((d : ℕ) → 0 < structure g H.fields (meets H.fields d) + contents g H.fields (of_copied H.fields (meets H.fields d)) → refs g H.fields d ≤ 1)
@@ -236,17 +230,15 @@ module _ (f g : Bytes) (H : Header) (was : IsConsistent f H) (i : ℕ) (lt : i <
               ∙ (ap (λ p. l2_mapping g H.fields p (guest % entries_of_cluster H.fields)) place
               ∙ (ap (mapping_of (layout_of H.fields)) (new-words (guest % entries_of_cluster H.fields) (mod_below guest (entries_of_cluster H.fields) raw_entries)) ∙ (same ∙ entry-slot f H.fields guest was.readable.tables)))
 
--- By the bytes of the word.
+-- The written bytes are those of the raw entry.
 module _ (f : Bytes) (H : Header) (was : IsConsistent f H) (i : ℕ) (lt : i < H.fields.l1_entries) (w : ℕ) (fits : w < 2 ^ 64) (sane : IsTrue (l1_entry_valid H.fields.cluster_bits w))
     (c t : ℕ) (names : table_offset w ≡ t) (there : t ≢ 0) (begins : t ≡ c * cluster_size H.fields) (not_referenced : refs f H.fields c ≡ 0) where
   abbrev spliced : Bytes
   spliced = splice f (H.fields.l1_offset + 8 * i) (to_be_bytes w64 w)
 
-  -- what the write leaves
   pub table-replaced-spliced : TableReplaced f (splice f (H.fields.l1_offset + 8 * i) (to_be_bytes w64 w)) H i t
   table-replaced-spliced = table-replaced f spliced H was i lt (splice-is-outside f (H.fields.l1_offset + 8 * i) (to_be_bytes w64 w)) w (word-written f H.fields.l1_offset i w fits) sane c t names there begins not_referenced
 
-  -- where the image stays consistent
   pub table-swapped-spliced : ((j : ℕ) → j < entries_of_cluster H.fields → IsFalse (is_damaged (l2_mapping f H.fields t j)))
       → ((d : ℕ) → refs (splice f (H.fields.l1_offset + 8 * i) (to_be_bytes w64 w)) H.fields d ≤ count f H.fields d)
       → ((d : ℕ) → 0 < structure (splice f (H.fields.l1_offset + 8 * i) (to_be_bytes w64 w)) H.fields (meets H.fields d) + contents (splice f (H.fields.l1_offset + 8 * i) (to_be_bytes w64 w)) H.fields (of_copied H.fields (meets H.fields d))

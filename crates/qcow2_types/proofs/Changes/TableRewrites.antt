@@ -1,4 +1,4 @@
--- An L2 table is written, whole or in part.
+-- A write to an L2 table, as a whole or in part.
 use Rattle.std.proofs.Common.{◌≡◌, ◌≢◌, ℕ, ◌+◌, ◌*◌, ◌/◌, ◌%◌, ◌<◌, ◌≤◌, arith, sym, ◌∙◌, ap, refl, inl, inr, Ok}
 use Rattle.std.specs.Prelude.{true, ◌⊎◌, IsFalse}
 use Rattle.std.proofs.lemmas.Bool.{cases_eq, cases_lt}
@@ -26,30 +26,30 @@ use Rattle.qcow2_types.proofs.Numbers.Sums.{sum-same, sum-change}
 use Rattle.qcow2_types.proofs.Switching.Switches.{cluster-long}
 use Rattle.qcow2_types.proofs.Showing.Values.{entry-slot}
 
--- what is summed of a table that there is
+-- the summand of a table that exists
 there-sum : (t x : ℕ) → t ≢ 0 → or_none t x ≡ x
 there-sum t x is = grind (arith, nat_tests)
 
--- g is f but for some bytes of L2 table i.
+-- Files f and g that differ only in bytes of L2 table i.
 module _ (f g : Bytes) (H : Header) (was : IsConsistent f H) (i : ℕ) (there : l2_table f H.fields i ≢ 0) (at n : ℕ) (out : Outside f g at n)
     (low : l2_table f H.fields i ≤ at) (high : at + n ≤ l2_table f H.fields i + cluster_size H.fields) where
-  -- the write lies in the table's cluster
+  -- the write is inside the table's cluster
   begins : l2_table f H.fields i / cluster_size H.fields * cluster_size H.fields ≤ at
   begins = let begin : l2_table f H.fields i / cluster_size H.fields * cluster_size H.fields ≡ l2_table f H.fields i = table-begin f H was i there in omega (arith, begin, low)
 
   ends : at + n ≤ (l2_table f H.fields i / cluster_size H.fields + 1) * cluster_size H.fields
   ends = let begin : l2_table f H.fields i / cluster_size H.fields * cluster_size H.fields ≡ l2_table f H.fields i = table-begin f H was i there in omega (arith, begin, high)
 
-  -- and touches one part of the structure
+  -- so it touches at most one part of the structure
   once : structure f H.fields (touches at n) ≤ 1
   once = touches-once f H.fields (l2_table f H.fields i / cluster_size H.fields) at n (was.structure_apart _) begins ends
 
-  -- the rest of it is kept
+  -- the rest of the structure is the same
   kept : SameStructureOutside f g H.fields (table i)
   kept = elim (cases_eq n 0) [
     | inr is ↦ let some : n ≢ 0 = is in kept-table f g H.fields at n out (omega arith) once i (table-inside f H.fields i there) there low high
     | inl none ↦
-        -- a write of nothing leaves all as it is, so also all but the first byte of the table
+        -- a write of nothing changes nothing, so it doesn't change the bytes outside the table's first byte
         let e : n ≡ 0 = none in
         let size : 512 ≤ cluster_size H.fields = cluster-long f H was in
         let begin : l2_table f H.fields i / cluster_size H.fields * cluster_size H.fields ≡ l2_table f H.fields i = table-begin f H was i there in
@@ -57,11 +57,11 @@ module _ (f g : Bytes) (H : Header) (was : IsConsistent f H) (i : ℕ) (there : 
         (touches-once f H.fields (l2_table f H.fields i / cluster_size H.fields) (l2_table f H.fields i) 1 (was.structure_apart _) (omega arith) (omega arith)) i (table-inside f H.fields i there) there (omega arith) (omega arith)
   ]
 
-  -- all tables and blocks stay in place
+  -- all tables and blocks keep their offsets
   places : SamePlaces f g H.fields
   places = record { l1 = λ k. l2_table-kept f g H.fields (table i) kept k (λ e. cc); blocks = λ k. block_at-kept f g H.fields (table i) kept k (λ e. cc) }
 
-  -- a word of another table means what it did
+  -- the entries of other tables have the same mappings
   others : (k m : ℕ) → Live (l2_table f H.fields) H.fields k m → k ≢ i → slot g H.fields k m ≡ slot f H.fields k m
   others k m live apart = slot-kept f g H.fields (table i) kept k m live (λ e. cc) (λ e. apart (sym (ap number e)))
     where
@@ -69,11 +69,10 @@ module _ (f g : Bytes) (H : Header) (was : IsConsistent f H) (i : ℕ) (there : 
       number (table r) = r
       number _ = i
 
-  -- no count changes
   counts : (c : ℕ) → count g H.fields c ≡ count f H.fields c
   counts c = count-kept f g H.fields (table i) kept c (consistent-shaped f H was) (λ e. cc) (λ e. cc)
 
-  -- a sum over all mappings changes by those of the table
+  -- a sum over all mappings changes only by the mappings of the table
   sums : (of : Mapping → ℕ) → contents g H.fields of + table_sum f H.fields of i ≡ contents f H.fields of + table_sum g H.fields of i
   unfolding over_slots
   sums of =
@@ -95,7 +94,7 @@ module _ (f g : Bytes) (H : Header) (was : IsConsistent f H) (i : ℕ) (there : 
       same k lt apart (inl none) = rw none refl
       same k lt apart (inr is) = ap (or_none (l2_table f H.fields k)) (sum-same _ _ _ (λ m less. ap of (others k m record { in_l1 = lt; is_there = is; in_table = less } apart)))
 
-  -- what names a cluster: all that did but for the table's words, and those as they are now
+  -- references change only by the entries of the table
   references : (c : ℕ) → refs g H.fields c + table_sum f H.fields (of_mapping H.fields (meets H.fields c)) i ≡ refs f H.fields c + table_sum g H.fields (of_mapping H.fields (meets H.fields c)) i
   unfolding refs
   references c =
@@ -104,11 +103,10 @@ module _ (f g : Bytes) (H : Header) (was : IsConsistent f H) (i : ℕ) (there : 
       sums (of_mapping H.fields (meets H.fields c)) in
       omega arith
 
-  -- the header stays
   loads : header_of true g ≡ Ok H
   loads = header-kept true f g H was.readable.loads (kept.start (λ e. cc))
 
-  -- What a write into a table leaves.
+  -- The state after the write.
   pub table-written : TableWritten f g H i
   table-written = record {
     header = loads;
@@ -123,7 +121,7 @@ module _ (f g : Bytes) (H : Header) (was : IsConsistent f H) (i : ℕ) (there : 
     mapped = data-stays f g H was (l2_table f H.fields i / cluster_size H.fields) at n out begins ends (table-weighs f H was i there);
   }
 
-  -- the tables stay sound
+  -- all entries stay valid if those of the table are
   sound : ((j : ℕ) → j < entries_of_cluster H.fields → IsFalse (is_damaged (mapping_of (layout_of H.fields) (raw_entry g (l2_table f H.fields i) j)))) → ValidEntries g H.fields
   sound sane =
       let old : ValidEntries f H.fields = sound-words f H.fields was.readable.tables in
@@ -138,8 +136,8 @@ module _ (f g : Bytes) (H : Header) (was : IsConsistent f H) (i : ℕ) (there : 
         ];
       }
 
-  -- The image stays consistent where the new words have a meaning, each cluster that is named is counted, and each of the
-  -- structure, or named as copied, is named once.
+  -- The image stays consistent if the new entries are valid, refcounts cover the references, and clusters of the structure and COPIED
+  -- clusters are referenced once.
   pub table-rewritten : ((j : ℕ) → j < entries_of_cluster H.fields → IsFalse (is_damaged (mapping_of (layout_of H.fields) (raw_entry g (l2_table f H.fields i) j))))
       → ((c : ℕ) → refs g H.fields c ≤ count f H.fields c)
       → ((c : ℕ) → 0 < structure f H.fields (meets H.fields c) + contents g H.fields (of_copied H.fields (meets H.fields c)) → refs g H.fields c ≤ 1)

@@ -1,4 +1,4 @@
--- One word of the L1 table is written: a table of zeroes is entered where there was none.
+-- An L1 entry that referenced no table is set to reference a table of zeroes.
 use Rattle.std.proofs.Common.{◌≡◌, ◌≢◌, ℕ, ◌+◌, ◌*◌, ◌/◌, ◌%◌, ◌^◌, ◌<◌, ◌≤◌, refl, arith, sym, subst, ◌∙◌, ap, inl, inr}
 use Rattle.std.specs.Prelude.{IsTrue}
 use Rattle.std.specs.Int.{w64, to_be_bytes}
@@ -25,33 +25,32 @@ use Rattle.qcow2_types.proofs.Numbers.WordLemmas.{zero-word}
 module _ (f g : Bytes) (H : Header) (was : IsConsistent f H) (i : ℕ) (lt : i < H.fields.l1_entries) (empty : l2_table f H.fields i ≡ 0) (out : Outside f g (H.fields.l1_offset + 8 * i) 8) (w : ℕ)
     (written : raw_entry g H.fields.l1_offset i ≡ w) (sane : IsTrue (l1_entry_valid H.fields.cluster_bits w)) (c t : ℕ) (names : table_offset w ≡ t) (there : t ≢ 0) (begins : t ≡ c * cluster_size H.fields)
     (not_referenced : refs f H.fields c ≡ 0) (counted : 1 ≤ count f H.fields c) (zeroes : (j : ℕ) → j < entries_of_cluster H.fields → raw_entry f t j ≡ 0) where
-  -- the word names another table than it did, which was none
+  -- the case of `table-replaced` without an old table
   entered-replaced : TableReplaced f g H i t
   entered-replaced = table-replaced f g H was i lt out w written sane c t names there begins not_referenced
 
-  -- the words of the new table are 0
+  -- the entries of the new table are 0
   new-words : (j : ℕ) → j < entries_of_cluster H.fields → raw_entry g t j ≡ 0
   new-words j less = entered-replaced.raw_entries j less ∙ zeroes j less
 
-  -- and so its guest clusters are unmapped
+  -- so its guest clusters are unmapped
   new-unmapped : (j : ℕ) → j < entries_of_cluster H.fields → l2_mapping f H.fields t j ≡ unmapped
   new-unmapped j less = ap (mapping_of (layout_of H.fields)) (zeroes j less) ∙ zero-word (layout_of H.fields)
 
   entered-empty : (j : ℕ) → j < entries_of_cluster H.fields → slot g H.fields i j ≡ unmapped
   entered-empty j less = ap (λ p. l2_mapping g H.fields p j) entered-replaced.here ∙ (ap (mapping_of (layout_of H.fields)) (new-words j less) ∙ zero-word (layout_of H.fields))
 
-  -- every other word means what it did
+  -- every other entry has the same mapping
   entered-others : (k m : ℕ) → Live (l2_table f H.fields) H.fields k m → slot g H.fields k m ≡ slot f H.fields k m
   entered-others k m live = entered-replaced.others k m live (λ e. live.is_there (ap (l2_table f H.fields) e ∙ empty))
 
-  -- what the structure weighs more
+  -- the weight of the structure grows by the new table
   entered-structure : (v : Weight) → structure g H.fields v ≡ structure f H.fields v + v t (cluster_size H.fields)
   entered-structure v =
       let sum : structure g H.fields v + of_cluster H.fields v (l2_table f H.fields i) ≡ structure f H.fields v + v t (cluster_size H.fields) = entered-replaced.structure v in
       let old : of_cluster H.fields v (l2_table f H.fields i) ≡ 0 = rw empty refl in
       omega arith
 
-  -- and what the mappings weigh
   entered-contents : (of : Mapping → ℕ) → of unmapped ≡ 0 → contents g H.fields of ≡ contents f H.fields of
   unfolding of_table
   entered-contents of none =
@@ -60,7 +59,6 @@ module _ (f g : Bytes) (H : Header) (was : IsConsistent f H) (i : ℕ) (lt : i <
       let new : of_table f H.fields of t ≡ 0 = sum-zero _ _ (λ j less. ap of (new-unmapped j less) ∙ none) in
       omega (arith, sum, old, new)
 
-  -- the references, with the new table's
   entered-sum : (d : ℕ) → refs g H.fields d ≡ refs f H.fields d + meets H.fields d t (cluster_size H.fields)
   unfolding refs
   entered-sum d =
@@ -68,11 +66,11 @@ module _ (f g : Bytes) (H : Header) (was : IsConsistent f H) (i : ℕ) (lt : i <
       let rest : contents g H.fields (of_mapping H.fields (meets H.fields d)) ≡ contents f H.fields (of_mapping H.fields (meets H.fields d)) = entered-contents (of_mapping H.fields (meets H.fields d)) refl in
       omega arith
 
-  -- the new table is its cluster
+  -- the new table fills its cluster
   entered-meets : (d : ℕ) → meets H.fields d t (cluster_size H.fields) ≡ meets H.fields d (c * cluster_size H.fields) (cluster_size H.fields)
   entered-meets d = ap (λ p. meets H.fields d p (cluster_size H.fields)) begins
 
-  -- The cluster of the new table is named by it alone, and every other as before.
+  -- Only the entry references the new table's cluster. The references of every other cluster are the same.
   entered-once : refs g H.fields c ≡ 1
   entered-once =
       let sum : refs g H.fields c ≡ refs f H.fields c + meets H.fields c t (cluster_size H.fields) = entered-sum c in
@@ -85,7 +83,6 @@ module _ (f g : Bytes) (H : Header) (was : IsConsistent f H) (i : ℕ) (lt : i <
       let none : meets H.fields d t (cluster_size H.fields) ≡ 0 = entered-meets d ∙ meets-other H.fields d c (λ e. apart (sym e)) in
       omega arith
 
-  -- and so the image stays consistent
   entered-consistent : IsConsistent g H
   entered-consistent =
       (table-swapped f g H was i lt out w written sane c t names there begins not_referenced (λ j less. ap is_damaged (new-unmapped j less)) covered alone).consistent
@@ -113,7 +110,7 @@ module _ (f g : Bytes) (H : Header) (was : IsConsistent f H) (i : ℕ) (lt : i <
             ]
       ]
 
-  -- each guest cluster has the same mapping
+  -- the mapping of each guest cluster is the same
   entered-guest : 0 < entries_of_cluster H.fields → (guest : ℕ) → guest_slot g H.fields guest ≡ guest_slot f H.fields guest
   entered-guest raw_entries guest = elim (cases_eq (guest / entries_of_cluster H.fields) i) [
     | inl e ↦
@@ -127,7 +124,7 @@ module _ (f g : Bytes) (H : Header) (was : IsConsistent f H) (i : ℕ) (lt : i <
     ]
   ]
 
-  -- The image stays consistent, with the new table, and shows the same.
+  -- The image stays consistent, and each guest cluster reads as before.
   pub table-entered : TableEntered f g H i c t
   table-entered =
       let raw_entries : 0 < entries_of_cluster H.fields = some-words H.fields (consistent-shaped f H was) in
@@ -150,7 +147,7 @@ module _ (f g : Bytes) (H : Header) (was : IsConsistent f H) (i : ℕ) (lt : i <
         mapped = entered-replaced.mapped;
       }
 
--- By the bytes of the word.
+-- The written bytes are those of the raw entry.
 pub table-entered-spliced : (f : Bytes) (H : Header) → IsConsistent f H → (i : ℕ) → i < H.fields.l1_entries → l2_table f H.fields i ≡ 0 → (w : ℕ) → w < 2 ^ 64 → IsTrue (l1_entry_valid H.fields.cluster_bits w)
     → (c t : ℕ) → table_offset w ≡ t → t ≢ 0 → t ≡ c * cluster_size H.fields → refs f H.fields c ≡ 0 → 1 ≤ count f H.fields c → ((j : ℕ) → j < entries_of_cluster H.fields → raw_entry f t j ≡ 0)
     → TableEntered f (splice f (H.fields.l1_offset + 8 * i) (to_be_bytes w64 w)) H i c t

@@ -1,4 +1,4 @@
--- A write into a table or a block leaves the bytes of each cluster that a word names.
+-- A write to a table or a block doesn't change the bytes of a cluster that an L2 entry references.
 use Rattle.std.proofs.Common.{◌≡◌, ℕ, ◌+◌, ◌*◌, ◌<◌, ◌≤◌, arith}
 use Rattle.std.specs.Prelude.{Bool}
 use Rattle.qcow2_types.specs.Bytes.{Bytes}
@@ -14,7 +14,7 @@ use Rattle.qcow2_types.proofs.Changes.DataWrites.{data-apart}
 
 module _ (f g x : Bytes) (h : Fields) (c at n : ℕ) (apart : ReferencedOnce f g h) (metadata : 0 < structure f h (meets h c)) (out : Outside f x at n)
     (low : c * cluster_size h ≤ at) (high : at + n ≤ (c + 1) * cluster_size h) (i j : ℕ) (live : Live (l2_table f h) h i j) where
-  -- no word names the cluster that was written
+  -- no L2 entry references the cluster that was written
   not_referenced : of_either h (meets h c) (slot f h i j) (slot g h i j) ≡ 0
   unfolding references_in_either
   not_referenced =

@@ -1,4 +1,4 @@
--- One modified table is written to a consistent file: what a stop then leaves.
+-- The crash images of a write of one dirty table to a consistent file.
 use Rattle.std.proofs.Common.{◌≡◌, ◌≢◌, ℕ, ◌+◌, ◌*◌, ◌/◌, ◌%◌, ◌^◌, ◌<◌, ◌≤◌, arith, sym, subst, List, length, Ok}
 use Rattle.std.specs.Prelude.{Bool, true, false, ◌&&◌, ◌==◌, nat_lt, IsTrue, IsFalse, slice_index}
 use Rattle.std.proofs.lemmas.Bool.{lt-ltb}
@@ -19,15 +19,14 @@ use Rattle.qcow2_types.proofs.Changes.Stops.{write-keeps, write-between, write-a
 use Rattle.qcow2_types.proofs.Fields.HeaderFrame.{header-same, header-fields, header-shaped}
 use Rattle.qcow2_types.proofs.Counting.Sound.{sound-words, stop-consistent}
 
--- a place that a cluster can begin at is the begin of its cluster
+-- a valid offset of a cluster is a multiple of the cluster size, and at most the largest
 pub place-whole : (bits offset : ℕ) → IsTrue (is_cluster_offset bits offset) → offset / 2 ^ bits * 2 ^ bits ≡ offset
 place-whole bits offset sound = let rest : offset % 2 ^ bits ≡ 0 = grind (arith, nat_tests) in omega (arith, div-add-mod offset (2 ^ bits))
 
--- and one that words can name
 pub place-near : (bits offset : ℕ) → IsTrue (is_cluster_offset bits offset) → offset ≤ max_offset
 place-near bits offset sound = grind (arith, nat_tests)
 
--- an L2 table begins with a cluster
+-- the offset of an L2 table is one of a cluster
 pub table-place : (f : Bytes) (h : Fields) (i : ℕ) → ValidEntries f h → i < h.l1_entries → IsTrue (is_cluster_offset h.cluster_bits (l2_table f h i))
 table-place f h i sound lt =
     let within : nat_lt i h.l1_entries ≡ true = lt-ltb _ _ lt in
@@ -39,7 +38,7 @@ table-place f h i sound lt =
     last true false c e = absurd cc
     last false b c e = absurd cc
 
--- What skips no table and no word of the L1 table or of the refcount table keeps every mapping.
+-- A change outside the L2 tables, the L1 table and the refcount table changes no mapping.
 pub keeps-slots : (f x : Bytes) (h : Fields) (skip : Skipped) → SameStructureOutside f x h skip → ((i : ℕ) → skip ≢ l1_word i) → ((i : ℕ) → skip ≢ block_word i) → ((i : ℕ) → skip ≢ table i) → KeepsSlots f x h
 keeps-slots f x h skip kept l1 blocks tables = record {
   places = record { l1 = λ i. l2_table-kept f x h skip kept i (l1 i); blocks = λ i. block_at-kept f x h skip kept i (blocks i) };
@@ -48,11 +47,9 @@ keeps-slots f x h skip kept l1 blocks tables = record {
 
 module _ (f g : Bytes) (H : Header) (i : ℕ) (bytes : List ℕ) (was : IsConsistent f H) (lt : i < H.fields.l1_entries) (there : l2_table f H.fields i ≢ 0)
     (all : length bytes ≡ cluster_size H.fields) (cached : (k : ℕ) → k < cluster_size H.fields → slice_index bytes k ≡ g (l2_table f H.fields i + k)) (places : SamePlaces f g H.fields) where
-  -- the fields stand in the file
   fields : H.fields ≡ fields_of f
   fields = header-fields true f H was.readable.loads
 
-  -- and keep the bounds on widths
   pub shaped : Shaped H.fields
   shaped = subst Shaped (sym fields) (header-shaped true f H was.readable.loads)
 
@@ -64,11 +61,11 @@ module _ (f g : Bytes) (H : Header) (i : ℕ) (bytes : List ℕ) (was : IsConsis
       place-whole H.fields.cluster_bits (l2_table f H.fields i) (table-place f H.fields i (sound-words f H.fields was.readable.tables) lt) in
       touches-once f H.fields (l2_table f H.fields i / cluster_size H.fields) (l2_table f H.fields i) (length bytes) (was.structure_apart _) (omega arith) (omega arith)
 
-  -- the rest of it is kept
+  -- the rest of the structure is the same
   pub kept : SameStructureOutside f (splice f (l2_table f H.fields i) bytes) H.fields (table i)
   kept = write-keeps f g H.fields i bytes shaped lt there all cached once places
 
-  -- the header loads as it did
+  -- the header still loads
   pub loads-still : header_of true (splice f (l2_table f H.fields i) bytes) ≡ Ok H
   loads-still =
       let size : 2 ^ 9 ≤ 2 ^ H.fields.cluster_bits = pow-le-pow_right (omega arith) shaped.low in

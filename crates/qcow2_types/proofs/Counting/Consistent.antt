@@ -1,4 +1,4 @@
--- What a consistent image keeps of each cluster, and what makes an image consistent.
+-- The properties of each cluster of a consistent image, and the conditions under which an image is consistent.
 use Rattle.std.proofs.Common.{◌≡◌, ◌≢◌, ℕ, ◌+◌, ◌*◌, ◌^◌, ◌<◌, ◌≤◌, refl, arith, subst, inl, inr, Ok}
 use Rattle.std.specs.Prelude.{Bool, true, false, not, ◌&&◌, ◌==◌, nat_lt, IsFalse, None}
 use Rattle.std.proofs.lemmas.Bool.{cases_eq, cases_lt, le-ltb}
@@ -31,7 +31,7 @@ header-reading f H loads =
     let done : Ok texts.0 ≡ Ok H = and-then-ok (first_fault (rules_of_writing true (fields_of f))) (Ok texts.0) H texts.2 in
     rw (kind', shape', sizes', texts.1) done
 
--- a header depends on the first cluster alone
+-- a header depends only on the first cluster
 pub header-kept : (writing : Bool) (f g : Bytes) (H : Header) → header_of writing f ≡ Ok H → Same f g 0 (cluster_size H.fields) → header_of writing g ≡ Ok H
 header-kept writing f g H loads same =
     let shaped : Shaped H.fields = fields-shaped writing f H loads in
@@ -39,17 +39,16 @@ header-kept writing f g H loads same =
     let size : 2 ^ 9 ≤ 2 ^ H.fields.cluster_bits = pow-le-pow_right (omega arith) shaped.low in
     header-same writing f g H loads (subst (λ h. Same f g 0 (cluster_size h)) fields same) (subst (λ h. 104 ≤ cluster_size h) fields (omega arith))
 
--- a table of one cluster has words
+-- a table of one cluster has at least one entry
 pub some-words : (h : Fields) → Shaped h → 0 < entries_of_cluster h
 some-words h shaped =
     let size : 2 ^ 9 ≤ 2 ^ h.cluster_bits = pow-le-pow_right (omega arith) shaped.low in
     le-div 1 (cluster_size h) 8 (omega arith) (omega arith)
 
--- A cluster that is begun at its place is met by itself, and by no other.
+-- The range of a cluster has bytes in this cluster, and in no other.
 pub meets-own : (h : Fields) (c : ℕ) → meets h c (c * cluster_size h) (cluster_size h) ≡ 1
 meets-own h c = let pos : 0 < cluster_size h = pow_pos h.cluster_bits in grind (arith, nat_tests)
 
--- and by no other cluster
 pub meets-other : (h : Fields) (c d : ℕ) → d ≢ c → meets h c (d * cluster_size h) (cluster_size h) ≡ 0
 meets-other h c d apart = elim (cases_lt d c) [
   | inl lt ↦
@@ -64,39 +63,38 @@ meets-other h c d apart = elim (cases_lt d c) [
 ]
 
 module _ (f : Bytes) (H : Header) (was : IsConsistent f H) where
-  -- the header keeps the bounds on widths
   pub consistent-shaped : Shaped H.fields
   consistent-shaped = fields-shaped true f H was.readable.loads
 
-  -- a cluster of the structure is named once
+  -- a cluster of the structure is referenced once
   pub structure-named-once : (c : ℕ) → 0 < structure f H.fields (meets H.fields c) → refs f H.fields c ≡ 1
   unfolding shares_structure
   structure-named-once c some =
       let apart : (nat_lt 0 (structure f H.fields (meets H.fields c)) && not (refs f H.fields c == 1)) ≡ false = was.structure_apart c in
       grind (arith, nat_tests)
 
-  -- and so no mapping names it
+  -- and no mapping references it
   pub structure-unmapped : (c : ℕ) → 0 < structure f H.fields (meets H.fields c) → contents f H.fields (of_mapping H.fields (meets H.fields c)) ≡ 0
   unfolding refs
   structure-unmapped c some =
       let once : structure f H.fields (meets H.fields c) + contents f H.fields (of_mapping H.fields (meets H.fields c)) ≡ 1 = structure-named-once c some in
       omega arith
 
-  -- a cluster that is named as copied is named once
+  -- a COPIED cluster is referenced once
   pub copied-named-once : (c : ℕ) → 0 < contents f H.fields (of_copied H.fields (meets H.fields c)) → refs f H.fields c ≡ 1
   unfolding is_false_copied
   copied-named-once c some =
       let apart : (nat_lt 0 (contents f H.fields (of_copied H.fields (meets H.fields c))) && not (refs f H.fields c == 1)) ≡ false = was.copied_apart c in
       grind (arith, nat_tests)
 
-  -- a cluster is counted at least as often as it is named
+  -- each refcount covers the references
   pub named-counted : (c : ℕ) → refs f H.fields c ≤ count f H.fields c
   unfolding is_under_counted
   named-counted c =
       let test : nat_lt (count f H.fields c) (refs f H.fields c) ≡ false = was.counted c in
       grind (arith, nat_tests)
 
--- An image is consistent where this holds of each cluster.
+-- An image is consistent if these conditions are true of each cluster.
 pub consistent-from : (g : Bytes) (H : Header) → header_of true g ≡ Ok H → H.fields.snapshots ≡ 0 → IsFalse (has_external_data H.fields) → ValidEntries g H.fields
     → ((c : ℕ) → 0 < structure g H.fields (meets H.fields c) → refs g H.fields c ≤ 1)
     → ((c : ℕ) → 0 < contents g H.fields (of_copied H.fields (meets H.fields c)) → refs g H.fields c ≤ 1)

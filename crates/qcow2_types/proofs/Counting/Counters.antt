@@ -1,4 +1,4 @@
--- Counters of a block that keeps its bytes.
+-- The refcounts of a block don't change if the block's bytes don't.
 use Rattle.std.proofs.Common.{◌≡◌, ◌≢◌, ℕ, zero, suc, ◌+◌, ◌*◌, ◌/◌, ◌%◌, ◌^◌, ◌<◌, ◌≤◌, refl, arith, ap, inl, inr}
 use Rattle.std.specs.Prelude.{Bool, true, false, cond, nat_le}
 use Rattle.std.proofs.lemmas.Bool.{cases_eq}
@@ -11,14 +11,14 @@ use Rattle.qcow2_types.specs.Counts.{block_at, count, counter, counter_of, count
 use Rattle.qcow2_types.proofs.Numbers.Splices.{be-same}
 use Rattle.qcow2_types.specs.Frames.{Same}
 
--- a width of at least 8 bits is of whole bytes
+-- a width of 8 bits or more is a multiple of 8
 pub whole : (o : ℕ) → 8 ≤ 2 ^ o → 2 ^ o / 8 * 8 ≡ 2 ^ o
 whole zero le = absurd (omega arith)
 whole (suc zero) le = absurd (omega arith)
 whole (suc (suc zero)) le = absurd (omega arith)
 whole (suc (suc (suc k))) le = let e : 2 ^ suc (suc (suc k)) ≡ 2 ^ k * 2 * 2 * 2 = rw (pow-suc, pow-suc, pow-suc) refl in omega arith
 
--- a block has counters
+-- a block has at least one refcount
 pub some-counters : (h : Fields) → Shaped h → 0 < counters_of_block h
 some-counters h shaped =
     let pos : 0 < 2 ^ h.refcount_order = pow_pos h.refcount_order in
@@ -27,14 +27,13 @@ some-counters h shaped =
     le-div 1 (cluster_size h * 8) (2 ^ h.refcount_order) pos (omega arith)
 
 module _ (f g : Bytes) (h : Fields) (block : ℕ) (same : Same f g block (cluster_size h)) (i : ℕ) (lt : i < counters_of_block h) where
-  -- the counter lies in its block
+  -- the refcount is inside its block
   room : i * counter_bits h + counter_bits h ≤ cluster_size h * 8
   room =
       let a : suc i * counter_bits h ≤ counters_of_block h * counter_bits h = mul-le-mul_right (counter_bits h) lt in
       let b : counters_of_block h * counter_bits h ≤ cluster_size h * 8 = div-mul-le_self (cluster_size h * 8) (counter_bits h) in
       omega arith
 
-  -- a counter of whole bytes is kept
   wide-same : 8 ≤ counter_bits h → wide_counter g (counter_bits h) block i ≡ wide_counter f (counter_bits h) block i
   wide-same le =
       let w : 2 ^ h.refcount_order / 8 * 8 ≡ 2 ^ h.refcount_order = whole h.refcount_order le in
@@ -42,23 +41,20 @@ module _ (f g : Bytes) (h : Fields) (block : ℕ) (same : Same f g block (cluste
       let all : i * (d * 8) + d * 8 ≤ cluster_size h * 8 = rw w room in
       be-same g f (block + i * d) (block + i * d) d (λ k less. let place : block + (i * d + k) ≡ block + i * d + k = omega arith in rw place at (same (i * d + k) (omega arith)))
 
-  -- and one of fewer bits
   narrow-same : narrow_counter g (counter_bits h) block i ≡ narrow_counter f (counter_bits h) block i
   narrow-same =
       let pos : 0 < 2 ^ h.refcount_order = pow_pos h.refcount_order in
       ap (λ b. b / 2 ^ (i * counter_bits h % 8) % 2 ^ counter_bits h) (same (i * counter_bits h / 8) (omega (arith, room)))
 
-  -- and so each
   either-same : (b : Bool) → nat_le 8 (counter_bits h) ≡ b → cond b (wide_counter g (counter_bits h) block i) (narrow_counter g (counter_bits h) block i) ≡ cond b (wide_counter f (counter_bits h) block i) (narrow_counter f (counter_bits h) block i)
   either-same true e = wide-same (grind (arith, nat_tests))
   either-same false e = narrow-same
 
-  -- A counter is kept where its block's bytes are.
   pub counter-same : counter g h block i ≡ counter f h block i
   unfolding counter
   counter-same = either-same (nat_le 8 (counter_bits h)) refl
 
--- a cluster's counter, where its block's word and its block's bytes are the same
+-- a cluster's refcount is the same if its block's offset and bytes are
 pub count-same : (f g : Bytes) (h : Fields) (c : ℕ) → Shaped h → block_at g h (c / counters_of_block h) ≡ block_at f h (c / counters_of_block h)
     → (block_at f h (c / counters_of_block h) ≢ 0 → Same f g (block_at f h (c / counters_of_block h)) (cluster_size h)) → count g h c ≡ count f h c
 unfolding count
@@ -71,7 +67,7 @@ count-same f g h c shaped at same =
       | inr there ↦ let here : counter g h block (c % k) ≡ counter f h block (c % k) = counter-same f g h block (same there) (c % k) below in rw (at, here) refl
     ]
 
--- A counter stands where its bytes do: the same n bytes at another place, or in another file, have the same counters.
+-- A refcount depends only on the block's bytes, not on their file and offset.
 pub counter-moved : (f g : Bytes) (order a b n i : ℕ) → i * 2 ^ order + 2 ^ order ≤ n * 8 → ((k : ℕ) → k < n → g (b + k) ≡ f (a + k)) → counter_of g (2 ^ order) b i ≡ counter_of f (2 ^ order) a i
 counter-moved f g order a b n i room same = either (nat_le 8 (2 ^ order)) refl
   where

@@ -1,4 +1,4 @@
--- An image has one verdict at most.
+-- An image has at most one verdict.
 use Rattle.std.proofs.Common.{◌≡◌, ℕ, ◌<◌, refl, sym, ap, subst, ◌∙◌, Result, Ok, Err, inl, inr, arith}
 use Rattle.std.specs.Prelude.{◌⊎◌, Bool, true, IsTrue, IsFalse, IsErr, List}
 use Rattle.std.proofs.lemmas.Bool.{cases_order}
@@ -8,15 +8,13 @@ use Rattle.qcow2_types.specs.Consistency.Finding.{header, snapshots, external, t
 use Rattle.qcow2_types.specs.Consistency.{Finding, IsLeast, IsConsistent, IsFirstFinding, IsVerdict, leaks}
 use Rattle.imago_storage.specs.declared.fault.Fault.{Fault}
 
--- a test doesn't both pass and fail
 both : {b : Bool} → IsTrue b → IsFalse b → ⊥
 both pass fail = absurd cc
 
--- a number isn't both more than 0 and 0
 some-none : {n : ℕ} → 0 < n → n ≡ 0 → ⊥
 some-none some none = omega arith
 
--- a test passes first at one cluster
+-- a test is first true at only one cluster
 least-unique : (test : ℕ → Bool) (c d : ℕ) → IsLeast test c → IsLeast test d → c ≡ d
 least-unique test c d p q = elim (cases_order c d) [
   | inl same ↦ same
@@ -24,7 +22,7 @@ least-unique test c d p q = elim (cases_order c d) [
   | inr (inr lt) ↦ absurd (both q.0 (p.1 d lt))
 ]
 
--- an image has one first finding
+-- an image has only one first finding
 pub first-unique : (f : Bytes) (h : Fields) (a b : Finding) → IsFirstFinding f h a → IsFirstFinding f h b → a ≡ b
 first-unique f h header header p q = absurd p
 first-unique f h header snapshots p q = absurd p
@@ -76,7 +74,6 @@ first-unique f h (under_counted c) (shared_table d) p q = absurd (both q.3.0 (p.
 first-unique f h (under_counted c) (false_copied d) p q = absurd (both q.4.0 (p.4 d))
 first-unique f h (under_counted c) (under_counted d) p q = ap under_counted (least-unique _ c d p.5 q.5)
 
--- a consistent image has none
 pub consistent-unfound : (f : Bytes) (H : Header) (a : Finding) → IsConsistent f H → IsFirstFinding f H.fields a → ⊥
 consistent-unfound f H header is p = p
 consistent-unfound f H snapshots is p = some-none p is.readable.no_snapshots
@@ -86,7 +83,7 @@ consistent-unfound f H (shared_table c) is p = both p.3.0 (is.structure_apart c)
 consistent-unfound f H (false_copied c) is p = both p.4.0 (is.copied_apart c)
 consistent-unfound f H (under_counted c) is p = both p.5.0 (is.counted c)
 
--- A finding is that the header doesn't load, or the first one of an image whose header does.
+-- A finding is either that the header doesn't load, or the first finding of an image whose header loads.
 verdict-first : (f : Bytes) (a : Finding) → IsVerdict f (Err a) → (IsErr (header_of true f) × (a ≡ header)) ⊎ ((H : Header) × (header_of true f ≡ Ok H) × IsFirstFinding f H.fields a)
 verdict-first f header p = inl (p, refl)
 verdict-first f snapshots p = inr p
@@ -100,14 +97,13 @@ verdict-first f (under_counted c) p = inr p
 loads-or-not : (f : Bytes) (H : Header) → header_of true f ≡ Ok H → IsErr (header_of true f) → ⊥
 loads-or-not f H loads fails = let bad : IsErr {T = Header} {E = Fault} (Ok H) = subst IsErr loads fails in absurd cc
 
--- and then it is one header
 one-header : (f : Bytes) (H K : Header) → header_of true f ≡ Ok H → header_of true f ≡ Ok K → H ≡ K
 one-header f H K p q = ok-same (sym p ∙ q)
   where
     ok-same : {x y : Header} → ◌≡◌ {A = Result Header Fault} (Ok x) (Ok y) → x ≡ y
     ok-same e = cc
 
--- no image is consistent and has a finding
+-- no consistent image has a finding
 sound-unfound : (f : Bytes) (H : Header) (a : Finding) → IsConsistent f H → IsVerdict f (Err a) → ⊥
 sound-unfound f H a is p = elim (verdict-first f a p) [
   | inl fails ↦ loads-or-not f H is.readable.loads fails.0

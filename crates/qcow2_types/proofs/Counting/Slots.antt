@@ -1,4 +1,4 @@
--- Sums over the words of all L2 tables.
+-- Sums over the entries of all L2 tables.
 use Rattle.std.proofs.Common.{◌≡◌, ◌≢◌, ℕ, ◌+◌, ◌≤◌, refl, arith, ap, inl, inr}
 use Rattle.std.specs.Prelude.{◌⊎◌}
 use Rattle.std.proofs.lemmas.Bool.{cases_eq}
@@ -11,17 +11,16 @@ use Rattle.qcow2_types.specs.References.{contents, of_table}
 use Rattle.qcow2_types.proofs.Numbers.Sums.{sum-same, sum-mono, sum-change, term-le-sum}
 use Rattle.qcow2_types.specs.Slots.{slot, or_none, over_slots, Live}
 
--- what is summed over the mappings, by table and word
+-- a sum over the mappings, as a sum over tables and entries
 pub contents-slots : (f : Bytes) (h : Fields) (of : Mapping → ℕ) → contents f h of ≡ over_slots (l2_table f h) h (λ i j. of (slot f h i j))
 unfolding over_slots contents of_table
 contents-slots f h of = refl
 
--- a table that there is
 pub or_none-there : (t x : ℕ) → t ≢ 0 → or_none t x ≡ x
 or_none-there t x there = grind (arith, nat_tests)
 
 module _ (table : ℕ → ℕ) (h : Fields) (p q : ℕ → ℕ → ℕ) where
-  -- greater terms give a greater sum
+  -- sums are monotonic in the terms
   pub slots-mono : ((i j : ℕ) → Live table h i j → p i j ≤ q i j) → over_slots table h p ≤ over_slots table h q
   unfolding over_slots
   slots-mono le = sum-mono _ _ _ (λ i lt. elim (cases_eq (table i) 0) [
@@ -39,7 +38,7 @@ module _ (table : ℕ → ℕ) (h : Fields) (p q : ℕ → ℕ → ℕ) where
     | inr there ↦ ap (or_none (table i)) (sum-same _ _ _ (λ j less. same i j record { in_l1 = lt; is_there = there; in_table = less }))
   ])
 
-  -- where one word alone is another
+  -- if only one term differs, the sums differ by it
   pub slots-change : (i j : ℕ) → Live table h i j → ((k m : ℕ) → Live table h k m → (k ≢ i) ⊎ (m ≢ j) → p k m ≡ q k m) → over_slots table h p + q i j ≡ over_slots table h q + p i j
   unfolding over_slots
   slots-change i j live same =
@@ -56,7 +55,7 @@ module _ (table : ℕ → ℕ) (h : Fields) (p q : ℕ → ℕ → ℕ) where
       ]) in
       omega arith
 
--- one word is no more than all
+-- one term is at most the sum
 pub slot-le : (table : ℕ → ℕ) (h : Fields) (p : ℕ → ℕ → ℕ) (i j : ℕ) → Live table h i j → p i j ≤ over_slots table h p
 unfolding over_slots
 slot-le table h p i j live =

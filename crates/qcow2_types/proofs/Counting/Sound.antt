@@ -1,4 +1,4 @@
--- A file between two sound ones is sound, and consistent where its counts cover it.
+-- A file between two versions with valid entries has valid entries. It is consistent if its refcounts cover the references.
 use Rattle.std.proofs.Common.{◌≡◌, ◌≢◌, ℕ, zero, suc, ◌<◌, ◌≤◌, refl, arith, ap, sym, ◌∙◌, inl, inr, Ok}
 use Rattle.std.specs.Prelude.{Bool, true, false, ◌&&◌, ◌||◌, not, ◌==◌, IsTrue, IsFalse}
 use Rattle.std.proofs.lemmas.Bool.{cases_eq}
@@ -15,7 +15,7 @@ use Rattle.qcow2_types.specs.Slots.{Live, slot, ValidEntries}
 use Rattle.qcow2_types.specs.Versions.{IsBetween, ReferencedOnce}
 use Rattle.qcow2_types.proofs.Changes.Stops.{stop-structure, stop-copied, stop-counted}
 
--- a test that passes everywhere below n
+-- a test that is true of each number below n
 pub all-below-holds : (n : ℕ) (p : ℕ → Bool) → ((k : ℕ) → k < n → p k ≡ true) → all_below n p ≡ true
 unfolding all_below
 all-below-holds zero p holds = refl
@@ -24,14 +24,13 @@ all-below-holds (suc n) p holds =
     let below : all_below n p ≡ true = all-below-holds n p (λ k lt. holds k (omega arith)) in
     rw (here, below) refl
 
--- three tests that pass together
 both : (a b c : Bool) → (a && b && c) ≡ true → (a ≡ true) × (b ≡ true) × (c ≡ true)
 both true true true e = (refl, refl, refl)
 both true true false e = absurd cc
 both true false c e = absurd cc
 both false b c e = absurd cc
 
--- Tables that are sound have sound words,
+-- The tables are valid if and only if each entry is.
 pub sound-words : (f : Bytes) (h : Fields) → IsTrue (tables_sound f h) → ValidEntries f h
 unfolding tables_sound l1_table_sound refcount_table_sound l2_table_sound
 sound-words f h sound =
@@ -56,7 +55,6 @@ sound-words f h sound =
     not-damaged true e = sym e
     not-damaged false e = refl
 
--- and sound words make sound tables.
 pub words-sound : (f : Bytes) (h : Fields) → ValidEntries f h → IsTrue (tables_sound f h)
 unfolding tables_sound l1_table_sound refcount_table_sound l2_table_sound
 words-sound f h sound =
@@ -73,13 +71,13 @@ words-sound f h sound =
     also true b e = refl
     also false b e = e
 
--- x has the words of f in the L1 table and in the refcount table.
+-- x has the raw entries of f in the L1 table and in the refcount table.
 pub record SameWords (f x : Bytes) (h : Fields) : Type 0 where
   pub l1 : (i : ℕ) → i < h.l1_entries → raw_entry x h.l1_offset i ≡ raw_entry f h.l1_offset i
   pub blocks : (i : ℕ) → i < refcount_table_entries h → raw_entry x h.refcount_table_offset i ≡ raw_entry f h.refcount_table_offset i
 
 module _ (f x g : Bytes) (h : Fields) (raw_entries : SameWords f x h) (between : IsBetween f x g h) where
-  -- A file between two sound ones is sound.
+  -- A file between two versions with valid entries has valid entries.
   pub sound-between : ValidEntries f h → ((i j : ℕ) → Live (l2_table f h) h i j → IsFalse (is_damaged (slot g h i j))) → ValidEntries x h
   sound-between sound cached = record {
     l1 = λ i lt. ap (l1_entry_valid h.cluster_bits) (raw_entries.l1 i lt) ∙ sound.l1 i lt;
@@ -92,7 +90,7 @@ module _ (f x g : Bytes) (h : Fields) (raw_entries : SameWords f x h) (between :
         ];
   }
 
--- So a file that a stop leaves between two tables is consistent.
+-- A crash image between two versions of the tables is consistent.
 pub stop-consistent : (f x g : Bytes) (H : Header) → IsConsistent f H → header_of true x ≡ Ok H → SameWords f x H.fields → IsBetween f x g H.fields
     → ((i j : ℕ) → Live (l2_table f H.fields) H.fields i j → IsFalse (is_damaged (slot g H.fields i j))) → ReferencedOnce f g H.fields → ((c : ℕ) → refs x H.fields c ≤ count x H.fields c) → IsConsistent x H
 stop-consistent f x g H was loads raw_entries between cached apart counted = record {

@@ -1,5 +1,4 @@
--- The fields of the header's parts, as numbers of a file that has their bytes: those of V2Header from byte 0 on, and those of
--- V3HeaderBase from byte 72 on.
+-- The fields of `V2Header` and `V3HeaderBase` as numbers in a file that has their bytes at offsets 0 and 72.
 use Rattle.std.proofs.Common.{◌≡◌, ℕ, ◌+◌, ◌<◌, ◌≤◌, ◌^◌, refl, arith, ap, sym, ◌∙◌, List, length, take, drop, get_or}
 use Rattle.std.specs.Prelude.{slice_index}
 use Rattle.std.specs.Int.{w32, w64, to_be_bytes, from_be_bytes}
@@ -11,20 +10,18 @@ use Rattle.qcow2_types.specs.declared.on_disk.V2Header.{V2Header}
 use Rattle.qcow2_types.specs.declared.on_disk.V3HeaderBase.{V3HeaderBase}
 use Rattle.qcow2_types.proofs.Numbers.Splices.{be-same, be-of-bytes}
 
--- the number that 4 bytes spell
 pub be-of-bytes_4 : (bytes : List ℕ) → be (bytes_of bytes) 0 4 ≡ from_be_bytes w32 bytes
 unfolding be
 be-of-bytes_4 bytes = omega arith
 
--- a list of bytes has them from place 0 on
+-- a list of bytes holds itself at offset 0
 pub holds-itself : (bytes : List ℕ) → Holds (bytes_of bytes) 0 bytes
 holds-itself bytes k inside = let same : 0 + k ≡ k = omega arith in rw same refl
 
--- likewise with another name for them, as a value's
 pub holds-same : (bytes same : List ℕ) → same ≡ bytes → Holds (bytes_of bytes) 0 same
 holds-same bytes same e = rw e (holds-itself bytes)
 
--- a number of n bytes, where a file has a list of bytes with a part that spells it
+-- the number in a part of the bytes that a file holds
 pub part-number : (f : Bytes) (at : ℕ) (bytes part : List ℕ) (i n : ℕ) → Holds f at bytes → i + n ≤ length bytes → take n (drop i bytes) ≡ part
     → be f (at + i) n ≡ be (bytes_of part) 0 n
 part-number f at bytes part i n held inside is = be-same f (bytes_of part) (at + i) 0 n (λ k lt.
@@ -34,19 +31,17 @@ part-number f at bytes part i n held inside is = be-same f (bytes_of part) (at +
     let there : get_or (take n (drop i bytes)) k 0 ≡ get_or bytes (i + k) 0 = get_or-take n (drop i bytes) k 0 lt ∙ get_or-drop i bytes k 0 in
     rw (place, first) (here ∙ sym there ∙ ap (λ l. get_or l k 0) is))
 
--- the same, for a number that was written as 4 or as 8 bytes
+-- the number in 4 bytes, or in 8 bytes
 pub number-there_4 : (f : Bytes) (at : ℕ) (bytes : List ℕ) (i v : ℕ) → Holds f at bytes → i + 4 ≤ length bytes → take 4 (drop i bytes) ≡ to_be_bytes w32 v
     → v < 2 ^ 32 → be f (at + i) 4 ≡ v
 number-there_4 f at bytes i v held inside is fits =
     part-number f at bytes (to_be_bytes w32 v) i 4 held inside is ∙ be-of-bytes_4 (to_be_bytes w32 v) ∙ from_be_bytes-to_be_bytes_4 v fits
 
--- one of 8 bytes
 pub number-there_8 : (f : Bytes) (at : ℕ) (bytes : List ℕ) (i v : ℕ) → Holds f at bytes → i + 8 ≤ length bytes → take 8 (drop i bytes) ≡ to_be_bytes w64 v
     → v < 2 ^ 64 → be f (at + i) 8 ≡ v
 number-there_8 f at bytes i v held inside is fits =
     part-number f at bytes (to_be_bytes w64 v) i 8 held inside is ∙ be-of-bytes (to_be_bytes w64 v) ∙ from_be_bytes-to_be_bytes_8 v fits
 
--- the sizes of the parts
 pub length-v2_bytes : (h : V2Header) → length (v2_bytes h) ≡ 72
 unfolding v2_bytes
 length-v2_bytes h = refl

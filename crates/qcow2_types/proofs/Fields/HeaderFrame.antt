@@ -1,4 +1,4 @@
--- A header depends on the first cluster alone.
+-- A header depends only on the bytes of the first cluster.
 use Rattle.std.proofs.Common.{◌≡◌, ℕ, zero, suc, ◌+◌, ◌/◌, ◌<◌, ◌≤◌, refl, arith, ap, sym, ◌∙◌, List, [], ◌∷◌, inl, inr, Some, None, Ok, Err}
 use Rattle.std.specs.Str.{is_utf8}
 use Rattle.std.specs.Prelude.{drop, Bool, true, false, cond, ◌&&◌, ◌||◌, nat_lt, nat_le, if◌then◌else◌, Option, Result}
@@ -12,7 +12,6 @@ use Rattle.imago_storage.specs.declared.fault.Fault.TheVariants.{DamagedHeader}
 use Rattle.qcow2_types.proofs.Numbers.Splices.{be-same}
 use Rattle.qcow2_types.specs.Frames.{Same}
 
--- a run of the same bytes is the same
 run-same : (f g : Bytes) (i n : ℕ) → Same f g i n → run g i n ≡ run f i n
 unfolding run
 run-same f g i zero same = refl
@@ -23,19 +22,15 @@ run-same f g i (suc n) same =
     rw (here, rest) refl
 
 module _ (f g : Bytes) (size : ℕ) (same : Same f g 0 size) where
-  -- a byte of the first cluster
   at-same : (p : ℕ) → p < size → g p ≡ f p
   at-same p lt = let z : 0 + p ≡ p = omega arith in rw z at (same p lt)
 
-  -- a number in the first cluster
   pub start-be : (i n : ℕ) → i + n ≤ size → be g i n ≡ be f i n
   start-be i n le = be-same g f i i n (λ k lt. at-same (i + k) (omega arith))
 
-  -- a run in the first cluster
   start-run : (i n : ℕ) → i + n ≤ size → run g i n ≡ run f i n
   start-run i n le = run-same f g i n (λ k lt. at-same (i + k) (omega arith))
 
-  -- the fields of the header
   pub fields-same : 104 ≤ size → fields_of g ≡ fields_of f
   unfolding fields_of
   fields-same le = rw (
@@ -58,11 +53,9 @@ module _ (f g : Bytes) (size : ℕ) (same : Same f g 0 size) where
     start-be 100 4 (omega arith),
   ) refl
 
-  -- the rules on the kind
   kind-same : 104 ≤ size → first_fault (rules_of_kind g) ≡ first_fault (rules_of_kind f)
   kind-same le = rw (start-be 0 4 (omega arith), start-be 4 4 (omega arith)) refl
 
-  -- one extension
   extension-same : (end at : ℕ) → end ≤ size → extension_at g end at ≡ extension_at f end at
   unfolding extension_at
   extension-same end at le = elim (cases_lt end (at + 8)) [
@@ -76,7 +69,6 @@ module _ (f g : Bytes) (size : ℕ) (same : Same f g 0 size) where
         ]
   ]
 
-  -- all extensions
   extensions-same : (n end at : ℕ) → end ≤ size → extensions_at n g end at ≡ extensions_at n f end at
   unfolding extensions_at
   extensions-same zero end at le = refl
@@ -84,7 +76,6 @@ module _ (f g : Bytes) (size : ℕ) (same : Same f g 0 size) where
       ap (λ r. r >>= and_more (λ x. extensions_at n g end (after at x))) (extension-same end at le)
       ∙ ap (λ (more : Extension → Result (List Extension) Fault). extension_at f end at >>= and_more more) (fun_ext (λ x. extensions-same n end (after at x) le))
 
-  -- the backing file's name
   backing-same : (h : Fields) → cluster_size h ≤ size → backing_name_read g h ≡ backing_name_read f h
   backing-same h le = elim (cases_lt (cluster_size h) (h.backing_offset + h.backing_length)) [
     | inl lt ↦ let past : nat_lt (cluster_size h) (h.backing_offset + h.backing_length) ≡ true = lt-ltb _ _ lt in far past
@@ -103,26 +94,24 @@ module _ (f g : Bytes) (size : ℕ) (same : Same f g 0 size) where
           split true true c p x y = refl
           split true false c p x y = rw p refl
 
-  -- the extensions as they are read
   extensions_read-same : (h : Fields) → extensions_end h ≤ size → extensions_read g h ≡ extensions_read f h
   extensions_read-same h le = ap (λ (found : Result (List Extension) Fault). elim (is_version_3 h) [ true ↦ found | false ↦ Ok [] ]) (extensions-same (cluster_size h / 8) (extensions_end h) h.header_length le)
 
--- What a header that loads has passed.
+-- If an `and-then` chain succeeds, so does its rest, and no rule was broken.
 pub and-then-ok : {A : Type 0} (o : Option Fault) (r : Result A Fault) (x : A) → (o and-then r) ≡ Ok x → r ≡ Ok x
 and-then-ok None r x e = e
 and-then-ok (Some e') r x e = cc
 
--- the rules were not broken
 pub and-then-none : {A : Type 0} (o : Option Fault) (r : Result A Fault) (x : A) → (o and-then r) ≡ Ok x → o ≡ None
 and-then-none None r x e = refl
 and-then-none (Some e') r x e = cc
 
--- what was read before
+-- if a `>>=` succeeds, so does its first part
 pub bind-ok : {A B : Type 0} (r : Result A Fault) (k : A → Result B Fault) (y : B) → (r >>= k) ≡ Ok y → (x : A) × (r ≡ Ok x) × (k x ≡ Ok y)
 bind-ok (Ok x) k y e = (x, refl, e)
 bind-ok (Err e') k y e = absurd cc
 
--- where the backing name is read, the extensions end within the cluster
+-- if the backing name is read, the extensions end inside the first cluster
 pub end-inside : (f : Bytes) (h : Fields) (name : Option (List ℕ)) → backing_name_read f h ≡ Ok name → extensions_end h ≤ cluster_size h
 end-inside f h name read = elim (cases_lt (cluster_size h) (h.backing_offset + h.backing_length)) [
   | inl lt ↦ none (has_backing_name h) (nat_lt 1023 h.backing_length) _ _ (lt-ltb _ _ lt) read
@@ -141,7 +130,7 @@ end-inside f h name read = elim (cases_lt (cluster_size h) (h.backing_offset + h
     some true le = le
     some false le = omega arith
 
--- the parts of varying length, where the first cluster is the same
+-- the texts of a header that loads depend only on the first cluster
 pub texts-same : (f g : Bytes) (h : Fields) (H : Header) → Same f g 0 (cluster_size h) → texts_of f h ≡ Ok H → texts_of g h ≡ texts_of f h
 unfolding texts_of
 texts-same f g h H same loads =
@@ -149,7 +138,7 @@ texts-same f g h H same loads =
     let end : extensions_end h ≤ cluster_size h = end-inside f h name.0 name.1 in
     rw (backing-same f g (cluster_size h) same h (omega arith), extensions_read-same f g (cluster_size h) same h end) refl
 
--- They are the same, read or refused, where the first cluster is the same.
+-- Even if the header doesn't load, the texts depend only on the first cluster.
 pub texts-alike : (f g : Bytes) (h : Fields) → Same f g 0 (cluster_size h) → texts_of g h ≡ texts_of f h
 unfolding texts_of
 texts-alike f g h same = split (backing_name_read f h) refl
@@ -158,7 +147,7 @@ texts-alike f g h same = split (backing_name_read f h) refl
     split (Ok name) read = rw (backing-same f g (cluster_size h) same h (omega arith), extensions_read-same f g (cluster_size h) same h (end-inside f h name read)) refl
     split (Err e) read = rw (backing-same f g (cluster_size h) same h (omega arith), read) refl
 
--- The header of a file that keeps the first cluster's bytes.
+-- The header of a file depends only on the first cluster.
 pub header-same : (writing : Bool) (f g : Bytes) (H : Header) → header_of writing f ≡ Ok H → Same f g 0 (cluster_size (fields_of f)) → 104 ≤ cluster_size (fields_of f) → header_of writing g ≡ Ok H
 unfolding header_of
 header-same writing f g H loads same low =
@@ -181,7 +170,7 @@ header-same writing f g H loads same low =
         ∙ (ap (λ h. first_fault (rules_of_kind f) and-then after-kind g h (texts_of g h)) fields
         ∙ ap (λ t. first_fault (rules_of_kind f) and-then after-kind f (fields_of f) t) read)
 
--- The fields of a header that loads are those that stand in the file.
+-- A header that loads has the fields that are in the file.
 pub header-fields : (writing : Bool) (f : Bytes) (H : Header) → header_of writing f ≡ Ok H → H.fields ≡ fields_of f
 unfolding header_of texts_of
 header-fields writing f H loads =
@@ -207,7 +196,7 @@ two-passed true b e e' rest none = absurd cc
 two-passed false true e e' rest none = absurd cc
 two-passed false false e e' rest none = (refl, refl)
 
--- A header that loads keeps the bounds on widths.
+-- The refcount width and the cluster size of a header that loads are in their bounds.
 pub header-shaped : (writing : Bool) (f : Bytes) (H : Header) → header_of writing f ≡ Ok H → Shaped (fields_of f)
 unfolding header_of
 header-shaped writing f H loads =

@@ -1,4 +1,4 @@
--- What holds of each header that loads.
+-- The limits that every header that loads keeps.
 use Rattle.std.proofs.Common.{◌≡◌, ℕ, ◌-◌, ◌/◌, ◌%◌, ◌^◌, ◌<◌, ◌≤◌, refl, arith, sym, subst, Ok, List, [], ◌∷◌}
 use Rattle.std.specs.Prelude.{Bool, true, false, not, ◌==◌, ◌||◌, None, nat_lt, drop}
 use Rattle.std.proofs.lemmas.Bool.{le-ltb}
@@ -13,11 +13,9 @@ use Rattle.qcow2_types.specs.Header.{Fields, Header, Shaped, Limited, Rule, head
 use Rattle.qcow2_types.specs.Counts.{counter_bits}
 use Rattle.qcow2_types.proofs.Fields.HeaderFrame.{header-fields, header-shaped, and-then-ok, and-then-none, two-passed}
 
--- its fields stand in the file, and keep the bounds on widths
 pub fields-shaped : (writing : Bool) (f : Bytes) (H : Header) → header_of writing f ≡ Ok H → Shaped H.fields
 fields-shaped writing f H loads = subst Shaped (sym (header-fields writing f H loads)) (header-shaped writing f H loads)
 
--- it begins with the magic number
 pub header-magic : (writing : Bool) (f : Bytes) (H : Header) → header_of writing f ≡ Ok H → be f 0 4 ≡ 0x5146_49fb
 unfolding header_of
 header-magic writing f H loads =
@@ -26,41 +24,37 @@ header-magic writing f H loads =
     let here : not (be f 0 4 == 0x5146_49fb) ≡ false = tests.0 in
     grind (arith, nat_tests)
 
--- the least size of a cluster
 pub least-cluster : (writing : Bool) (f : Bytes) (H : Header) → header_of writing f ≡ Ok H → 512 ≤ cluster_size H.fields
 least-cluster writing f H loads =
     let shaped : Shaped H.fields = fields-shaped writing f H loads in
     let le : 2 ^ 9 ≤ 2 ^ H.fields.cluster_bits = pow-le-pow_right (omega arith) shaped.low in
     omega arith
 
--- and the greatest
 pub greatest-cluster : (writing : Bool) (f : Bytes) (H : Header) → header_of writing f ≡ Ok H → cluster_size H.fields ≤ 2_097_152
 greatest-cluster writing f H loads =
     let shaped : Shaped H.fields = fields-shaped writing f H loads in
     let le : 2 ^ H.fields.cluster_bits ≤ 2 ^ 21 = pow-le-pow_right (omega arith) shaped.high in
     omega arith
 
--- the least width of a counter
 pub least-width : (writing : Bool) (f : Bytes) (H : Header) → header_of writing f ≡ Ok H → 1 ≤ counter_bits H.fields
 least-width writing f H loads = let some : 0 < 2 ^ H.fields.refcount_order = pow_pos H.fields.refcount_order in omega arith
 
--- and the greatest
 pub greatest-width : (writing : Bool) (f : Bytes) (H : Header) → header_of writing f ≡ Ok H → counter_bits H.fields ≤ 64
 greatest-width writing f H loads =
     let shaped : Shaped H.fields = fields-shaped writing f H loads in
     let le : 2 ^ H.fields.refcount_order ≤ 2 ^ 6 = pow-le-pow_right (omega arith) shaped.order in
     omega arith
 
--- a place that a word of an L1 or L2 table names
+-- the offset of an L1 entry or a standard L2 entry is at most the largest
 pub place-low : (w : ℕ) → table_offset w ≤ 0x00ff_ffff_ffff_fe00
 place-low w = let few : w / 2 ^ 9 % 2 ^ 47 < 2 ^ 47 = mod_below (w / 2 ^ 9) (2 ^ 47) (pow_pos 47) in omega arith
 
--- The first rule isn't broken, nor a later one.
+-- If no rule is broken, neither the first one nor a later one is.
 passed-first : (broken : Bool) (refusal : Fault) (rest : List Rule) → first_fault ((broken, refusal) ∷ rest) ≡ None → (broken ≡ false) × (first_fault rest ≡ None)
 passed-first true refusal rest none = absurd cc
 passed-first false refusal rest none = (refl, none)
 
--- Fields that keep the rules on sizes and places are within the limits.
+-- Fields that pass the rules on sizes are within the limits, and the reverse.
 pub fields-limited : (h : Fields) → first_fault (rules_of_size h) ≡ None → Limited h
 fields-limited h passed =
     let a = passed-first (nat_lt (2 ^ 63 - 1) h.size) (Limit h.size) (drop 1 (rules_of_size h)) passed in
@@ -84,7 +78,6 @@ fields-limited h passed =
     at-most : (m n : ℕ) → nat_lt m n ≡ false → n ≤ m
     at-most m n e = grind (arith, nat_tests)
 
--- And fields within the limits keep these rules.
 pub limited-fields : (h : Fields) → Limited h → first_fault (rules_of_size h) ≡ None
 limited-fields h limited =
     let n : h.size < 2 ^ 63 = limited.size in
@@ -93,7 +86,6 @@ limited-fields h limited =
     let counts : nat_lt (2 ^ 20) (refcount_table_entries h) ≡ false = le-ltb (2 ^ 20) (refcount_table_entries h) limited.refcount_entries in
     rw (size, l1, counts, limited.l1_place, limited.refcount_place) refl
 
--- The sizes and the places of the tables are within the limits.
 pub header-limited : (writing : Bool) (f : Bytes) (H : Header) → header_of writing f ≡ Ok H → Limited H.fields
 unfolding header_of
 header-limited writing f H loads = subst Limited (sym (header-fields writing f H loads)) limited

@@ -1,4 +1,4 @@
--- The header's fields as a whole, where a file has the bytes of its parts.
+-- The fields of a header in a file that has the bytes of its two parts.
 use Rattle.std.proofs.Common.{◌≡◌, ◌<◌, ◌^◌, refl}
 use Rattle.qcow2_types.specs.Bytes.{Bytes}
 use Rattle.qcow2_types.specs.Header.{Fields, fields_of}
@@ -7,7 +7,7 @@ use Rattle.qcow2_types.specs.declared.on_disk.V2Header.{V2Header}
 use Rattle.qcow2_types.specs.declared.on_disk.V3HeaderBase.{V3HeaderBase}
 use Rattle.qcow2_types.proofs.Fields.HeaderFields.{v2-version, v2-backing_filename_offset, v2-backing_filename_size, v2-cluster_bits, v2-size, v2-crypt_method, v2-l1_size, v2-l1_table_offset, v2-refcount_table_offset, v2-refcount_table_clusters, v2-nb_snapshots, v2-snapshots_offset, v3-incompatible_features, v3-compatible_features, v3-autoclear_features, v3-refcount_order, v3-header_length}
 
--- each field is a number of its type
+-- each field fits its type
 pub record V2InRange (h : V2Header) : Type 0 where
   pub version : h.version < 2 ^ 32
   pub backing_filename_offset : h.backing_filename_offset < 2 ^ 64
@@ -22,7 +22,7 @@ pub record V2InRange (h : V2Header) : Type 0 where
   pub nb_snapshots : h.nb_snapshots < 2 ^ 32
   pub snapshots_offset : h.snapshots_offset < 2 ^ 64
 
--- likewise in the second part
+-- each field of the second part fits its type
 pub record V3InRange (h : V3HeaderBase) : Type 0 where
   pub incompatible_features : h.incompatible_features < 2 ^ 64
   pub compatible_features : h.compatible_features < 2 ^ 64
@@ -30,7 +30,6 @@ pub record V3InRange (h : V3HeaderBase) : Type 0 where
   pub refcount_order : h.refcount_order < 2 ^ 32
   pub header_length : h.header_length < 2 ^ 32
 
--- the fields of both parts
 abbrev pub fields_of_parts : V2Header → V3HeaderBase → Fields
 fields_of_parts h n = record {
   version = h.version;
@@ -52,11 +51,11 @@ fields_of_parts h n = record {
   header_length = n.header_length;
 }
 
--- what version 2 means by having no second part
+-- the second part that a version 2 header stands for
 abbrev pub no_second_part : V3HeaderBase
 no_second_part = record { incompatible_features = 0; compatible_features = 0; autoclear_features = 0; refcount_order = 4; header_length = 72 }
 
--- a header of version 3
+-- the fields of a version 3 header
 pub fields-newer : (f : Bytes) (h : V2Header) (n : V3HeaderBase) → Holds f 0 (v2_bytes h) → Holds f 72 (v3_bytes n) → V2InRange h → V3InRange n → h.version ≡ 3
     → fields_of f ≡ fields_of_parts h n
 unfolding fields_of
@@ -81,7 +80,7 @@ fields-newer f h n first second in-first in-second newer = rw (
   v3-header_length f n second in-second.header_length,
 ) refl
 
--- a header of version 2
+-- the fields of a version 2 header
 pub fields-older : (f : Bytes) (h : V2Header) → Holds f 0 (v2_bytes h) → V2InRange h → h.version ≡ 2 → fields_of f ≡ fields_of_parts h no_second_part
 unfolding fields_of
 fields-older f h first in-first older = rw (

@@ -1,4 +1,4 @@
--- The bytes of a block's counters, and the counters in them.
+-- The bytes of a block's refcounts, and the refcounts in these bytes.
 use Rattle.std.proofs.Common.{◌≡◌, ℕ, zero, suc, ◌+◌, ◌-◌, ◌*◌, ◌/◌, ◌%◌, ◌^◌, ◌<◌, ◌≤◌, refl, arith, ap, sym, ◌∙◌, inl, inr, List, length, get_or}
 use Rattle.std.specs.Prelude.{Bool, true, false, cond, nat_le}
 use Rattle.std.proofs.lemmas.Bool.{cases_lt}
@@ -24,7 +24,7 @@ pub byte-at : (o : ℕ) (counters : List ℕ) (k d : ℕ) → k < length counter
 unfolding block_bytes
 byte-at o counters k d lt = get_or-map-range_with_len (λ k. cond (nat_le 8 (2 ^ o)) (wide_byte (2 ^ o) counters k) (narrow_byte (2 ^ o) counters k)) 0 (length counters * 2 ^ o / 8) k k d lt (omega arith)
 
--- where narrower counters stand in their bytes
+-- the position of a narrow refcount in its byte
 record Shares (o : ℕ) : Type 0 where
   fill : 8 / 2 ^ o * 2 ^ o ≡ 8
   byte : (i : ℕ) → i * 2 ^ o / 8 ≡ i / (8 / 2 ^ o)
@@ -40,7 +40,7 @@ shares (suc (suc (suc k))) e =
     let low : 2 ^ suc (suc (suc k)) < 8 = grind (arith, nat_tests) in
     absurd (omega arith)
 
--- a test's two cases
+-- case analysis on the width
 by-width : (o : ℕ) (P : Bool → Type 0) → (8 ≤ 2 ^ o → P true) → (nat_le 8 (2 ^ o) ≡ false → P false) → P (nat_le 8 (2 ^ o))
 by-width o P wide narrow = either (nat_le 8 (2 ^ o)) refl
   where
@@ -49,7 +49,7 @@ by-width o P wide narrow = either (nat_le 8 (2 ^ o)) refl
     either false e = narrow e
 
 module _ (o : ℕ) (counters : List ℕ) (packable : ArePackable o counters) where
-  -- past the last there are only zeroes
+  -- past the last refcount the list gives 0
   fits : (i : ℕ) → get_or counters i 0 < 2 ^ (2 ^ o)
   fits i = elim (cases_lt i (length counters)) [
     | inl lt ↦ packable.fit i lt
@@ -67,7 +67,7 @@ module _ (o : ℕ) (counters : List ℕ) (packable : ArePackable o counters) whe
     | inr past ↦ rw (get_or_past (block_bytes o counters) k 0 (rw (bytes-length o counters) past)) (omega arith)
   ]
 
-  -- a counter of whole bytes
+  -- a refcount of 8 bits or more is read from the bytes
   wide-found : (i : ℕ) → i < length counters → 8 ≤ 2 ^ o → wide_counter (bytes_of (block_bytes o counters)) (2 ^ o) 0 i ≡ get_or counters i 0
   wide-found i lt le =
       let size : ℕ = 2 ^ o / 8 in
@@ -85,7 +85,7 @@ module _ (o : ℕ) (counters : List ℕ) (packable : ArePackable o counters) whe
       ∙ (ap (λ q. get_or counters q 0 / 256 ^ (size - 1 - (i * size + m) % size) % 256) (div-mul-add i size m below)
       ∙ ap (λ r. get_or counters i 0 / 256 ^ (size - 1 - r) % 256) (mod-mul-add i size m below)))))
 
-  -- and one that shares its byte
+  -- a narrower refcount is read from the bytes
   narrow-found : (i : ℕ) → i < length counters → nat_le 8 (2 ^ o) ≡ false → narrow_counter (bytes_of (block_bytes o counters)) (2 ^ o) 0 i ≡ get_or counters i 0
   narrow-found i lt narrow =
       let n : ℕ = 8 / 2 ^ o in
@@ -110,7 +110,6 @@ module _ (o : ℕ) (counters : List ℕ) (packable : ArePackable o counters) whe
       positive zero e = absurd (omega arith)
       positive (suc k) e = omega arith
 
-  -- The bytes are those of the counters.
   pub bytes-pack : Packs o counters (block_bytes o counters)
   bytes-pack = record {
     size = omega (arith, bytes-length o counters, packable.whole);
@@ -119,7 +118,7 @@ module _ (o : ℕ) (counters : List ℕ) (packable : ArePackable o counters) whe
   }
 
 module _ (o : ℕ) (counters bytes : List ℕ) (packs : Packs o counters bytes) where
-  -- a byte of a counter of whole bytes
+  -- the bytes of refcounts of 8 bits or more are determined
   wide-only : (k : ℕ) → k < length bytes → 8 ≤ 2 ^ o → get_or bytes k 0 ≡ wide_byte (2 ^ o) counters k
   wide-only k lt le =
       let size : ℕ = 2 ^ o / 8 in
@@ -139,7 +138,7 @@ module _ (o : ℕ) (counters bytes : List ℕ) (packs : Packs o counters bytes) 
       ∙ (sym (be-digit (bytes_of bytes) (0 + i * size) size m packs.fit below)
       ∙ ap (λ x. x / 256 ^ (size - 1 - m) % 256) number)
 
-  -- and one that counters share
+  -- the bytes of narrower refcounts are determined
   narrow-only : (k : ℕ) → k < length bytes → nat_le 8 (2 ^ o) ≡ false → get_or bytes k 0 ≡ narrow_byte (2 ^ o) counters k
   narrow-only k lt narrow =
       let n : ℕ = 8 / 2 ^ o in
@@ -163,7 +162,7 @@ module _ (o : ℕ) (counters bytes : List ℕ) (packs : Packs o counters bytes) 
       sym (ap (λ p. get_or bytes p 0 / 2 ^ (i * 2 ^ o % 8) % 2 ^ (2 ^ o)) place ∙ ap (λ b. x / 2 ^ b % 2 ^ (2 ^ o)) bit) ∙ number in
       ap (λ q. q * 2 ^ (j * 2 ^ o)) digit))
 
-  -- Bytes of the counters are these.
+  -- Only these bytes pack the refcounts.
   pub bytes-only : bytes ≡ block_bytes o counters
   bytes-only =
       let size : length bytes ≡ length counters * 2 ^ o / 8 = omega (arith, packs.size) in
@@ -173,7 +172,7 @@ module _ (o : ℕ) (counters bytes : List ℕ) (packs : Packs o counters bytes) 
       ∙ (by-width o (λ t. get_or bytes k 0 ≡ cond t (wide_byte (2 ^ o) counters k) (narrow_byte (2 ^ o) counters k)) (wide-only k lt) (narrow-only k lt)
       ∙ sym (byte-at o counters k d inside)))
 
-  -- The counters of bytes have the width.
+  -- Refcounts that are packed in bytes fit their width.
   pub counters-packable : ArePackable o counters
   counters-packable = record {
     fit = λ i lt. rw (packs.each i lt) at (counter-fits i);

@@ -1,15 +1,14 @@
--- The digits of a number: of base 2 ^ w with the lowest first, and of base 256 with the highest first.
+-- The digits of a number: in base 2^w with the lowest first, and in base 256 with the highest first.
 use Rattle.std.proofs.Common.{◌≡◌, ℕ, zero, suc, ◌+◌, ◌-◌, ◌*◌, ◌/◌, ◌%◌, ◌^◌, ◌<◌, ◌≤◌, refl, arith, ap, sym, ◌∙◌, inl, inr}
 use Rattle.std.proofs.lemmas.Bool.{cases_lt}
 use Rattle.std.proofs.lemmas.Nat.{mul-add-lt, div-mul-add, mod-mul-add, mod_below, pow_pos, pow-add, div-add-mod'}
 use Rattle.std.proofs.Math.Nat.{zero-mul, mod-one, mod-eq_of_lt, div-eq_of_lt, pow-suc, add-mul-div_right, add-mul-mod_self_right, div-div-eq-div-mul}
 use Rattle.qcow2_types.specs.Bytes.{Bytes, be, sum_below}
 
--- one digit more
 power-more : (n w : ℕ) → 2 ^ (suc n * w) ≡ 2 ^ (n * w) * 2 ^ w
 power-more n w = let e : suc n * w ≡ n * w + w = omega arith in ap (λ k. 2 ^ k) e ∙ pow-add 2 (n * w) w
 
--- the number of n digits has their bits
+-- a number of n digits has n * w bits
 pub digits-below : (w n : ℕ) (digit : ℕ → ℕ) → ((j : ℕ) → digit j < 2 ^ w) → sum_below n (λ j. digit j * 2 ^ (j * w)) < 2 ^ (n * w)
 unfolding sum_below
 digits-below w zero digit fits = rw (zero-mul w) (omega arith)
@@ -17,7 +16,7 @@ digits-below w (suc n) digit fits =
     let number : digit n * 2 ^ (n * w) + sum_below n (λ j. digit j * 2 ^ (j * w)) < 2 ^ (n * w) * 2 ^ w = mul-add-lt (digit n) (2 ^ (n * w)) (sum_below n (λ j. digit j * 2 ^ (j * w))) (2 ^ w) (fits n) (digits-below w n digit fits) in
     rw (power-more n w) number
 
--- each of them is found in it
+-- each digit can be read from the number
 pub digit-found : (w n j : ℕ) (digit : ℕ → ℕ) → ((j : ℕ) → digit j < 2 ^ w) → j < n → sum_below n (λ j. digit j * 2 ^ (j * w)) / 2 ^ (j * w) % 2 ^ w ≡ digit j
 unfolding sum_below
 digit-found w zero j digit fits lt = absurd (omega arith)
@@ -40,7 +39,7 @@ digit-found w (suc n) j digit fits lt =
           ∙ (mod-eq_of_lt (fits n) ∙ ap digit (sym here)))
     ]
 
--- a number is that of its digits
+-- the number that n digits of x make
 pub digits-make : (w n x : ℕ) → sum_below n (λ j. x / 2 ^ (j * w) % 2 ^ w * 2 ^ (j * w)) ≡ x % 2 ^ (n * w)
 unfolding sum_below
 digits-make w zero x = rw (zero-mul w) (sym (mod-one x))
@@ -54,7 +53,7 @@ digits-make w (suc n) x =
     ap (λ k. y % 2 ^ w * base + k) (digits-make w n x)
     ∙ sym (ap (λ k. x % k) (power-more n w) ∙ (ap (λ k. k % (base * 2 ^ w)) parts ∙ mod-mul-add (y / 2 ^ w) (base * 2 ^ w) low below))
 
--- bytes that are the digits of a number spell it
+-- bytes that are the digits of x spell x
 pub be-of-digits : (f : Bytes) (at n x : ℕ) → x < 256 ^ n → ((m : ℕ) → m < n → f (at + m) ≡ x / 256 ^ (n - 1 - m) % 256) → be f at n ≡ x
 unfolding be
 be-of-digits f at n x small digits = let none : n - n ≡ 0 = omega arith in let one : x / 1 ≡ x = omega arith in front n (omega arith) ∙ (ap (λ k. x / 256 ^ k) none ∙ one)
@@ -71,7 +70,7 @@ be-of-digits f at n x small digits = let none : n - n ≡ 0 = omega arith in let
         let all : be f at m * 256 + f (at + m) ≡ y = omega arith in
         all ∙ ap (λ k. x / 256 ^ k) (sym left')
 
--- each byte is a digit of the number that they spell
+-- each byte is a digit of the number that the bytes spell
 pub be-digit : (f : Bytes) (at n m : ℕ) → ((k : ℕ) → f k < 256) → m < n → be f at n / 256 ^ (n - 1 - m) % 256 ≡ f (at + m)
 unfolding be
 be-digit f at zero m fits lt = absurd (omega arith)
@@ -93,12 +92,11 @@ be-digit f at (suc n) m fits lt =
           ap (λ k. (be f at n * 256 + f (at + n)) / 256 ^ k % 256) left ∙ (low ∙ ap (λ k. f (at + k)) (sym here))
     ]
 
--- a number of n bytes has 8 n bits
 pub bytes-bits : (n : ℕ) → 256 ^ n ≡ 2 ^ (n * 8)
 bytes-bits zero = refl
 bytes-bits (suc n) = pow-suc 256 n ∙ (ap (λ k. k * 256) (bytes-bits n) ∙ sym (power-more n 8))
 
--- n bytes spell a number below 256 to the power of n
+-- n bytes spell a number below 256^n
 pub be-below : (f : Bytes) → ((p : ℕ) → f p < 256) → (i n : ℕ) → be f i n < 256 ^ n
 unfolding be
 be-below f fits i zero = omega arith

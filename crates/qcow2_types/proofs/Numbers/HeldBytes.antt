@@ -1,4 +1,4 @@
--- Bytes that a file has at a place: their parts, their numbers, and the extensions that are read of them.
+-- Bytes that a file has at an offset: parts of them, the numbers that they spell, and the extensions read from them.
 use Rattle.std.proofs.Common.{◌≡◌, ℕ, zero, suc, ◌+◌, ◌-◌, ◌*◌, ◌/◌, ◌^◌, ◌<◌, ◌≤◌, refl, arith, ap, subst, ◌∙◌, List, [], ◌∷◌, ◌++◌, length, replicate, get_or, length-append, append_assoc, Some, None, Ok}
 use Rattle.std.specs.Prelude.{flat_map, Bool, true, false, ◌||◌, ◌==◌, nat_lt, slice_index, cond}
 use Rattle.std.specs.Int.{w32, w64, to_be_bytes}
@@ -13,30 +13,26 @@ use Rattle.qcow2_types.specs.HeaderBytes.{padding, extension_bytes}
 use Rattle.qcow2_types.proofs.Numbers.Splices.{be-zeroes}
 use Rattle.qcow2_types.proofs.Fields.HeaderFields.{number-there_4, number-there_8}
 
--- the first of two lists of bytes
 pub holds-front : (f : Bytes) (at : ℕ) (xs ys : List ℕ) → Holds f at (xs ++ ys) → Holds f at xs
 holds-front f at xs ys held k inside = held k (omega (arith, length-append xs ys)) ∙ get_or_append_left xs ys 0 k inside
 
--- and the second
 pub holds-back : (f : Bytes) (at : ℕ) (xs ys : List ℕ) → Holds f at (xs ++ ys) → Holds f (at + length xs) ys
 holds-back f at xs ys held k inside =
     let place : at + length xs + k ≡ at + (length xs + k) = omega arith in
     let first : length xs + k - length xs ≡ k = omega arith in
     rw place (held (length xs + k) (omega (arith, length-append xs ys)) ∙ (get_or-append_right xs ys (length xs) (length xs + k) 0 refl (omega arith) ∙ ap (λ i. get_or ys i 0) first))
 
--- another name for the bytes, or for the place
+-- equal bytes at an equal offset
 pub holds-as : (f : Bytes) (at at' : ℕ) (xs ys : List ℕ) → at ≡ at' → xs ≡ ys → Holds f at xs → Holds f at' ys
 holds-as f at at' xs ys p e held = subst (λ (i : ℕ). Holds f i ys) p (subst (Holds f at) e held)
 
--- a number of 4 bytes, and of 8
 pub held_4 : (f : Bytes) (at v : ℕ) → Holds f at (to_be_bytes w32 v) → v < 2 ^ 32 → be f at 4 ≡ v
 held_4 f at v held fits = let place : at + 0 ≡ at = omega arith in rw place at (number-there_4 f at (to_be_bytes w32 v) 0 v held (omega arith) refl fits)
 
--- of 8 bytes
 pub held_8 : (f : Bytes) (at v : ℕ) → Holds f at (to_be_bytes w64 v) → v < 2 ^ 64 → be f at 8 ≡ v
 held_8 f at v held fits = let place : at + 0 ≡ at = omega arith in rw place at (number-there_8 f at (to_be_bytes w64 v) 0 v held (omega arith) refl fits)
 
--- the bytes are read as they are
+-- `run` reads the bytes that the file holds
 pub run-held : (f : Bytes) (at : ℕ) (bytes : List ℕ) → Holds f at bytes → run f at (length bytes) ≡ bytes
 unfolding run
 run-held f at [] held = refl
@@ -46,7 +42,7 @@ run-held f at (b ∷ bs) held =
     let rest : run f (at + 1) (length bs) ≡ bs = run-held f (at + 1) bs (holds-back f at (b ∷ []) bs held) in
     rw (here, rest) refl
 
--- how many bytes an extension has
+-- the length of an extension's bytes
 pub length-extension_bytes : (x : Extension) → length (extension_bytes x) ≡ 8 + (length x.1 + 7) / 8 * 8
 unfolding extension_bytes padding
 length-extension_bytes x =
@@ -54,7 +50,7 @@ length-extension_bytes x =
     let pad : List ℕ = replicate ((length x.1 + 7) / 8 * 8 - length x.1) 0 in
     omega (arith, length-append (to_be_bytes w32 x.0 ++ to_be_bytes w32 (length x.1) ++ x.1) pad, length-append (to_be_bytes w32 x.0 ++ to_be_bytes w32 (length x.1)) x.1, length-replicate {A = ℕ} ((length x.1 + 7) / 8 * 8 - length x.1) 0)
 
--- an extension that is read as it was written
+-- an extension that can be read back: its type isn't 0, and its numbers fit
 pub record IsPlainExtension (x : Extension) : Type 0 where
   pub some : 0 < x.0
   pub kind : x.0 < 2 ^ 32
@@ -73,7 +69,7 @@ module _ (f : Bytes) (end at : ℕ) (x : Extension) (held : Holds f at (extensio
   unfolding extension_bytes
   bytes-held = run-held f (at + 8) x.1 (holds-back f at (to_be_bytes w32 x.0 ++ to_be_bytes w32 (length x.1)) x.1 (holds-front f at (to_be_bytes w32 x.0 ++ to_be_bytes w32 (length x.1) ++ x.1) (padding (length x.1)) held))
 
-  -- It is read.
+  -- The extension is read.
   pub extension-held : extension_at f end at ≡ Ok (Some x)
   unfolding extension_at
   extension-held =
@@ -82,7 +78,7 @@ module _ (f : Bytes) (end at : ℕ) (x : Extension) (held : Holds f at (extensio
       let fits : nat_lt end (at + 8 + length x.1) ≡ false = grind (arith, nat_tests) in
       rw (kind-held, size-held, inside, kind, fits, bytes-held) refl
 
--- Type 0 ends them.
+-- An extension of type 0 ends the list.
 none-left : (f : Bytes) (end at : ℕ) → Holds f at (replicate 8 0) → extension_at f end at ≡ Ok None
 unfolding extension_at
 none-left f end at held =
@@ -96,12 +92,12 @@ none-left f end at held =
     either a r true = refl
     either a r false = refl
 
--- extensions that are read as they were written
+-- extensions that can be read back
 abbrev pub ArePlain : List Extension → Type 0
 ArePlain [] = Unit {0}
 ArePlain (x ∷ xs) = IsPlainExtension x × ArePlain xs
 
--- Extensions and the 8 zeroes behind them are read.
+-- Extensions followed by 8 zeroes are read.
 pub extensions-held : (n : ℕ) (f : Bytes) (end at : ℕ) (xs : List Extension) → Holds f at (flat_map extension_bytes xs ++ replicate 8 0) → ArePlain xs → at + length (flat_map extension_bytes xs) + 8 ≤ end → length xs ≤ n
     → extensions_at n f end at ≡ Ok xs
 unfolding extensions_at

@@ -1,4 +1,4 @@
--- Sums over what lies below a number.
+-- Sums over the numbers below n.
 use Rattle.std.proofs.Common.{add-one, ◌≡◌, ◌≢◌, ℕ, zero, suc, ◌+◌, ◌<◌, ◌≤◌, refl, arith, ap, inl, inr}
 use Rattle.std.proofs.lemmas.Bool.{cases_eq}
 use Rattle.qcow2_types.specs.Bytes.{sum_below}
@@ -12,7 +12,7 @@ sum-same (suc n) f g same =
     let below : sum_below n f ≡ sum_below n g = sum-same n f g (λ i lt. same i (omega arith)) in
     omega arith
 
--- no term is greater, so the sum isn't
+-- sums are monotonic in the terms
 pub sum-mono : (n : ℕ) (f g : ℕ → ℕ) → ((i : ℕ) → i < n → f i ≤ g i) → sum_below n f ≤ sum_below n g
 unfolding sum_below
 sum-mono zero f g least = omega arith
@@ -21,7 +21,7 @@ sum-mono (suc n) f g least =
     let below : sum_below n f ≤ sum_below n g = sum-mono n f g (λ i lt. least i (omega arith)) in
     omega arith
 
--- where one term alone is another, the sums differ by it
+-- if only one term differs, the sums differ by it
 pub sum-change : (n k : ℕ) (f g : ℕ → ℕ) → k < n → ((i : ℕ) → i < n → i ≢ k → f i ≡ g i) → sum_below n f + g k ≡ sum_below n g + f k
 unfolding sum_below
 sum-change zero k f g lt same = absurd (omega arith)
@@ -39,7 +39,7 @@ sum-change (suc n) k f g lt same = elim (cases_eq n k) [
       omega arith
 ]
 
--- a term is no greater than the sum
+-- a term is at most the sum
 pub term-le-sum : (n k : ℕ) (f : ℕ → ℕ) → k < n → f k ≤ sum_below n f
 unfolding sum_below
 term-le-sum zero k f lt = absurd (omega arith)
@@ -48,17 +48,14 @@ term-le-sum (suc n) k f lt = elim (cases_eq n k) [
   | inr apart ↦ let other : n ≢ k = apart in let below : f k ≤ sum_below n f = term-le-sum n k f (omega arith) in omega arith
 ]
 
--- the sum of nothing
 pub sum-none : (f : ℕ → ℕ) → sum_below 0 f ≡ 0
 unfolding sum_below
 sum-none f = refl
 
--- one more term
 pub sum-more : (i : ℕ) (f : ℕ → ℕ) → sum_below (i + 1) f ≡ f i + sum_below i f
 unfolding sum_below
 sum-more i f = rw add-one refl
 
--- the sum of two terms each
 pub sum-both : (n : ℕ) (f g : ℕ → ℕ) → sum_below n (λ i. f i + g i) ≡ sum_below n f + sum_below n g
 unfolding sum_below
 sum-both zero f g = refl

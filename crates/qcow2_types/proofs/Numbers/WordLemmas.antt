@@ -1,4 +1,4 @@
--- Words of tables: what 0 means, and the word that names a cluster as copied.
+-- Raw entries: the entry 0, and the entry of a cluster with the COPIED flag.
 use Rattle.std.proofs.Common.{◌≡◌, ◌≢◌, ℕ, ◌+◌, ◌-◌, ◌*◌, ◌/◌, ◌%◌, ◌^◌, ◌<◌, ◌≤◌, refl, arith, ◌∙◌, ap}
 use Rattle.std.specs.Prelude.{Bool, true, false, cond, ◌&&◌, ◌==◌, nat_le, IsTrue}
 use Rattle.std.proofs.lemmas.Bool.Decides.{nat_tests}
@@ -7,11 +7,11 @@ use Rattle.std.proofs.Math.Nat.{mul-mod_left, mul-div_cancel, mul-pos}
 use Rattle.qcow2_types.specs.Words.{Layout, Mapping, unmapped, data_at, mapping_of, is_cluster_offset, is_copied, max_offset, l1_entry_valid, table_offset}
 use Rattle.qcow2_types.specs.Header.{Fields, cluster_size, layout_of}
 
--- 0 is a place that a cluster can begin at
+-- 0 is a valid offset
 pub zero-place : (bits : ℕ) → is_cluster_offset bits 0 ≡ true
 zero-place bits = let pos : 0 < 2 ^ bits = pow_pos bits in let none : 0 % 2 ^ bits ≡ 0 = omega arith in rw none refl
 
--- A word of 0 in an L2 table leaves its guest cluster unmapped, and one in the L1 table names no table.
+-- An L2 entry of 0 is unmapped.
 pub zero-word : (layout : Layout) → mapping_of layout 0 ≡ unmapped
 unfolding mapping_of
 zero-word layout = rw (zero-place layout.cluster_bits) (names layout.external_data _)
@@ -20,32 +20,29 @@ zero-word layout = rw (zero-place layout.cluster_bits) (names layout.external_da
     names true m = refl
     names false m = refl
 
--- A word of 0 in the L1 table is sound, and names no table.
+-- An L1 entry of 0 is valid, and references no table.
 pub zero-l1-word : (bits : ℕ) → IsTrue (l1_entry_valid bits 0)
 zero-l1-word bits = zero-place bits
 
--- A word with bit 63 set and a place of sectors below it.
+-- A raw entry with bit 63 and the offset p, which is a multiple of 512.
 module _ (p : ℕ) (sectors : p % 512 ≡ 0) (near : p ≤ max_offset) where
-  -- the word has 64 bits
   pub copied-below : 2 ^ 63 + p < 2 ^ 64
   copied-below = omega arith
 
-  -- it points to the place
   pub copied-offset : table_offset (2 ^ 63 + p) ≡ p
   copied-offset = omega arith
 
-  -- it is marked as copied
   pub copied-marked : is_copied (2 ^ 63 + p) ≡ true
   copied-marked = let one : (2 ^ 63 + p) / 2 ^ 63 % 2 ≡ 1 = omega arith in rw one refl
 
-  -- it is a sound word of the L1 table
+  -- it is a valid L1 entry
   pub copied-l1-word : (bits : ℕ) → is_cluster_offset bits p ≡ true → IsTrue (l1_entry_valid bits (2 ^ 63 + p))
   copied-l1-word bits place =
       let a : (2 ^ 63 + p) / 2 ^ 0 % 2 ^ 9 ≡ 0 = omega arith in
       let b : (2 ^ 63 + p) / 2 ^ 56 % 2 ^ 7 ≡ 0 = omega arith in
       rw (a, b, copied-offset, place) refl
 
-  -- in an L2 table it names the place's cluster as copied data
+  -- as an L2 entry it references the cluster at p as data, with the COPIED flag
   pub copied-l2-word : (layout : Layout) → is_cluster_offset layout.cluster_bits p ≡ true → p ≢ 0 → mapping_of layout (2 ^ 63 + p) ≡ data_at (p / 2 ^ layout.cluster_bits) true
   unfolding mapping_of
   copied-l2-word layout place some =
@@ -56,9 +53,8 @@ module _ (p : ℕ) (sectors : p % 512 ≡ 0) (near : p ≤ max_offset) where
       let named : (p == 0) ≡ false = grind (arith, nat_tests) in
       rw (a, b, d, e, copied-offset, place, named, copied-marked) refl
 
--- The word that names cluster c as copied.
+-- The raw entry that references cluster c with the COPIED flag.
 module _ (bits c : ℕ) (low : 9 ≤ bits) (few : c * 2 ^ bits ≤ max_offset) where
-  -- a cluster begins with a sector
   sectors-of : c * 2 ^ bits % 512 ≡ 0
   sectors-of =
       let split : bits ≡ (bits - 9) + 9 = omega arith in
@@ -66,30 +62,25 @@ module _ (bits c : ℕ) (low : 9 ≤ bits) (few : c * 2 ^ bits ≤ max_offset) w
       let e : c * 2 ^ bits ≡ c * 2 ^ (bits - 9) * 512 = ap (λ x. c * x) power ∙ omega arith in
       omega arith
 
-  -- and where a cluster can begin
   place-of : is_cluster_offset bits (c * 2 ^ bits) ≡ true
   place-of =
       let begin : c * 2 ^ bits % 2 ^ bits ≡ 0 = mul-mod_left c (2 ^ bits) in
       let near : nat_le (c * 2 ^ bits) max_offset ≡ true = grind (arith, nat_tests) in
       rw (begin, near) refl
 
-  -- the word has 64 bits
   pub fresh-below : 2 ^ 63 + c * 2 ^ bits < 2 ^ 64
   fresh-below = copied-below (c * 2 ^ bits) sectors-of few
 
-  -- it is a sound word of the L1 table
   pub fresh-l1-word : IsTrue (l1_entry_valid bits (2 ^ 63 + c * 2 ^ bits))
   fresh-l1-word = copied-l1-word (c * 2 ^ bits) sectors-of few bits place-of
 
-  -- it points to the cluster
   pub fresh-offset : table_offset (2 ^ 63 + c * 2 ^ bits) ≡ c * 2 ^ bits
   fresh-offset = copied-offset (c * 2 ^ bits) sectors-of few
 
-  -- it is marked as copied
   pub fresh-copied : is_copied (2 ^ 63 + c * 2 ^ bits) ≡ true
   fresh-copied = copied-marked (c * 2 ^ bits) sectors-of few
 
--- By the fields of a header.
+-- Like `copied-l2-word`, by the fields of a header.
 pub fresh-word : (h : Fields) (c : ℕ) → 9 ≤ h.cluster_bits → 0 < c → c * cluster_size h ≤ max_offset → mapping_of (layout_of h) (2 ^ 63 + c * cluster_size h) ≡ data_at c true
 fresh-word h c low some few =
     let pos : 0 < cluster_size h = pow_pos h.cluster_bits in

@@ -1,4 +1,4 @@
--- The values that files with the same header show, by the mappings of their guest clusters.
+-- The values that the guest reads from files with the same header, by the mappings of its clusters.
 use Rattle.std.proofs.Common.{◌≡◌, ℕ, ◌+◌, ◌*◌, ◌/◌, ◌%◌, ◌<◌, refl, arith, ap, ◌∙◌, inl, inr}
 use Rattle.std.specs.Prelude.{Bool, true, false, cond, ◌||◌, ◌==◌, nat_lt, if◌then◌else◌, ◌⊎◌, IsTrue}
 use Rattle.std.proofs.lemmas.Bool.{cases_lt, le-ltb}
@@ -15,7 +15,7 @@ use Rattle.qcow2_types.proofs.Counting.Bounded.{all-below}
 use Rattle.qcow2_types.specs.Frames.{Same, ShowsAs}
 use Rattle.qcow2_types.specs.Slots.{guest_slot}
 
--- the mark of a cluster says nothing of its value
+-- the COPIED flag doesn't affect the value
 pub unmarked-value : (m : Mapping) (host : ℕ → Value) (below : Value) → shown_by m host below ≡ shown_by (mapping_without_copied m) host below
 unmarked-value (data_at n copied) host below = refl
 unmarked-value (zeroes n copied) host below = refl
@@ -23,7 +23,7 @@ unmarked-value (packed offset length) host below = refl
 unmarked-value unmapped host below = refl
 unmarked-value damaged host below = refl
 
--- the value by one mapping
+-- the value of one mapping is the same if its data cluster keeps its bytes
 pub same-value : (x f e : Bytes) (h : Fields) (p : ℕ) (below : Value) (m : Mapping) → ((n : ℕ) (copied : Bool) → m ≡ data_at n copied → Same f x (n * cluster_size h) (cluster_size h))
     → shown_by m (host_byte x e h p) below ≡ shown_by m (host_byte f e h p) below
 same-value x f e h p below (data_at n copied) same =
@@ -39,13 +39,13 @@ same-value x f e h p below (packed offset length) same = refl
 same-value x f e h p below unmapped same = refl
 same-value x f e h p below damaged same = refl
 
--- Where a guest cluster shows the same, each of its places does.
+-- If a guest cluster reads the same, so does each of its bytes.
 pub value-same : (x f external : Bytes) (h : Fields) (p : ℕ) (below : Value) → ShowsAs x f h (p / cluster_size h) → shown x external h p below ≡ shown f external h p below
 value-same x f external h p below like =
     same-value x f external h p below (entry x h (p / cluster_size h)) like.bytes
     ∙ ap (λ m. shown_by m (host_byte f external h p) below) like.mapping
 
--- So a file between two shows at each place a value of the one or of the other.
+-- Each guest byte of a file between two versions reads as in one of them.
 pub value-either : (x f g external : Bytes) (h : Fields) → ((guest : ℕ) → ShowsAs x f h guest ⊎ ShowsAs x g h guest) → (p : ℕ) (below : Value)
     → (shown x external h p below ≡ shown f external h p below) ⊎ (shown x external h p below ≡ shown g external h p below)
 value-either x f g external h like p below = elim (like (p / cluster_size h)) [
@@ -53,7 +53,7 @@ value-either x f g external h like p below = elim (like (p / cluster_size h)) [
   | inr a ↦ inr (value-same x g external h p below a)
 ]
 
--- Where no table is damaged an entry depends on one word.
+-- If no table is damaged, a mapping depends on one L2 entry only.
 pub entry-slot : (f : Bytes) (h : Fields) (guest : ℕ) → IsTrue (tables_sound f h) → entry f h guest ≡ guest_slot f h guest
 unfolding entry tables_sound
 entry-slot f h guest sound =

@@ -1,4 +1,4 @@
--- A write of bytes 0 to 63 of a header, and what loads afterwards.
+-- A write of bytes 0 to 63 of a header, and the header that loads after it.
 use Rattle.std.proofs.Common.{◌≡◌, ◌≢◌, ℕ, zero, suc, ◌+◌, ◌*◌, ◌/◌, ◌%◌, ◌^◌, ◌<◌, ◌≤◌, refl, arith, ap, sym, subst, ◌∙◌, List, [], ◌∷◌, length, drop, inl, inr, Some, None, Ok, Err}
 use Rattle.std.specs.Str.{is_utf8}
 use Rattle.std.specs.Prelude.{Bool, true, false, ◌&&◌, ◌||◌, ◌==◌, not, ◌⊎◌, nat_lt, nat_le, if◌then◌else◌, Option, Result}
@@ -21,12 +21,11 @@ use Rattle.qcow2_types.specs.Words.{has_bit, is_cluster_offset, max_offset}
 use Rattle.std.proofs.lemmas.Nat.{mul-le, le-div}
 use Rattle.std.proofs.Math.Nat.{pow-le-pow_right}
 
--- how many bytes there are
 pub length-first_bytes : (h : Fields) → length (first_bytes h) ≡ 64
 unfolding first_bytes
 length-first_bytes h = refl
 
--- the header that a file has, by its parts
+-- a header loads if each of its parts does
 pub header-made : (writing : Bool) (g : Bytes) (h : Fields) (H : Header) → first_fault (rules_of_kind g) ≡ None → fields_of g ≡ h → first_fault (rules_of_shape h) ≡ None → first_fault (rules_of_size h) ≡ None
     → texts_of g h ≡ Ok H → first_fault (rules_of_writing writing h) ≡ None → header_of writing g ≡ Ok H
 unfolding header_of
@@ -43,7 +42,7 @@ header-made writing g h H kind fields shape sizes texts last =
     after_kind : Fields → Result Header Fault
     after_kind x = first_fault (rules_of_shape x) and-then after_shape x
 
--- the rules on magic and version, where they are kept
+-- the rules on magic and version are passed
 pub kind-kept : (g : Bytes) → be g 0 4 ≡ 0x5146_49fb → (be g 4 4 ≡ 2) ⊎ (be g 4 4 ≡ 3) → first_fault (rules_of_kind g) ≡ None
 kind-kept g magic (inl older) = rw (magic, older) refl
 kind-kept g magic (inr newer) = rw (magic, newer) refl
@@ -74,7 +73,7 @@ loaded-parts writing f H loads =
     read (Ok y) (Some e') x e = absurd cc
     read (Err e') o x e = absurd cc
 
--- a header of version 3 that loads has 104 bytes at least
+-- the length of a version 3 header that loads is at least 104
 pub newer-long : (h : Fields) → first_fault (rules_of_shape h) ≡ None → is_version_3 h ≡ true → 104 ≤ h.header_length
 newer-long h none newer =
     let passed = third (nat_lt h.cluster_bits 9 || nat_lt 21 h.cluster_bits) (nat_lt 6 h.refcount_order) (is_version_3 h && (nat_lt h.header_length 104 || nat_lt (cluster_size h) h.header_length)) (drop 3 (rules_of_shape h)) none in
@@ -90,48 +89,46 @@ newer-long h none newer =
     long true b newer passed = grind (arith, nat_tests)
     long false b newer passed = absurd cc
 
--- what is read of the backing name, by its bytes
+-- `backing_name_read` as a function of its tests and the name's bytes
 abbrev read_as : Bool → Bool → List ℕ → Result (Option (List ℕ)) Fault
 read_as named wrong bytes = elim named [ false ↦ Ok None | true ↦ elim wrong [ true ↦ Err DamagedHeader | false ↦ if is_utf8 bytes then Ok (Some bytes) else Err DamagedHeader ] ]
 
--- the name alone decides, where there is one
+-- the bytes only count if the header has a name
 read_as-same : (named wrong : Bool) (x y : List ℕ) → (named ≡ true → x ≡ y) → read_as named wrong x ≡ read_as named wrong y
 read_as-same false wrong x y same = refl
 read_as-same true wrong x y same = ap (read_as true wrong) (same refl)
 
--- extensions are read of version 3 alone
+-- extensions are only read in version 3
 abbrev read_if : Bool → Result (List Extension) Fault → Result (List Extension) Fault
 read_if newer found = elim newer [ true ↦ found | false ↦ Ok [] ]
 
--- what is read alone decides, where it is
+-- the extensions only count if they are read
 read_if-same : (newer : Bool) (x y : Result (List Extension) Fault) → (newer ≡ true → x ≡ y) → read_if newer x ≡ read_if newer y
 read_if-same false x y same = refl
 read_if-same true x y same = ap (read_if true) (same refl)
 
--- a header that was read, with other places
+-- the result of reading, with the size and the tables of other fields
 abbrev with_places_read : Fields → Result Header Fault → Result Header Fault
 with_places_read other (Ok H) = Ok (with_places other H)
 with_places_read other (Err e) = Err e
 
--- reading in steps leaves the places aside
+-- reading in steps doesn't depend on the size and the tables
 bind-placed : {A : Type 0} (other : Fields) (r : Result A Fault) (k k' : A → Result Header Fault) → ((x : A) → k' x ≡ with_places_read other (k x)) → (r >>= k') ≡ with_places_read other (r >>= k)
 bind-placed other (Ok x) k k' same = same x
 bind-placed other (Err e) k k' same = refl
 
--- the texts don't depend on the places
+-- the texts don't depend on the size and the tables
 texts-placed : (f : Bytes) (other h : Fields) → texts_of f (with_tables_of other h) ≡ with_places_read other (texts_of f h)
 unfolding texts_of
 texts-placed f other h =
     bind-placed other (backing_name_read f h) _ _ (λ backing. bind-placed other (extensions_read f h) _ _ (λ extensions. bind-placed other (text_read (last_of 0xE279_2ACA extensions)) _ _
     (λ format. bind-placed other (text_read (last_of 0x4441_5441 extensions)) _ _ (λ data_file. refl))))
 
--- A file with other first 64 bytes: what lies behind them stays.
+-- A file whose first 64 bytes were replaced reads the same after them.
 module _ (f : Bytes) (bytes : List ℕ) (size : length bytes ≡ 64) where
-  -- a number
   be-behind : (i k : ℕ) → 64 ≤ i → be (splice f 0 bytes) i k ≡ be f i k
   be-behind i k le = be-splice-apart f 0 bytes i k (inr (omega arith))
 
-  -- bytes
   run-behind : (i k : ℕ) → 64 ≤ i → run (splice f 0 bytes) i k ≡ run f i k
   unfolding run
   run-behind i zero le = refl
@@ -140,12 +137,10 @@ module _ (f : Bytes) (bytes : List ℕ) (size : length bytes ≡ 64) where
       let rest : run (splice f 0 bytes) (i + 1) k ≡ run f (i + 1) k = run-behind (i + 1) k (omega arith) in
       rw (here, rest) refl
 
-  -- an extension
   extension-behind : (end at : ℕ) → 64 ≤ at → extension_at (splice f 0 bytes) end at ≡ extension_at f end at
   unfolding extension_at
   extension-behind end at le = rw (be-behind at 4 le, be-behind (at + 4) 4 (omega arith), run-behind (at + 8) (be f (at + 4) 4) (omega arith)) refl
 
-  -- all extensions
   extensions-behind : (k end at : ℕ) → 64 ≤ at → extensions_at k (splice f 0 bytes) end at ≡ extensions_at k f end at
   unfolding extensions_at
   extensions-behind zero end at le = refl
@@ -153,7 +148,6 @@ module _ (f : Bytes) (bytes : List ℕ) (size : length bytes ≡ 64) where
       ap (λ r. r >>= and_more (λ x. extensions_at k (splice f 0 bytes) end (after at x))) (extension-behind end at le)
       ∙ ap (λ (more : Extension → Result (List Extension) Fault). extension_at f end at >>= and_more more) (fun_ext (λ x. extensions-behind k end (after at x) (omega arith)))
 
-  -- the texts
   texts-behind : (h : Fields) → IsNameAfterFields h → (is_version_3 h ≡ true → 64 ≤ h.header_length) → texts_of (splice f 0 bytes) h ≡ texts_of f h
   unfolding texts_of
   texts-behind h name rest =
@@ -163,7 +157,7 @@ module _ (f : Bytes) (bytes : List ℕ) (size : length bytes ≡ 64) where
       read_if-same (is_version_3 h) _ _ (λ newer. extensions-behind (cluster_size h / 8) (extensions_end h) h.header_length (rest newer)) in
       rw (named, read) refl
 
--- The fields that a file with these first bytes has.
+-- The fields of a file that starts with these bytes.
 module _ (g : Bytes) (h : Fields) (held : Holds g 0 (first_bytes h)) (fit : FirstFieldsFit h) where
   pub first-magic : be g 0 4 ≡ 0x5146_49fb
   unfolding first_bytes
@@ -213,12 +207,12 @@ module _ (g : Bytes) (h : Fields) (held : Holds g 0 (first_bytes h)) (fit : Firs
   unfolding first_bytes
   first-snapshots = number-there_4 g 0 (first_bytes h) 60 h.snapshots held (omega arith) refl fit.snapshots
 
--- a file has the bytes that were spliced into its start
+-- a file holds the bytes that were spliced in at offset 0
 pub splice-holds : (f : Bytes) (bytes : List ℕ) → Holds (splice f 0 bytes) 0 bytes
 splice-holds f bytes k inside = splice-inside f 0 bytes k inside
 
 module _ (f : Bytes) (other h : Fields) (is : fields_of f ≡ h) (fit : FirstFieldsFit (with_tables_of other h)) where
-  -- the fields of the file with these first bytes: those behind stay
+  -- the fields after the write: those after byte 63 don't change
   switch-fields : fields_of (splice f 0 (first_bytes (with_tables_of other h))) ≡ with_tables_of other h
   unfolding fields_of
   switch-fields =
@@ -260,7 +254,7 @@ module _ (f : Bytes) (other h : Fields) (is : fields_of f ≡ h) (fit : FirstFie
         rw version at long,
       ) refl
 
--- the version of a header that loads
+-- a header that loads has version 2 or 3
 pub version-known : (f : Bytes) → first_fault (rules_of_kind f) ≡ None → (be f 4 4 ≡ 2) ⊎ (be f 4 4 ≡ 3)
 version-known f none = either (cases_eq (be f 4 4) 2) (cases_eq (be f 4 4) 3)
   where
@@ -272,12 +266,11 @@ version-known f none = either (cases_eq (be f 4 4) 2) (cases_eq (be f 4 4) 3)
     either (inr a) (inl newer) = inr newer
     either (inr a) (inr b) = let known : not ((be f 4 4 == 2) || (be f 4 4 == 3)) ≡ false = tests.1 in absurd (grind (arith, nat_tests))
 
--- the version as it stands in the file
 version-there : (f : Bytes) (h : Fields) → fields_of f ≡ h → be f 4 4 ≡ h.version
 unfolding fields_of
 version-there f h is = ap (λ (x : Fields). x.version) is
 
--- The header of a file is the old one with the size and the places that were written.
+-- The header after the write is the old one with the written size and tables.
 pub switch-header : (writing : Bool) (f : Bytes) (H H' : Header) → header_of writing f ≡ Ok H → OnlyPlaces H H' → FirstFieldsFit H'.fields → first_fault (rules_of_size H'.fields) ≡ None → IsNameAfterFields H.fields
     → header_of writing (splice f 0 (first_bytes H'.fields)) ≡ Ok H'
 switch-header writing f H H' loads only fit sizes name =
@@ -307,7 +300,7 @@ switch-header writing f H H' loads only fit sizes name =
         texts-behind f b (length-first_bytes w) w name (λ newer. omega (arith, newer-long H.fields shape newer)) ∙ (texts-placed f other H.fields ∙ ap (with_places_read other) texts) in
         header-made writing g w (with_places other H) (kind-kept g (first-magic g w held fit) known) (switch-fields f other H.fields is fit) shape sizes read last
 
--- a place of a cluster is at most the greatest
+-- the offset of a cluster is at most the largest
 place-low : (bits offset : ℕ) → is_cluster_offset bits offset ≡ true → offset ≤ max_offset
 place-low bits offset is = split (offset % 2 ^ bits == 0) is
   where
@@ -315,11 +308,11 @@ place-low bits offset is = split (offset % 2 ^ bits == 0) is
     split true e = grind (arith, nat_tests)
     split false e = absurd cc
 
--- a table has as many words as clusters, at least
+-- the number of clusters of a table is at most its number of entries
 clusters-below : (clusters raw_entries most : ℕ) → 1 ≤ raw_entries → clusters * raw_entries ≤ most → clusters ≤ most
 clusters-below clusters raw_entries most some le = let more : clusters * 1 ≤ clusters * raw_entries = mul-le clusters 1 clusters raw_entries (omega arith) some in omega arith
 
--- Where a file's bytes are bytes, the numbers in the new header fit their fields.
+-- If each byte of the file is below 256, the numbers of the new header fit their fields.
 pub first-fields-fit : (writing : Bool) (f : Bytes) (H H' : Header) → ((p : ℕ) → f p < 256) → header_of writing f ≡ Ok H → OnlyPlaces H H' → first_fault (rules_of_size H'.fields) ≡ None → FirstFieldsFit H'.fields
 unfolding fields_of
 first-fields-fit writing f H H' bytes loads only sizes =
@@ -351,7 +344,7 @@ first-fields-fit writing f H H' bytes loads only sizes =
     stays : (now was there n : ℕ) → now ≡ was → there ≡ was → there < n → now < n
     stays now was there n a b fits = omega arith
 
--- A header that loads for writing has its backing file's name, if there is one, behind the bytes that a pointer write writes.
+-- If a header loads for writing, the backing file's name starts after bytes 0 to 63.
 pub name-behind : (f : Bytes) (H : Header) → header_of true f ≡ Ok H → IsNameAfterFields H.fields
 name-behind f H loads = subst IsNameAfterFields (sym (header-fields true f H loads)) (λ named. behind (fields_of f) named (loaded-parts true f H loads).writing_allowed)
   where

@@ -1,4 +1,4 @@
--- The header names another L1 table, whose words are those of the old one, and then 0.
+-- The header is switched to another L1 table. Its entries are those of the old table, followed by entries of 0.
 use Rattle.std.proofs.Common.{◌≡◌, ◌≢◌, ℕ, ◌+◌, ◌*◌, ◌/◌, ◌%◌, ◌<◌, ◌≤◌, refl, arith, sym, subst, ◌∙◌, ap, inl, inr}
 use Rattle.std.specs.Prelude.{true, false, ◌⊎◌, nat_lt, IsTrue, Ok}
 use Rattle.std.proofs.lemmas.Bool.{cases_eq, cases_lt, lt-ltb, le-ltb}
@@ -32,18 +32,17 @@ module _ (f g : Bytes) (H : Header) (was : IsConsistent f H) (o more : ℕ) (loa
   n : ℕ
   n = H.fields.l1_entries + more
 
-  -- the new fields
   abbrev new : Fields
   new = with_l1 H.fields o (H.fields.l1_entries + more)
 
   size : 512 ≤ cluster_size H.fields
   size = cluster-long f H was
 
-  -- the structure beside the header is kept
+  -- the structure outside the header is the same
   kept : SameStructureOutside f g H.fields first_cluster
   kept = start-kept f g H was out
 
-  -- so a new table with words stands behind it
+  -- a new table with entries is after the first cluster
   behind : 0 < H.fields.l1_entries + more → cluster_size H.fields ≤ o
   behind some = elim (cases_lt o (cluster_size H.fields)) [
     | inr le ↦ le
@@ -55,7 +54,7 @@ module _ (f g : Bytes) (H : Header) (was : IsConsistent f H) (o more : ℕ) (loa
         absurd (omega arith)
   ]
 
-  -- and keeps its words
+  -- the new table has the same entries in both files
   words-there : (i : ℕ) → i < H.fields.l1_entries + more → raw_entry g o i ≡ raw_entry f o i
   unfolding raw_entry
   words-there i lt =
@@ -63,7 +62,7 @@ module _ (f g : Bytes) (H : Header) (was : IsConsistent f H) (o more : ℕ) (loa
       let far : cluster_size H.fields ≤ o = behind (omega arith) in
       be-same g f (o + 8 * i) (o + 8 * i) 8 (λ k less. out (o + 8 * i + k) (inr (omega arith)))
 
-  -- The L2 tables are the same,
+  -- The L2 tables, the blocks, the L2 entries and the refcounts are the same.
   pub switched-tables : (i : ℕ) → l2_table g (with_l1 H.fields o (H.fields.l1_entries + more)) i ≡ l2_table f H.fields i
   switched-tables i = elim (cases_lt i H.fields.l1_entries) [
     | inl lt ↦
@@ -84,27 +83,24 @@ module _ (f g : Bytes) (H : Header) (was : IsConsistent f H) (o more : ℕ) (loa
     ]
   ]
 
-  -- and so are the blocks,
   pub switched-blocks : (i : ℕ) → block_at g (with_l1 H.fields o (H.fields.l1_entries + more)) i ≡ block_at f H.fields i
   switched-blocks i = block_at-kept f g H.fields first_cluster kept i (λ e. cc)
 
-  -- the words of the L2 tables,
   pub switched-slots : (i j : ℕ) → Live (l2_table f H.fields) H.fields i j → slot g (with_l1 H.fields o (H.fields.l1_entries + more)) i j ≡ slot f H.fields i j
   switched-slots i j live = ap (λ t. mapping_of (layout_of H.fields) (raw_entry g t j)) (switched-tables i) ∙ ap (mapping_of (layout_of H.fields)) (kept.raw_entries i j live (λ e. cc))
 
-  -- and the counts.
   pub switched-counts : (d : ℕ) → count g (with_l1 H.fields o (H.fields.l1_entries + more)) d ≡ count f H.fields d
   unfolding count counter
   switched-counts d = count-kept f g H.fields first_cluster kept d (consistent-shaped f H was) (λ e. cc) (λ e. cc)
 
-  -- past the old table's words there is none
+  -- past the end of the old table no L2 table is referenced
   none-past : (i : ℕ) → H.fields.l1_entries ≤ i → l2_table f H.fields i ≡ 0
   none-past i le = let past : nat_lt i H.fields.l1_entries ≡ false = le-ltb _ _ le in rw past refl
 
   none-past' : (i : ℕ) → H.fields.l1_entries ≤ i → l2_table g (with_l1 H.fields o (H.fields.l1_entries + more)) i ≡ 0
   none-past' i le = switched-tables i ∙ none-past i le
 
-  -- the structure, by the old table and the new one
+  -- the structure, with the old table replaced by the new one
   switched-structure : (v : Weight) → structure g (with_l1 H.fields o (H.fields.l1_entries + more)) v + v H.fields.l1_offset (H.fields.l1_entries * 8) ≡ structure f H.fields v + v o ((H.fields.l1_entries + more) * 8)
   unfolding structure
   switched-structure v =
@@ -114,7 +110,6 @@ module _ (f g : Bytes) (H : Header) (was : IsConsistent f H) (o more : ℕ) (loa
       sum-longer H.fields.l1_entries more _ (λ i le. rw (none-past' i le) refl) ∙ sum-same _ _ _ (λ k less. ap (of_cluster H.fields v) (switched-tables k)) in
       omega arith
 
-  -- what the words weigh
   switched-contents : (of : Mapping → ℕ) → contents g (with_l1 H.fields o (H.fields.l1_entries + more)) of ≡ contents f H.fields of
   unfolding over_slots
   switched-contents of =
@@ -131,7 +126,7 @@ module _ (f g : Bytes) (H : Header) (was : IsConsistent f H) (o more : ℕ) (loa
             ∙ ap (or_none (l2_table f H.fields k)) (sum-same _ _ _ (λ j few. ap of (switched-slots k j record { in_l1 = less; is_there = is; in_table = few })))
       ]
 
-  -- The references: the new table's clusters are named, and no longer the old one's.
+  -- The references: those of the new table are added, and those of the old one removed.
   pub switched-references : (d : ℕ) → refs g (with_l1 H.fields o (H.fields.l1_entries + more)) d + meets H.fields d H.fields.l1_offset (H.fields.l1_entries * 8) ≡ refs f H.fields d + meets H.fields d o ((H.fields.l1_entries + more) * 8)
   unfolding refs
   switched-references d =
@@ -139,11 +134,11 @@ module _ (f g : Bytes) (H : Header) (was : IsConsistent f H) (o more : ℕ) (loa
       let rest : contents g (with_l1 H.fields o (H.fields.l1_entries + more)) (of_mapping H.fields (meets H.fields d)) ≡ contents f H.fields (of_mapping H.fields (meets H.fields d)) = switched-contents (of_mapping H.fields (meets H.fields d)) in
       omega arith
 
-  -- a range meets a cluster once or not
+  -- a range meets a cluster at most once
   meets-most : (d first length : ℕ) → meets H.fields d first length ≤ 1
   meets-most d first length = grind (arith, nat_tests)
 
-  -- the tables stay sound
+  -- all entries stay valid
   switched-sound : ValidEntries g (with_l1 H.fields o (H.fields.l1_entries + more))
   switched-sound =
       let sound : ValidEntries f H.fields = sound-words f H.fields was.readable.tables in
@@ -165,7 +160,6 @@ module _ (f g : Bytes) (H : Header) (was : IsConsistent f H) (o more : ℕ) (loa
       zero-sound : l1_entry_valid H.fields.cluster_bits 0 ≡ true
       zero-sound = grind (arith, nat_tests)
 
-  -- The image is consistent under the new header.
   pub switched-consistent : IsConsistent g (with_l1_table H o (H.fields.l1_entries + more))
   switched-consistent = consistent-from g (with_l1_table H o (H.fields.l1_entries + more)) loads was.readable.no_snapshots was.readable.data_inside switched-sound alone single covered
     where
@@ -217,7 +211,7 @@ module _ (f g : Bytes) (H : Header) (was : IsConsistent f H) (o more : ℕ) (loa
                 omega arith
           ]
 
-  -- Each guest cluster has the mapping that it had.
+  -- The mapping of each guest cluster is the same.
   pub switched-entry : (guest : ℕ) → entry g (with_l1 H.fields o (H.fields.l1_entries + more)) guest ≡ entry f H.fields guest
   switched-entry guest =
       let raw_entries : 0 < entries_of_cluster H.fields = some-words H.fields (consistent-shaped f H was) in

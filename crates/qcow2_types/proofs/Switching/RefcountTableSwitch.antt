@@ -1,4 +1,4 @@
--- The header names another refcount table, whose words name the blocks that the old ones named, and perhaps new ones.
+-- The header is switched to another refcount table. Its entries reference the blocks of the old table, and may reference new ones.
 use Rattle.std.proofs.Common.{◌≡◌, ◌≢◌, ℕ, ◌+◌, ◌*◌, ◌/◌, ◌%◌, ◌<◌, ◌≤◌, refl, arith, sym, ◌∙◌, ap, inl, inr}
 use Rattle.std.specs.Prelude.{true, false, ◌⊎◌, ◌==◌, nat_lt, if◌then◌else◌, IsTrue, Ok}
 use Rattle.std.proofs.lemmas.Bool.{cases_eq, cases_lt, lt-ltb, le-ltb}
@@ -32,11 +32,9 @@ module _ (f g : Bytes) (H : Header) (was : IsConsistent f H) (o m : ℕ) (loads 
     (old_blocks : (i : ℕ) → block_at f H.fields i ≢ 0 → block_at f (with_reftable H.fields o m) i ≡ block_at f H.fields i)
     (apart : (d : ℕ) → newly_referenced f H.fields o m (meets H.fields d) ≤ 1)
     (free : (d : ℕ) → 0 < newly_referenced f H.fields o m (meets H.fields d) → (refs f H.fields d ≡ 0) × (1 ≤ count f (with_reftable H.fields o m) d)) where
-  -- the new fields
   abbrev new : Fields
   new = with_reftable H.fields o m
 
-  -- their widths
   new-shaped : Shaped (with_reftable H.fields o m)
   new-shaped = let shaped : Shaped H.fields = consistent-shaped f H was in record { order = shaped.order; low = shaped.low; high = shaped.high }
 
@@ -46,11 +44,11 @@ module _ (f g : Bytes) (H : Header) (was : IsConsistent f H) (o m : ℕ) (loads 
   words-of : entries_of_cluster H.fields * 8 ≡ cluster_size H.fields
   words-of = let s : 512 ≤ cluster_size H.fields = size in whole H.fields.cluster_bits (omega arith)
 
-  -- the structure beside the header is kept
+  -- the structure outside the header is the same
   kept : SameStructureOutside f g H.fields first_cluster
   kept = start-kept f g H was out
 
-  -- so a new table with words stands behind it
+  -- a new table with entries is after the first cluster
   behind : 0 < m * cluster_size H.fields → cluster_size H.fields ≤ o
   behind some = elim (cases_lt o (cluster_size H.fields)) [
     | inr le ↦ le
@@ -63,14 +61,14 @@ module _ (f g : Bytes) (H : Header) (was : IsConsistent f H) (o m : ℕ) (loads 
         absurd (omega arith)
   ]
 
-  -- the bytes of the new table, by its words
+  -- the new table's length in bytes, by its entries
   new-bytes : m * entries_of_cluster H.fields * 8 ≡ m * cluster_size H.fields
   new-bytes =
       let w : entries_of_cluster H.fields * 8 ≡ cluster_size H.fields = words-of in
       let a : m * (entries_of_cluster H.fields * 8) ≡ m * cluster_size H.fields = ap (λ x. m * x) w in
       omega arith
 
-  -- and keeps its words
+  -- the new table has the same entries in both files
   words-there : (i : ℕ) → i < m * entries_of_cluster H.fields → raw_entry g o i ≡ raw_entry f o i
   unfolding raw_entry
   words-there i lt =
@@ -79,25 +77,24 @@ module _ (f g : Bytes) (H : Header) (was : IsConsistent f H) (o m : ℕ) (loads 
       let far : cluster_size H.fields ≤ o = behind (omega arith) in
       be-same g f (o + 8 * i) (o + 8 * i) 8 (λ k less. out (o + 8 * i + k) (inr (omega arith)))
 
-  -- past them there is none
+  -- past the end of the new table no block is referenced
   none-past : (x : Bytes) (i : ℕ) → m * entries_of_cluster H.fields ≤ i → block_at x (with_reftable H.fields o m) i ≡ 0
   none-past x i le = let past : nat_lt i (m * entries_of_cluster H.fields) ≡ false = le-ltb _ _ le in rw past refl
 
-  -- So the table names the same blocks,
+  -- The blocks, the L2 tables and the L2 entries are the same.
   pub switched-blocks : (i : ℕ) → block_at g (with_reftable H.fields o m) i ≡ block_at f (with_reftable H.fields o m) i
   switched-blocks i = elim (cases_lt i (m * entries_of_cluster H.fields)) [
     | inl lt ↦ ap (λ w. if nat_lt i (m * entries_of_cluster H.fields) then block_offset w else 0) (words-there i lt)
     | inr le ↦ none-past g i le ∙ sym (none-past f i le)
   ]
 
-  -- the L2 tables and their words are the same,
   pub switched-tables : (i : ℕ) → l2_table g (with_reftable H.fields o m) i ≡ l2_table f H.fields i
   switched-tables i = l2_table-kept f g H.fields first_cluster kept i (λ e. cc)
 
   pub switched-slots : (i j : ℕ) → Live (l2_table f H.fields) H.fields i j → slot g (with_reftable H.fields o m) i j ≡ slot f H.fields i j
   switched-slots i j live = slot-kept f g H.fields first_cluster kept i j live (λ e. cc) (λ e. cc)
 
-  -- a block stands behind the header,
+  -- a block is after the first cluster
   block-behind : (i : ℕ) → block_at f (with_reftable H.fields o m) i ≢ 0 → cluster_size H.fields ≤ block_at f (with_reftable H.fields o m) i
   block-behind i there = elim (cases_lt i (m * entries_of_cluster H.fields)) [
     | inr le ↦ absurd (there (none-past f i le))
@@ -121,7 +118,7 @@ module _ (f g : Bytes) (H : Header) (was : IsConsistent f H) (o m : ℕ) (loads 
             omega arith
       ]
 
-  -- so counters are what they were,
+  -- the refcounts by the new table are the same in both files
   pub switched-counts : (d : ℕ) → count g (with_reftable H.fields o m) d ≡ count f (with_reftable H.fields o m) d
   switched-counts d = count-same f g (with_reftable H.fields o m) d new-shaped (switched-blocks (d / counters_of_block H.fields)) (λ there. bytes there)
     where
@@ -131,12 +128,12 @@ module _ (f g : Bytes) (H : Header) (was : IsConsistent f H) (o m : ℕ) (loads 
           let far : cluster_size H.fields ≤ block_at f (with_reftable H.fields o m) (d / counters_of_block H.fields) = block-behind (d / counters_of_block H.fields) there in
           out _ (inr (omega arith))
 
-  -- and the counts of the clusters that an old block counts.
+  -- the refcounts in the old blocks are the same
   pub switched-old-counts : (d : ℕ) → block_at f H.fields (d / counters_of_block H.fields) ≢ 0 → count g (with_reftable H.fields o m) d ≡ count f H.fields d
   unfolding count counter
   switched-old-counts d there = switched-counts d ∙ ap (λ p. if p == 0 then 0 else counter_of f (counter_bits H.fields) p (d % counters_of_block H.fields)) (old_blocks (d / counters_of_block H.fields) there)
 
-  -- So each cluster is counted as often as it is named by the old header: no other cluster was named.
+  -- Each refcount still covers the references by the old header: a cluster without an old block has none.
   switched-counted : (d : ℕ) → refs f H.fields d ≤ count g (with_reftable H.fields o m) d
   switched-counted d =
       let le : refs f H.fields d ≤ count f H.fields d = named-counted f H was d in
@@ -145,11 +142,11 @@ module _ (f g : Bytes) (H : Header) (was : IsConsistent f H) (o m : ℕ) (loads 
         | inr there ↦ let same : count g (with_reftable H.fields o m) d ≡ count f H.fields d = switched-old-counts d there in omega arith
       ]
 
-  -- what a new block weighs
+  -- the weight of block i if it is new
   abbrev new-block : Weight → ℕ → ℕ
   new-block v i = if block_at f H.fields i == 0 then of_cluster H.fields v (block_at f (with_reftable H.fields o m) i) else 0
 
-  -- the blocks, the old ones and the new
+  -- the sum over the blocks splits into the old and the new ones
   blocks-sum : (v : Weight) → sum_below (m * entries_of_cluster H.fields) (λ i. of_cluster H.fields v (block_at g (with_reftable H.fields o m) i))
       ≡ sum_below (refcount_table_entries H.fields) (λ i. of_cluster H.fields v (block_at f H.fields i)) + sum_below (m * entries_of_cluster H.fields) (new-block v)
   blocks-sum v =
@@ -183,7 +180,7 @@ module _ (f g : Bytes) (H : Header) (was : IsConsistent f H) (o m : ℕ) (loads 
             rw (switched-blocks i, old_blocks i there, off) (omega arith)
       ]
 
-  -- the structure, by the old table, the new one, and the new blocks
+  -- the structure, with the old table replaced by the new one and the new blocks
   switched-structure : (v : Weight) → structure g (with_reftable H.fields o m) v + v H.fields.refcount_table_offset (H.fields.refcount_table_clusters * cluster_size H.fields) ≡ structure f H.fields v + newly_referenced f H.fields o m v
   unfolding structure
   switched-structure v =
@@ -193,7 +190,6 @@ module _ (f g : Bytes) (H : Header) (was : IsConsistent f H) (o m : ℕ) (loads 
       ≡ sum_below (refcount_table_entries H.fields) (λ i. of_cluster H.fields v (block_at f H.fields i)) + sum_below (m * entries_of_cluster H.fields) (λ i. if block_at f H.fields i == 0 then of_cluster H.fields v (block_at f (with_reftable H.fields o m) i) else 0) = blocks-sum v in
       omega arith
 
-  -- what the words weigh
   switched-contents : (of : Mapping → ℕ) → contents g (with_reftable H.fields o m) of ≡ contents f H.fields of
   unfolding over_slots
   switched-contents of =
@@ -208,7 +204,7 @@ module _ (f g : Bytes) (H : Header) (was : IsConsistent f H) (o m : ℕ) (loads 
             ∙ ap (or_none (l2_table f H.fields k)) (sum-same _ _ _ (λ j few. ap of (switched-slots k j record { in_l1 = less; is_there = is; in_table = few })))
       ]
 
-  -- The references: the new table and the new blocks are named, and no longer the old table.
+  -- The references: those of the new table and the new blocks are added, and those of the old table removed.
   pub switched-references : (d : ℕ) → refs g (with_reftable H.fields o m) d + meets H.fields d H.fields.refcount_table_offset (H.fields.refcount_table_clusters * cluster_size H.fields) ≡ refs f H.fields d + newly_referenced f H.fields o m (meets H.fields d)
   unfolding refs
   switched-references d =
@@ -216,7 +212,7 @@ module _ (f g : Bytes) (H : Header) (was : IsConsistent f H) (o m : ℕ) (loads 
       let rest : contents g (with_reftable H.fields o m) (of_mapping H.fields (meets H.fields d)) ≡ contents f H.fields (of_mapping H.fields (meets H.fields d)) = switched-contents (of_mapping H.fields (meets H.fields d)) in
       omega arith
 
-  -- the tables stay sound
+  -- all entries stay valid
   switched-sound : ValidEntries g (with_reftable H.fields o m)
   switched-sound =
       let sound : ValidEntries f H.fields = sound-words f H.fields was.readable.tables in
@@ -228,11 +224,10 @@ module _ (f g : Bytes) (H : Header) (was : IsConsistent f H) (o m : ℕ) (loads 
             ap is_damaged (switched-slots i j old) ∙ sound.slots i j old;
       }
 
-  -- The image is consistent under the new header.
   pub switched-consistent : IsConsistent g (with_refcount_table H o m)
   switched-consistent = consistent-from g (with_refcount_table H o m) loads was.readable.no_snapshots was.readable.data_inside switched-sound alone single covered
     where
-      -- a cluster is named by the new table and blocks, or as often as before at most
+      -- either the new table and blocks reference a cluster once, or its references don't increase
       once : (d : ℕ) → (0 < newly_referenced f H.fields o m (meets H.fields d)) ⊎ (refs f H.fields d ≤ 1) → refs g (with_reftable H.fields o m) d ≤ 1
       once d which =
           let sum : refs g (with_reftable H.fields o m) d + meets H.fields d H.fields.refcount_table_offset (H.fields.refcount_table_clusters * cluster_size H.fields) ≡ refs f H.fields d + newly_referenced f H.fields o m (meets H.fields d) = switched-references d in
@@ -275,7 +270,7 @@ module _ (f g : Bytes) (H : Header) (was : IsConsistent f H) (o m : ℕ) (loads 
                 omega arith
           ]
 
-  -- Each guest cluster has the mapping that it had.
+  -- The mapping of each guest cluster is the same.
   pub switched-entry : (guest : ℕ) → entry g (with_reftable H.fields o m) guest ≡ entry f H.fields guest
   switched-entry guest =
       let raw_entries : 0 < entries_of_cluster H.fields = some-words H.fields (consistent-shaped f H was) in

@@ -1,4 +1,4 @@
--- The header has another size of the disk, on which nothing else depends.
+-- The header is switched to another disk size. The meaning of the image doesn't depend on this field.
 use Rattle.std.proofs.Common.{◌≡◌, ℕ, zero, suc, ◌*◌, ◌≤◌, refl, arith, sym, ◌∙◌, Ok}
 use Rattle.std.specs.Prelude.{true, IsTrue}
 use Rattle.qcow2_types.specs.Bytes.{Bytes}
@@ -21,61 +21,49 @@ use Rattle.qcow2_types.proofs.Counting.Sound.{words-sound}
 use Rattle.qcow2_types.proofs.Switching.Switches.{start-kept, start-free, start-mapped, start-values}
 use Rattle.qcow2_types.proofs.Showing.Values.{entry-slot}
 
--- what the structure weighs
 sized-structure : (f : Bytes) (h : Fields) (n : ℕ) (w : Weight) → structure f (sized h n) w ≡ structure f h w
 unfolding structure
 sized-structure f h n w = refl
 
--- what the words weigh
 sized-contents : (f : Bytes) (h : Fields) (n : ℕ) (of : Mapping → ℕ) → contents f (sized h n) of ≡ contents f h of
 unfolding contents of_table
 sized-contents f h n of = refl
 
--- references
 sized-refs : (f : Bytes) (h : Fields) (n c : ℕ) → refs f (sized h n) c ≡ refs f h c
 unfolding refs structure contents of_table
 sized-refs f h n c = refl
 
--- counts
 sized-count : (f : Bytes) (h : Fields) (n c : ℕ) → count f (sized h n) c ≡ count f h c
 unfolding count counter
 sized-count f h n c = refl
 
--- mappings of guest clusters
 sized-entry : (f : Bytes) (h : Fields) (n guest : ℕ) → entry f (sized h n) guest ≡ entry f h guest
 unfolding entry l1_table_sound l2_table_sound
 sized-entry f h n guest = refl
 
 module _ (f g : Bytes) (H : Header) (was : IsConsistent f H) (n : ℕ) (loads : header_of true g ≡ Ok (with_size H n)) (out : Outside f g 0 64) where
-  -- the structure beside the header is kept
+  -- the structure outside the header is the same
   kept : SameStructureOutside f g H.fields first_cluster
   kept = start-kept f g H was out
 
-  -- and so are all mappings,
   keeps : KeepsSlots f g H.fields
   keeps = kept-keeps f g H was first_cluster kept (λ i e. cc) (λ i e. cc) (λ i e. cc)
 
-  -- the words of the tables stay sound,
   sound : ValidEntries g H.fields
   sound = kept-sound f g H was first_cluster kept (λ i e. cc) (λ i e. cc) (λ i e. cc)
 
-  -- each cluster is counted as often,
   counts : (d : ℕ) → count g (sized H.fields n) d ≡ count f H.fields d
   counts d = sized-count g H.fields n d ∙ count-kept f g H.fields first_cluster kept d (consistent-shaped f H was) (λ e. cc) (λ e. cc)
 
-  -- the structure weighs what it did,
   structure-stays : (v : Weight) → structure g (sized H.fields n) v ≡ structure f H.fields v
   structure-stays v = sized-structure g H.fields n v ∙ structure-same f g H.fields keeps.places v
 
-  -- and so do the words,
   contents-stay : (of : Mapping → ℕ) → contents g (sized H.fields n) of ≡ contents f H.fields of
   contents-stay of = sized-contents g H.fields n of ∙ contents-kept f g H.fields of keeps
 
-  -- and each cluster is named as often.
   references : (d : ℕ) → refs g (sized H.fields n) d ≡ refs f H.fields d
   references d = sized-refs g H.fields n d ∙ refs-kept f g H.fields d keeps
 
-  -- The image is consistent under the new header.
   consistent : IsConsistent g (with_size H n)
   consistent =
       consistent-from g (with_size H n) loads was.readable.no_snapshots was.readable.data_inside
@@ -96,17 +84,14 @@ module _ (f g : Bytes) (H : Header) (was : IsConsistent f H) (n : ℕ) (loads : 
       let le : refs f H.fields c ≤ count f H.fields c = named-counted f H was c in
       omega arith)
 
-  -- It leaks what it leaked.
   leaks-same : (k : ℕ) → leaks_below g (sized H.fields n) k ≡ leaks_below f H.fields k
   unfolding leaks_below
   leaks-same zero = refl
   leaks-same (suc k) = let here : leak_at g (sized H.fields n) k ≡ leak_at f H.fields k = rw (references k, counts k) refl in rw (leaks-same k, here) refl
 
-  -- no table is damaged
   tables : IsTrue (tables_sound g H.fields)
   tables = words-sound g H.fields sound
 
-  -- Each guest cluster has the mapping that it had.
   entries : (guest : ℕ) → entry g (sized H.fields n) guest ≡ entry f H.fields guest
   entries guest =
       sized-entry g H.fields n guest

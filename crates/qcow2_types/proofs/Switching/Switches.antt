@@ -1,4 +1,4 @@
--- A table moves: an L1 word is switched, or the header is.
+-- A table is replaced: an L1 entry is set to another table, or the header is switched.
 use Rattle.std.proofs.Common.{◌≡◌, ◌≢◌, ℕ, zero, suc, ◌+◌, ◌*◌, ◌^◌, ◌<◌, ◌≤◌, refl, arith, ap, sym, ◌∙◌, inl, inr}
 use Rattle.std.specs.Prelude.{◌/◌, false, nat_lt, IsTrue}
 use Rattle.imago_storage.specs.Disk.{Value}
@@ -27,11 +27,10 @@ use Rattle.qcow2_types.specs.Versions.{references_in_either, of_either}
 use Rattle.qcow2_types.specs.Switched.{with_l1}
 
 module _ (f : Bytes) (H : Header) (was : IsConsistent f H) where
-  -- a cluster is as long as the least
   pub cluster-long : 512 ≤ cluster_size H.fields
   cluster-long = let shaped : Shaped H.fields = consistent-shaped f H was in let low : 2 ^ 9 ≤ 2 ^ H.fields.cluster_bits = pow-le-pow_right (omega arith) shaped.low in omega arith
 
-  -- the header fills the first cluster,
+  -- the header fills the first cluster, so that cluster is referenced
   pub first-weighs : 1 ≤ structure f H.fields (meets H.fields 0)
   first-weighs =
       let own : meets H.fields 0 (0 * cluster_size H.fields) (cluster_size H.fields) ≡ 1 = meets-own H.fields 0 in
@@ -40,33 +39,31 @@ module _ (f : Bytes) (H : Header) (was : IsConsistent f H) where
       let part : meets H.fields 0 0 (cluster_size H.fields) ≤ structure f H.fields (meets H.fields 0) = header-part f H.fields (meets H.fields 0) in
       omega arith
 
-  -- so that is named
   pub first-named : 1 ≤ refs f H.fields 0
   first-named =
       let some : 1 ≤ structure f H.fields (meets H.fields 0) = first-weighs in
       let all : structure f H.fields (meets H.fields 0) ≤ refs f H.fields 0 = structure-le-refs f H.fields 0 in
       omega arith
 
--- Where a header's first 64 bytes change, the structure beside the header is kept.
+-- If the first 64 bytes of a header change, the structure outside the header is the same.
 pub start-kept : (f g : Bytes) (H : Header) → IsConsistent f H → Outside f g 0 64 → SameStructureOutside f g H.fields first_cluster
 start-kept f g H was out =
     let s : 512 ≤ cluster_size H.fields = cluster-long f H was in
     let once : structure f H.fields (touches 0 64) ≤ 1 = touches-once f H.fields 0 0 64 (was.structure_apart 0) (omega arith) (omega arith) in
     kept-start f g H.fields 0 64 out (omega arith) once (omega arith)
 
--- Clusters that nothing names keep their bytes,
+-- Clusters that nothing references keep their bytes, and so do clusters that L2 entries reference.
 pub start-free : (f g : Bytes) (H : Header) → IsConsistent f H → Outside f g 0 64 → (c : ℕ) → refs f H.fields c ≡ 0 → Same f g (c * cluster_size H.fields) (cluster_size H.fields)
 start-free f g H was out =
     let s : 512 ≤ cluster_size H.fields = cluster-long f H was in
     free-stays f g H 0 0 64 out (omega arith) (omega arith) (first-weighs f H was)
 
--- and so do those that words name.
 pub start-mapped : (f g : Bytes) (H : Header) → IsConsistent f H → Outside f g 0 64 → (c : ℕ) → 0 < contents f H.fields (of_mapping H.fields (meets H.fields c)) → Same f g (c * cluster_size H.fields) (cluster_size H.fields)
 start-mapped f g H was out =
     let s : 512 ≤ cluster_size H.fields = cluster-long f H was in
     data-stays f g H was 0 0 64 out (omega arith) (omega arith) (first-weighs f H was)
 
--- So each guest cluster shows what it did, by the old fields.
+-- Each guest cluster reads as before with the old fields.
 pub start-shows : (f g : Bytes) (H : Header) → IsConsistent f H → Outside f g 0 64 → (guest : ℕ) → ShowsAs g f H.fields guest
 start-shows f g H was out guest =
     let kept : SameStructureOutside f g H.fields first_cluster = start-kept f g H was out in
@@ -76,7 +73,7 @@ start-shows f g H was out guest =
     let same : guest_slot g H.fields guest ≡ guest_slot f H.fields guest = guest-kept f g H.fields (kept-keeps f g H was first_cluster kept (λ i e. cc) (λ i e. cc) (λ i e. cc)) some guest in
     shows-outside f g H.fields was.readable.tables sound some guest same 0 0 64 out (omega arith) (omega arith) (structure-unmapped f H was 0 (first-weighs f H was))
 
--- and so does each place, under a header that leaves the mappings of guest clusters
+-- and with other fields, if these give the same mappings
 pub start-values : (f g : Bytes) (H : Header) (new : Fields) → IsConsistent f H → Outside f g 0 64 → new.cluster_bits ≡ H.fields.cluster_bits → new.incompatible ≡ H.fields.incompatible
     → ((guest : ℕ) → entry g new guest ≡ entry f H.fields guest) → (external : Bytes) (p : ℕ) (below : Value) → shown g external new p below ≡ shown f external H.fields p below
 start-values f g H new was out size features entries external p below =
@@ -87,18 +84,18 @@ start-values f g H new was out size features entries external p below =
     ap (λ m. shown_by m (host_byte g external new p) below) mapping
     ∙ (ap (λ b. shown_by (entry g H.fields (p / cluster_size H.fields)) b below) byte ∙ value-same g f external H.fields p below like)
 
--- what row i of the tables weighs
+-- the weight of table i in both versions
 row : Bytes → Bytes → Fields → ℕ → ℕ → ℕ
 row f g h c i = or_none (l2_table f h i) (sum_below (entries_of_cluster h) (λ j. of_either h (meets h c) (slot f h i j) (slot g h i j)))
 
--- L1 word i is switched to another table, whose words name what the old table's did; all else stays.
+-- L1 entry i is set to another table with the mappings of the old one; everything else is the same.
 pub record SwitchesTable (f g f' g' : Bytes) (h : Fields) (i c : ℕ) : Type 0 where
   pub in_l1 : i < h.l1_entries
   pub blocks : (k : ℕ) → block_at f' h k ≡ block_at f h k
   pub l1 : (k : ℕ) → k < h.l1_entries → k ≢ i → l2_table f' h k ≡ l2_table f h k
   pub rows : (k : ℕ) → k < h.l1_entries → or_none (l2_table f' h k) (sum_below (entries_of_cluster h) (λ j. of_either h (meets h c) (slot f' h k j) (slot g' h k j))) ≡ or_none (l2_table f h k) (sum_below (entries_of_cluster h) (λ j. of_either h (meets h c) (slot f h k j) (slot g h k j)))
 
--- the number changes by the old table and the new one
+-- the references change by the old table and the new one
 pub table-switched : (f g f' g' : Bytes) (h : Fields) (i c : ℕ) → SwitchesTable f g f' g' h i c
     → references_in_either f' g' h c + of_cluster h (meets h c) (l2_table f h i) ≡ references_in_either f g h c + of_cluster h (meets h c) (l2_table f' h i)
 unfolding references_in_either structure over_slots
@@ -124,7 +121,7 @@ sum-longer n (suc k) f none =
     let step : sum_below (n + suc k) f ≡ f (n + k) + sum_below (n + k) f = ap (λ m. sum_below m f) more in
     omega arith
 
--- Its words are those of the old one, and then 0.
+-- The entries of the new L1 table are those of the old one, followed by entries of 0.
 pub l1-switched : (f g f' g' : Bytes) (h : Fields) (offset more c : ℕ)
     → ((i : ℕ) → block_at f' h i ≡ block_at f h i)
     → ((i : ℕ) → l2_table f' (with_l1 h offset (h.l1_entries + more)) i ≡ l2_table f h i)

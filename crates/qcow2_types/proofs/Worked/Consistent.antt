@@ -14,37 +14,35 @@ use Rattle.qcow2_types.specs.Consistency.{IsReadable, IsConsistent, IsVerdict, t
 use Rattle.qcow2_types.proofs.Counting.Named.{reaching, past}
 use Rattle.qcow2_types.proofs.Worked.Whole.{consistent-within, leaks-within}
 
--- it is readable
 readable : IsReadable (of_pieces image) image_header
 unfolding header_of texts_of extensions_at extension_at fields_of be run raw_entry of_pieces image image_header image_fields is_utf8 chars encode_utf8
     tables_sound l1_table_sound l2_table_sound refcount_table_sound all_below mapping_of
 readable = record { loads = refl; no_snapshots = refl; data_inside = refl; tables = refl }
 
--- nothing is named past cluster 6
+-- no cluster after 6 is referenced
 within : reaching (of_pieces image) image_fields 7 ≡ 0
 unfolding reaching past structure contents of_table sum_below mapping_of raw_entry be of_pieces image image_fields
 within = refl
 
--- no cluster before 7 is shared
+-- no cluster of the structure before 7 is shared
 shared : all_below 7 (λ c. not (shares_structure (of_pieces image) image_fields c)) ≡ true
 unfolding shares_structure refs structure contents of_table sum_below all_below mapping_of raw_entry be of_pieces image image_fields
 shared = refl
 
--- none is wrongly marked as copied
+-- no COPIED cluster before 7 is shared
 copied : all_below 7 (λ c. not (is_false_copied (of_pieces image) image_fields c)) ≡ true
 unfolding is_false_copied refs structure contents of_table sum_below all_below mapping_of raw_entry be of_pieces image image_fields
 copied = refl
 
--- none is counted too rarely
+-- each refcount before 7 covers the references
 counted : all_below 7 (λ c. not (is_under_counted (of_pieces image) image_fields c)) ≡ true
 unfolding is_under_counted count counter refs structure contents of_table sum_below all_below mapping_of raw_entry be of_pieces image image_fields
 counted = refl
 
--- so it is consistent
 pub consistent : IsConsistent (of_pieces image) image_header
 consistent = consistent-within (of_pieces image) readable within shared copied counted
 
--- only the first block is there
+-- only the first block exists
 one_block : all_below 64 (λ i. (i == 0) || (block_at (of_pieces image) image_fields i == 0)) ≡ true
 unfolding all_below raw_entry be of_pieces image image_fields
 one_block = refl
@@ -54,11 +52,10 @@ few_leaks : leaks_below (of_pieces image) image_fields 256 ≡ []
 unfolding leaks_below count counter refs structure contents of_table sum_below mapping_of raw_entry be of_pieces image image_fields
 few_leaks = refl
 
--- so these are all leaks
+-- these are all leaks
 pub no_leaks : leaks (of_pieces image) image_fields ≡ []
 no_leaks = leaks-within (of_pieces image) one_block ([]) few_leaks
 
--- what a checker answers
 pub verdict : IsVerdict (of_pieces image) (Ok [])
 unfolding image_header
 verdict = (image_header, consistent, sym no_leaks)

@@ -1,4 +1,4 @@
--- The refcount table of the worked image grows over a block that it doesn't name, below its end.
+-- The refcount table of the worked image grows. A new block covers clusters below the old table's limit that had no block.
 use Rattle.std.proofs.Common.{◌≡◌, ◌≢◌, ℕ, ◌+◌, ◌*◌, ◌<◌, ◌≤◌, refl, arith, ◌∙◌, lit≤, lit<, inl, inr, Ok, [], ◌∷◌}
 use Rattle.std.specs.Prelude.{◌⊎◌, true, map, IsTrue, ◌==◌, ◌||◌, not, if◌then◌else◌}
 use Rattle.std.specs.Str.{is_utf8, chars}
@@ -23,7 +23,7 @@ use Rattle.qcow2_types.proofs.Numbers.Sums.{sum-change, sum-none}
 use Rattle.qcow2_types.proofs.Switching.Switches.{sum-longer}
 use Rattle.qcow2_types.proofs.Worked.Consistent.{consistent}
 
--- nothing names clusters 256 to 258
+-- clusters 256 to 258 have no references
 refs_256 : refs (of_pieces image) image_fields 256 ≡ 0
 unfolding refs structure contents of_table sum_below mapping_of raw_entry be of_pieces image image_fields
 refs_256 = refl
@@ -36,47 +36,47 @@ refs_258 : refs (of_pieces image) image_fields 258 ≡ 0
 unfolding refs structure contents of_table sum_below mapping_of raw_entry be of_pieces image image_fields
 refs_258 = refl
 
--- the block is written, and shows nowhere
+-- the block is written, and nothing changes for the guest
 first : FreeWritten (of_pieces image) block_written image_header
 unfolding image_header image_fields block_written
 first = free-written (of_pieces image) image_header consistent 256 refs_256 (splice (of_pieces image) 131072 (0 ∷ 1 ∷ 0 ∷ 1 ∷ 0 ∷ 1 ∷ [])) 131072 6 (splice-is-outside (of_pieces image) 131072 (0 ∷ 1 ∷ 0 ∷ 1 ∷ 0 ∷ 1 ∷ [])) (lit≤ tt) (lit≤ tt)
 
--- and then the table
+-- and the new table
 second : FreeWritten block_written table_written image_header
 unfolding image_header image_fields table_written
 second = free-written block_written image_header first.consistent 257 (first.references 257 ∙ refs_257) (splice block_written 131584 (0 ∷ 0 ∷ 0 ∷ 0 ∷ 0 ∷ 0 ∷ 4 ∷ 0 ∷ 0 ∷ 0 ∷ 0 ∷ 0 ∷ 0 ∷ 2 ∷ 0 ∷ 0 ∷ [])) 131584 16 (splice-is-outside block_written 131584 (0 ∷ 0 ∷ 0 ∷ 0 ∷ 0 ∷ 0 ∷ 4 ∷ 0 ∷ 0 ∷ 0 ∷ 0 ∷ 0 ∷ 0 ∷ 2 ∷ 0 ∷ 0 ∷ [])) (lit≤ tt) (lit≤ tt)
 
--- so they are still not named
+-- clusters without references still have none
 not_referenced : (d : ℕ) → refs (of_pieces image) image_fields d ≡ 0 → refs table_written image_fields d ≡ 0
 unfolding image_header
 not_referenced d none = second.references d ∙ (first.references d ∙ none)
 
--- the header names the new table
+-- the header is switched to the new table
 loads : header_of true grown ≡ Ok (with_refcount_table image_header 131584 2)
 unfolding header_of texts_of extensions_at extension_at fields_of be run raw_entry splice grown table_written block_written of_pieces image image_header image_fields is_utf8 chars encode_utf8
 loads = refl
 
--- its words are sound
+-- the new table's entries are valid
 words_sound : all_below 128 (λ i. reftable_entry_valid 9 (raw_entry table_written 131584 i)) ≡ true
 unfolding all_below raw_entry be splice table_written block_written of_pieces image
 words_sound = refl
 
--- the old table names one block, and so does the new one there
+-- the new table references the block that the old one references
 blocks_kept : all_below 64 (λ i. (block_at table_written image_fields i == 0) || (block_at table_written (with_reftable image_fields 131584 2) i == block_at table_written image_fields i)) ≡ true
 unfolding all_below raw_entry be splice table_written block_written of_pieces image image_fields
 blocks_kept = refl
 
--- word 1 alone of the new table names a block where the old one names none
+-- only entry 1 of the new table references a block where the old table has none
 one_new : all_below 128 (λ i. (i == 1) || not (block_at table_written image_fields i == 0) || (block_at table_written (with_reftable image_fields 131584 2) i == 0)) ≡ true
 unfolding all_below raw_entry be splice table_written block_written of_pieces image image_fields
 one_new = refl
 
--- what it names
+-- the weight of that block
 new_1 : (v : Weight) → (if block_at table_written image_fields 1 == 0 then of_cluster image_fields v (block_at table_written (with_reftable image_fields 131584 2) 1) else 0) ≡ v 131072 512
 unfolding raw_entry be splice table_written block_written of_pieces image image_fields
 new_1 v = refl
 
--- so the new table's clusters and that block's are newly named
+-- only the new table and that block are newly referenced
 named_there : (v : Weight) → newly_referenced table_written image_fields 131584 2 v ≡ v 131584 1024 + v 131072 512
 unfolding image_fields
 named_there v =
@@ -95,12 +95,12 @@ named_there v =
         by : (i a b : ℕ) → i ≢ 1 → ((i == 1) || not (a == 0) || (b == 0)) ≡ true → (if a == 0 then of_cluster image_fields v b else 0) ≡ 0
         by i a b apart test = grind (arith, nat_tests)
 
--- each word of the new table is sound
+-- each entry of the new table is valid
 sound : (i : ℕ) → i < 2 * entries_of_cluster image_fields → IsTrue (reftable_entry_valid image_fields.cluster_bits (raw_entry table_written 131584 i))
 unfolding image_fields
 sound i lt = all-below 128 (λ j. reftable_entry_valid 9 (raw_entry table_written 131584 j)) words_sound i lt
 
--- and names the old block where there was one
+-- and references the block of the old table, if any
 kept : (i : ℕ) → block_at table_written image_fields i ≢ 0 → block_at table_written (with_reftable image_fields 131584 2) i ≡ block_at table_written image_fields i
 unfolding image_fields
 kept i there =
@@ -109,14 +109,14 @@ kept i there =
     all-below 64 (λ j. (block_at table_written image_fields j == 0) || (block_at table_written (with_reftable image_fields 131584 2) j == block_at table_written image_fields j)) blocks_kept i lt in
     grind (arith, nat_tests)
 
--- each cluster is newly named once at most
+-- each cluster is newly referenced at most once
 once : (d : ℕ) → newly_referenced table_written image_fields 131584 2 (meets image_fields d) ≤ 1
 unfolding image_fields
 once d = let sum : newly_referenced table_written image_fields 131584 2 (meets image_fields d) ≡ meets image_fields d 131584 1024 + meets image_fields d 131072 512 = named_there (meets image_fields d) in
     let most : meets image_fields d 131584 1024 + meets image_fields d 131072 512 ≤ 1 = grind (arith, nat_tests) in
     omega arith
 
--- it is one of three then
+-- only clusters 256, 257 and 258 are newly referenced
 which : (d : ℕ) → 0 < newly_referenced table_written image_fields 131584 2 (meets image_fields d) → (d ≡ 256) ⊎ (d ≡ 257) ⊎ (d ≡ 258)
 unfolding image_fields
 which d some =
@@ -131,7 +131,7 @@ which d some =
       ]
     ]
 
--- the new table counts these in the file as it stands before the header is written
+-- their refcounts by the new table, before the header is written
 counted_256 : count table_written (with_reftable image_fields 131584 2) 256 ≡ 1
 unfolding count counter raw_entry be splice table_written block_written of_pieces image image_fields
 counted_256 = refl
@@ -144,13 +144,13 @@ counted_258 : count table_written (with_reftable image_fields 131584 2) 258 ≡ 
 unfolding count counter raw_entry be splice table_written block_written of_pieces image image_fields
 counted_258 = refl
 
--- the write of the header lies in its first 64 bytes
+-- the write of the header is inside its first 64 bytes
 in_header : Outside table_written grown 0 64
 unfolding grown
 in_header p (inl before) = absurd (omega arith)
 in_header p (inr after) = splice-is-outside table_written 48 (0 ∷ 0 ∷ 0 ∷ 0 ∷ 0 ∷ 2 ∷ 2 ∷ 0 ∷ 0 ∷ 0 ∷ 0 ∷ 2 ∷ []) p (inr (omega arith))
 
--- The law speaks of the growth.
+-- The law on switching the refcount table applies.
 pub switched : RefcountTableSwitched table_written grown image_header 131584 2
 unfolding image_header
 switched = refcount-table-switched table_written grown image_header second.consistent 131584 2 loads in_header sound kept once free
@@ -162,12 +162,10 @@ switched = refcount-table-switched table_written grown image_header second.consi
       | inr (inr e) ↦ rw e (not_referenced 258 refs_258, omega (arith, counted_258))
     ]
 
--- the counts then
 pub counts : map (count grown (with_reftable image_fields 131584 2)) (0 ∷ 1 ∷ 255 ∷ 256 ∷ 257 ∷ 258 ∷ 259 ∷ []) ≡ 1 ∷ 1 ∷ 0 ∷ 1 ∷ 1 ∷ 1 ∷ 0 ∷ []
 unfolding count counter raw_entry be splice grown table_written block_written of_pieces image image_fields
 counts = refl
 
--- and what is named
 pub references : map (refs grown (with_reftable image_fields 131584 2)) (0 ∷ 1 ∷ 255 ∷ 256 ∷ 257 ∷ 258 ∷ 259 ∷ []) ≡ 1 ∷ 0 ∷ 0 ∷ 1 ∷ 1 ∷ 1 ∷ 0 ∷ []
 unfolding refs structure contents of_table sum_below mapping_of raw_entry be splice grown table_written block_written of_pieces image image_fields
 references = refl

@@ -1,4 +1,4 @@
--- The worked image under other headers.
+-- The worked image with changed header fields.
 use Rattle.std.proofs.Common.{◌≡◌, ◌+◌, ◌^◌, refl, [], ◌∷◌}
 use Rattle.std.specs.Prelude.{Ok, Err, true, false, map}
 use Rattle.std.specs.Str.{is_utf8, chars}
@@ -11,32 +11,29 @@ use Rattle.qcow2_types.specs.Entries.{entry, l1_table_sound, l2_table_sound}
 use Rattle.qcow2_types.specs.Disk.{at, qcow2}
 use Rattle.qcow2_types.specs.WorkedImage.{of_pieces, image, image_fields, image_header, with_bytes, header_with_features, older_fields, older_header, written_bytes}
 
--- as version 2 reads it
+-- version 2
 pub older : header_of true (with_bytes 4 (0 ∷ 0 ∷ 0 ∷ 2 ∷ [])) ≡ Ok older_header
 unfolding header_of texts_of extensions_at extension_at fields_of be run of_pieces image image_header image_fields is_utf8 chars encode_utf8
 older = refl
 
--- with the same entries
 pub older_entries : map (entry (with_bytes 4 (0 ∷ 0 ∷ 0 ∷ 2 ∷ [])) older_fields) (0 ∷ 1 ∷ 2 ∷ 64 ∷ []) ≡ data_at 5 true ∷ data_at 6 true ∷ unmapped ∷ unmapped ∷ []
 unfolding entry l1_table_sound l2_table_sound all_below mapping_of raw_entry be of_pieces image image_fields
 older_entries = refl
 
--- and the same bytes
 pub older_bytes : map (at (qcow2 (with_bytes 4 (0 ∷ 0 ∷ 0 ∷ 2 ∷ [])) (λ _. 0) ∷ [])) (508 ∷ 509 ∷ 510 ∷ 511 ∷ 512 ∷ 513 ∷ 514 ∷ 515 ∷ []) ≡ written_bytes
 unfolding header_of texts_of extensions_at extension_at fields_of be run of_pieces image image_header image_fields is_utf8 chars encode_utf8 entry l1_table_sound l2_table_sound all_below mapping_of raw_entry
 older_bytes = refl
 
--- dirty
+-- the dirty bit: loads for reading, but not for writing
 pub dirty_read : header_of false (with_bytes 79 (1 ∷ [])) ≡ Ok (header_with_features 1)
 unfolding header_of texts_of extensions_at extension_at fields_of be run of_pieces image image_header image_fields is_utf8 chars encode_utf8
 dirty_read = refl
 
--- and for writing
 pub dirty_written : header_of true (with_bytes 79 (1 ∷ [])) ≡ Err Unsupported
 unfolding header_of texts_of extensions_at extension_at fields_of be run of_pieces image image_header image_fields is_utf8 chars encode_utf8
 dirty_written = refl
 
--- refused
+-- an unknown version
 pub version : header_of false (with_bytes 4 (0 ∷ 0 ∷ 0 ∷ 4 ∷ [])) ≡ Err Unsupported
 unfolding header_of texts_of extensions_at extension_at fields_of be run of_pieces image image_header image_fields is_utf8 chars encode_utf8
 version = refl
@@ -51,17 +48,17 @@ pub large_clusters : header_of false (with_bytes 23 (22 ∷ [])) ≡ Err Damaged
 unfolding header_of texts_of extensions_at extension_at fields_of be run of_pieces image image_header image_fields is_utf8 chars encode_utf8
 large_clusters = refl
 
--- counters of 128 bits
+-- refcounts of 128 bits
 pub order : header_of false (with_bytes 99 (7 ∷ [])) ≡ Err DamagedHeader
 unfolding header_of texts_of extensions_at extension_at fields_of be run of_pieces image image_header image_fields is_utf8 chars encode_utf8
 order = refl
 
--- a feature that isn't carried
+-- an unsupported feature
 pub features : header_of false (with_bytes 79 (16 ∷ [])) ≡ Err Unsupported
 unfolding header_of texts_of extensions_at extension_at fields_of be run of_pieces image image_header image_fields is_utf8 chars encode_utf8
 features = refl
 
--- a size above the limit
+-- a disk size above the limit
 pub size : header_of false (with_bytes 24 (128 ∷ [])) ≡ Err (Limit (2 ^ 63 + 65536))
 unfolding header_of texts_of extensions_at extension_at fields_of be run of_pieces image image_header image_fields is_utf8 chars encode_utf8
 size = refl
@@ -71,7 +68,7 @@ pub l1_entries : header_of false (with_bytes 36 (0 ∷ 64 ∷ 0 ∷ 1 ∷ [])) �
 unfolding header_of texts_of extensions_at extension_at fields_of be run of_pieces image image_header image_fields is_utf8 chars encode_utf8
 l1_entries = refl
 
--- an L1 table that doesn't begin with a cluster
+-- an L1 table that doesn't start at a cluster's offset
 pub l1_place : header_of false (with_bytes 47 (1 ∷ [])) ≡ Err DamagedHeader
 unfolding header_of texts_of extensions_at extension_at fields_of be run of_pieces image image_header image_fields is_utf8 chars encode_utf8
 l1_place = refl

@@ -1,4 +1,4 @@
--- The worked image with a counter of 0 for cluster 5.
+-- The worked image with a refcount of 0 for cluster 5.
 use Rattle.std.proofs.Common.{◌≡◌, refl, [], ◌∷◌}
 use Rattle.std.specs.Prelude.{true, not, Ok, Err}
 use Rattle.std.specs.Str.{is_utf8, chars}
@@ -15,46 +15,42 @@ use Rattle.qcow2_types.specs.Consistency.Finding.{under_counted}
 use Rattle.qcow2_types.proofs.Counting.Named.{reaching, past}
 use Rattle.qcow2_types.proofs.Counting.Bounded.{nowhere-from, least-at, shared-beyond, copied-beyond}
 
--- the changed image
 unfoldable changed : Bytes
 changed = of_pieces ((1034, 0 ∷ 0 ∷ []) ∷ image)
 
--- its header loads
 loads : header_of true changed ≡ Ok image_header
 unfolding changed header_of texts_of extensions_at extension_at fields_of be run of_pieces image image_header image_fields is_utf8 chars encode_utf8
 loads = refl
 
--- no table is damaged
 tables : tables_sound changed image_fields ≡ true
 unfolding changed tables_sound l1_table_sound l2_table_sound refcount_table_sound all_below mapping_of raw_entry be of_pieces image image_fields
 tables = refl
 
--- nothing is named past cluster 6
+-- no cluster after 6 is referenced
 within : reaching changed image_fields 7 ≡ 0
 unfolding changed reaching past structure contents of_table sum_below mapping_of raw_entry be of_pieces image image_fields
 within = refl
 
--- no cluster before 7 is shared
+-- no cluster of the structure before 7 is shared
 shared : all_below 7 (λ c. not (shares_structure changed image_fields c)) ≡ true
 unfolding changed shares_structure refs structure contents of_table sum_below all_below mapping_of raw_entry be of_pieces image image_fields
 shared = refl
 
--- none is wrongly marked as copied
+-- no COPIED cluster before 7 is shared
 copied : all_below 7 (λ c. not (is_false_copied changed image_fields c)) ≡ true
 unfolding changed is_false_copied refs structure contents of_table sum_below all_below mapping_of raw_entry be of_pieces image image_fields
 copied = refl
 
--- cluster 5 is counted too rarely
+-- the refcount of cluster 5 doesn't cover its references
 under : is_under_counted changed image_fields 5 ≡ true
 unfolding changed is_under_counted count counter refs structure contents of_table sum_below all_below mapping_of raw_entry be of_pieces image image_fields
 under = refl
 
--- and none before it
+-- the refcount of each cluster before 5 does
 least : all_below 5 (λ c. not (is_under_counted changed image_fields c)) ≡ true
 unfolding changed is_under_counted count counter refs structure contents of_table sum_below all_below mapping_of raw_entry be of_pieces image image_fields
 least = refl
 
--- what a checker answers
 pub verdict : IsVerdict (of_pieces ((1034, 0 ∷ 0 ∷ []) ∷ image)) (Err (under_counted 5))
 unfolding changed image_header image_fields
 verdict = (

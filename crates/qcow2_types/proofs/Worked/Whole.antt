@@ -1,5 +1,5 @@
--- An image with the header of the worked one, which names nothing past cluster 6 and has one refcount block: what is known of all
--- clusters, by those few.
+-- Images that have the header of the worked image and one refcount block, and reference no cluster after 6. Their first clusters decide
+-- what is true of all clusters.
 use Rattle.std.proofs.Common.{◌≡◌, ℕ, ◌+◌, ◌*◌, ◌/◌, ◌<◌, refl, arith, ap, ◌∙◌, List}
 use Rattle.std.specs.Prelude.{true, ◌==◌, ◌||◌, not}
 use Rattle.std.proofs.lemmas.Bool.Decides.{nat_tests}
@@ -12,18 +12,17 @@ use Rattle.qcow2_types.proofs.Counting.Named.{reaching}
 use Rattle.qcow2_types.proofs.Counting.Bounded.{nowhere-from, all-below, shared-beyond, copied-beyond, under-beyond}
 use Rattle.qcow2_types.proofs.Counting.Leaks.{leaks-skip, count-no-block}
 
--- the counters of a block
 per_block : counters_of_block image_fields ≡ 256
 unfolding image_fields
 per_block = refl
 
--- the clusters that the refcount table reaches
+-- the number of clusters that the refcount table can index
 reach : refcount_table_entries image_fields * counters_of_block image_fields ≡ 256 + 16128
 unfolding image_fields
 reach = refl
 
 module _ (f : Bytes) where
-  -- it is consistent where the first clusters are
+  -- the image is consistent if its first 7 clusters are
   pub consistent-within : IsReadable f image_header → reaching f image_fields 7 ≡ 0 → all_below 7 (λ c. not (shares_structure f image_fields c)) ≡ true → all_below 7 (λ c. not (is_false_copied f image_fields c)) ≡ true
       → all_below 7 (λ c. not (is_under_counted f image_fields c)) ≡ true → IsConsistent f image_header
   unfolding image_header
@@ -34,7 +33,7 @@ module _ (f : Bytes) where
     counted = nowhere-from 7 (is_under_counted f image_fields) counted (under-beyond f image_fields 7 within);
   }
 
-  -- and leaks what it leaks among the clusters of the first block
+  -- the leaks are those among the clusters of the first block
   pub leaks-within : all_below 64 (λ i. (i == 0) || (block_at f image_fields i == 0)) ≡ true → (found : List (ℕ × ℕ)) → leaks_below f image_fields 256 ≡ found → leaks f image_fields ≡ found
   leaks-within one_block found few =
       ap (leaks_below f image_fields) reach

@@ -1,4 +1,4 @@
--- The bytes of the number that was read are those that were copied.
+-- The bytes of the number that was read are the bytes that were copied.
 use Rattle.std.proofs.Common.{◌≡◌, ℕ, ◌+◌, ◌-◌, ◌<◌, arith, ap, ◌∙◌, List, take, drop, get_or}
 use Rattle.std.specs.Int.{w32, to_be_bytes}
 use Rattle.std.proofs.lemmas.Nat.{be_bytes_4}

@@ -4,4 +4,4 @@ use Rattle.qcow2_types.proofs.Showing.Values.{value-either}
 use Rattle.qcow2_types.proofs.two_versions.a_file_between_two_versions.Goals as goal
 
 pub returns : goal.returns
-returns c = record { references = refs-between; marks_failed = copied-between; falls = named-falls; apart = apart-falls; shows = λ f x g external h. value-either x f g external h; clean = named-clean }
+returns c = record { references = refs-between; copied_references = copied-between; falls = named-falls; apart = apart-falls; shows = λ f x g external h. value-either x f g external h; clean = named-clean }

@@ -1,11 +1,11 @@
--- A cluster whose index isn't the table's last has a next one.
+-- A cluster has a next one in its table if its index isn't the last.
 use Rattle.std.proofs.Common.{◌≡◌, ℕ, ◌+◌, ◌-◌, ◌*◌, ◌%◌, ◌^◌, ◌<◌, ◌≤◌, arith, ap, ◌∙◌}
 use Rattle.std.proofs.lemmas.Nat.{one_shl, mod_below, pow_pos, pow_below}
 use Rattle.qcow2_types.specs.Entries.{l2_entries}
 use Rattle.qcow2_types.proofs.Counting.TableSizes.{entries_power, next_below}
 use Rattle.qcow2_types.proofs.guest.GuestCluster.next_in_l2.Goals as goal
 
--- the index, by the power of 2
+-- the index, with the number of entries as a power of 2
 index : (self b i : ℕ) → 9 ≤ b → i ≡ self % l2_entries b → i ≡ self % 2 ^ (b - 3)
 index self b i low e = e ∙ ap (λ n. self % n) (entries_power b low)
 

@@ -1,4 +1,4 @@
--- What a table maps is a power of 2, which the shift computes.
+-- A table maps a power of 2 bytes, which the shift computes.
 use Rattle.std.proofs.Common.{◌≡◌, ℕ, ◌-◌, ◌*◌, ◌%◌, ◌^◌, arith, refl}
 use Rattle.std.proofs.lemmas.Nat.{one_shl}
 use Rattle.qcow2_types.specs.Entries.{l2_entries}
