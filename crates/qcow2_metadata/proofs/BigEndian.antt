@@ -1,4 +1,4 @@
--- Bytes and the numbers that they represent, the highest byte first.
+-- Bytes and their big-endian numbers.
 use Rattle.std.proofs.Common.{◌≡◌, ℕ, zero, suc, ◌+◌, ◌*◌, ◌<◌, ◌≤◌, ◌^◌, List, [], ◌∷◌, ◌++◌, length, get_or, take, refl, ap, ◌∙◌, arith}
 use Rattle.std.specs.Int.Digits.{number_from_digits, AllBelowBase}
 use Rattle.std.proofs.lemmas.Int.Digits.{number_lt}
@@ -20,7 +20,7 @@ all_bytes_take zero bytes h = tt
 all_bytes_take (suc n) [] h = tt
 all_bytes_take (suc n) (b ∷ bs) h = (h.0, all_bytes_take n bs h.1)
 
--- the number of the first bytes leaves room for one more of eight
+-- The number of the first bytes is small enough to append one more of eight bytes.
 pub first_bytes_small : (bytes : List ℕ) (i : ℕ) → ((k : ℕ) → get_or bytes k 0 < 256) → length bytes ≤ 8 → i < length bytes → big_endian (take i bytes) < 2 ^ 56
 first_bytes_small bytes i h short inside =
     let all = all_bytes_take i bytes (all_bytes bytes h) in
@@ -30,7 +30,7 @@ first_bytes_small bytes i h short inside =
     let room : 256 ^ length (take i bytes) ≤ 256 ^ 7 = pow-le-pow_right {n = 256} (omega arith) few in
     omega (arith, below, room)
 
--- the lowest byte, written last
+-- The lowest byte is written last.
 pub big_endian-write_last : (front bytes : List ℕ) (n v : ℕ) → length bytes ≡ n + 1 → length front ≡ n → big_endian front ≡ v / 256 → big_endian (set (front ++ drop n bytes) n (v % 256)) ≡ v
 big_endian-write_last front bytes n v whole short high =
     let rest : length (drop n bytes) ≡ 1 = omega (arith, length-drop n bytes) in
@@ -51,7 +51,7 @@ bytes_as_bits (suc n) =
     let more : 2 ^ (8 * suc n) ≡ 2 ^ (8 * n) * 2 ^ 8 = ap (λ (k : ℕ). 2 ^ k) (omega arith) ∙ pow-add 2 (8 * n) 8 in
     omega (arith, pow-suc 256 n, bytes_as_bits n, more)
 
--- eight bytes spell the number that they represent as an array
+-- Eight bytes as an array give the same number as `be`.
 pub eight_bytes : (f : Bytes) (i : ℕ) → from_be_bytes w64 (f i ∷ f (i + 1) ∷ f (i + 2) ∷ f (i + 3) ∷ f (i + 4) ∷ f (i + 5) ∷ f (i + 6) ∷ f (i + 7) ∷ []) ≡ be f i 8
 unfolding be
 eight_bytes f i =

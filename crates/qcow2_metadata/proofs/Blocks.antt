@@ -1,4 +1,4 @@
--- The list of a block's counters.
+-- The list of a block's refcounts.
 use Rattle.std.proofs.Common.{◌-◌, ◌≡◌, ◌≢◌, ℕ, ◌*◌, ◌/◌, ◌<◌, ◌∙◌, inl, inr, List, length, get_or, set, ap, sym, arith}
 use Rattle.std.proofs.lemmas.Bool.{cases_eq}
 use Rattle.std.proofs.lemmas.Nat.{div_below, div-add-mod', pow_pos}
@@ -11,7 +11,6 @@ use Rattle.qcow2_metadata.specs.BlockView.{seen_block}
 use Rattle.qcow2_metadata.specs.declared.refblock.RefBlock.TheInside.{Inside}
 use Rattle.qcow2_metadata.proofs.Widths.{place_ends}
 
--- a counter below the count has its cell
 pub has_counter : (order i : ℕ) (bytes : List ℕ) → i < counter_count order bytes → HasCounter order bytes i
 has_counter order i bytes h =
     let n = cell_bytes order in
@@ -26,7 +25,7 @@ pub counters_at : (order i d : ℕ) (bytes : List ℕ) → i < counter_count ord
 counters_at order i d bytes h =
     get_or-map-range_with_len (counter order bytes) 0 (counter_count order bytes) i i d h (omega arith)
 
--- lists that differ at one counter
+-- The lists differ at one refcount.
 pub counters_set : (order i v : ℕ) (low high : List ℕ) → length high ≡ length low → i < counter_count order low → counter order high i ≡ v → ((j : ℕ) → j ≢ i → counter order high j ≡ counter order low j) → counters_of order high ≡ set (counters_of order low) i v
 counters_set order i v low high len inside own others =
     let n = cell_bytes order in
@@ -45,7 +44,7 @@ counters_set order i v low high len inside own others =
     ]
     )
 
--- what is known of the fields of a block by what contracts see of it
+-- The fields of a block, from its value as contracts see it.
 module _ (s : Inside) (b : Block) (i : ℕ) (seen : seen_block s ≡ b) where
   abbrev pub low : List ℕ
   low = s.bytes.items
@@ -62,7 +61,7 @@ module _ (s : Inside) (b : Block) (i : ℕ) (seen : seen_block s ≡ b) where
   pub seen_at : i < length b.counters → get_or b.counters i 0 ≡ counter s.refcount_order low i
   seen_at h = ap (λ (cs : List ℕ). get_or cs i 0) (sym same_counters) ∙ counters_at s.refcount_order i 0 low (seen_bound h)
 
-  -- the block with another counter here
+  -- The block with one refcount changed.
   pub seen_changed : (f : ℕ → ℕ) (high : List ℕ) → i < length b.counters → length high ≡ length low → counter s.refcount_order high i ≡ f (counter s.refcount_order low i)
       → ((j : ℕ) → j ≢ i → counter s.refcount_order high j ≡ counter s.refcount_order low j)
       → block_of s.cluster_bits s.refcount_order (counters_of s.refcount_order high) s.cluster true ≡ with_counter b i (f (get_or b.counters i 0))

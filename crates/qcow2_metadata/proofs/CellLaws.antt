@@ -1,4 +1,4 @@
--- What one more at a counter says of the counters and of the bytes.
+-- The effect of one increment on the refcounts and on the bytes.
 use Rattle.std.proofs.Common.{◌≡◌, ◌≢◌, ℕ, ◌+◌, ◌-◌, ◌*◌, ◌/◌, ◌%◌, ◌<◌, ◌≤◌, ◌^◌, ◌∙◌, inl, inr, List, take, drop, ap, sym, arith, refl}
 use Rattle.std.proofs.lemmas.Bool.{cases_order}
 use Rattle.std.proofs.lemmas.Nat.{shr_split}
@@ -16,7 +16,7 @@ pub lowered_counter : (order i : ℕ) (low high : List ℕ) → IsRaised order l
 lowered_counter order i low high r some =
     lowered_digit (big_endian (cell order low i)) (bit_start order i) (2 ^ order) (rw r.cell_number at some)
 
--- the digits at two places, of which one is raised
+-- A raised digit doesn't change the digit at another position.
 other_digit : (x w p q : ℕ) → p ≢ q → x / 2 ^ (p * w) % 2 ^ w + 1 < 2 ^ w → (x + 2 ^ (p * w)) / 2 ^ (q * w) % 2 ^ w ≡ x / 2 ^ (q * w) % 2 ^ w
 other_digit x w p q ne room =
     elim (cases_order p q) [
@@ -27,7 +27,7 @@ other_digit x w p q ne room =
       ]
     ]
 
--- a part before or after the cell
+-- A part before or after the cell is unchanged.
 before_cell : (a s n : ℕ) (low high : List ℕ) → a + n ≤ s → take s high ≡ take s low → take n (drop a high) ≡ take n (drop a low)
 before_cell a s n low high h e =
     sym (drop-take a n high)
@@ -45,7 +45,7 @@ after_cell a s n low high h e =
     ∙ ap (λ (k : ℕ). drop k low) place
     in ap (λ (bs : List ℕ). take n bs) rest
 
--- every other counter stays
+-- Every other refcount is unchanged.
 pub raised_others : (order i : ℕ) (low high : List ℕ) → IsRaised order low i high → counter order low i + 1 < 2 ^ (2 ^ order) → (j : ℕ) → j ≢ i → counter order high j ≡ counter order low j
 raised_others order i low high r room j ne =
     let m = cell_counters order in
@@ -71,7 +71,7 @@ raised_others order i low high r room j ne =
       ]
     ]
 
--- a fact at `Ok`, from when the call succeeds and what it then leaves
+-- A fact on `Ok`, from the condition of success and its effect.
 pub on_ok_where : {T E P Q R : Type 0} (r : Result T E) → (IsOk r ↔ P) → OnOk r Q → (P → Q → R) → OnOk r R
 on_ok_where (Ok x) h q f = f (h.0 refl) q
 on_ok_where (Err e) h q f = tt

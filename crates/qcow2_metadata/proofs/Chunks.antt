@@ -1,4 +1,4 @@
--- Words of a table that are decoded chunk by chunk.
+-- Entries of a table that are decoded chunk by chunk.
 use Rattle.std.proofs.Common.{◌≡◌, ◌∙◌, ◌+◌, ◌-◌, ◌*◌, ◌/◌, ◌^◌, ◌<◌, ◌≤◌, ap, arith, subst, sym, ℕ, zero, suc, List, [], ◌∷◌, ◌++◌, length, map, take, drop, append_assoc}
 use Rattle.std.specs.Prelude.{replicate, slice_index, IsTrue}
 use Rattle.std.specs.List.{between}
@@ -14,7 +14,7 @@ use Rattle.qcow2_metadata.specs.Tables.{Kind, AreSound, HasUnsound, raw_entry_va
 use Rattle.qcow2_metadata.proofs.TableFacts.{word_of_bytes, words_at, words_long, words_more, words_same}
 use Rattle.qcow2_metadata.proofs.TableSteps.{each_append, zeroes_at}
 
--- bytes of 0 are words of 0
+-- Bytes of 0 are entries of 0.
 pub zero-words : (bytes : List ℕ) (n : ℕ) → ((k : ℕ) → slice_index bytes k ≡ 0) → raw_entries_in (bytes_of bytes) 0 n ≡ replicate n 0
 zero-words bytes n none =
     let f = bytes_of bytes in
@@ -22,7 +22,7 @@ zero-words bytes n none =
     let small : k < n = omega (arith, words_long f 0 n, inside) in
     words_at f 0 n k small ∙ (word_of_bytes f k ∙ (be-zeroes f (8 * k) 8 (λ j low. none (8 * k + j)) ∙ sym (zeroes_at n k))))
 
--- the words of a part of bytes, as many as they fill
+-- The entries of a part of the bytes.
 module _ (bytes : List ℕ) (first end : ℕ) (order : first ≤ end) (inside : 8 * end ≤ length bytes) where
   abbrev pub bytes-part : List ℕ
   bytes-part = between (8 * first) (8 * end) bytes
@@ -37,7 +37,7 @@ module _ (bytes : List ℕ) (first end : ℕ) (order : first ≤ end) (inside : 
       ∙ words_same (bytes_of bytes-part) (bytes_of bytes) 0 (8 * first) (end - first) (λ i small. be-same (bytes_of bytes-part) (bytes_of bytes) (0 + 8 * i) (8 * first + 8 * i) 8 (λ k low.
       get_or-between bytes (8 * first) (8 * end) (0 + 8 * i + k) 0 (omega (arith, small, low)) ∙ ap (λ p. slice_index bytes p) (omega arith)))
 
--- words from a later place on
+-- Entries from a later offset on.
 module _ (f : Bytes) (first : ℕ) where
   word-behind : (i : ℕ) → raw_entry f (8 * first) i ≡ raw_entry f 0 (first + i)
   unfolding raw_entry
@@ -65,13 +65,11 @@ module _ (f : Bytes) (first : ℕ) where
       )
 
 module _ {E : Type 0} (raw_entry : E → ℕ) (raw_entries : List E → List ℕ) (each : (es : List E) → raw_entries es ≡ map raw_entry es) where
-  -- a part of them
   pub words-part : (es : List E) (first end : ℕ) → raw_entries (between first end es) ≡ between first end (raw_entries es)
   words-part es first end = each (between first end es)
       ∙ (sym (take-map raw_entry (end - first) (drop first es))
       ∙ (ap (λ ws. take (end - first) ws) (sym (drop-map raw_entry first es)) ∙ ap (λ ws. between first end ws) (sym (each es))))
 
-  -- a part changed
   pub words-put : (es part : List E) (first count : ℕ) → raw_entries (put_mid first count es part) ≡ put_mid first count (raw_entries es) (raw_entries part)
   words-put es part first count =
       let behind = drop count (drop first es) in
@@ -83,7 +81,6 @@ module _ {E : Type 0} (raw_entry : E → ℕ) (raw_entries : List E → List ℕ
       ∙ (ap (λ ws. take first ws ++ (map raw_entry part ++ drop count (drop first ws))) (sym (each es))
       ∙ ap (λ ws. take first (raw_entries es) ++ (ws ++ drop count (drop first (raw_entries es)))) (sym (each part)))))))
 
--- as many as before
 pub put-long : {E : Type 0} (es part : List E) (first count : ℕ) → first + count ≤ length es → length part ≡ count → length (put_mid first count es part) ≡ length es
 put-long es part first count inside long =
     let behind = drop count (drop first es) in
@@ -91,7 +88,7 @@ put-long es part first count inside long =
     let back : length behind ≡ length es - first - count = length-drop count (drop first es) ∙ ap (λ n. n - count) (length-drop first es) in
     omega (arith, length-append (take first es) (part ++ behind), length-append part behind, front, back)
 
--- The first of n words are those of a file, each of which is sound and has 64 bits, and the others are 0.
+-- The first `done` of `n` entries are decoded: each is valid and has 64 bits. The others are 0.
 pub record AreDecoded (kind : Kind) (layout : Layout) (f : Bytes) (n : ℕ) (entries : List ℕ) (done : ℕ) : Type 0 where
   pub raw_entries : entries ≡ raw_entries_in f 0 done ++ replicate (n - done) 0
   pub sound : AreSound kind layout (raw_entries_in f 0 done)
@@ -110,7 +107,7 @@ module _ (kind : Kind) (layout : Layout) (f : Bytes) (n : ℕ) (entries : List �
       let none : n - n ≡ 0 = omega arith in
       are.raw_entries ∙ (ap (λ k. raw_entries_in f 0 n ++ replicate k 0) none ∙ append-nil (raw_entries_in f 0 n))
 
-  -- the words of the next chunk are 0, until they are put
+  -- The entries of the next chunk are 0 before they are written.
   module _ (done end : ℕ) (before : AreDecoded kind layout f n entries done) (order : done ≤ end) (room : end ≤ n) where
     rest : drop done entries ≡ replicate (n - done) 0
     rest = ap (λ ws. drop done ws) before.raw_entries ∙ drop_at (raw_entries_in f 0 done) (replicate (n - done) 0) done (words_long f 0 done)

@@ -1,4 +1,5 @@
--- Each host cluster is named and handed back as often as it was named.
+-- A change of an entry conserves the references of each host cluster: references and frees after it match the references
+-- before it.
 use Rattle.std.proofs.Common.{◌≡◌, refl, ℕ, ◌+◌, ◌-◌, ◌*◌, ◌/◌, ◌%◌, ◌^◌, ◌<◌, ◌≤◌, ◌∙◌, ap, sym, arith, inl, inr}
 use Rattle.std.specs.Prelude.{Bool, true, false, not, ◌&&◌, ◌||◌, ◌==◌, nat_le, nat_lt, if◌then◌else◌, Option, Some, None, ◌⊎◌}
 use Rattle.std.specs.Option.{is_some}
@@ -16,11 +17,11 @@ use Rattle.qcow2_metadata.specs.Allocations.{allocation_of, clusters_of_range, f
 use Rattle.qcow2_metadata.proofs.TableSteps.{cluster_sectors, cluster_place}
 use Rattle.qcow2_metadata.proofs.L2Words.{mapped_word, kept_word, kept_unmarked_word}
 
--- 1 where it is true, else 0
+-- 1 if true, otherwise 0.
 abbrev one_if : Bool → ℕ
 one_if b = if b then 1 else 0
 
--- a range that isn't empty meets the clusters from that of its first byte to that of its last
+-- A range that isn't empty meets the clusters from its first byte to its last.
 range_holds : (size c o l : ℕ) → 0 < size → 0 < l
     → one_if (nat_lt 0 l && nat_lt o ((c + 1) * size) && nat_lt (c * size) (o + l)) ≡ one_if (nat_le (o / size) c && nat_lt c (o / size + ((o + l - 1) / size - o / size + 1)))
 range_holds size c o l some more =
@@ -63,7 +64,7 @@ range_holds size c o l some more =
           ]
     ]
 
--- a cluster is one
+-- A cluster is one cluster long as a range.
 one_cluster : (size k : ℕ) → 0 < size → ((k * size / size ≡ k) × ((k * size + size - 1) / size ≡ k))
 one_cluster size k some =
     let split : k * size + size - 1 ≡ k * size + (size - 1) = omega arith in
@@ -73,11 +74,9 @@ module _ (h : Fields) (c : ℕ) where
   some_size : 0 < cluster_size h
   some_size = pow_pos h.cluster_bits
 
-  -- a range that isn't empty
   packed_holds : (o l : ℕ) → 0 < l → meets h c o l ≡ holds c (freed (Some (clusters_of_range h.cluster_bits o l)))
   packed_holds o l more = range_holds (cluster_size h) c o l some_size more
 
-  -- a cluster
   cluster_holds : (k : ℕ) → meets h c (k * cluster_size h) (cluster_size h) ≡ holds c (freed (Some (k, 1)))
   cluster_holds k =
       let one = one_cluster (cluster_size h) k some_size in
@@ -87,7 +86,7 @@ module _ (h : Fields) (c : ℕ) where
       ∙ (ap (λ (n : ℕ). one_if (nat_le k c && nat_lt c (k + (n - k + 1)))) one.1
       ∙ ap (λ (n : ℕ). one_if (nat_le k c && nat_lt c (k + n))) rest))
 
--- a compressed range isn't empty
+-- The mapping isn't an empty compressed range.
 abbrev IsPacked : Mapping → Type 0
 IsPacked (packed offset length) = 0 < length
 IsPacked mapping = Unit {0}
@@ -107,7 +106,7 @@ word_packed layout w =
     let above : compressed_offset layout.cluster_bits w < compressed_end layout.cluster_bits w = omega arith in
     is_packed (has_bit w 62) _ (standard_entry_valid layout w) (has_bit w 0) (names_cluster layout w) _ _ _ 0 _ _ (omega (arith, above))
 
--- what a mapping names is its allocation
+-- A mapping references exactly the clusters of its allocation.
 named_holds : (h : Fields) (c : ℕ) (m : Mapping) → IsPacked m → of_mapping h (meets h c) m ≡ holds c (freed (allocation_of h.cluster_bits m))
 named_holds h c (data_at k copied) some = cluster_holds h c k
 named_holds h c (zeroes (Some k) copied) some = cluster_holds h c k
@@ -116,7 +115,7 @@ named_holds h c (packed o l) some = packed_holds h c o l some
 named_holds h c unmapped some = refl
 named_holds h c damaged some = refl
 
--- a cluster that takes an allocation's place
+-- A cluster that replaces an allocation.
 just_one : (c cluster : ℕ) → holds c (freed (Some (cluster, 1))) ≡ one_if (c == cluster)
 just_one c cluster = elim (cases_eq c cluster) [
   | inl e ↦
@@ -178,7 +177,7 @@ named_test p true h = elim (cases_eq p 0) [
 named_test p false (inl some) = let t : (p == 0) ≡ false = grind (arith, nat_tests) in rw t refl
 named_test p false (inr e) = absurd (cc)
 
--- The word that names a cluster means its data.
+-- The entry that references a cluster means its data.
 pub mapped_means : (layout : Layout) (cluster : ℕ) → 9 ≤ layout.cluster_bits → IsAddressable layout.cluster_bits cluster → (0 < cluster) ⊎ (layout.external_data ≡ true) → mapping_of layout (2 ^ 63 + cluster * 2 ^ layout.cluster_bits) ≡ data_at cluster true
 mapped_means layout cluster low near some =
     let pos : 0 < 2 ^ layout.cluster_bits = pow_pos layout.cluster_bits in
@@ -190,7 +189,7 @@ mapped_means layout cluster low near some =
     ∙ (ap (λ b. if b then data_at (cluster * 2 ^ layout.cluster_bits / 2 ^ layout.cluster_bits) true else unmapped) (named_test (cluster * 2 ^ layout.cluster_bits) layout.external_data named)
     ∙ ap (λ k. data_at k true) (mul-div_cancel cluster pos))
 
--- A word that names a cluster takes the place of another.
+-- An entry that references a cluster replaces another entry.
 pub map_conserves : (layout : Layout) (w cluster : ℕ) → 9 ≤ layout.cluster_bits → IsAddressable layout.cluster_bits cluster → (0 < cluster) ⊎ (layout.external_data ≡ true)
     → Conserves layout.cluster_bits (mapping_of layout w) (mapping_of layout (2 ^ 63 + cluster * 2 ^ layout.cluster_bits)) (freed (replaced cluster (allocation_of layout.cluster_bits (mapping_of layout w)))) (newly cluster (allocation_of layout.cluster_bits (mapping_of layout w)))
 map_conserves layout w cluster low near some h bits c =
@@ -199,14 +198,14 @@ map_conserves layout w cluster low near some h bits c =
     let new : of_mapping h (meets h c) (mapping_of layout (2 ^ 63 + cluster * 2 ^ layout.cluster_bits)) ≡ one_if (c == cluster) = ap (of_mapping h (meets h c)) means ∙ (cluster_holds h c cluster ∙ just_one c cluster) in
     omega (arith, old, new, taken c cluster (allocation_of layout.cluster_bits (mapping_of layout w)))
 
--- A word of 0 takes the place of another.
+-- An entry of 0 replaces another entry.
 pub discard_conserves : (layout : Layout) (w : ℕ) → Conserves layout.cluster_bits (mapping_of layout w) (mapping_of layout 0) (freed (allocation_of layout.cluster_bits (mapping_of layout w))) (λ c. 0)
 discard_conserves layout w h bits c =
     let old : of_mapping h (meets h c) (mapping_of layout w) ≡ holds c (freed (allocation_of layout.cluster_bits (mapping_of layout w))) = named_holds h c (mapping_of layout w) (word_packed layout w) ∙ ap (λ b. holds c (freed (allocation_of b (mapping_of layout w)))) bits in
     let new : of_mapping h (meets h c) (mapping_of layout 0) ≡ 0 = ap (of_mapping h (meets h c)) (zero-word layout) in
     omega (arith, old, new)
 
--- what is known of a word whose cluster is kept
+-- An entry with a kept cluster is a valid standard entry.
 kept_pick : (c a s z p : Bool) (o l k : ℕ) (d : Bool) (kept : ℕ × Bool) → kept_for_zero (if c then (if a then damaged else packed o l) else (if not s then damaged else if z then zeroes (if p then Some k else None) d else if p then data_at k d else unmapped)) ≡ Some kept → (s ≡ true) × ((p ≡ true) × ((k, d) ≡ kept))
 kept_pick true true s z p o l k d kept e = absurd (cc)
 kept_pick true false s z p o l k d kept e = absurd (cc)
@@ -226,14 +225,14 @@ first_of_two : (a b : Bool) → (a && b) ≡ true → a ≡ true
 first_of_two true b e = refl
 first_of_two false b e = absurd (cc)
 
--- its cluster begins at its offset
+-- The offset of the entry is the offset of its cluster.
 whole_offset : (bits p : ℕ) → is_cluster_offset bits p ≡ true → p / 2 ^ bits * 2 ^ bits ≡ p
 whole_offset bits p place =
     let test : (p % 2 ^ bits == 0) ≡ true = first_of_two (p % 2 ^ bits == 0) (nat_le p max_offset) place in
     let none : p % 2 ^ bits ≡ 0 = grind (arith, nat_tests) in
     omega (arith, div-add-mod' p (2 ^ bits), none)
 
--- A word that keeps the cluster of another means zeroes with that cluster.
+-- An entry that keeps the cluster of another means zeroes with that cluster.
 pub kept_means : (layout : Layout) (w : ℕ) (kept : ℕ × Bool) → 9 ≤ layout.cluster_bits → layout.version ≡ 3 → IsAddressable layout.cluster_bits kept.0 → kept_for_zero (mapping_of layout w) ≡ Some kept → mapping_of layout (zero_raw_entry (kept.0 * 2 ^ layout.cluster_bits) kept.1) ≡ zeroes (Some kept.0) kept.1
 unfolding mapping_of
 kept_means layout w kept low v near e =
@@ -250,7 +249,7 @@ kept_means layout w kept low v near e =
     ∙ (ap (λ (b : Bool). zeroes (if b then Some (kept.0 * 2 ^ layout.cluster_bits / 2 ^ layout.cluster_bits) else None) kept.1) test
     ∙ ap (λ k. zeroes (Some k) kept.1) (mul-div_cancel kept.0 pos))
 
--- a word that is zeroed and keeps no cluster names none
+-- A zeroed entry without a cluster references nothing.
 pub zero_means : (layout : Layout) → layout.version ≡ 3 → mapping_of layout 1 ≡ zeroes None false
 zero_means layout v = kept_unmarked_word 0 refl (omega arith) layout (place_zero layout.cluster_bits) v ∙ ap (λ (b : Bool). zeroes (if b then Some (0 / 2 ^ layout.cluster_bits) else None) false) (neither layout.external_data)
   where
@@ -285,7 +284,7 @@ zero_by layout w keep (Some kept) e low v near h bits c =
     let new : of_mapping h (meets h c) (mapping_of layout (zero_raw_entry (kept.0 * 2 ^ layout.cluster_bits) kept.1)) ≡ meets h c (kept.0 * cluster_size h) (cluster_size h) = ap (of_mapping h (meets h c)) (kept_means layout w kept low v near found) in
     omega (arith, old, new)
 
--- A zeroed word takes the place of another.
+-- A zeroed entry replaces another entry.
 pub zero_conserves : (layout : Layout) (w : ℕ) (keep : Bool) → 9 ≤ layout.cluster_bits → layout.version ≡ 3 → IsKeptAddressable layout.cluster_bits (kept_where keep (mapping_of layout w))
     → Conserves layout.cluster_bits (mapping_of layout w) (mapping_of layout (zeroed_raw_entry layout.cluster_bits (kept_where keep (mapping_of layout w)))) (freed (unkept (is_some (kept_where keep (mapping_of layout w))) (allocation_of layout.cluster_bits (mapping_of layout w)))) (λ c. 0)
 zero_conserves layout w keep low v near = zero_by layout w keep (kept_where keep (mapping_of layout w)) refl low v near

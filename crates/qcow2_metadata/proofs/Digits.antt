@@ -1,22 +1,20 @@
--- A digit of a number that is raised by one, where it does not carry.
+-- A digit of a number that is raised by 1 without a carry.
 use Rattle.std.proofs.Common.{◌≡◌, ℕ, ◌+◌, ◌-◌, ◌*◌, ◌/◌, ◌%◌, ◌<◌, ◌≤◌, ◌^◌, ◌∙◌, ap, sym, arith, refl}
 use Rattle.std.proofs.lemmas.Nat.{mul-add-lt, shr_below, shr_split, shr-shr, pow-add, div-mul-add, mod-mul-add, mod_below, pow_pos}
 use Rattle.qcow2_types.proofs.Counting.TableSizes.{next_below}
 
--- the quotient goes up by one
 pub raised_quotient : (x s : ℕ) → (x + 2 ^ s) / 2 ^ s ≡ x / 2 ^ s + 1
 raised_quotient x s =
     let parts : x + 2 ^ s ≡ (x / 2 ^ s + 1) * 2 ^ s + x % 2 ^ s = omega (arith, shr_split x s) in
     rw parts (div-mul-add (x / 2 ^ s + 1) (2 ^ s) (x % 2 ^ s) (mod_below x (2 ^ s) (pow_pos s)))
 
--- the digit goes up by one
 pub raised_digit : (x s w : ℕ) → x / 2 ^ s % 2 ^ w + 1 < 2 ^ w → (x + 2 ^ s) / 2 ^ s % 2 ^ w ≡ x / 2 ^ s % 2 ^ w + 1
 raised_digit x s w h =
     let y = x / 2 ^ s in
     let parts : y + 1 ≡ y / 2 ^ w * 2 ^ w + (y % 2 ^ w + 1) = omega (arith, shr_split y w) in
     rw (raised_quotient x s) (rw parts (mod-mul-add (y / 2 ^ w) (2 ^ w) (y % 2 ^ w + 1) h))
 
--- the digits above stay
+-- The higher digits are unchanged.
 pub raised_above : (x s w t : ℕ) → x / 2 ^ s % 2 ^ w + 1 < 2 ^ w → s + w ≤ t → (x + 2 ^ s) / 2 ^ t ≡ x / 2 ^ t
 raised_above x s w t h above =
     let y = x / 2 ^ s in
@@ -30,7 +28,7 @@ raised_above x s w t h above =
     ∙ ap (λ (q : ℕ). q / 2 ^ (t - (s + w))) (sym (shr-shr z s w)) in
     at (x + 2 ^ s) ∙ (rw (raised_quotient x s, carry) (sym (at x)))
 
--- the digits below stay
+-- The lower digits are unchanged.
 pub raised_below : (x s w t : ℕ) → t + w ≤ s → (x + 2 ^ s) / 2 ^ t % 2 ^ w ≡ x / 2 ^ t % 2 ^ w
 raised_below x s w t below =
     let y = x / 2 ^ t in
@@ -44,7 +42,7 @@ raised_below x s w t below =
     let digits : y + q * 2 ^ w ≡ (y / 2 ^ w + q) * 2 ^ w + y % 2 ^ w = omega (arith, shr_split y w) in
     rw quotient (rw digits (mod-mul-add (y / 2 ^ w + q) (2 ^ w) (y % 2 ^ w) (mod_below y (2 ^ w) (pow_pos w))))
 
--- the number keeps its width
+-- The number keeps its width.
 pub raised_fits : (x s w n : ℕ) → s + w ≤ n → x < 2 ^ n → x / 2 ^ s % 2 ^ w + 1 < 2 ^ w → x + 2 ^ s < 2 ^ n
 raised_fits x s w n inside small h =
     let j = n - (s + w) in
@@ -62,7 +60,7 @@ carries y w e =
     let parts : y + 1 ≡ (y / 2 ^ w + 1) * 2 ^ w + 0 = omega (arith, shr_split y w) in
     rw parts (mod-mul-add (y / 2 ^ w + 1) (2 ^ w) 0 (pow_pos w))
 
--- a number that was raised to a digit other than 0 did not carry
+-- If the raised digit isn't 0, there was no carry.
 pub lowered_digit : (x s w : ℕ) → 0 < (x + 2 ^ s) / 2 ^ s % 2 ^ w → x / 2 ^ s % 2 ^ w + 1 < 2 ^ w
 lowered_digit x s w h =
     let y = x / 2 ^ s in

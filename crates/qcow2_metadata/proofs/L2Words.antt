@@ -1,4 +1,4 @@
--- The words that are written to L2 tables, and what they mean.
+-- The entries that are written to L2 tables, and their meanings.
 use Rattle.std.proofs.Common.{◌≡◌, refl, ℕ, ◌+◌, ◌-◌, ◌*◌, ◌/◌, ◌%◌, ◌^◌, ◌<◌, ◌≤◌, ◌∙◌, ap, sym, arith, List, map, lit<}
 use Rattle.std.specs.Prelude.{Bool, true, false, not, ◌&&◌, ◌||◌, ◌==◌, nat_le, if◌then◌else◌, IsTrue, Option, Some, None, replicate}
 use Rattle.std.proofs.lemmas.Nat.{div-mul-add, mod-pow-add, mod_below, pow_pos}
@@ -10,9 +10,9 @@ use Rattle.qcow2_types.specs.TableBytes.{AreFit}
 use Rattle.qcow2_metadata.specs.Allocations.{IsKeptAddressable, zeroed_raw_entry}
 use Rattle.qcow2_metadata.proofs.TableSteps.{each_mapped, each_zero, zero_sound, cluster_sectors, cluster_place}
 
--- a place of sectors, in a word with the mark
+-- An entry with the COPIED flag and an offset that is a multiple of 512.
 module _ (p : ℕ) (sectors : p % 512 ≡ 0) (near : p ≤ max_offset) (layout : Layout) (place : is_cluster_offset layout.cluster_bits p ≡ true) where
-  -- data
+  -- Data.
   pub mapped_word : mapping_of layout (2 ^ 63 + p) ≡ (if not (p == 0) || (layout.external_data && true) then data_at (p / 2 ^ layout.cluster_bits) true else unmapped)
   unfolding mapping_of
   mapped_word =
@@ -24,7 +24,7 @@ module _ (p : ℕ) (sectors : p % 512 ≡ 0) (near : p ≤ max_offset) (layout :
       let one : (2 ^ 63 + p) / 2 ^ 63 % 2 ≡ 1 = omega arith in
       rw (a, b, d, e, offset, place, one) refl
 
-  -- zeroes with a cluster kept, with the mark and without
+  -- Zeroes with a preallocated cluster, with and without the COPIED flag.
   pub kept_marked_word : layout.version ≡ 3 → mapping_of layout (2 ^ 63 + p + 1) ≡ zeroes (if not (p == 0) || (layout.external_data && true) then Some (p / 2 ^ layout.cluster_bits) else None) true
   unfolding mapping_of
   kept_marked_word v =
@@ -47,7 +47,7 @@ module _ (p : ℕ) (sectors : p % 512 ≡ 0) (near : p ≤ max_offset) (layout :
       let one : (p + 1) / 2 ^ 63 % 2 ≡ 0 = omega arith in
       rw (a, b, d, e, offset, place, one, v) refl
 
-  -- and so with either
+  -- With either value of the flag.
   pub kept_word : (copied : Bool) → layout.version ≡ 3 → mapping_of layout (zero_raw_entry p copied) ≡ zeroes (if not (p == 0) || (layout.external_data && copied) then Some (p / 2 ^ layout.cluster_bits) else None) copied
   kept_word true v = kept_marked_word v
   kept_word false v = kept_unmarked_word v
@@ -56,14 +56,14 @@ not_damaged_pick : (b : Bool) (c : ℕ) → is_damaged (if b then data_at c true
 not_damaged_pick true c = refl
 not_damaged_pick false c = refl
 
--- the word that names a host cluster is sound
+-- The entry that references a host cluster is valid.
 pub mapped_sound : (layout : Layout) (c : ℕ) → 9 ≤ layout.cluster_bits → IsAddressable layout.cluster_bits c → IsTrue (raw_entry_valid l2_table_kind layout (2 ^ 63 + c * 2 ^ layout.cluster_bits))
 mapped_sound layout c low near =
     let p : ℕ = c * 2 ^ layout.cluster_bits in
     rw (mapped_word (c * 2 ^ layout.cluster_bits) (cluster_sectors layout.cluster_bits c low near) near layout (cluster_place layout.cluster_bits c low near))
     (rw (not_damaged_pick (not (c * 2 ^ layout.cluster_bits == 0) || (layout.external_data && true)) (c * 2 ^ layout.cluster_bits / 2 ^ layout.cluster_bits)) refl)
 
--- so is the word of a zeroed guest cluster
+-- The entry of a zeroed guest cluster is valid.
 pub zeroed_sound : (layout : Layout) (kept : Option (ℕ × Bool)) → 9 ≤ layout.cluster_bits → layout.version ≡ 3 → IsKeptAddressable layout.cluster_bits kept → IsTrue (raw_entry_valid l2_table_kind layout (zeroed_raw_entry layout.cluster_bits kept))
 zeroed_sound layout None low v near = rw (kept_unmarked_word 0 refl (omega arith) layout (cluster_place_zero layout.cluster_bits) v) refl
   where
@@ -72,7 +72,7 @@ zeroed_sound layout None low v near = rw (kept_unmarked_word 0 refl (omega arith
 zeroed_sound layout (Some kept) low v near =
     rw (kept_word (kept.0 * 2 ^ layout.cluster_bits) (cluster_sectors layout.cluster_bits kept.0 low near) near layout (cluster_place layout.cluster_bits kept.0 low near) kept.1 v) refl
 
--- both have 64 bits
+-- Both entries have 64 bits.
 pub mapped_fits : (bits c : ℕ) → IsAddressable bits c → 2 ^ 63 + c * 2 ^ bits < 2 ^ 64
 mapped_fits bits c near = let place : c * 2 ^ bits ≤ 0x00ff_ffff_ffff_fe00 = near in omega arith
 
@@ -87,7 +87,7 @@ zeroed_fits bits (Some kept) near = fits kept.1
     fits true = omega (arith, place)
     fits false = omega (arith, place)
 
--- the words of a new table
+-- The entries of a new table are valid.
 pub cleared_sound : (layout : Layout) (n : ℕ) → AreSound l2_table_kind layout (replicate n 0)
 cleared_sound layout n = each_zero (λ w. IsTrue (raw_entry_valid l2_table_kind layout w)) n (zero_sound l2_table_kind layout)
 
@@ -102,7 +102,7 @@ pick false a n true true p q o l o' l' k k' x x' y y' h = refl
 pick false a n true false p true o l o' l' k k' x x' y y' h = refl
 pick false a n true false p false o l o' l' k k' x x' y y' h = refl
 
--- a word without its mark is as sound
+-- An entry without its COPIED flag is still valid.
 unmarked : (layout : Layout) (w : ℕ) → 9 ≤ layout.cluster_bits → is_damaged (mapping_of layout w) ≡ false → is_damaged (mapping_of layout (w % 2 ^ 63)) ≡ false
 unfolding mapping_of
 unmarked layout w low h =
@@ -126,7 +126,7 @@ not_is : (b : Bool) → b ≡ false → IsTrue (not b)
 not_is true h = cc
 not_is false h = refl
 
--- A part of a word below its mark stays.
+-- The bits below bit 63 don't depend on the flag.
 part_same : (w x k : ℕ) → x + k ≤ 63 → w % 2 ^ 63 / 2 ^ x % 2 ^ k ≡ w / 2 ^ x % 2 ^ k
 part_same w x k le =
     let whole : 63 ≡ 63 - x + x = omega arith in
@@ -163,13 +163,13 @@ unmarked_means layout v low high inside sound =
     rw (a, b, d, e, offset, none, place, sectors, inside)
     (pick_unmarked (has_bit v 62) (has_bit v 63) (nat_le (2 ^ 56) (compressed_offset layout.cluster_bits v)) (standard_entry_valid layout v) (has_bit v 0) (not (table_offset v == 0) || (false && is_copied v)) _ _ _ _ _ (rw inside at sound))
 
--- A word of a copy means what it did, without the mark.
+-- An entry of a copy has the same meaning, without the COPIED flag.
 pub shared_means : (layout : Layout) (w : ℕ) → 9 ≤ layout.cluster_bits → layout.cluster_bits ≤ 21 → layout.external_data ≡ false → is_damaged (mapping_of layout w) ≡ false
     → mapping_of layout (shared_raw_entry layout w) ≡ mapping_without_copied (mapping_of layout w)
 shared_means layout w low high inside sound =
     ap (λ (b : Bool). mapping_of layout (if b then w else raw_without_copied w)) inside ∙ unmarked_means layout w low high inside sound
 
--- a word of a copy is as sound
+-- An entry of a copy is still valid.
 shared_one : (layout : Layout) (w : ℕ) → 9 ≤ layout.cluster_bits → IsTrue (raw_entry_valid l2_table_kind layout w) → IsTrue (raw_entry_valid l2_table_kind layout (shared_raw_entry layout w))
 shared_one layout w low old = go layout.external_data
   where

@@ -1,4 +1,4 @@
--- Names of feature bits in order, and in an entry of their extension.
+-- Names of feature bits, sorted in a list, and in an entry of their extension.
 use Rattle.std.proofs.Common.{◌≡◌, ℕ, suc, ◌+◌, ◌-◌, ◌*◌, ◌<◌, ◌≤◌, refl, arith, ap, sym, ◌∙◌, List, [], ◌∷◌, ◌++◌, length, get_or, take, drop, lit<}
 use Rattle.std.specs.Prelude.{Bool, true, false, not, ◌&&◌, ◌==◌, nat_lt, if◌then◌else◌, Option, Some, None, unwrap_or, map, take_while, slice_set}
 use Rattle.std.specs.List.{insert, position, position_or_len}
@@ -16,11 +16,11 @@ use Rattle.qcow2_metadata.specs.Features.{seen_name}
 use Rattle.qcow2_metadata.proofs.Places.{place-or-end}
 
 module _ (x d : FeatureName) where
-  -- where the name goes: behind those that come before it
+  -- The index of a new name: after the names that are sorted before it.
   abbrev place : List FeatureName → ℕ
   place ys = position_or_len (λ y. not (comes_before (seen_name y) (seen_name x))) ys
 
-  -- it is new there
+  -- The name is new there.
   put-inserted : (ys : List FeatureName) → (place ys < length ys → comes_before (seen_name x) (seen_name (get_or ys (place ys) d)) ≡ true) → map seen_name (insert ys (place ys) x) ≡ with_name (seen_name x) (map seen_name ys)
   put-inserted [] new = refl
   put-inserted (y ∷ ys) new = split (put-inserted ys) (comes_before (seen_name y) (seen_name x)) refl
@@ -34,7 +34,7 @@ module _ (x d : FeatureName) where
           let first : comes_before (seen_name x) (seen_name y) ≡ true = (rw after at new) (omega arith) in
           rw (after, first) refl
 
-  -- it takes the place of one of the same kind and bit
+  -- The name replaces one of the same kind and bit.
   put-set : (ys : List FeatureName) → place ys < length ys → comes_before (seen_name x) (seen_name (get_or ys (place ys) d)) ≡ false → map seen_name (slice_set ys (place ys) x) ≡ with_name (seen_name x) (map seen_name ys)
   put-set [] within same = absurd (omega arith)
   put-set (y ∷ ys) within same = split (put-set ys) (comes_before (seen_name y) (seen_name x)) refl
@@ -49,31 +49,28 @@ module _ (x d : FeatureName) where
           let first : comes_before (seen_name x) (seen_name y) ≡ false = rw after at same in
           rw (after, first) refl
 
-  -- the same at the place that was found
+  -- The same cases at the index that the search found.
   module _ (ys : List FeatureName) (found : Option ℕ) (m at : ℕ) (searched : found ≡ position (λ y. not (comes_before (seen_name y) (seen_name x))) ys) (size : m ≡ length ys) (chosen : at ≡ unwrap_or found m) where
     spot : at ≡ place ys
     spot = rw (chosen, searched, size) (place-or-end (λ y. not (comes_before (seen_name y) (seen_name x))) ys)
 
-    -- at the end
     pub put-at-end : length ys ≤ at → map seen_name (insert ys at x) ≡ with_name (seen_name x) (map seen_name ys)
     put-at-end past = let is : at ≡ place ys = spot in rw spot (put-inserted ys (λ lt. absurd (omega arith)))
 
-    -- before another
     pub put-before : d ≡ get_or ys at d → comes_before (seen_name x) (seen_name d) ≡ true → map seen_name (insert ys at x) ≡ with_name (seen_name x) (map seen_name ys)
     put-before read before = let there : d ≡ get_or ys (place ys) d = rw spot at read in rw spot (put-inserted ys (λ lt. rw (← there) before))
 
-    -- instead of one
     pub put-instead : at < length ys → d ≡ get_or ys at d → comes_before (seen_name x) (seen_name d) ≡ false → map seen_name (slice_set ys at x) ≡ with_name (seen_name x) (map seen_name ys)
     put-instead lt read after = let is : at ≡ place ys = spot in let there : d ≡ get_or ys (place ys) d = rw spot at read in rw spot (put-set ys (omega arith) (rw (← there) after))
 
--- what an entry says, by its bytes
+-- The name in an entry, from the parts of its bytes.
 pub feature-parts : (e : List ℕ) → 2 ≤ length e
     → feature_in e ≡ (let name = take_while (λ x. not (x == 0)) (drop 2 e) in if nat_lt (get_or e 0 0) 3 && is_utf8 name then record { kind = get_or e 0 0; bit = get_or e 1 0; name = name } ∷ [] else [])
 feature-parts [] le = absurd (omega arith)
 feature-parts (k ∷ []) le = absurd (omega arith)
 feature-parts (k ∷ b ∷ rest) le = refl
 
--- the text of an entry, as it is cut out
+-- The text of an entry, as the program slices it.
 pub text-cut : (e : List ℕ) (found : Option ℕ) (at : ℕ) → found ≡ position (λ b. b == 0) (take (length e - 2) (drop 2 e)) → at ≡ unwrap_or found (length (take (length e - 2) (drop 2 e)))
     → take at (take (length e - 2) (drop 2 e)) ≡ take_while (λ x. not (x == 0)) (drop 2 e)
 text-cut e found at searched chosen =
@@ -81,7 +78,6 @@ text-cut e found at searched chosen =
     let spot : at ≡ position_or_len (λ b. b == 0) (take (length e - 2) (drop 2 e)) = rw (chosen, searched) (place-or-end (λ b. b == 0) (take (length e - 2) (drop 2 e))) in
     rw (spot, text) refl
 
--- there are three kinds
 kinds-few : (kind : FeatureType) → kind_of kind < 3
 kinds-few Incompatible = lit< tt
 kinds-few Compatible = lit< tt
@@ -91,7 +87,7 @@ module _ (e name : List ℕ) (long : 2 ≤ length e) (text : name ≡ take_while
   named : feature_in e ≡ (if nat_lt (get_or e 0 0) 3 && is_utf8 name then record { kind = get_or e 0 0; bit = get_or e 1 0; name = name } ∷ [] else [])
   named = rw text (feature-parts e long)
 
-  -- an entry whose text isn't UTF-8
+  -- The text isn't UTF-8.
   pub entry-skipped : (IsUtf8 name → ⊥) → feature_in e ≡ []
   entry-skipped not_text = named ∙ split (nat_lt (get_or e 0 0) 3) (is_utf8 name) _ refl
     where
@@ -100,19 +96,19 @@ module _ (e name : List ℕ) (long : 2 ≤ length e) (text : name ≡ take_while
       split true false x is = refl
       split false false x is = refl
 
-  -- an entry that says something
+  -- The entry has a known kind and a UTF-8 name.
   pub entry-named : (kind : FeatureType) → kind_of kind ≡ get_or e 0 0 → IsUtf8 name → feature_in e ≡ record { kind = kind_of kind; bit = get_or e 1 0; name = name } ∷ []
   entry-named kind known is_text =
       let few : get_or e 0 0 < 3 = omega (arith, known, kinds-few kind) in
       let low : nat_lt (get_or e 0 0) 3 ≡ true = lt-ltb _ _ few in
       named ∙ rw (low, is_utf8-from_IsUtf8 name is_text, known) refl
 
--- a first entry that says nothing, or gives a name
+-- The first entry has a name, or is skipped.
 with_names-entry : (known rest : List Feature) (found : Option Feature) → with_names known (option_to_list found ++ rest) ≡ with_names (with_names known (option_to_list found)) rest
 with_names-entry known rest None = refl
 with_names-entry known rest (Some x) = refl
 
--- one entry more is read: the i-th of n
+-- One more entry is read: entry `i` of `n`.
 pub entry-read : (bytes : List ℕ) (n i : ℕ) (known : List Feature) (found : Option Feature) (all : List Feature) → i < n
     → feature_in (take (i * 48 + 48 - i * 48) (drop (i * 48) bytes)) ≡ option_to_list found → with_names known (features_of (n - i) (drop (i * 48) bytes)) ≡ all
     → with_names (with_names known (option_to_list found)) (features_of (n - (i + 1)) (drop ((i + 1) * 48) bytes)) ≡ all

@@ -1,4 +1,4 @@
--- The names of feature bits are read as they were written.
+-- The names of feature bits load the same after they are written.
 use Rattle.std.proofs.Common.{◌≡◌, ℕ, zero, suc, ◌+◌, ◌-◌, ◌*◌, ◌/◌, ◌≤◌, refl, arith, ap, sym, ◌∙◌, List, [], ◌∷◌, ◌++◌, length, take, drop, replicate, length-append, length-take, append_assoc, append-nil}
 use Rattle.std.specs.Prelude.{flat_map, take_while, Bool, true, false, ◌&&◌, ◌||◌, ◌==◌, not, nat_lt, nat_le}
 use Rattle.std.specs.List.{list_all, prefix_len}
@@ -13,12 +13,11 @@ use Rattle.qcow2_types.specs.HeaderBytes.{feature_bytes, names_data}
 use Rattle.qcow2_metadata.specs.Features.{is_first, in_order}
 use Rattle.qcow2_metadata.specs.Reloading.{is_plain_name}
 
--- both parts of a test
 both : (a b : Bool) → (a && b) ≡ true → (a ≡ true) × (b ≡ true)
 both true b e = (refl, e)
 both false b e = absurd cc
 
--- a text without a 0 that zeroes follow
+-- A text without a byte 0, followed by zeroes.
 until-zero : (name : List ℕ) (n : ℕ) → list_all (λ b. not (b == 0)) name ≡ true → take_while (λ b. not (b == 0)) (name ++ replicate n 0) ≡ name
 until-zero [] zero none = refl
 until-zero [] (suc n) none = refl
@@ -27,7 +26,6 @@ until-zero (b ∷ bs) n none =
     let up : 1 + prefix_len (λ c. not (c == 0)) (bs ++ replicate n 0) ≡ suc (prefix_len (λ c. not (c == 0)) (bs ++ replicate n 0)) = omega arith in
     rw (parts.0, up) (ap (λ xs. b ∷ xs) (until-zero bs n parts.1))
 
--- what holds of a plain name
 pub record PlainName (x : Feature) : Type 0 where
   pub kind : nat_lt x.kind 3 ≡ true
   pub text : is_utf8 x.name ≡ true
@@ -42,13 +40,11 @@ plain-name x plain =
     let few : nat_le (length x.name) 46 ≡ true = b.1 in
     record { kind = c.0; text = c.1; short = grind (arith, nat_tests); whole = a.1 }
 
--- an entry has 48 bytes
 pub length-feature_bytes : (x : Feature) → length (feature_bytes x) ≡ 48
 unfolding feature_bytes
 length-feature_bytes x =
     omega (arith, length-append (x.kind ∷ x.bit ∷ take 46 x.name) (replicate (46 - length x.name) 0), length-take 46 x.name, length-replicate {A = ℕ} (46 - length x.name) 0)
 
--- It is read.
 feature-read : (x : Feature) → PlainName x → feature_in (feature_bytes x) ≡ x ∷ []
 unfolding feature_bytes
 feature-read x plain =
@@ -56,7 +52,6 @@ feature-read x plain =
     let name : take_while (λ b. not (b == 0)) (x.name ++ replicate (46 - length x.name) 0) ≡ x.name = until-zero x.name (46 - length x.name) plain.whole in
     rw (uncut, name, plain.kind, plain.text) refl
 
--- all of them
 features-read : (xs : List Feature) → list_all is_plain_name xs ≡ true → features_of (length xs) (flat_map feature_bytes xs) ≡ xs
 features-read [] plain = refl
 features-read (x ∷ xs) plain =
@@ -68,27 +63,26 @@ features-read (x ∷ xs) plain =
     let all : flat_map feature_bytes (x ∷ xs) ≡ feature_bytes x ++ flat_map feature_bytes xs = flat_map-cons feature_bytes x xs in
     rw (all, first, others, feature-read x (plain-name x parts.0), features-read xs parts.1) refl
 
--- how many bytes they have
 length-names : (xs : List Feature) → length (flat_map feature_bytes xs) ≡ length xs * 48
 length-names [] = refl
 length-names (x ∷ xs) =
     omega (arith, ap length (flat_map-cons feature_bytes x xs), length-append (feature_bytes x) (flat_map feature_bytes xs), length-feature_bytes x, length-names xs)
 
--- one that comes before another comes before what that comes before
+-- The order is transitive.
 before-later : (x y z : Feature) → comes_before x y ≡ true → comes_before y z ≡ true → comes_before x z ≡ true
 before-later x y z a b = ordered x.kind y.kind z.kind x.bit y.bit z.bit a b
   where
     ordered : (k l m i j n : ℕ) → (nat_lt k l || ((k == l) && nat_lt i j)) ≡ true → (nat_lt l m || ((l == m) && nat_lt j n)) ≡ true → (nat_lt k m || ((k == m) && nat_lt i n)) ≡ true
     ordered k l m i j n a b = grind (arith, nat_tests)
 
--- in order, the first comes before each later one
+-- In a sorted list, the first name is before each later one.
 before-all : (y x : Feature) (ys rest : List Feature) → in_order (y ∷ (ys ++ x ∷ rest)) ≡ true → comes_before y x ≡ true
 before-all y x [] rest ordered = (both (comes_before y x) (in_order (x ∷ rest)) ordered).0
 before-all y x (z ∷ zs) rest ordered =
     let parts = both (comes_before y z) (in_order (z ∷ (zs ++ x ∷ rest))) ordered in
     before-later y z x parts.0 (before-all z x zs rest parts.1)
 
--- so a later one is put behind
+-- So a later name is appended.
 put-behind : (x : Feature) (known rest : List Feature) → in_order (known ++ x ∷ rest) ≡ true → with_name x known ≡ known ++ x ∷ []
 put-behind x [] rest ordered = refl
 put-behind x (y ∷ ys) rest ordered =
@@ -96,7 +90,7 @@ put-behind x (y ∷ ys) rest ordered =
     let later : in_order (ys ++ x ∷ rest) ≡ true = (both (is_first y (ys ++ x ∷ rest)) (in_order (ys ++ x ∷ rest)) ordered).1 in
     rw (before, put-behind x ys rest later) refl
 
--- Names in order stay as they are.
+-- Sorted names keep their order.
 names-kept : (known xs : List Feature) → in_order (known ++ xs) ≡ true → with_names known xs ≡ known ++ xs
 names-kept known [] ordered = sym (append-nil known)
 names-kept known (x ∷ xs) ordered =
@@ -104,7 +98,6 @@ names-kept known (x ∷ xs) ordered =
     let next : in_order ((known ++ x ∷ []) ++ xs) ≡ true = ap in_order same ∙ ordered in
     ap (λ ys. with_names ys xs) (put-behind x known xs ordered) ∙ (names-kept (known ++ x ∷ []) xs next ∙ same)
 
--- The names of a header are read as they were written.
 pub names-read : (xs : List Feature) → list_all is_plain_name xs ≡ true → in_order xs ≡ true → features_read (names_data xs) ≡ xs
 names-read [] plain ordered = refl
 names-read (x ∷ xs) plain ordered =

@@ -1,4 +1,4 @@
--- A new header can be written, where it fits its first cluster, and loads again.
+-- A new header that fits its first cluster can be written, and loads again.
 use Rattle.std.proofs.Common.{◌≡◌, ◌≢◌, ℕ, ◌+◌, ◌*◌, ◌/◌, ◌%◌, ◌^◌, ◌<◌, ◌≤◌, refl, arith, List, [], length, inr, None, Some}
 use Rattle.std.specs.Prelude.{Bool, true, false, not, ◌&&◌, ◌==◌, if◌then◌else◌, nat_lt, nat_le, IsTrue, Option, is_some}
 use Rattle.std.specs.List.{list_all}
@@ -13,7 +13,6 @@ use Rattle.qcow2_types.specs.HeaderSwitch.{FirstFieldsFit}
 use Rattle.qcow2_metadata.specs.Reloading.{is_plain_name, is_text, IsReloadable}
 use Rattle.qcow2_metadata.proofs.Written.{length-header_bytes}
 
--- both hold
 both : (a b : Bool) → (a && b) ≡ true → (a ≡ true) × (b ≡ true)
 both true true e = (refl, refl)
 both true false e = absurd cc
@@ -24,21 +23,19 @@ at-most m n e = grind (arith, nat_tests)
 
 module _ (bits order : ℕ) (name format data_file : Option (List ℕ)) (low : 9 ≤ bits) (high : bits ≤ 21) (narrow : order ≤ 6)
     (fits : IsTrue (fits_first_cluster (new_header bits order name format data_file))) where
-  -- the size of a cluster
   cluster : 512 ≤ 2 ^ bits
   cluster = let le : 2 ^ 9 ≤ 2 ^ bits = pow-le-pow_right (omega arith) low in omega arith
 
   small : 2 ^ bits ≤ 2_097_152
   small = let le : 2 ^ bits ≤ 2 ^ 21 = pow-le-pow_right (omega arith) high in omega arith
 
-  -- all that is written fits it
   within : length (header_bytes (new_header bits order name format data_file)) ≤ 2 ^ bits
   within = at-most _ _ (both _ _ fits).0
 
   short : length (name_bytes name) ≤ 1023
   short = at-most _ _ (both _ _ fits).1
 
-  -- where the name begins: behind the fields, or nowhere
+  -- The name starts after the fields, or there is no name.
   behind : 104 + length (extensions_bytes (new_header bits order name format data_file)) ≤ 2_097_152
   behind = omega (arith, within, small, length-header_bytes (new_header bits order name format data_file))
 
@@ -108,7 +105,6 @@ module _ (bits order : ℕ) (name format data_file : Option (List ℕ)) (low : 9
     snapshots = omega arith;
   }
 
-  -- The texts are UTF-8, and a name isn't empty.
   pub new-reloadable : name ≢ Some [] → IsTrue (is_text name) → IsTrue (is_text format) → IsTrue (is_text data_file) → (writing : Bool) → IsReloadable writing (new_header bits order name format data_file)
   new-reloadable some text_of_name text_of_format text_of_data writing = record {
     version = inr refl;

@@ -1,11 +1,11 @@
--- Names of feature bits stay in order.
+-- The list of the names of feature bits stays sorted.
 use Rattle.std.proofs.Common.{◌≡◌, ℕ, ◌/◌, refl, arith, List, [], ◌∷◌, length, Some, None}
 use Rattle.std.specs.Prelude.{Bool, true, false, ◌&&◌, ◌||◌, ◌==◌, nat_lt, if◌then◌else◌, Option}
 use Rattle.std.proofs.lemmas.Bool.Decides.{nat_tests}
 use Rattle.qcow2_types.specs.Header.{Feature, comes_before, with_name, with_names, features_of, features_read}
 use Rattle.qcow2_metadata.specs.Features.{is_first, in_order}
 
--- one that is neither before nor behind another comes before what that comes before
+-- Two names of the same kind and bit are sorted before the same names.
 same-place : (x y z : Feature) → comes_before x y ≡ false → comes_before y x ≡ false → comes_before y z ≡ true → comes_before x z ≡ true
 same-place x y z a b c = ordered x.kind y.kind z.kind x.bit y.bit z.bit a b c
   where
@@ -25,7 +25,6 @@ first-with y x (z ∷ zs) before first = split (comes_before z x) (comes_before 
     split false true = before
     split false false = before
 
--- a name more
 with_name-ordered : (x : Feature) (ys : List Feature) → in_order ys ≡ true → in_order (with_name x ys) ≡ true
 with_name-ordered x [] ordered = refl
 with_name-ordered x (y ∷ ys) ordered = split (with_name-ordered x ys (both (is_first y ys) (in_order ys) ordered).1) (comes_before y x) (comes_before x y) refl refl
@@ -46,7 +45,6 @@ with_names-ordered : (known xs : List Feature) → in_order known ≡ true → i
 with_names-ordered known [] ordered = ordered
 with_names-ordered known (x ∷ xs) ordered = with_names-ordered (with_name x known) xs (with_name-ordered x known ordered)
 
--- the names of a header's extension
 pub features-ordered : (extension : Option (List ℕ)) → in_order (features_read extension) ≡ true
 features-ordered None = refl
 features-ordered (Some bytes) = with_names-ordered [] (features_of (length bytes / 48) bytes) refl

@@ -1,4 +1,4 @@
--- Counters in the bytes of a cluster: the cells of the program and the format's counters are the same.
+-- Refcounts in the bytes of a cluster: the program's cells have the format's refcounts.
 use Rattle.std.proofs.Common.{◌≡◌, ℕ, zero, suc, ◌+◌, ◌-◌, ◌*◌, ◌/◌, ◌%◌, ◌^◌, ◌<◌, ◌≤◌, ◌∙◌, refl, arith, ap, sym, List, ◌++◌, ◌∷◌, [], length, get_or, take, drop}
 use Rattle.std.specs.Prelude.{Bool, true, false, cond, nat_le, replicate}
 use Rattle.std.proofs.Math.Nat.{mod-eq_of_lt, mod-one, zero-mul, div-eq_of_lt}
@@ -20,7 +20,7 @@ use Rattle.qcow2_metadata.specs.Blocks.{counters_in}
 use Rattle.qcow2_metadata.proofs.Blocks.{counters_at, counters_length, has_counter}
 use Rattle.qcow2_metadata.proofs.Widths.{cell_filled, place_ends}
 
--- the first n + 1 elements from a place on
+-- The first `n + 1` elements from an index on.
 take-one-more : (xs : List ℕ) (at n : ℕ) → at + n < length xs → take (suc n) (drop at xs) ≡ take n (drop at xs) ++ get_or xs (at + n) 0 ∷ []
 take-one-more xs at n inside =
     let e : suc n ≡ n + 1 = omega arith in
@@ -35,7 +35,7 @@ take-one-more xs at n inside =
     first-dropped : (ys : List ℕ) (k : ℕ) → get_or (drop k ys) 0 0 ≡ get_or ys k 0
     first-dropped ys k = let e : k + 0 ≡ k = omega arith in get_or-drop k ys 0 0 ∙ ap (λ j. get_or ys j 0) e
 
--- the number of some bytes, as it is read by places
+-- The big-endian number of some bytes, read by index.
 number-be : (xs : List ℕ) (at n : ℕ) → at + n ≤ length xs → big_endian (take n (drop at xs)) ≡ be (bytes_of xs) at n
 unfolding be
 number-be xs at zero inside = refl
@@ -43,7 +43,7 @@ number-be xs at (suc n) inside =
     let before : big_endian (take n (drop at xs)) ≡ be (bytes_of xs) at n = number-be xs at n (omega arith) in
     ap big_endian (take-one-more xs at n (omega arith)) ∙ number_push 256 (take n (drop at xs)) (get_or xs (at + n) 0) ∙ ap (λ m. m * 256 + get_or xs (at + n) 0) before
 
--- a counter of whole bytes
+-- A refcount of whole bytes.
 wide-cell : (o n i : ℕ) (bytes : List ℕ) → cell_counters o ≡ 1 → cell_bytes o ≡ n → 2 ^ o / 8 ≡ n → 256 ^ n ≡ 2 ^ (2 ^ o) → ((k : ℕ) → get_or bytes k 0 < 256) → i * n + n ≤ length bytes → counter o bytes i ≡ wide_counter (bytes_of bytes) (2 ^ o) 0 i
 wide-cell o n i bytes one size width power fits inside =
     let row : i / 1 ≡ i = omega arith in
@@ -60,7 +60,7 @@ wide-cell o n i bytes one size width power fits inside =
     ∙ (ap (λ y. y / 1 % 2 ^ (2 ^ o)) read ∙ (ap (λ y. y % 2 ^ (2 ^ o)) over
     ∙ (mod-eq_of_lt small ∙ (ap (λ a. be (bytes_of bytes) a n) (sym start) ∙ ap (λ m. be (bytes_of bytes) (0 + i * m) m) (sym width))))))))
 
--- a counter of two bytes
+-- A refcount of two bytes.
 pub pair-counter : (i : ℕ) (bytes : List ℕ) → ((k : ℕ) → get_or bytes k 0 < 256) → HasCounter 4 bytes i → counter 4 bytes i ≡ get_or bytes (2 * i) 0 * 256 + get_or bytes (2 * i + 1) 0
 unfolding be
 pair-counter i bytes fits has =
@@ -69,12 +69,11 @@ pair-counter i bytes fits has =
     let two : be (bytes_of bytes) (0 + i * 2) 2 ≡ get_or bytes (2 * i) 0 * 256 + get_or bytes (2 * i + 1) 0 = omega (arith, high, low) in
     wide-cell 4 2 i bytes refl refl refl refl fits (omega arith) ∙ two
 
--- the byte at a place
 one-byte : (f : Bytes) (at : ℕ) → be f at 1 ≡ f at
 unfolding be
 one-byte f at = let same : at + 0 ≡ at = omega arith in let here : f (at + 0) ≡ f at = ap f same in omega arith
 
--- a counter that shares its byte
+-- A refcount that shares its byte.
 narrow-cell : (o i : ℕ) (bytes : List ℕ) → cell_bytes o ≡ 1 → i / cell_counters o ≡ i * 2 ^ o / 8 → i % cell_counters o * 2 ^ o ≡ i * 2 ^ o % 8 → i * 2 ^ o / 8 < length bytes → counter o bytes i ≡ narrow_counter (bytes_of bytes) (2 ^ o) 0 i
 narrow-cell o i bytes size row bit inside =
     let read : big_endian (take 1 (drop (i * 2 ^ o / 8 * 1) bytes)) ≡ be (bytes_of bytes) (i * 2 ^ o / 8 * 1) 1 = number-be bytes (i * 2 ^ o / 8 * 1) 1 (omega arith) in
@@ -84,7 +83,7 @@ narrow-cell o i bytes size row bit inside =
     ∙ (ap (λ s. big_endian (take 1 (drop (i * 2 ^ o / 8 * 1) bytes)) / 2 ^ s % 2 ^ (2 ^ o)) bit
     ∙ ap (λ y. y / 2 ^ (i * 2 ^ o % 8) % 2 ^ (2 ^ o)) (read ∙ (one-byte (bytes_of bytes) (i * 2 ^ o / 8 * 1) ∙ ap (bytes_of bytes) at))))
 
--- The program's counter is the format's.
+-- The program's refcount is the format's.
 pub cell-counter : (o i : ℕ) (bytes : List ℕ) → o ≤ 6 → ((k : ℕ) → get_or bytes k 0 < 256) → HasCounter o bytes i → counter o bytes i ≡ counter_of (bytes_of bytes) (2 ^ o) 0 i
 cell-counter zero i bytes most fits has = narrow-cell 0 i bytes refl (omega arith) (omega arith) (omega arith)
 cell-counter (suc zero) i bytes most fits has = narrow-cell 1 i bytes refl (omega arith) (omega arith) (omega arith)
@@ -95,7 +94,7 @@ cell-counter (suc (suc (suc (suc (suc zero))))) i bytes most fits has = wide-cel
 cell-counter (suc (suc (suc (suc (suc (suc zero)))))) i bytes most fits has = wide-cell 6 8 i bytes refl refl refl refl fits (omega arith)
 cell-counter (suc (suc (suc (suc (suc (suc (suc n))))))) i bytes most fits has = absurd (omega (arith, most))
 
--- the bytes of a block that fills a cluster, and how many counters they are
+-- The number of refcounts in the bytes of a block.
 cells-fill : (o b n : ℕ) → o ≤ 6 → 9 ≤ b → n ≡ 2 ^ b → n / cell_bytes o * cell_counters o * 2 ^ o ≡ n * 8
 cells-fill o b n most low is =
     let filled : cell_counters o * 2 ^ o ≡ 8 * cell_bytes o = cell_filled o most in
@@ -106,20 +105,20 @@ cells-fill o b n most low is =
     let group : n / cell_bytes o * cell_counters o * 2 ^ o ≡ n / cell_bytes o * (cell_counters o * 2 ^ o) = omega arith in
     group ∙ (ap (λ k. n / cell_bytes o * k) filled ∙ (ap (λ q. q * (8 * cell_bytes o)) quotient ∙ omega (arith, flat)))
 
--- so many counters does a header's block have
+-- It is the number of refcounts in a block of the header.
 pub count-of-cells : (o b n : ℕ) → o ≤ 6 → 9 ≤ b → n ≡ 2 ^ b → n / cell_bytes o * cell_counters o ≡ 2 ^ b * 8 / 2 ^ o
 count-of-cells o b n most low is =
     let filled : n / cell_bytes o * cell_counters o * 2 ^ o ≡ n * 8 = cells-fill o b n most low is in
     let flat : 2 ^ b * 8 ≡ n / cell_bytes o * cell_counters o * 2 ^ o + 0 = omega arith in
     sym (ap (λ k. k / 2 ^ o) flat ∙ div-mul-add (n / cell_bytes o * cell_counters o) (2 ^ o) 0 (pow_pos o))
 
--- and they fill it
+-- The refcounts fill the block.
 pub whole-counters : (o b : ℕ) → o ≤ 6 → 9 ≤ b → 2 ^ b * 8 / 2 ^ o * 2 ^ o ≡ 2 ^ b * 8
 whole-counters o b most low =
     let n : ℕ = 2 ^ b in
     ap (λ k. k * 2 ^ o) (sym (count-of-cells o b (2 ^ b) most low refl)) ∙ cells-fill o b (2 ^ b) most low refl
 
--- The bytes of a block are those of its counters.
+-- The bytes of a block encode its refcounts.
 pub block-packs : (o b : ℕ) (bytes : List ℕ) → o ≤ 6 → 9 ≤ b → length bytes ≡ 2 ^ b → ((k : ℕ) → get_or bytes k 0 < 256) → Packs o (counters_of o bytes) bytes
 block-packs o b bytes most low long fits = record {
   size = sym (ap (λ k. k * 2 ^ o) (counters_length o bytes) ∙ cells-fill o b (length bytes) most low long);
@@ -129,7 +128,7 @@ block-packs o b bytes most low long fits = record {
       sym (counters_at o i 0 bytes inside ∙ cell-counter o i bytes most fits (has_counter o i bytes inside));
 }
 
--- The counters of bytes that were read from a file are those of the file.
+-- The refcounts in bytes that were read are those of the file.
 pub counters-read : (file bytes : List ℕ) (h : Fields) (place : ℕ) → Shaped h → length bytes ≡ cluster_size h → ((k : ℕ) → get_or bytes k 0 < 256) → Reads file place bytes → counters_of h.refcount_order bytes ≡ counters_in (bytes_of file) h place
 unfolding counter_in
 counters-read file bytes h place shaped long fits reads =
@@ -158,7 +157,7 @@ be-zero f at (suc n) none =
     let here : f (at + n) ≡ 0 = none (at + n) in
     omega arith
 
--- bytes of 0 are counters of 0
+-- Bytes of 0 have refcounts of 0.
 zero-counter : (f : Bytes) (width i : ℕ) → ((k : ℕ) → f k ≡ 0) → counter_of f width 0 i ≡ 0
 zero-counter f width i none = either (nat_le 8 width)
   where
@@ -172,7 +171,6 @@ zero-counter f width i none = either (nat_le 8 width)
         let quotient : f (0 + i * width / 8) / 2 ^ (i * width % 8) ≡ 0 = zero-part (f (0 + i * width / 8)) (2 ^ (i * width % 8)) byte (pow_pos (i * width % 8)) in
         ap (λ q. q % 2 ^ width) quotient ∙ mod-eq_of_lt (pow_pos width)
 
--- A block of bytes of 0 has counters of 0.
 pub zero-counters : (o b : ℕ) (bytes : List ℕ) → o ≤ 6 → 9 ≤ b → length bytes ≡ 2 ^ b → ((k : ℕ) → get_or bytes k 0 ≡ 0) → counters_of o bytes ≡ replicate (2 ^ b * 8 / 2 ^ o) 0
 zero-counters o b bytes most low long none =
     let many : counter_count o bytes ≡ 2 ^ b * 8 / 2 ^ o = count-of-cells o b (length bytes) most low long in

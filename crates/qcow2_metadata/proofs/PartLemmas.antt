@@ -1,4 +1,4 @@
--- The fields of a header from its two parts.
+-- The fields of a header, from its two parts.
 use Rattle.std.proofs.Common.{◌≡◌, ℕ, ◌+◌, ◌-◌, ◌≤◌, refl, arith, ap, sym, ◌∙◌, List, length, length-drop, take, drop}
 use Rattle.std.proofs.Math.Seq.{take-length}
 use Rattle.std.specs.Prelude.{true, false, ◌==◌}
@@ -12,19 +12,15 @@ use Rattle.qcow2_types.specs.declared.on_disk.V3HeaderBase.{V3HeaderBase}
 use Rattle.qcow2_metadata.specs.Parts.{IsV2At, IsV3At}
 use Rattle.qcow2_metadata.specs.FieldsView.{seen_fields, older_base}
 
--- a number in the first m bytes of a list
 pub be-take : (s : List ℕ) (m i n : ℕ) → i + n ≤ m → be (bytes_of (take m s)) i n ≡ be (bytes_of s) i n
 be-take s m i n le = be-same (bytes_of (take m s)) (bytes_of s) i i n (λ k lt. get_or-take m s (i + k) 0 (omega arith))
 
--- a number behind the first m bytes of a list
 pub be-drop : (s : List ℕ) (m i n : ℕ) → be (bytes_of (drop m s)) i n ≡ be (bytes_of s) (m + i) n
 be-drop s m i n = be-same (bytes_of (drop m s)) (bytes_of s) i (m + i) n (λ k lt. let place : m + (i + k) ≡ m + i + k = omega arith in rw (← place) (get_or-drop m s (i + k) 0))
 
--- what is behind the first m elements
 pub rest-taken : (s : List ℕ) (m : ℕ) → take (length s - m) (drop m s) ≡ drop m s
 rest-taken s m = ap (λ n. take n (drop m s)) (sym (length-drop m s)) ∙ take-length (drop m s)
 
--- the first part, read from the first 72 bytes
 pub v2-at-start : (s : List ℕ) (h : V2Header) → IsV2At (bytes_of (take 72 s)) h → IsV2At (bytes_of s) h
 v2-at-start s h part = record {
   magic = part.magic ∙ be-take s 72 0 4 (omega arith);
@@ -42,7 +38,7 @@ v2-at-start s h part = record {
   snapshots_offset = part.snapshots_offset ∙ be-take s 72 64 8 (omega arith);
 }
 
--- the fields of version 3, by the two parts
+-- The fields of version 3, from the two parts.
 pub newer-fields : (s : List ℕ) (v2 : V2Header) (v3 : V3HeaderBase) → IsV2At (bytes_of s) v2 → IsV3At (bytes_of (drop 72 s)) v3 → v2.version ≡ 3 → seen_fields v2 v3 ≡ fields_of (bytes_of s)
 unfolding fields_of
 newer-fields s v2 v3 first second newer =
@@ -68,7 +64,7 @@ newer-fields s v2 v3 first second newer =
       second.header_length ∙ be-drop s 72 28 4,
     ) refl
 
--- the fields of another version
+-- The fields of another version.
 pub older-fields : (s : List ℕ) (v2 : V2Header) → IsV2At (bytes_of s) v2 → (v2.version == 3) ≡ false → seen_fields v2 older_base ≡ fields_of (bytes_of s)
 unfolding fields_of
 older-fields s v2 first older =

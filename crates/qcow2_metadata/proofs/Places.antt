@@ -1,4 +1,4 @@
--- The first place of a list at which a test passes.
+-- The index of the first element that passes a test.
 use Rattle.std.proofs.Common.{◌≡◌, ℕ, ◌≤◌, refl, arith, List, length}
 use Rattle.std.specs.Prelude.{Bool, true, false, nat_lt, cond, Some, None, unwrap_or}
 use Rattle.std.specs.List.{position, position_or_len}
@@ -12,6 +12,6 @@ at-or-end n m le = split (nat_lt n m) (λ e. grind (arith, nat_tests))
     split true past = refl
     split false past = past refl
 
--- the place, or the length where there is none
+-- The index, or the length if no element passes.
 pub place-or-end : {X : Type 0} (p : X → Bool) (xs : List X) → unwrap_or (position p xs) (length xs) ≡ position_or_len p xs
 place-or-end p xs = at-or-end (position_or_len p xs) (length xs) (prefix_len-le-length _ xs)

@@ -1,4 +1,4 @@
--- Headers that name another L1 table or refcount table.
+-- Headers with another L1 table or refcount table.
 use Rattle.std.proofs.Common.{◌≡◌, ℕ, ◌+◌, ◌-◌, ◌*◌, ◌/◌, ◌%◌, ◌^◌, ◌<◌, ◌≤◌, ◌∙◌, ap, subst, arith}
 use Rattle.std.specs.Prelude.{IsTrue, Option, Some, None}
 use Rattle.std.proofs.lemmas.Nat.{div-add-mod', div_below, le-div, mul-le, pow_pos, pow-add}
@@ -8,23 +8,23 @@ use Rattle.qcow2_types.proofs.Fields.HeaderLimits.{fields-limited, limited-field
 use Rattle.qcow2_metadata.specs.Places.{IsPlaced, place_of}
 use Rattle.qcow2_metadata.proofs.TableSteps.{cluster_place}
 
--- where a cluster begins that words can name
+-- The host offset of an addressable cluster is valid.
 pub placed_at : (bits : ℕ) (cluster : Option ℕ) → 9 ≤ bits → IsPlaced bits cluster → IsTrue (is_cluster_offset bits (place_of bits cluster))
 placed_at bits None low placed = absurd placed
 placed_at bits (Some c) low placed = cluster_place bits c low placed
 
--- the clusters that so many words take
+-- The number of clusters of `n` entries.
 abbrev pub clusters_of : ℕ → ℕ → ℕ
 clusters_of bits n = (8 * n + (2 ^ bits - 1)) / 2 ^ bits
 
--- A cluster's words, by its bits.
+-- The bytes of a cluster are 8 times its entries.
 row : (bits : ℕ) → 9 ≤ bits → 2 ^ bits ≡ 8 * 2 ^ (bits - 3)
 row bits low = let split : bits ≡ bits - 3 + 3 = omega arith in ap (λ n. 2 ^ n) split ∙ (pow-add 2 (bits - 3) 3 ∙ omega arith)
 
 words_row : (h : Fields) → 9 ≤ h.cluster_bits → entries_of_cluster h ≡ 2 ^ (h.cluster_bits - 3)
 words_row h low = let r : 2 ^ h.cluster_bits ≡ 8 * 2 ^ (h.cluster_bits - 3) = row h.cluster_bits low in omega arith
 
--- clusters of words up to a most that fills its clusters
+-- Rounding up to whole clusters doesn't pass a maximum that fills its clusters.
 clusters_fit : (w n q : ℕ) → 0 < w → n ≤ q * w → (8 * n + (8 * w - 1)) / (8 * w) * w ≤ q * w
 clusters_fit w n q some few =
     let below : 8 * n + (8 * w - 1) < (q + 1) * (8 * w) = omega (arith, few, some) in
@@ -32,7 +32,7 @@ clusters_fit w n q some few =
     mul-le ((8 * n + (8 * w - 1)) / (8 * w)) w q w (omega (arith, less)) (omega arith)
 
 module _ (h : Fields) (cluster : Option ℕ) (kept : first_fault (rules_of_size h) ≡ None) (low : 9 ≤ h.cluster_bits) (placed : IsPlaced h.cluster_bits cluster) where
-  -- with another L1 table
+  -- With another L1 table.
   pub named_l1 : (n : ℕ) → n ≤ 2 ^ 22 → first_fault (rules_of_size (record h { l1_entries = n; l1_offset = place_of h.cluster_bits cluster })) ≡ None
   named_l1 n few =
       let limited : Limited h = fields-limited h kept in
@@ -44,7 +44,7 @@ module _ (h : Fields) (cluster : Option ℕ) (kept : first_fault (rules_of_size 
         refcount_place = limited.refcount_place;
       }
 
-  -- with another refcount table
+  -- With another refcount table.
   pub named_reftable : (n : ℕ) → n ≤ 2 ^ 20 → h.cluster_bits ≤ 21 → first_fault (rules_of_size (record h { refcount_table_offset = place_of h.cluster_bits cluster; refcount_table_clusters = clusters_of h.cluster_bits n })) ≡ None
   named_reftable n few high =
       let limited : Limited h = fields-limited h kept in
@@ -64,7 +64,7 @@ module _ (h : Fields) (cluster : Option ℕ) (kept : first_fault (rules_of_size 
           let fit = clusters_fit (2 ^ (h.cluster_bits - 3)) n (2 ^ (20 - (h.cluster_bits - 3))) (pow_pos (h.cluster_bits - 3)) (subst (λ m. n ≤ m) most few) in
           rw (words_row h low, row h.cluster_bits low, most) fit
 
--- Words that fill their clusters are all the words of the clusters.
+-- Entries that fill their clusters are all the entries of the clusters.
 pub whole_entries : (h : Fields) (n : ℕ) → 9 ≤ h.cluster_bits → 8 * n % 2 ^ h.cluster_bits ≡ 0 → clusters_of h.cluster_bits n * entries_of_cluster h ≡ n
 whole_entries h n low whole =
     rw (words_row h low, row h.cluster_bits low) (go (2 ^ (h.cluster_bits - 3)) (pow_pos (h.cluster_bits - 3)) (rw (← row h.cluster_bits low) whole))

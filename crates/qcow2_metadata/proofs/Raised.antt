@@ -1,4 +1,4 @@
--- A cell whose number is raised at one of its counters.
+-- A cell in which one refcount is incremented or decremented.
 use Rattle.std.proofs.Common.{◌≡◌, ◌≢◌, ℕ, ◌+◌, ◌-◌, ◌*◌, ◌/◌, ◌%◌, ◌<◌, ◌≤◌, ◌^◌, List, ◌++◌, length, take, drop, sym, arith}
 use Rattle.std.proofs.Math.Nat.{pow-le-pow_right}
 use Rattle.std.proofs.lemmas.Nat.{mod_below, one_shl, pow_pos}
@@ -15,7 +15,7 @@ pub record FitsRaised (bytes : List ℕ) (x s : ℕ) : Type 0 where
   pub in_word : 256 ^ length bytes ≤ 2 ^ 64
   pub shifted : 1 * 2 ^ s % 2 ^ 64 ≡ 2 ^ s
 
--- there is room for one more at a counter that is not the greatest
+-- If the refcount isn't the greatest of its width, the incremented cell still fits.
 pub fits_raised : (bytes : List ℕ) (x s order : ℕ) → order ≤ 6 → length bytes ≡ cell_bytes order → s + 2 ^ order ≤ 8 * cell_bytes order → x < 256 ^ length bytes → x / 2 ^ s % 2 ^ (2 ^ order) ≢ 2 ^ (2 ^ order) - 1 → FitsRaised bytes x s
 fits_raised bytes x s order h len inside small room =
     let bits : 256 ^ length bytes ≡ 2 ^ (8 * cell_bytes order) = rw len (bytes_as_bits (cell_bytes order)) in
@@ -30,7 +30,6 @@ fits_raised bytes x s order h len inside small room =
       shifted = one_shl s 64 (omega (arith, few, inside, pow_pos order));
     }
 
--- a cell that is raised in its place
 pub raised_in_place : (order i a k b : ℕ) (bytes ys : List ℕ) → a ≡ cell_start order i → k ≡ cell_bytes order → b ≡ bit_start order i → a + k ≤ length bytes → length ys ≡ k → big_endian ys ≡ big_endian (take k (drop a bytes)) + 2 ^ b → IsRaised order bytes i (put_mid a k bytes ys)
 raised_in_place order i a k b bytes ys ea ek eb inside len number =
     let start : length (take a bytes) ≡ a = length-take-le a bytes (omega arith) in
@@ -50,7 +49,6 @@ raised_in_place order i a k b bytes ys ea ek eb inside len number =
       );
     }
 
--- a cell that is lowered in its place
 pub lowered_in_place : (order i a k b : ℕ) (bytes ys : List ℕ) → a ≡ cell_start order i → k ≡ cell_bytes order → b ≡ bit_start order i → a + k ≤ length bytes → length ys ≡ k → big_endian (take k (drop a bytes)) ≡ big_endian ys + 2 ^ b → IsRaised order (put_mid a k bytes ys) i bytes
 lowered_in_place order i a k b bytes ys ea ek eb inside len number =
     let start : length (take a bytes) ≡ a = length-take-le a bytes (omega arith) in

@@ -1,4 +1,4 @@
--- By its bytes a header is refused as damaged, as one that isn't carried, or for a limit, and for nothing else.
+-- If the bytes of a header break a rule, the fault is `DamagedHeader`, `Unsupported` or `Limit`.
 use Rattle.std.proofs.Common.{◌≡◌, ℕ, zero, suc, ◌+◌, ◌/◌, subst, List, [], ◌∷◌, Some, None, Ok, Err}
 use Rattle.std.specs.Prelude.{Bool, true, false, ◌||◌, ◌==◌, nat_lt, if◌then◌else◌, Option, Result}
 use Rattle.std.specs.Str.{is_utf8}
@@ -7,19 +7,18 @@ use Rattle.imago_storage.specs.declared.fault.Fault.TheVariants.{DamagedHeader, 
 use Rattle.qcow2_types.specs.Bytes.{Bytes, be, run}
 use Rattle.qcow2_types.specs.Header.{Fields, Header, Rule, Extension, first_fault, ◌and-then◌, ◌>>=◌, rules_of_kind, rules_of_shape, rules_of_size, rules_of_writing, backing_name_read, has_backing_name, backing_name_of, extension_at, extensions_at, extensions_read, extensions_end, is_version_3, cluster_size, and_more, with_front, after, text_read, texts_of, header_of, fields_of, last_of}
 
--- the refusals of a header by its bytes
+-- The faults of a header by its bytes.
 abbrev pub IsRefusal : Fault → Type 0
 IsRefusal DamagedHeader = Unit {0}
 IsRefusal Unsupported = Unit {0}
 IsRefusal (Limit n) = Unit {0}
 IsRefusal _ = ⊥
 
--- no other refusal
 abbrev pub Only : {A : Type 0} → Result A Fault → Type 0
 Only (Ok x) = Unit {0}
 Only (Err e) = IsRefusal e
 
--- no rule has another
+-- The rules have no other fault.
 abbrev pub OnlySome : Option Fault → Type 0
 OnlySome None = Unit {0}
 OnlySome (Some e) = IsRefusal e
@@ -110,6 +109,5 @@ only-header writing f =
     (only-bind (texts_of f (fields_of f)) _ (only-texts f (fields_of f)) (λ header.
     only-then (first_fault (rules_of_writing writing (fields_of f))) (Ok header) (only-rules (rules_of_writing writing (fields_of f)) (tt, (tt, tt))) tt))))
 
--- a header that is refused
 pub header-refusal : (writing : Bool) (f : Bytes) (e : Fault) → header_of writing f ≡ Err e → IsRefusal e
 header-refusal writing f e refused = subst (Only {A = Header}) refused (only-header writing f)

@@ -1,4 +1,4 @@
--- A header that was written loads again.
+-- A written header loads again.
 use Rattle.std.proofs.Common.{◌≡◌, ℕ, ◌+◌, ◌/◌, ◌^◌, ◌<◌, ◌≤◌, refl, arith, ap, sym, subst, ◌∙◌, List, [], ◌∷◌, ◌++◌, length, replicate, length-append, inl, inr, Some, None, Ok, Err}
 use Rattle.std.specs.Prelude.{flat_map, Bool, true, false, ◌&&◌, ◌||◌, ◌==◌, not, nat_lt, nat_le, ◌⊎◌, if◌then◌else◌, Option, Result}
 use Rattle.std.specs.List.{list_all}
@@ -24,17 +24,17 @@ use Rattle.qcow2_metadata.proofs.NamesRead.{names-read}
 
 -- The fields of a file that has their bytes.
 module _ (g : Bytes) (h : Fields) (held : Holds g 0 (fields_bytes h)) (fit : FirstFieldsFit h) (later : LaterFieldsFit h) where
-  -- bytes 0 to 63, ..
+  -- Bytes 0 to 63.
   pub first-held : Holds g 0 (first_bytes h)
   unfolding fields_bytes
   first-held = holds-front g 0 (first_bytes h) (to_be_bytes w64 h.snapshots_offset) (holds-front g 0 (first_bytes h ++ to_be_bytes w64 h.snapshots_offset) (if is_version_3 h then newer_bytes h else []) held)
 
-  -- .. 64 to 71, ..
+  -- Bytes 64 to 71.
   place-held : be g 64 8 ≡ h.snapshots_offset
   unfolding fields_bytes first_bytes
   place-held = held_8 g 64 h.snapshots_offset (holds-back g 0 (first_bytes h) (to_be_bytes w64 h.snapshots_offset) (holds-front g 0 (first_bytes h ++ to_be_bytes w64 h.snapshots_offset) (if is_version_3 h then newer_bytes h else []) held)) later.snapshots_offset
 
-  -- .. and those of version 3.
+  -- The bytes of version 3.
   newer-held : is_version_3 h ≡ true → Holds g 72 (newer_bytes h)
   unfolding fields_bytes first_bytes
   newer-held newer =
@@ -68,7 +68,7 @@ module _ (g : Bytes) (h : Fields) (held : Holds g 0 (fields_bytes h)) (fit : Fir
     unfolding newer_bytes
     length-held = held_4 g 100 h.header_length (holds-back g 72 (to_be_bytes w64 h.incompatible ++ to_be_bytes w64 h.compatible ++ to_be_bytes w64 h.autoclear ++ to_be_bytes w32 h.refcount_order) (to_be_bytes w32 h.header_length) all) short
 
-  -- version 3
+  -- Version 3.
   pub fields-newer : is_version_3 h ≡ true → h.header_length < 2 ^ 32 → fields_of g ≡ h
   unfolding fields_of
   fields-newer newer short =
@@ -95,7 +95,7 @@ module _ (g : Bytes) (h : Fields) (held : Holds g 0 (fields_bytes h)) (fit : Fir
         length-held all short,
       ) refl
 
-  -- version 2
+  -- Version 2.
   pub fields-older : is_version_3 h ≡ false → h.incompatible ≡ 0 → h.compatible ≡ 0 → h.autoclear ≡ 0 → h.refcount_order ≡ 4 → h.header_length ≡ 72 → fields_of g ≡ h
   unfolding fields_of
   fields-older older a b c d e =
@@ -121,11 +121,11 @@ module _ (g : Bytes) (h : Fields) (held : Holds g 0 (fields_bytes h)) (fit : Fir
       with_newer : ℕ → ℕ → ℕ → ℕ → ℕ → Fields
       with_newer i j k l m = record h { incompatible = i; compatible = j; autoclear = k; refcount_order = l; header_length = m }
 
--- what is read of the backing name, by its bytes
+-- The result of reading the backing name, from its bytes.
 abbrev read_as : Bool → Bool → List ℕ → Result (Option (List ℕ)) Fault
 read_as named wrong bytes = elim named [ false ↦ Ok None | true ↦ elim wrong [ true ↦ Err DamagedHeader | false ↦ if is_utf8 bytes then Ok (Some bytes) else Err DamagedHeader ] ]
 
--- a backing name is read, ..
+-- The image has a backing name.
 name-some : (g : Bytes) (h : Fields) (name : List ℕ) → Holds g h.backing_offset name → h.backing_length ≡ length name → 0 < h.backing_offset → 0 < length name → length name ≤ 1023
     → h.backing_offset + length name ≤ cluster_size h → is_utf8 name ≡ true → backing_name_read g h ≡ Ok (Some name)
 name-some g h name held long place some short inside text =
@@ -144,20 +144,19 @@ name-some g h name held long place some short inside text =
     sizes : (a b c : ℕ) → a ≤ 1023 → b ≤ c → (nat_lt 1023 a || nat_lt c b) ≡ false
     sizes a b c p q = grind (arith, nat_tests)
 
--- .. and none is where there is none
+-- The image has no backing name.
 name-none : (g : Bytes) (h : Fields) → h.backing_offset ≡ 0 → backing_name_read g h ≡ Ok None
 name-none g h none = let test : has_backing_name h ≡ false = rw none refl in ap (λ a. read_as a (nat_lt 1023 h.backing_length || nat_lt (cluster_size h) (h.backing_offset + h.backing_length)) (run g h.backing_offset h.backing_length)) test
 
--- a text is read
 text-kept : (text : Option (List ℕ)) → is_text text ≡ true → text_read text ≡ Ok text
 text-kept None is = refl
 text-kept (Some bytes) is = rw is refl
 
--- whether an extension's type is one
+-- The extension's type isn't 0, and has 32 bits.
 abbrev is_kind : Extension → Bool
 is_kind x = nat_lt 0 x.0 && nat_lt x.0 (2 ^ 32)
 
--- extensions that are small enough are read as they were written
+-- Small extensions load with the same types and data.
 plain-small : (xs : List Extension) → list_all is_kind xs ≡ true → length (flat_map extension_bytes xs) < 2 ^ 32 → ArePlain xs
 plain-small [] kinds small = tt
 plain-small (x ∷ xs) kinds small =
@@ -173,7 +172,7 @@ plain-small (x ∷ xs) kinds small =
     both true b e = (refl, e)
     both false b e = absurd cc
 
--- the extensions of a header
+-- The extensions of a header.
 abbrev three : Option (List ℕ) → Option (List ℕ) → Option (List ℕ) → List Extension
 three a b c = extension_of 0xE279_2ACA a ++ extension_of 0x4441_5441 b ++ extension_of 0x6803_F857 c
 
@@ -207,55 +206,50 @@ last-three (Some x) None (Some z) = (refl, refl, refl)
 last-three (Some x) (Some y) None = (refl, refl, refl)
 last-three (Some x) (Some y) (Some z) = (refl, refl, refl)
 
--- extensions are read of version 3 alone
+-- Only version 3 has extensions.
 abbrev read_if : Bool → Result (List Extension) Fault → Result (List Extension) Fault
 read_if newer found = elim newer [ true ↦ found | false ↦ Ok [] ]
 
--- the texts, where each part is read
+-- The texts, if each part is read.
 texts-read : (g : Bytes) (h : Fields) (xs : List Extension) (name format external : Option (List ℕ)) (names : Option (List ℕ)) → backing_name_read g h ≡ Ok name → extensions_read g h ≡ Ok xs
     → last_of 0xE279_2ACA xs ≡ format → text_read format ≡ Ok format → last_of 0x4441_5441 xs ≡ external → text_read external ≡ Ok external → last_of 0x6803_F857 xs ≡ names
     → texts_of g h ≡ Ok (record { fields = h; backing_name = name; backing_format = format; data_file_name = external; features = features_read names })
 unfolding texts_of
 texts-read g h xs name format external names a b c d e i j = rw (a, b, c, d, e, i, j) refl
 
--- the file that a header is written over
+-- The file after the header is written over it.
 abbrev over : Bytes → Header → Bytes
 over f h = splice f 0 (header_bytes h)
 
--- the fields as they are written
+-- The fields as they are written.
 written-fields : (h : Header) → ((written_fields h).version ≡ h.fields.version) × ((written_fields h).header_length ≡ fields_length h.fields) × ((written_fields h).cluster_bits ≡ h.fields.cluster_bits)
     × ((written_fields h).backing_offset ≡ backing_name_offset h h.backing_name) × ((written_fields h).backing_length ≡ length (name_bytes h.backing_name))
 unfolding written_fields
 written-fields h = (refl, refl, refl, refl, refl)
 
--- the others stay
+-- The later fields still fit.
 written-later : (h : Header) → LaterFieldsFit h.fields → LaterFieldsFit (written_fields h)
 unfolding written_fields
 written-later h later = record { snapshots_offset = later.snapshots_offset; incompatible = later.incompatible; compatible = later.compatible; autoclear = later.autoclear; refcount_order = later.refcount_order }
 
--- in version 2 too
 written-older : (h : Header) → HasNothingNewer h → ((written_fields h).incompatible ≡ 0) × ((written_fields h).compatible ≡ 0) × ((written_fields h).autoclear ≡ 0) × ((written_fields h).refcount_order ≡ 4)
 unfolding written_fields
 written-older h none = (none.incompatible, none.compatible, none.autoclear, none.refcount_order)
 
--- where the extensions begin
 written-long : (h : Header) → length (fields_bytes (written_fields h)) ≡ fields_length h.fields
 unfolding written_fields
 written-long h = length-fields_bytes (written_fields h)
 
--- the tests of the version
 is-newer : (h : Fields) → h.version ≡ 3 → is_version_3 h ≡ true
 is-newer h newer = grind (arith, nat_tests)
 
 is-older : (h : Fields) → h.version ≡ 2 → is_version_3 h ≡ false
 is-older h older = grind (arith, nat_tests)
 
--- the bytes of the extensions in version 3
 newer-bytes : (h : Header) → h.fields.version ≡ 3 → extensions_bytes h ≡ flat_map extension_bytes (extensions_of h) ++ replicate 8 0
 unfolding extensions_bytes
 newer-bytes h newer = ap (λ (b : Bool). (if b then flat_map extension_bytes (extensions_of h) else []) ++ replicate 8 0) (is-newer h.fields newer)
 
--- what is known of the extensions of a header
 few-extensions : (h : Header) → length (extensions_of h) ≤ 3
 unfolding extensions_of
 few-extensions h = few-three h.backing_format h.data_file_name (names_data h.features)
@@ -268,7 +262,6 @@ last-extensions : (h : Header) → (last_of 0xE279_2ACA (extensions_of h) ≡ h.
 unfolding extensions_of
 last-extensions h = last-three h.backing_format h.data_file_name (names_data h.features)
 
--- version 2 has none
 no-extensions : (h : Header) → HasNothingNewer h → extensions_of h ≡ []
 unfolding extensions_of
 no-extensions h none =
@@ -276,14 +269,14 @@ no-extensions h none =
     ∙ (ap (λ (b : Option (List ℕ)). three None b (names_data h.features)) none.data_file_name ∙ ap (λ (xs : List Feature). three None None (names_data xs)) none.features)
 
 module _ (f : Bytes) (h : Header) where
-  -- the fields, ..
+  -- The file has the fields,
   fields-there : Holds (over f h) 0 (fields_bytes (written_fields h))
   unfolding header_bytes
   fields-there =
       holds-front (over f h) 0 (fields_bytes (written_fields h)) (extensions_bytes h)
       (holds-front (over f h) 0 (fields_bytes (written_fields h) ++ extensions_bytes h) (name_bytes h.backing_name) (splice-holds f (header_bytes h)))
 
-  -- .. the extensions, ..
+  -- the extensions,
   extensions-there : Holds (over f h) (fields_length h.fields) (extensions_bytes h)
   unfolding header_bytes
   extensions-there =
@@ -291,7 +284,7 @@ module _ (f : Bytes) (h : Header) where
       (holds-back (over f h) 0 (fields_bytes (written_fields h)) (extensions_bytes h)
       (holds-front (over f h) 0 (fields_bytes (written_fields h) ++ extensions_bytes h) (name_bytes h.backing_name) (splice-holds f (header_bytes h))))
 
-  -- .. and the name
+  -- and the name.
   name-there : Holds (over f h) (fields_length h.fields + length (extensions_bytes h)) (name_bytes h.backing_name)
   unfolding header_bytes
   name-there =
@@ -303,22 +296,20 @@ module _ (f : Bytes) (h : Header) where
     w : Fields
     w = written_fields h
 
-    -- what fits
+    -- The header fits its cluster.
     fits : (length (header_bytes h) ≤ cluster_size h.fields) × (length (name_bytes h.backing_name) ≤ 1023)
     fits = split (length (header_bytes h)) (cluster_size h.fields) (length (name_bytes h.backing_name)) ok.fits
       where
         split : (a b c : ℕ) → (nat_le a b && nat_le c 1023) ≡ true → (a ≤ b) × (c ≤ 1023)
         split a b c e = (grind (arith, nat_tests), grind (arith, nat_tests))
 
-    -- the cluster is the same
     same-cluster : cluster_size (written_fields h) ≡ cluster_size h.fields
     same-cluster = ap (λ n. 2 ^ n) (written-fields h).2
 
-    -- all that is written lies in it
+    -- All written bytes are inside the cluster.
     inside : fields_length h.fields + length (extensions_bytes h) + length (name_bytes h.backing_name) ≤ cluster_size (written_fields h)
     inside = omega (arith, fits.0, same-cluster, length-header_bytes h)
 
-    -- the name
     name-read : backing_name_read (over f h) (written_fields h) ≡ Ok h.backing_name
     name-read = go h.backing_name refl
       where
@@ -333,7 +324,7 @@ module _ (f : Bytes) (h : Header) where
             name-some (over f h) (written_fields h) (b ∷ bs) (holds-as (over f h) _ _ _ _ (sym place) (ap name_bytes is) name-there) long (omega (arith, place, least)) (omega arith)
             (omega (arith, fits.1, size)) (omega (arith, place, size, inside)) (ap is_text (sym is) ∙ ok.backing_name)
 
-    -- the area of the extensions holds them
+    -- The extensions are inside their area.
     area : fields_length h.fields + length (extensions_bytes h) ≤ extensions_end (written_fields h)
     area = go (has_backing_name (written_fields h)) (nat_le (written_fields h).header_length (written_fields h).backing_offset) refl
       where
@@ -350,7 +341,7 @@ module _ (f : Bytes) (h : Header) where
                 let bad : true ≡ false = sym is ∙ none in
                 absurd cc
 
-    -- the extensions of version 3, ..
+    -- Version 3 has extensions.
     extensions-newer : h.fields.version ≡ 3 → extensions_read (over f h) (written_fields h) ≡ Ok (extensions_of h)
     extensions-newer newer =
         let three : (written_fields h).version ≡ 3 = (written-fields h).0 ∙ newer in
@@ -370,7 +361,7 @@ module _ (f : Bytes) (h : Header) where
         (omega (arith, start, size, area)) (omega (arith, few, fuel)) in
         ap (λ b. read_if b (extensions_at (cluster_size (written_fields h) / 8) (over f h) (extensions_end (written_fields h)) (written_fields h).header_length)) test ∙ read
 
-    -- .. and none of version 2
+    -- Version 2 has no extensions.
     extensions-older : h.fields.version ≡ 2 → extensions_read (over f h) (written_fields h) ≡ Ok (extensions_of h)
     extensions-older older =
         let two : (written_fields h).version ≡ 2 = (written-fields h).0 ∙ older in
@@ -378,11 +369,9 @@ module _ (f : Bytes) (h : Header) where
         ap (λ b. read_if b (extensions_at (cluster_size (written_fields h) / 8) (over f h) (extensions_end (written_fields h)) (written_fields h).header_length)) test
         ∙ ap (λ (xs : List Extension). Ok xs) (sym (no-extensions h (ok.older older)))
 
-    -- the extensions
     extensions-again : extensions_read (over f h) (written_fields h) ≡ Ok (extensions_of h)
     extensions-again = elim ok.version [ inl older ↦ extensions-older older | inr newer ↦ extensions-newer newer ]
 
-    -- the fields
     fields-again : fields_of (over f h) ≡ written_fields h
     fields-again = elim ok.version [
       | inl older ↦
@@ -396,7 +385,6 @@ module _ (f : Bytes) (h : Header) where
           fields-newer (over f h) (written_fields h) fields-there ok.first (written-later h ok.later) (is-newer (written_fields h) three) (omega (arith, (written-fields h).1, most))
     ]
 
-    -- the texts
     texts-again : texts_of (over f h) (written_fields h) ≡ Ok (written h)
     texts-again =
         let last = last-extensions h in
@@ -407,7 +395,6 @@ module _ (f : Bytes) (h : Header) where
         loaded : List Feature → Result Header Fault
         loaded names = Ok (record { fields = written_fields h; backing_name = h.backing_name; backing_format = h.backing_format; data_file_name = h.data_file_name; features = names })
 
--- The header that was written loads.
 pub header-reloads : (writing : Bool) (f : Bytes) (h : Header) → IsReloadable writing h → header_of writing (splice f 0 (header_bytes h)) ≡ Ok (written h)
 header-reloads writing f h ok =
     let g : Bytes = over f h in

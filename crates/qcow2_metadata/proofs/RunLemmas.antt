@@ -1,4 +1,4 @@
--- Runs of bytes as parts of a list.
+-- Runs of bytes as slices of a list.
 use Rattle.std.proofs.Common.{◌≡◌, ℕ, zero, suc, ◌+◌, ◌-◌, ◌<◌, ◌≤◌, refl, arith, List, length, take, drop, add-one, drop-cons}
 use Rattle.qcow2_types.specs.Bytes.{bytes_of, run}
 
@@ -10,6 +10,5 @@ run_at file i (suc n) within =
     let rest : run (bytes_of file) (i + 1) n ≡ take n (drop (i + 1) file) = run_at file (i + 1) n (omega arith) in
     rw (rest, drop-cons file i 0, add-one) refl
 
--- the run from place i up to i + n, as a part of the list
 pub run_slice : (file : List ℕ) (i n : ℕ) → i + n ≤ length file → run (bytes_of file) i n ≡ take ((i + n) - i) (drop i file)
 run_slice file i n within = let same : (i + n) - i ≡ n = omega arith in rw same (run_at file i n within)

@@ -1,4 +1,4 @@
--- Tables with one word changed, and with words added.
+-- Tables with one changed entry, or with added entries.
 use Rattle.std.proofs.Common.{◌≡◌, refl, ℕ, zero, suc, ◌+◌, ◌-◌, ◌*◌, ◌/◌, ◌%◌, ◌^◌, ◌<◌, ◌≤◌, ◌∙◌, ap, sym, subst, arith, List, [], ◌∷◌, ◌++◌, length, map, inl, inr, lit<}
 use Rattle.std.specs.Prelude.{Bool, true, IsTrue, Option, Some, None, slice_index, slice_set, replicate, nat_le}
 use Rattle.std.specs.List.{range_with_len}
@@ -16,11 +16,10 @@ use Rattle.qcow2_metadata.specs.Places.{IsPlaced, place_of}
 use Rattle.qcow2_metadata.specs.Tables.{Kind, l1_table_kind, l2_table_kind, refcount_table_kind, IsTable, IsLength, AreSound, raw_entry_valid, padded}
 use Rattle.qcow2_types.specs.TableBytes.{AreFit}
 
--- a fact of each of these words
+-- Each raw entry has the property.
 abbrev pub EachWord : (ℕ → Type 0) → List ℕ → Type 0
 EachWord P raw_entries = (i : ℕ) → i < length raw_entries → P (slice_index raw_entries i)
 
--- It holds still where one word is changed for another that it holds of.
 pub each_set : (P : ℕ → Type 0) (raw_entries : List ℕ) (i w : ℕ) → EachWord P raw_entries → P w → EachWord P (slice_set raw_entries i w)
 each_set P raw_entries i w old new k inside =
     let there : k < length raw_entries = omega (arith, length-set raw_entries i w, inside) in
@@ -31,7 +30,7 @@ each_set P raw_entries i w old new k inside =
       | inr ne ↦ subst P (sym (get_or-set_other raw_entries i k w 0 ne)) (old k there)
     ]
 
--- one word changed
+-- One entry is changed.
 pub entered : (kind : Kind) (layout : Layout) (raw_entries : List ℕ) (i w : ℕ) (a b : Option ℕ) (m n : Bool) → IsTable kind (record { layout = layout; raw_entries = raw_entries; cluster = a; modified = m }) → IsTrue (raw_entry_valid kind layout w) → w < 2 ^ 64 → IsTable kind (record { layout = layout; raw_entries = slice_set raw_entries i w; cluster = b; modified = n })
 entered kind layout raw_entries i w a b m n is sound fits = record {
   low = is.low;
@@ -41,13 +40,12 @@ entered kind layout raw_entries i w a b m n is sound fits = record {
   fit = each_set (λ x. x < 2 ^ 64) raw_entries i w is.fit fits;
 }
 
--- 0 is a word of each kind
+-- The entry 0 is valid in each kind of table.
 pub zero_sound : (kind : Kind) (layout : Layout) → IsTrue (raw_entry_valid kind layout 0)
 zero_sound l1_table_kind layout = zero-l1-word layout.cluster_bits
 zero_sound l2_table_kind layout = rw (zero-word layout) refl
 zero_sound refcount_table_kind layout = zero-l1-word layout.cluster_bits
 
--- words and then 0
 pub padded_long : (raw_entries : List ℕ) (n : ℕ) → length raw_entries ≤ n → length (padded raw_entries n) ≡ n
 padded_long raw_entries n few = length-append raw_entries (replicate (n - length raw_entries) 0) ∙ omega (arith, length-replicate {A = ℕ} (n - length raw_entries) 0, few)
 
@@ -56,7 +54,7 @@ zeroes_at zero j = refl
 zeroes_at (suc m) zero = refl
 zeroes_at (suc m) (suc j) = zeroes_at m j
 
--- past its end a list reads 0
+-- Past its end a list reads as 0.
 pub past_end : (xs : List ℕ) (j : ℕ) → length xs ≤ j → slice_index xs j ≡ 0
 past_end [] j ge = refl
 past_end (x ∷ xs) zero ge = absurd (omega (arith, ge))
@@ -68,7 +66,6 @@ padded_at raw_entries n k = elim (cases_lt k (length raw_entries)) [
   | inr ge ↦ get_or-append_right raw_entries (replicate (n - length raw_entries) 0) (length raw_entries) k 0 refl ge ∙ (zeroes_at (n - length raw_entries) (k - length raw_entries) ∙ sym (past_end raw_entries k ge))
 ]
 
--- What holds of words and of 0 holds of them with 0 behind them.
 pub each_padded : (P : ℕ → Type 0) (raw_entries : List ℕ) (n : ℕ) → EachWord P raw_entries → P 0 → EachWord P (padded raw_entries n)
 each_padded P raw_entries n old none k inside = subst P (sym (padded_at raw_entries n k)) (elim (cases_lt k (length raw_entries)) [
   | inl lt ↦ old k lt
@@ -81,7 +78,6 @@ padded_sound kind layout raw_entries n old = each_padded (λ x. IsTrue (raw_entr
 pub padded_fit : (raw_entries : List ℕ) (n : ℕ) → AreFit raw_entries → AreFit (padded raw_entries n)
 padded_fit raw_entries n old = each_padded (λ x. x < 2 ^ 64) raw_entries n old (lit< tt)
 
--- What holds of words and of those behind them holds of all.
 pub each_append : (P : ℕ → Type 0) (raw_entries behind : List ℕ) → EachWord P raw_entries → EachWord P behind → EachWord P (raw_entries ++ behind)
 each_append P raw_entries behind first second i inside =
     let all : i < length raw_entries + length behind = omega (arith, length-append raw_entries behind, inside) in
@@ -90,17 +86,15 @@ each_append P raw_entries behind first second i inside =
       | inr ge ↦ subst P (sym (get_or-append_right raw_entries behind (length raw_entries) i 0 refl ge)) (second (i - length raw_entries) (omega (arith, all, ge)))
     ]
 
--- What each word keeps as it is copied, copies have.
 pub each_mapped : (P : ℕ → Type 0) (f : ℕ → ℕ) (raw_entries : List ℕ) → ((w : ℕ) → P w → P (f w)) → EachWord P raw_entries → EachWord P (map f raw_entries)
 each_mapped P f raw_entries keeps old i inside =
     let there : i < length raw_entries = omega (arith, length-map raw_entries f, inside) in
     subst P (sym (get_or-map f raw_entries i 0 0 there)) (keeps (slice_index raw_entries i) (old i there))
 
--- What holds of 0 holds of each word of a new table.
 pub each_zero : (P : ℕ → Type 0) (n : ℕ) → P 0 → EachWord P (replicate n 0)
 each_zero P n none k inside = subst P (sym (zeroes_at n k)) none
 
--- the first n words, 0 past the end
+-- The first `n` entries, with 0 past the end.
 pub copied_words : (raw_entries : List ℕ) (n : ℕ) → length raw_entries ≤ n → map (λ i. slice_index raw_entries i) (range_with_len 0 n) ≡ padded raw_entries n
 copied_words raw_entries n few =
     let long : length (map (λ i. slice_index raw_entries i) (range_with_len 0 n)) ≡ n = length-map-range_with_len (λ i. slice_index raw_entries i) 0 n in
@@ -110,7 +104,7 @@ copied_words raw_entries n few =
 pub one_word_more : (raw_entries : List ℕ) (n : ℕ) → map (λ i. slice_index raw_entries i) (range_with_len 0 (n + 1)) ≡ map (λ i. slice_index raw_entries i) (range_with_len 0 n) ++ slice_index raw_entries n ∷ []
 one_word_more raw_entries n = map-range_with_len_more (λ i. slice_index raw_entries i) 0 n n (omega arith)
 
--- a cluster begins with a sector, and where a cluster can begin
+-- The offset of a cluster is a multiple of 512, and valid.
 module _ (bits c : ℕ) (low : 9 ≤ bits) (near : c * 2 ^ bits ≤ max_offset) where
   pub cluster_sectors : c * 2 ^ bits % 512 ≡ 0
   cluster_sectors =
@@ -125,19 +119,19 @@ module _ (bits c : ℕ) (low : 9 ≤ bits) (near : c * 2 ^ bits ≤ max_offset) 
       let below : nat_le (c * 2 ^ bits) max_offset ≡ true = grind (arith, nat_tests) in
       rw (begin, below) refl
 
--- the places that words name, of an L2 table and of a refcount block
+-- The offsets in the entries of an L2 table and a refcount block.
 pub table_named : (bits c : ℕ) → 9 ≤ bits → c * 2 ^ bits ≤ max_offset → table_offset (2 ^ 63 + c * 2 ^ bits) ≡ c * 2 ^ bits
 table_named bits c low near = let whole : c * 2 ^ bits % 512 ≡ 0 = cluster_sectors bits c low near in omega arith
 
 pub block_named : (bits c : ℕ) → 9 ≤ bits → c * 2 ^ bits ≤ max_offset → block_offset (c * 2 ^ bits) ≡ c * 2 ^ bits
 block_named bits c low near = let whole : c * 2 ^ bits % 512 ≡ 0 = cluster_sectors bits c low near in omega arith
 
--- the word that names the L2 table in a cluster
+-- The entry that references the L2 table in a cluster is valid.
 pub l1_word_named : (bits : ℕ) (cluster : Option ℕ) → 9 ≤ bits → IsPlaced bits cluster → IsTrue (l1_entry_valid bits (2 ^ 63 + place_of bits cluster))
 l1_word_named bits None low placed = absurd placed
 l1_word_named bits (Some c) low placed = fresh-l1-word bits c low placed
 
--- the word that names the refcount block in a cluster
+-- The entry that references the refcount block in a cluster is valid.
 pub block_word_named : (bits : ℕ) (cluster : Option ℕ) → 9 ≤ bits → IsPlaced bits cluster → IsTrue (reftable_entry_valid bits (place_of bits cluster))
 block_word_named bits None low placed = absurd placed
 block_word_named bits (Some c) low placed =

@@ -1,4 +1,4 @@
--- Texts of a header.
+-- The texts of a header.
 use Rattle.std.proofs.Common.{◌≡◌, ◌≢◌, ℕ, ◌+◌, ◌-◌, ◌/◌, ◌≤◌, refl, arith, ap, ◌∙◌, List, [], length, take, drop, Some, Ok, Err}
 use Rattle.std.specs.Prelude.{Bool, true, false, ◌||◌, ◌==◌, None, nat_lt, if◌then◌else◌, Option, Result}
 use Rattle.std.specs.Str.{is_utf8, IsUtf8}
@@ -12,11 +12,9 @@ use Rattle.qcow2_metadata.specs.Loading.{RefusedBy}
 use Rattle.qcow2_metadata.specs.Extensions.{Known, known_by, known_of}
 use Rattle.qcow2_metadata.proofs.RunLemmas.{run_slice}
 
--- bytes that are UTF-8 are a text
 pub text-read : (bytes : List ℕ) → IsUtf8 bytes → text_read (Some bytes) ≡ Ok (Some bytes)
 text-read bytes is_text = rw (is_utf8-from_IsUtf8 bytes is_text) refl
 
--- others are refused
 pub text-refused : (bytes : List ℕ) → (IsUtf8 bytes → ⊥) → text_read (Some bytes) ≡ Err DamagedHeader
 text-refused bytes not_text = split (is_utf8 bytes) refl
   where
@@ -24,17 +22,16 @@ text-refused bytes not_text = split (is_utf8 bytes) refl
     split true is = absurd (not_text (IsUtf8-from_is_utf8 bytes is))
     split false is = refl
 
--- a refusal of a part, or want of memory, is that of the whole
+-- The fault of a part, or running out of memory, is the fault of the whole.
 pub refused-through : {A B : Type 0} (part : Result A Fault) (whole : Result B Fault) → ((e : Fault) → part ≡ Err e → whole ≡ Err e) → (e : Fault) → RefusedBy part e → RefusedBy whole e
 refused-through part whole give Memory refused = tt
 refused-through part whole give e refused = give e refused
 
--- a refusal that is defined
 pub refused-as : {A : Type 0} (whole : Result A Fault) (e : Fault) → whole ≡ Err e → RefusedBy whole e
 refused-as whole Memory refused = tt
 refused-as whole e refused = refused
 
--- a backing file's name that is in the first cluster
+-- A backing file's name inside the first cluster.
 pub backing-text : (file : List ℕ) (h : Fields) → h.backing_offset ≢ 0 → h.backing_length ≢ 0 → h.backing_length ≤ 1023 → h.backing_offset + h.backing_length ≤ cluster_size h → length file ≡ cluster_size h
     → backing_name_read (bytes_of file) h ≡ text_read (Some (take (h.backing_offset + h.backing_length - h.backing_offset) (drop h.backing_offset file)))
 backing-text file h place some short within size =
@@ -55,24 +52,23 @@ backing-text file h place some short within size =
     chosen true true p q x = absurd cc
     chosen false b p q x = absurd cc
 
--- version 3 has extensions
 pub extensions-newer : (f : Bytes) (h : Fields) → h.version ≡ 3 → extensions_read f h ≡ extensions_at (cluster_size h / 8) f (extensions_end h) h.header_length
 extensions-newer f h newer =
     let test : (h.version == 3) ≡ true = grind (arith, nat_tests) in
     ap (λ (b : Bool). elim b as (λ _. Result (List Extension) Fault) [ true ↦ extensions_at (cluster_size h / 8) f (extensions_end h) h.header_length | false ↦ Ok [] ]) test
 
--- The texts by their parts: a refusal of the backing name, ..
+-- The fault of the texts is that of the backing name,
 pub texts-name : (f : Bytes) (h : Fields) (e : Fault) → backing_name_read f h ≡ Err e → texts_of f h ≡ Err e
 unfolding texts_of
 texts-name f h e refused = rw refused refl
 
 module _ (f : Bytes) (h : Fields) (name : Option (List ℕ)) (named : backing_name_read f h ≡ Ok name) where
-  -- .. of the extensions, ..
+  -- of the extensions,
   pub texts-extensions : (e : Fault) → extensions_read f h ≡ Err e → texts_of f h ≡ Err e
   unfolding texts_of
   texts-extensions e refused = rw (named, refused) refl
 
-  -- the extensions that were read
+  -- The extensions that were read.
   found : (known : Known) → known_of (extensions_read f h) ≡ Ok known → (xs : List Extension) × (extensions_read f h ≡ Ok xs) × (known_by xs ≡ known)
   found known read = split (extensions_read f h) refl read
     where
@@ -84,7 +80,7 @@ module _ (f : Bytes) (h : Fields) (name : Option (List ℕ)) (named : backing_na
       split (Err fault) is e = absurd cc
 
   module _ (known : Known) (read : known_of (extensions_read f h) ≡ Ok known) where
-    -- .. of the backing format, ..
+    -- of the backing format,
     pub texts-format : (e : Fault) → text_read known.backing_format ≡ Err e → texts_of f h ≡ Err e
     unfolding texts_of
     texts-format e refused =
@@ -93,7 +89,7 @@ module _ (f : Bytes) (h : Fields) (name : Option (List ℕ)) (named : backing_na
         rw (named, x.1, last, refused) refl
 
     module _ (format : Option (List ℕ)) (formatted : text_read known.backing_format ≡ Ok format) where
-      -- .. of the external data file's name, ..
+      -- or of the external data file's name.
       pub texts-data : (e : Fault) → text_read known.data_file_name ≡ Err e → texts_of f h ≡ Err e
       unfolding texts_of
       texts-data e refused =
@@ -102,7 +98,7 @@ module _ (f : Bytes) (h : Fields) (name : Option (List ℕ)) (named : backing_na
           let data_name : last_of 0x4441_5441 x.0 ≡ known.data_file_name = ap (λ (k : Known). k.data_file_name) x.2 in
           rw (named, x.1, last, formatted, data_name, refused) refl
 
-      -- .. or all of them.
+      -- All parts are read.
       pub texts-all : (data_file : Option (List ℕ)) → text_read known.data_file_name ≡ Ok data_file
           → texts_of f h ≡ Ok (record { fields = h; backing_name = name; backing_format = format; data_file_name = data_file; features = features_read known.feature_names })
       unfolding texts_of

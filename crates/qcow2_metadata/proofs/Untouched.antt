@@ -1,4 +1,4 @@
--- A write that is refused before it asks anything of the storage.
+-- A write that fails before it makes a request.
 use Rattle.std.proofs.Common.{refl, ℕ, List, [], arith, inl, inr}
 use Rattle.std.specs.Prelude.{Err}
 use Rattle.imago_storage.specs.State.{StorageState}
@@ -12,7 +12,7 @@ nothing_mixed old at bytes = record { before = λ k lt. refl; inside = λ k ge l
 no_stops : (s : StorageState) (at : ℕ) (bytes : List ℕ) → EachCrashImage (OldOrNewBytes s.bytes at bytes) s s
 no_stops s at bytes step tells keeps = record { files = []; told = refl; each = λ k d lt. absurd (omega (arith, lt)) }
 
--- the answer where memory is wanting
+-- Memory ran out.
 pub put_nothing : {T : Type 0} (s : StorageState) (at : ℕ) (bytes : List ℕ) → WriteOutcome {T = T} s s at bytes (Err Memory)
 put_nothing s at bytes = record {
   answer = record {

@@ -1,10 +1,10 @@
--- The seven widths of counters, from 2 ^ 0 to 2 ^ 6 bits.
+-- The seven widths of refcounts, from 2 ^ 0 to 2 ^ 6 bits.
 use Rattle.std.proofs.Common.{◌≡◌, ℕ, zero, suc, ◌+◌, ◌-◌, ◌*◌, ◌/◌, ◌%◌, ◌<◌, ◌≤◌, ◌^◌, arith, refl}
 use Rattle.std.proofs.Math.Nat.{mul-le-mul_right}
 use Rattle.std.proofs.lemmas.Nat.{mod_below, pow_pos, row_fits}
 use Rattle.qcow2_metadata.specs.Cells.{bit_start, cell_bytes, cell_counters}
 
--- the counters of a cell fill its bytes
+-- The refcounts of a cell fill its bytes.
 pub cell_filled : (order : ℕ) → order ≤ 6 → cell_counters order * 2 ^ order ≡ 8 * cell_bytes order
 cell_filled zero h = refl
 cell_filled (suc zero) h = refl
@@ -28,7 +28,7 @@ cell_bytes_small (suc (suc (suc (suc (suc (suc (suc n))))))) h = absurd (omega (
 pub place_ends : (a b w : ℕ) → a < b → a * w + w ≤ b * w
 place_ends a b w h = grind (arith, row_fits, mul-le-mul_right)
 
--- a counter ends inside its cell
+-- A refcount ends inside its cell.
 pub bit_start_inside : (order i : ℕ) → order ≤ 6 → bit_start order i + 2 ^ order ≤ 8 * cell_bytes order
 bit_start_inside order i h =
     let below : i % cell_counters order < cell_counters order =

@@ -1,4 +1,4 @@
--- The bytes of words that were read are the bytes read, and words are read again from their bytes.
+-- Entries that were read are written as the same bytes, and written entries are read again.
 use Rattle.std.proofs.Common.{◌≡◌, refl, ℕ, zero, suc, ◌+◌, ◌*◌, ◌<◌, ◌∙◌, ap, sym, arith, List, [], ◌∷◌, ◌++◌, length, inl, inr}
 use Rattle.std.specs.Prelude.{slice_index}
 use Rattle.std.specs.Int.{to_be_bytes, w64}
@@ -14,7 +14,7 @@ use Rattle.qcow2_types.specs.TableBytes.{AreFit, table_bytes}
 use Rattle.qcow2_metadata.proofs.TableFacts.{words_long, words_at, words_more}
 use Rattle.qcow2_metadata.proofs.TableSteps.{past_end}
 
--- the bytes of a run
+-- The length of a run.
 run_long : (f : Bytes) (i n : ℕ) → length (run f i n) ≡ n
 unfolding run
 run_long f i zero = refl
@@ -34,7 +34,7 @@ run_more f i (suc m) n =
     let same : i + 1 + m ≡ i + suc m = omega arith in
     ap (λ k. run f i k) next ∙ ap (λ (l : List ℕ). f i ∷ l) (run_more f (i + 1) m n ∙ ap (λ j. run f (i + 1) m ++ run f j n) same)
 
--- one word
+-- One entry.
 word_run : (f : Bytes) (p i : ℕ) → ((k : ℕ) → f k < 256) → to_be_bytes w64 (raw_entry f p i) ≡ run f (p + 8 * i) 8
 unfolding raw_entry
 word_run f p i fits =
@@ -47,7 +47,7 @@ word_run f p i fits =
     ])
     (same ∙ be-of-bytes (run f (p + 8 * i) 8))
 
--- and all of a table
+-- All entries of a table.
 pub written_back : (f : Bytes) (p n : ℕ) → ((k : ℕ) → f k < 256) → table_bytes (raw_entries_in f p n) ≡ run f p (8 * n)
 unfolding run
 written_back f p zero fits = refl
@@ -61,7 +61,6 @@ written_back f p (suc n) fits =
     ∙ (flat_map-append (to_be_bytes w64) (raw_entries_in f p n) (raw_entry f p n ∷ [])
     ∙ ((cc (before, one)) ∙ (sym (run_more f p (8 * n) 8) ∙ ap (λ k. run f p k) size))))
 
--- Words are read again where their bytes were written.
 pub read_back : (f : Bytes) (p : ℕ) (raw_entries : List ℕ) → AreFit raw_entries → raw_entries_in (splice f p (table_bytes raw_entries)) p (length raw_entries) ≡ raw_entries
 read_back f p raw_entries fit =
     let g : Bytes = splice f p (table_bytes raw_entries) in

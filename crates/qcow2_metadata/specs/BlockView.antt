@@ -1,4 +1,4 @@
--- A refcount block as the program keeps it.
+-- The value that contracts use for a refcount block in memory, and its invariant.
 use Rattle.std.specs.Prelude.{◌≡◌, ◌^◌, ◌≤◌, length}
 use Rattle.qcow2_metadata.specs.Cells.{counters_of}
 use Rattle.qcow2_metadata.specs.Blocks.{Block}
@@ -13,7 +13,7 @@ seen_block b = record {
   modified = b.modified;
 }
 
--- what holds of each: it fills a cluster
+-- The invariant of a block: it fills one cluster.
 pub record IsBlock (b : Inside) : Type 0 where
   pub order : b.refcount_order ≤ 6
   pub low : 9 ≤ b.cluster_bits

@@ -1,4 +1,4 @@
--- Refcount blocks: the counters of consecutive host clusters.
+-- Refcount blocks for contracts: the refcounts of consecutive host clusters, their changes, and how a block is loaded and written.
 use Rattle.std.specs.Prelude.{ℕ, ◌*◌, Bool, true, false, List, map, slice_set, Option, Some, Result}
 use Rattle.std.specs.List.{range_with_len}
 use Rattle.imago_storage.specs.State.{StorageState}
@@ -9,18 +9,18 @@ use Rattle.qcow2_types.specs.Header.{Fields, cluster_size}
 use Rattle.qcow2_types.specs.TableBytes.{Packs}
 use Rattle.qcow2_types.specs.Counts.{counter, counters_of_block}
 
--- what contracts see of a block
+-- A refcount block as contracts see it.
 pub record Block : Type 0 where
-  -- it fills a cluster of 2 ^ cluster_bits bytes with counters of 2 ^ order bits
+  -- a cluster has 2 ^ cluster_bits bytes, and a refcount 2 ^ order bits
   pub cluster_bits : ℕ
   pub order : ℕ
   pub counters : List ℕ
-  -- the cluster of the file where it stands, if it has one
+  -- the cluster of the block in the file, if it has one
   pub cluster : Option ℕ
-  -- whether the file may hold something else there
+  -- the file may differ from the block
   pub modified : Bool
 
--- a block by its parts
+-- The block with these fields.
 abbrev pub block_of : ℕ → ℕ → List ℕ → Option ℕ → Bool → Block
 block_of cluster_bits order counters cluster modified = record {
   cluster_bits = cluster_bits;
@@ -30,15 +30,15 @@ block_of cluster_bits order counters cluster modified = record {
   modified = modified;
 }
 
--- the block with this counter, which the file may not hold yet
+-- The block with the refcount `n` at index `i`, now dirty.
 abbrev pub with_counter : Block → ℕ → ℕ → Block
 with_counter block i n = record block { counters = slice_set block.counters i n; modified = true }
 
--- the counters of the block at this place of a file, by the file's header
+-- The refcounts of the block at this offset of a file with the header `h`.
 abbrev pub counters_in : Bytes → Fields → ℕ → List ℕ
 counters_in f h place = map (counter f h place) (range_with_len 0 (counters_of_block h))
 
--- the block in this cluster of a file
+-- The block in this cluster of a file, as it loads.
 abbrev pub block_in : Bytes → Fields → ℕ → Block
 block_in f h cluster = record {
   cluster_bits = h.cluster_bits;
@@ -48,7 +48,7 @@ block_in f h cluster = record {
   modified = false;
 }
 
--- A block's bytes go to this place by one request, whatever the storage answered.
+-- The bytes of a block are written at this offset in one request that ends with `result`.
 pub record BlockPut {T : Type 0} (block : Block) (place : ℕ) (old new : StorageState) (result : Result T Fault) : Type 0 where
   pub bytes : List ℕ
   pub packs : Packs block.order block.counters bytes

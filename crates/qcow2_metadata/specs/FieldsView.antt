@@ -1,10 +1,10 @@
--- The fields of a header, as the program keeps them in two parts, and what each header keeps of them.
+-- The header fields for contracts, from the two parts in memory (bytes 0 to 71 and 72 to 103), and their invariant.
 use Rattle.std.specs.Prelude.{◌≡◌, ◌==◌, ◌||◌, IsTrue}
 use Rattle.qcow2_types.specs.Header.{Fields, Shaped}
 use Rattle.qcow2_types.specs.declared.on_disk.V2Header.{V2Header}
 use Rattle.qcow2_types.specs.declared.on_disk.V3HeaderBase.{V3HeaderBase}
 
--- the fields of the two parts
+-- The fields of the two parts.
 abbrev pub seen_fields : V2Header → V3HeaderBase → Fields
 seen_fields v2 v3 = record {
   version = v2.version;
@@ -26,7 +26,7 @@ seen_fields v2 v3 = record {
   header_length = v3.header_length;
 }
 
--- what the second part is in version 2: no features, counters of 16 bits, and a header of 72 bytes
+-- The second part in version 2: no features, refcounts of 16 bits, and a header of 72 bytes.
 abbrev pub older_base : V3HeaderBase
 older_base = record {
   incompatible_features = 0;
@@ -36,7 +36,7 @@ older_base = record {
   header_length = 72;
 }
 
--- What holds of the parts of every header, however it was made.
+-- The invariant of the two parts of every header.
 pub record IsHeader (v2 : V2Header) (v3 : V3HeaderBase) : Type 0 where
   pub magic : v2.magic ≡ 0x5146_49fb
   pub version : IsTrue ((v2.version == 2) || (v2.version == 3))

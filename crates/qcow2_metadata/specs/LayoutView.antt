@@ -1,4 +1,4 @@
--- What the words of an image depend on, as the program keeps it.
+-- The value that contracts use for a `TableLayout`: the header values that the meaning of an entry depends on.
 use Rattle.std.specs.Prelude.{◌≤◌}
 use Rattle.qcow2_types.specs.Words.{Layout}
 use Rattle.qcow2_metadata.specs.declared.layout.TableLayout.TheInside.{Inside}

@@ -1,10 +1,10 @@
--- The two parts of a header's fields in bytes.
+-- The two parts of a header (bytes 0 to 71 and 72 to 103): the bytes in which their fields are.
 use Rattle.std.specs.Prelude.{◌≡◌}
 use Rattle.qcow2_types.specs.Bytes.{Bytes, be}
 use Rattle.qcow2_types.specs.declared.on_disk.V2Header.{V2Header}
 use Rattle.qcow2_types.specs.declared.on_disk.V3HeaderBase.{V3HeaderBase}
 
--- the first part stands at the start
+-- The first part is at the start of these bytes.
 pub record IsV2At (f : Bytes) (h : V2Header) : Type 0 where
   pub magic : h.magic ≡ be f 0 4
   pub version : h.version ≡ be f 4 4
@@ -20,7 +20,7 @@ pub record IsV2At (f : Bytes) (h : V2Header) : Type 0 where
   pub nb_snapshots : h.nb_snapshots ≡ be f 60 4
   pub snapshots_offset : h.snapshots_offset ≡ be f 64 8
 
--- the second part stands at the start
+-- The second part is at the start of these bytes.
 pub record IsV3At (f : Bytes) (h : V3HeaderBase) : Type 0 where
   pub incompatible_features : h.incompatible_features ≡ be f 0 8
   pub compatible_features : h.compatible_features ≡ be f 8 8

@@ -1,4 +1,4 @@
--- Tables as the program keeps them.
+-- The values that contracts use for tables in memory: lists of entries, and L2 tables that keep only their bytes.
 use Rattle.std.specs.Prelude.{ℕ, List, ◌/◌, ◌≤◌, length}
 use Rattle.qcow2_metadata.specs.Tables.{Kind, TableValue, IsTable, l2_table_kind, raw_entries_in, AreSound, IsLength}
 use Rattle.qcow2_metadata.specs.declared.entry_table.EntryTable.TheInside.{Inside}
@@ -13,7 +13,7 @@ module _ {E : Type 0} (raw_entries : List E → List ℕ) where
   abbrev pub IsWordTable : Kind → Inside E → Type 0
   IsWordTable kind t = IsTable kind (seen_table t)
 
--- what contracts see of an L2 table of which only the bytes are kept
+-- An L2 table that keeps only its bytes, as contracts see it.
 pub record StoredValue : Type 0 where
   pub layout : Layout
   pub raw_entries : List ℕ

@@ -1,8 +1,8 @@
--- What may change in a header while its image is open.
+-- The fields of a header that may change while its image is open.
 use Rattle.std.specs.Prelude.{◌≡◌}
 use Rattle.qcow2_types.specs.Header.{Header as HeaderRecord}
 
--- the header with the size, the L1 table's place and entries, and the refcount table's place and clusters of another
+-- The header `h` with the size and with the offsets and lengths of the tables of `other`.
 abbrev pub with_places_of : HeaderRecord → HeaderRecord → HeaderRecord
 with_places_of other h = record h {
   fields = record h.fields {
@@ -14,7 +14,7 @@ with_places_of other h = record h {
   };
 }
 
--- they have the same texts
+-- Both headers have the same texts.
 pub record SameTexts (a b : HeaderRecord) : Type 0 where
   pub backing_name : a.backing_name ≡ b.backing_name
   pub backing_format : a.backing_format ≡ b.backing_format

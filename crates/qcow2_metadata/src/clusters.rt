@@ -1,4 +1,4 @@
-// Whole clusters of a file.
+// Reads and writes of whole clusters of an image file.
 ghost use Rattle.std.specs.Prelude.{◌≡◌, ℕ, ◌+◌, ◌%◌, ◌^◌, ◌<◌, ◌≤◌, length, slice_index, replicate, IfOk};
 ghost use Rattle.imago_storage.specs.Calls.{CountsFaults, UnchangedButFaults, Reads};
 ghost use Rattle.imago_storage.specs.Through.{AtomicWriteOutcome};
@@ -9,7 +9,7 @@ use imago_storage::{Fault, Storage, StorageExt};
 use qcow2_types::HostCluster;
 use std::alloc::{AllocError, Global};
 
-/// Where a cluster begins that there is.
+/// Returns the host offset of a cluster, in bytes. The cluster must be `Some`.
 pub fn first_byte_of(cluster: Option<HostCluster>, cluster_bits: u32) -> u64
     requires bits { (9 ≤ cluster_bits) × (cluster_bits ≤ 21) }
     requires placed { IsPlaced cluster_bits cluster }
@@ -21,14 +21,18 @@ pub fn first_byte_of(cluster: Option<HostCluster>, cluster_bits: u32) -> u64
     }
 }
 
-/// So many bytes of 0.
+/// Returns a buffer of `size` zero bytes.
 pub fn zeroes(alloc: Global, size: usize) -> Result<Vec<u8>, AllocError>
     ensures { IfOk result (λ bytes. bytes.items ≡ replicate size 0) }
 {
     vec![in alloc; 0u8; size]
 }
 
-/// The bytes of a cluster of a file.
+/// Reads the `size` bytes at a host offset. Bytes past the end of the file are zeroes.
+///
+/// # Errors
+///
+/// - `Fault::Memory`, `Fault::Storage`. The file is unchanged.
 pub fn read_cluster<S: Storage>(
     alloc: Global,
     image: &mut S,
@@ -46,7 +50,11 @@ pub fn read_cluster<S: Storage>(
     Ok(bytes)
 }
 
-/// Writes the bytes of a cluster, by one request.
+/// Writes the bytes of a cluster, in one request.
+///
+/// # Errors
+///
+/// - `Fault::Memory`, `Fault::Storage`. Each byte of the cluster is old or new.
 pub fn write_cluster<S: Storage>(
     alloc: Global,
     image: &mut S,

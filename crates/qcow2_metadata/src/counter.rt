@@ -1,5 +1,5 @@
-// Counters of 1, 2, 4, 8, 16, 32 or 64 bits, packed in bytes: refcounts in imago, and in qemu
-// the entries of a refcount block.
+// Refcounts of 1, 2, 4, 8, 16, 32 or 64 bits, packed in the bytes of a refcount block. A refcount of less than 8 bits
+// shares its cell, one byte, with others. The width is 2^`order` bits. Definitions: specs/Cells.antt.
 ghost use Rattle.std.specs.Prelude.{◌≡◌, ◌≢◌, ℕ, ◌+◌, ◌-◌, ◌*◌, ◌/◌, ◌%◌, ◌^◌, ◌<◌, ◌≤◌, ◌↔◌, length, IsOk, OnOk, OnErr, IfErr};
 ghost use Rattle.qcow2_metadata.specs.Cells.{big_endian, bit_start, cell_bytes, cell_start, counter, HasCounter, IsRaised};
 
@@ -7,7 +7,7 @@ use crate::endian::{read_be, write_be};
 use imago_storage::Fault;
 use qcow2_types::bits::low_bits;
 
-/// The first byte of the cell that holds the counter.
+/// Returns the index of the first byte of the cell that holds the refcount.
 fn first_byte(order: u32, index: usize) -> usize
     requires order { order ≤ 6 }
     requires fits { cell_start order index < 2 ^ 64 }
@@ -16,7 +16,7 @@ fn first_byte(order: u32, index: usize) -> usize
     (index >> 3u32.saturating_sub(order)) << order.saturating_sub(3)
 }
 
-/// The bit of its cell at which the counter begins.
+/// Returns the bit of its cell at which the refcount starts.
 fn first_bit(order: u32, index: usize) -> u32
     requires { order ≤ 6 }
     ensures bit { result ≡ bit_start order index }
@@ -25,7 +25,7 @@ fn first_bit(order: u32, index: usize) -> u32
     (low_bits(index as u64, 3u32.saturating_sub(order)) as u32) << order
 }
 
-/// The bytes of a cell.
+/// Returns the length of a cell, in bytes.
 fn cell_len(order: u32) -> usize
     requires { order ≤ 6 }
     ensures { result ≡ cell_bytes order }
@@ -33,7 +33,7 @@ fn cell_len(order: u32) -> usize
     1 << order.saturating_sub(3)
 }
 
-/// The greatest counter.
+/// Returns the greatest refcount of this width.
 fn max_counter(order: u32) -> u64
     requires { order ≤ 6 }
     ensures { result ≡ 2 ^ (2 ^ order) - 1 }
@@ -41,7 +41,7 @@ fn max_counter(order: u32) -> u64
     u64::MAX >> (64 - (1u32 << order))
 }
 
-/// The counter that begins at a bit of its cell's number.
+/// Returns the refcount that starts at a bit of its cell's number.
 fn digit(number: u64, bit: u32, order: u32) -> u64
     requires order { order ≤ 6 }
     requires bit { bit + 2 ^ order ≤ 64 }
@@ -50,7 +50,7 @@ fn digit(number: u64, bit: u32, order: u32) -> u64
     (number >> bit) & max_counter(order)
 }
 
-/// The counter of 16 bits at `index`, where its two bytes lie.
+/// Returns the refcount of 16 bits at `index`, read directly from its two bytes.
 fn get_16(bytes: &[u8], index: usize) -> u64
     requires { HasCounter 4 bytes.now index }
     ensures { result ≡ counter 4 bytes.now index }
@@ -60,7 +60,7 @@ fn get_16(bytes: &[u8], index: usize) -> u64
     high * 256 + low
 }
 
-/// The counter at `index`.
+/// Returns the refcount at `index`.
 #[inline]
 #[tactic(auto, using(crate::proofs::Widths::width_facts))]
 pub fn get(bytes: &[u8], order: u32, index: usize) -> u64
@@ -77,7 +77,7 @@ pub fn get(bytes: &[u8], order: u32, index: usize) -> u64
     digit(read_be(&bytes[start..end]), first_bit(order, index), order)
 }
 
-/// Adds one to the counter that begins at a bit of its cell, unless it is the greatest.
+/// Increments the refcount that starts at a bit of its cell, unless it is the greatest of its width.
 #[tactic(auto, using(crate::proofs::Widths::width_facts))]
 fn raise(cell: &mut [u8], bit: u32, order: u32) -> Result<(), Fault>
     requires order { order ≤ 6 }
@@ -96,7 +96,7 @@ fn raise(cell: &mut [u8], bit: u32, order: u32) -> Result<(), Fault>
     Ok(())
 }
 
-/// Takes one from the counter that begins at a bit of its cell, unless it is 0.
+/// Decrements the refcount that starts at a bit of its cell, unless it is 0.
 #[tactic(auto, using(crate::proofs::Widths::width_facts))]
 fn lower(cell: &mut [u8], bit: u32, order: u32) -> Result<(), Fault>
     requires order { order ≤ 6 }
@@ -115,7 +115,11 @@ fn lower(cell: &mut [u8], bit: u32, order: u32) -> Result<(), Fault>
     Ok(())
 }
 
-/// Adds one to the counter at `index`, unless it is the greatest.
+/// Increments the refcount at `index`, unless it is the greatest of its width.
+///
+/// # Errors
+///
+/// - `Fault::Counter` exactly if the refcount is the greatest of its width. The bytes are unchanged.
 pub fn increment(bytes: &mut [u8], order: u32, index: usize) -> Result<(), Fault>
     requires order { order ≤ 6 }
     requires inside { HasCounter order bytes.old index }
@@ -131,7 +135,11 @@ pub fn increment(bytes: &mut [u8], order: u32, index: usize) -> Result<(), Fault
     raise(&mut bytes[start..end], first_bit(order, index), order)
 }
 
-/// Takes one from the counter at `index`, unless it is 0.
+/// Decrements the refcount at `index`, unless it is 0.
+///
+/// # Errors
+///
+/// - `Fault::Counter` exactly if the refcount is 0. The bytes are unchanged.
 pub fn decrement(bytes: &mut [u8], order: u32, index: usize) -> Result<(), Fault>
     requires order { order ≤ 6 }
     requires inside { HasCounter order bytes.old index }

@@ -1,8 +1,8 @@
-// Numbers in bytes, the highest first.
+// Big-endian numbers of at most eight bytes.
 ghost use Rattle.std.specs.Prelude.{◌≡◌, ◌^◌, ◌<◌, ◌≤◌, length};
 ghost use Rattle.qcow2_metadata.specs.Cells.{big_endian};
 
-/// The number that at most eight bytes represent.
+/// Returns the big-endian number in at most eight bytes.
 pub fn read_be(bytes: &[u8]) -> u64
     requires { length bytes.now ≤ 8 }
     ensures value { result ≡ big_endian bytes.now }
@@ -15,7 +15,7 @@ pub fn read_be(bytes: &[u8]) -> u64
     value
 }
 
-/// Writes a number over at most eight bytes.
+/// Writes a number as big-endian bytes over the whole slice of at most eight bytes.
 pub fn write_be(bytes: &mut [u8], value: u64)
     requires { value < 256 ^ length bytes.old }
     ensures { big_endian bytes.new ≡ value }

@@ -1,4 +1,4 @@
-// The words of tables: L1, L2 and refcount table entries, in qemu and imago.
+// The entries of L1, L2 and refcount tables, one type for each. An entry keeps its 64-bit value and decodes parts of it.
 //
 // From the sections "Host cluster management" and "Cluster mapping" of the format.
 ghost use Rattle.std.specs.Prelude.{◌≡◌, refl, ℕ, ◌+◌, ◌-◌, ◌<◌, List, map, ◌*◌, ◌%◌, ◌^◌, ◌≤◌, ◌↔◌, IsTrue, IsOk, IfOk, IsOkUnless};
@@ -18,38 +18,40 @@ use imago_storage::Fault;
 use qcow2_types::HostOffset;
 use std::marker::Model;
 
-/// A word of a table. Contracts see the number.
+/// An entry of a table. In contracts the entry is its raw value (64 bits).
 pub trait TableEntry: Copy {
-    /// The number.
+    /// The raw value.
     ghost raw_entry: { Self → ℕ };
 
-    /// The numbers of a list of them.
+    /// The raw values of a list of entries.
     ghost raw_entries: { List Self → List ℕ };
 
-    /// The kind of tables that it stands in.
+    /// The kind of the entry's table: L1 table, L2 table or refcount table.
     ghost kind: { Kind };
 
     ghost MAX_ENTRIES: { ℕ };
 
-    /// What a table of these words is called.
+    /// The name of the table.
     const TABLE_NAME: &'static str;
 
-    /// The greatest number of words of such a table.
+    /// The maximum number of entries of the table.
     const MAX_ENTRIES: usize;
 
-    /// The word of this value, in an image with this header.
+    /// Returns the entry of this raw value, for an image with this header.
     ///
-    /// Refused with `Fault::DamagedTable` exactly where the format gives the word no meaning.
+    /// # Errors
+    ///
+    /// - `Fault::DamagedTable` exactly if the value isn't a valid entry.
     fn try_from_plain(value: u64, header: &Header) -> Result<Self, Fault>
         ensures possible { IsOk result ↔ IsTrue (raw_entry_valid kind (layout_of header.now.fields) value) }
         ensures value { IfOk result (λ entry. raw_entry entry ≡ value) }
         ensures refused { IsOkUnless result Fault.DamagedTable };
 
-    /// The word's value.
+    /// Returns the raw value of the entry.
     fn to_plain(&self) -> u64
         ensures { result ≡ raw_entry self.now };
 
-    /// The word 0, which names nothing.
+    /// Returns the entry 0, which references nothing.
     fn empty() -> Self
         ensures { raw_entry result ≡ 0 };
 
@@ -60,15 +62,15 @@ pub trait TableEntry: Copy {
     ghost copies: { (entry copy : Self) → Self.is_clone entry copy → copy ≡ entry };
 }
 
-/// A word of the L1 table: where an L2 table stands.
+/// An entry of the L1 table: the host offset of an L2 table.
 #[derive(Clone, Copy, PartialEq, Eq, Debug)]
 pub struct L1Entry(u64);
 
-/// A word of an L2 table: where the bytes of a guest cluster are.
+/// An entry of an L2 table: where the bytes of a guest cluster are.
 #[derive(Clone, Copy, PartialEq, Eq, Debug)]
 pub struct L2Entry(u64);
 
-/// A word of the refcount table: where a refcount block stands.
+/// An entry of the refcount table: the host offset of a refcount block.
 #[derive(Clone, Copy, PartialEq, Eq, Debug)]
 pub struct RefTableEntry(u64);
 
@@ -146,7 +148,7 @@ impl TableEntry for L2Entry {
     const MAX_ENTRIES: usize = 262_144;
 
     fn try_from_plain(value: u64, header: &Header) -> Result<L2Entry, Fault> {
-        // Most words of most tables name nothing.
+        // Most entries of most tables are 0.
         if value == 0 {
             return Ok(L2Entry::empty());
         }
@@ -207,7 +209,7 @@ impl TableEntry for RefTableEntry {
     ghost copies = { λ entry copy is. is };
 }
 
-// A place, where 0 is none.
+// Returns an offset, or `None` if it is 0.
 fn place_if_some(offset: u64) -> Option<HostOffset>
     ensures { result ≡ offset_or_none offset }
 {
@@ -219,7 +221,7 @@ fn place_if_some(offset: u64) -> Option<HostOffset>
 }
 
 impl L1Entry {
-    /// The word that names the L2 table at this place, as one whose reference count is 1.
+    /// Returns the entry that references the L2 table at this offset, with the COPIED flag.
     pub fn naming(offset: HostOffset) -> L1Entry
         requires { offset < 2 ^ 63 }
         ensures { result ≡ 2 ^ 63 + offset }
@@ -227,21 +229,21 @@ impl L1Entry {
         L1Entry((1 << 63) + offset.0)
     }
 
-    /// Where the L2 table stands, or none where the word names none: bits 9 to 55.
+    /// Returns the offset of the L2 table (bits 9 to 55), or `None` if the entry references no table.
     pub fn l2_offset(&self) -> Option<HostOffset>
         ensures { result ≡ offset_or_none (table_offset self.now) }
     {
         place_if_some(offset_in(self.0))
     }
 
-    /// Whether the word says that the table's reference count is 1: bit 63.
+    /// Returns true if the COPIED flag (bit 63) is set: the table's refcount is exactly 1.
     pub fn is_copied(&self) -> bool
         ensures { result ≡ is_copied_of self.now }
     {
         has_bit(self.0, 63)
     }
 
-    /// The reserved bits, each in its place: 0 to 8 and 56 to 62.
+    /// Returns the reserved bits 0 to 8 and 56 to 62, unshifted.
     pub fn reserved_bits(&self) -> u64
         ensures { result ≡ l1_reserved self.now }
     {
@@ -250,7 +252,7 @@ impl L1Entry {
 }
 
 impl L2Entry {
-    /// The word that names the host cluster at this place, as one whose reference count is 1.
+    /// Returns the entry that references the host cluster at this offset as data, with the COPIED flag.
     pub fn naming(offset: HostOffset) -> L2Entry
         requires { offset < 2 ^ 63 }
         ensures { result ≡ 2 ^ 63 + offset }
@@ -258,14 +260,14 @@ impl L2Entry {
         L2Entry((1 << 63) + offset.0)
     }
 
-    /// The word of a guest cluster that reads as zeroes, for which no host cluster is kept.
+    /// Returns the entry of a guest cluster that reads as zeroes, without a preallocated cluster.
     pub fn zero() -> L2Entry
         ensures { result ≡ 1 }
     {
         L2Entry(1)
     }
 
-    /// The word of a guest cluster that reads as zeroes, for which the host cluster at this place is kept.
+    /// Returns the entry of a guest cluster that reads as zeroes, with the preallocated cluster at this offset.
     pub fn zero_at(offset: HostOffset, copied: bool) -> L2Entry
         requires { offset < 2 ^ 63 - 1 }
         ensures { result ≡ zero_raw_entry offset copied }
@@ -277,8 +279,9 @@ impl L2Entry {
         }
     }
 
-    /// Where the host cluster of a standard word begins, or none where it names none: bits 9 to 55. In an external data file
-    /// a word with the copied bit names the place 0, too.
+    /// Returns the host offset of a standard entry (bits 9 to 55), or `None` if the entry references no cluster.
+    ///
+    /// In an external data file, an entry with the COPIED flag also references the cluster at offset 0.
     pub fn cluster_offset(&self, external_data_file: bool) -> Option<HostOffset>
         ensures { result ≡ data_offset external_data_file self.now }
     {
@@ -290,35 +293,35 @@ impl L2Entry {
         }
     }
 
-    /// Whether the word is a compressed one: bit 62.
+    /// Returns true if the entry is compressed (bit 62).
     pub fn is_compressed(&self) -> bool
         ensures { result ≡ has_bit_of self.now 62 }
     {
         has_bit(self.0, 62)
     }
 
-    /// Whether the word says that its cluster's reference count is 1: bit 63.
+    /// Returns true if the COPIED flag (bit 63) is set: the cluster's refcount is exactly 1.
     pub fn is_copied(&self) -> bool
         ensures { result ≡ is_copied_of self.now }
     {
         has_bit(self.0, 63)
     }
 
-    /// The word without bit 63.
+    /// Returns the entry without the COPIED flag.
     pub fn without_copied(self) -> L2Entry
         ensures { result ≡ self % 2 ^ 63 }
     {
         L2Entry(bits(self.0, 0, 63))
     }
 
-    /// Whether a standard word says that the guest cluster reads as zeroes: bit 0.
+    /// Returns true if a standard entry says that the guest cluster reads as zeroes (bit 0).
     pub fn is_zero(&self) -> bool
         ensures { result ≡ has_bit_of self.now 0 }
     {
         has_bit(self.0, 0)
     }
 
-    /// The reserved bits, each in its place: 1 to 8 and 56 to 61 of a standard word, and 63 of a compressed one.
+    /// Returns the reserved bits, unshifted: 1 to 8 and 56 to 61 of a standard entry, and 63 of a compressed entry.
     pub fn reserved_bits(&self) -> u64
         ensures { result ≡ l2_reserved self.now }
     {
@@ -329,15 +332,16 @@ impl L2Entry {
         }
     }
 
-    /// Bits 0 to 61: in a compressed word the offset and the number of sectors.
+    /// Returns bits 0 to 61. In a compressed entry they are the offset and the number of sectors.
     pub fn compressed_descriptor(&self) -> u64
         ensures { result ≡ bits_at self.now 0 62 }
     {
         bits(self.0, 0, 62)
     }
 
-    /// The place of the first byte that a compressed word names, and the bytes from there to the end of its last sector of
-    /// 512 bytes; none of a standard word. A cluster has 2^`cluster_bits` bytes.
+    /// Returns the host offset and the length in bytes of a compressed entry's data, or `None` for a standard entry.
+    ///
+    /// The range ends with the last sector of 512 bytes. A cluster has 2^`cluster_bits` bytes.
     pub fn compressed_range(&self, cluster_bits: u32) -> Option<(HostOffset, u64)>
         requires { (9 ≤ cluster_bits) × (cluster_bits ≤ 21) }
         ensures { result ≡ packed_range_of cluster_bits self.now }
@@ -352,21 +356,21 @@ impl L2Entry {
 }
 
 impl RefTableEntry {
-    /// The word that names the refcount block at this place.
+    /// Returns the entry that references the refcount block at this offset.
     pub fn naming(offset: HostOffset) -> RefTableEntry
         ensures { result ≡ offset }
     {
         RefTableEntry(offset.0)
     }
 
-    /// Where the refcount block stands, or none where the word names none: bits 9 to 63.
+    /// Returns the offset of the refcount block (bits 9 to 63), or `None` if the entry references no block.
     pub fn refblock_offset(&self) -> Option<HostOffset>
         ensures { result ≡ offset_or_none (block_offset self.now) }
     {
         place_if_some(block_offset_in(self.0))
     }
 
-    /// The reserved bits: 0 to 8.
+    /// Returns the reserved bits: 0 to 8.
     pub fn reserved_bits(&self) -> u64
         ensures { result ≡ block_reserved self.now }
     {

@@ -1,4 +1,4 @@
-// Tables as they are kept in memory, where qemu caches slices of them. A word is an entry in qemu and imago.
+// The tables in memory: a list of entries of one kind, with the table's cluster in the file, and a dirty flag.
 ghost use Rattle.std.specs.Prelude.{◌≡◌, ℕ, ◌^◌, ◌<◌, ◌≤◌, IsTrue, length, Some, None, true, false};
 ghost use Rattle.qcow2_types.specs.Header.{layout_of};
 ghost use Rattle.qcow2_types.specs.TableBytes.{AreFit};
@@ -11,7 +11,7 @@ use crate::table::Table;
 use qcow2_types::HostCluster;
 use std::marker::Model;
 
-/// A table of words of one kind, which is kept in memory.
+/// A table of entries of one kind, kept in memory.
 #[derive(Drop)]
 pub struct EntryTable<E: TableEntry> {
     content: Vec<E>,
@@ -102,8 +102,8 @@ impl<E: TableEntry> Table for EntryTable<E> {
 }
 
 impl<E: TableEntry> EntryTable<E> {
-    /// The table of these words, each of which has 64 bits and a meaning in an image of this layout. It has no cluster, and is
-    /// modified.
+    /// Returns the table of these entries. Each entry must be valid in an image of this layout. The table has no cluster in the file yet,
+    /// and is dirty.
     pub(crate) fn of_raw_entries(content: Vec<E>, layout: TableLayout) -> EntryTable<E>
         requires long { IsLength E.kind layout (length (E.raw_entries content.items)) }
         requires sound { AreSound E.kind layout (E.raw_entries content.items) }
@@ -119,7 +119,7 @@ impl<E: TableEntry> EntryTable<E> {
         }
     }
 
-    /// What its words depend on.
+    /// Returns the header values that the meaning of the entries depends on.
     pub(crate) fn layout(&self) -> TableLayout
         ensures value { result ≡ self.now.layout }
         ensures table { IsTable E.kind self.now }
@@ -127,7 +127,7 @@ impl<E: TableEntry> EntryTable<E> {
         self.layout
     }
 
-    /// Its words.
+    /// Returns the entries.
     pub(crate) fn content(&self) -> &[E]
         ensures value { E.raw_entries result.now ≡ self.now.raw_entries }
         ensures table { IsTable E.kind self.now }
@@ -135,7 +135,7 @@ impl<E: TableEntry> EntryTable<E> {
         &self.content
     }
 
-    /// Sets the word at an index: so the table is modified.
+    /// Sets the entry at an index. The table is now dirty.
     pub(crate) fn set_entry(&mut self, index: usize, entry: E)
         requires bounds { index < length self.old.raw_entries }
         requires sound { IsTrue (raw_entry_valid E.kind self.old.layout (E.raw_entry entry)) }

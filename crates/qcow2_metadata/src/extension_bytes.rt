@@ -1,4 +1,4 @@
-// The extensions of a header as bytes.
+// Encodes the header extensions of an image as bytes.
 ghost use Rattle.std.specs.Prelude.{◌≡◌, ◌≤◌, ◌++◌, map, replicate, flat_map, OnOk, IfOk};
 ghost use Rattle.std.specs.Option.{option_copied};
 ghost use Rattle.qcow2_types.specs.HeaderBytes.{extension_bytes, extension_of, feature_bytes, names_data};
@@ -8,10 +8,10 @@ use crate::extensions::FEATURE_NAMES;
 use crate::features::FeatureName;
 use std::alloc::{AllocError, Global};
 
-/// The length of a feature bit's name in its extension, in bytes: a longer one is cut.
+/// The length of a feature bit's name in its extension, in bytes. A longer name is cut.
 const NAME_LENGTH: usize = 46;
 
-/// Appends so many zeroes.
+/// Appends `count` zero bytes.
 fn push_zeroes(bytes: &mut Vec<u8>, count: usize) -> Result<(), AllocError>
     requires { count ≤ NAME_LENGTH }
     ensures { OnOk result (bytes.new.items ≡ bytes.old.items ++ replicate count 0) }
@@ -24,14 +24,14 @@ fn push_extension(bytes: &mut Vec<u8>, kind: u32, data: &[u8]) -> Result<(), All
     ensures { OnOk result (bytes.new.items ≡ bytes.old.items ++ extension_bytes (kind, «data».now)) }
 {
     bytes.extend_from_slice(&kind.to_be_bytes())?;
-    // The low 32 bits: an extension with more bytes doesn't fit a cluster, and isn't written.
+    // The low 32 bits are enough: an extension with more bytes doesn't fit a cluster, and isn't written.
     let length = (data.len() as u64).to_be_bytes();
     bytes.extend_from_slice(&length[4..])?;
     bytes.extend_from_slice(data)?;
     push_zeroes(bytes, (8 - data.len() % 8) % 8)
 }
 
-/// Appends an extension that holds a text, where there is one.
+/// Appends an extension that holds a text. If `text` is `None`, nothing is appended.
 pub(crate) fn push_text(
     bytes: &mut Vec<u8>,
     kind: u32,
@@ -57,7 +57,7 @@ fn push_name(bytes: &mut Vec<u8>, name: &FeatureName) -> Result<(), AllocError>
     push_zeroes(bytes, NAME_LENGTH - length)
 }
 
-/// The names of feature bits, 48 bytes each.
+/// Returns the names of feature bits as bytes, 48 for each name.
 fn bytes_of_names(alloc: Global, names: &[FeatureName]) -> Result<Vec<u8>, AllocError>
     ensures { IfOk result (λ bytes. bytes.items ≡ flat_map feature_bytes (map seen_name names.now)) }
 {
@@ -68,7 +68,7 @@ fn bytes_of_names(alloc: Global, names: &[FeatureName]) -> Result<Vec<u8>, Alloc
     Ok(bytes)
 }
 
-/// Appends the extension that names feature bits, where there are names.
+/// Appends the feature name table. If there are no names, nothing is appended.
 pub(crate) fn push_names(
     bytes: &mut Vec<u8>,
     alloc: Global,

@@ -1,4 +1,4 @@
-// The extensions of a header.
+// Decodes the header extensions of an image.
 ghost use Rattle.std.specs.Prelude.{◌≡◌, ◌+◌, ◌/◌, ◌<◌, ◌≤◌, ◌^◌, length, Ok, Err, IfOk, IfErr, IfSome};
 ghost use Rattle.std.specs.Option.{option_copied, option_map};
 ghost use Rattle.qcow2_types.specs.Bytes.{bytes_of};
@@ -22,7 +22,7 @@ pub(crate) struct Extension<'a> {
     bytes: &'a [u8],
 }
 
-/// The data of the extensions that have a meaning here, each the last of its type.
+/// The data of the known extensions, each the last of its type.
 #[derive(Clone, Copy, Debug)]
 pub(crate) struct KnownExtensions<'a> {
     pub(crate) backing_format: Option<&'a [u8]>,
@@ -31,7 +31,7 @@ pub(crate) struct KnownExtensions<'a> {
 }
 
 impl KnownExtensions<'_> {
-    /// Where there is no extension.
+    /// Returns the value for a header without extensions.
     pub(crate) fn none() -> Self
         ensures { seen_known result ≡ nothing_known }
     {
@@ -44,7 +44,7 @@ impl KnownExtensions<'_> {
 }
 
 impl<'a> Extension<'a> {
-    // Its data where it is of this type, else what was there before.
+    // Returns the data of the extension if it has this type, and otherwise `before`.
     fn bytes_or(self, kind: u32, before: Option<&'a [u8]>) -> Option<&'a [u8]>
         ensures { option_copied result ≡ newest kind (seen_extension self.entry) (option_copied before.entry) }
     {
@@ -56,8 +56,8 @@ impl<'a> Extension<'a> {
     }
 }
 
-/// The extension at a place of an area that ends at `area_end`, or none where they end. Data that runs past the area is
-/// `Fault::DamagedHeader`.
+/// Returns the extension at an index of an area that ends at `area_end`, or `None` if no more follow. Data that ends past
+/// the area is `Fault::DamagedHeader`.
 #[tactic(auto, using(crate::proofs::RunLemmas::run_slice), unfolding(qcow2_types::specs::Header::extension_at))]
 fn extension_in(bytes: &[u8], area_end: usize, at: usize) -> Result<Option<Extension<'_>>, Fault>
     requires inside { area_end ≤ length bytes.now }
@@ -80,7 +80,7 @@ fn extension_in(bytes: &[u8], area_end: usize, at: usize) -> Result<Option<Exten
     }))
 }
 
-/// What is known by the extensions in the area from `start` to `area_end`. Data that runs past the area is
+/// Returns the known extensions in the area from `start` to `area_end`. Data that ends past the area is
 /// `Fault::DamagedHeader`.
 pub(crate) fn known_extensions(
     bytes: &[u8],

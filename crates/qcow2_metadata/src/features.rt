@@ -1,4 +1,4 @@
-// The names that a header gives to feature bits: in qemu the feature name table.
+// The feature name table: the names that a header gives to feature bits.
 ghost use Rattle.std.specs.Prelude.{◌≡◌, ◌==◌, not, map, length, IfOk, OnOk, IsTrue};
 ghost use Rattle.std.specs.List.{position};
 ghost use Rattle.std.specs.Option.{option_copied, option_map, option_to_list};
@@ -17,14 +17,13 @@ pub(crate) struct FeatureName {
     pub(crate) name: String,
 }
 
-/// The length of an entry of the extension that names feature bits: the kind, the bit, and the name, which ends at the first
-/// 0.
+/// The length of an entry of the feature name table: the kind, the bit, and the name, which ends at the first byte 0.
 const ENTRY_LENGTH: usize = 48;
 
 impl FeatureName {
     ghost use Rattle.qcow2_metadata.specs.Features.{seen_name};
 
-    // Whether it stands before the other: by kind, and in a kind by bit.
+    // Returns true if the name is sorted before the other: by kind, then by bit.
     fn comes_before(&self, other: &FeatureName) -> bool
         ensures { result ≡ is_before (seen_name self.now) (seen_name other.now) }
     {
@@ -33,14 +32,14 @@ impl FeatureName {
     }
 }
 
-/// The place of the first name that doesn't come before this one.
+/// Returns the index of the first name that isn't sorted before this one.
 fn place_for(names: &[FeatureName], name: &FeatureName) -> Option<usize>
     ensures { result ≡ position (λ known. not (is_before (seen_name known) (seen_name name.now))) names.now }
 {
     names.iter().position(|known| !known.comes_before(name))
 }
 
-/// Puts a name among names by rising kind and bit, in place of one of the same kind and bit.
+/// Inserts a name into a list that is sorted by kind and bit. It replaces a name of the same kind and bit.
 fn put_name(names: &mut Vec<FeatureName>, name: FeatureName) -> Result<(), AllocError>
     ensures { OnOk result (map seen_name names.new.items ≡ with_name (seen_name name) (map seen_name names.old.items)) }
 {
@@ -53,14 +52,14 @@ fn put_name(names: &mut Vec<FeatureName>, name: FeatureName) -> Result<(), Alloc
     Ok(())
 }
 
-/// The place of the first 0.
+/// Returns the index of the first byte 0.
 fn place_of_zero(text: &[u8]) -> Option<usize>
     ensures { result ≡ position (λ b. b == 0) text.now }
 {
     text.iter().position(|b| *b == 0)
 }
 
-/// The name in an entry of the extension. One of another kind, or that isn't UTF-8, is skipped.
+/// Returns the name in an entry of the table, or `None` if the kind is unknown or the name isn't UTF-8.
 fn name_in_entry(alloc: Global, entry: &[u8]) -> Result<Option<FeatureName>, AllocError>
     requires { length entry.now ≡ ENTRY_LENGTH }
     ensures { IfOk result (λ found. feature_in entry.now ≡ option_to_list (option_map seen_name found)) }
@@ -81,8 +80,8 @@ fn name_in_entry(alloc: Global, entry: &[u8]) -> Result<Option<FeatureName>, All
     }))
 }
 
-/// The names in the extension, where there is one: by rising kind, and those of one kind by rising bit. Of two names of one
-/// bit the last counts.
+/// Returns the names in the extension, if any, sorted by kind and then by bit. If a bit has two names, the last one is
+/// used.
 pub(crate) fn names_in(
     alloc: Global,
     extension: Option<&[u8]>,
@@ -103,7 +102,7 @@ pub(crate) fn names_in(
     Ok(names)
 }
 
-/// The name of the bit of this kind, where it has one.
+/// Returns the name of the bit of this kind, if it has one.
 pub(crate) fn name_in(names: &[FeatureName], kind: FeatureType, bit: u32) -> Option<&str>
     ensures { option_copied result ≡ name_of (kind_of kind) bit (map seen_name names.now) }
 {

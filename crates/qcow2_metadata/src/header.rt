@@ -1,4 +1,5 @@
-// The header of an image.
+// The header of an image: its fields and the calls that return them. The submodules load, make, change and write
+// headers.
 ghost use Rattle.std.specs.Prelude.{◌≡◌, ◌+◌, ◌-◌, ◌^◌, ◌≤◌, ◌↔◌, ◌⊎◌, [], IsOk, IsOkUnless};
 ghost use Rattle.std.specs.Option.{option_copied};
 ghost use Rattle.qcow2_types.specs.Header.{Shaped, cluster_size as cluster_size_of, entries_of_cluster, refcount_table_entries, has_external_data};
@@ -17,18 +18,17 @@ use imago_storage::Fault;
 use qcow2_types::{ClusterCount, FeatureType, HostOffset, V2Header, V3HeaderBase};
 use std::marker::Model;
 
-/// The greatest length of a backing file's name, in bytes.
+/// The maximum length of a backing file's name, in bytes.
 const MAX_BACKING_NAME: u32 = 1023;
 
-/// How many bytes a pointer write has: those up to the number of snapshots. A power of two, they are one request at every
-/// alignment.
+/// The length of a write that changes the disk size or a table's offset, in bytes: up to and including the number of snapshots. It is a
+/// power of two, so the write is one request for every alignment of the storage.
 const FIRST_FIELDS: usize = 64;
 
 /// The header of a qcow2 image.
 ///
-/// Contracts see its fields as the file has them, and the bytes of its texts: the backing file's name and format, the
-/// external data file's name, and the names of feature bits. A header of version 2 has no feature bits, and counters of 16
-/// bits.
+/// In contracts the fields have the values of the file, and the texts are bytes. The texts are the backing file's name and format, the
+/// external data file's name, and the names of feature bits. A header of version 2 has no feature bits, and its refcounts have 16 bits.
 #[derive(Drop)]
 pub struct Header {
     v2: V2Header,
@@ -36,7 +36,7 @@ pub struct Header {
     backing_filename: Option<String>,
     backing_format: Option<String>,
     external_data_filename: Option<String>,
-    // By rising kind, and those of one kind by rising bit.
+    // Sorted by kind, then by bit.
     feature_names: Vec<FeatureName>,
 }
 
@@ -53,7 +53,7 @@ impl Model for Header {
 }
 
 impl Header {
-    /// The size of the disk, in bytes.
+    /// Returns the size of the disk, in bytes.
     pub fn size(&self) -> u64
         ensures { result ≡ self.now.fields.size }
     {
@@ -67,7 +67,7 @@ impl Header {
         self.v2.size = new_size;
     }
 
-    /// The version of the format, 2 or 3.
+    /// Returns the version of the format, 2 or 3.
     pub fn version(&self) -> u32
         ensures value { result ≡ self.now.fields.version }
         ensures known { (result ≡ 2) ⊎ (result ≡ 3) }
@@ -75,7 +75,11 @@ impl Header {
         self.v2.version
     }
 
-    /// Checks that the version is at least `minimum`; else `Fault::VersionLimit`.
+    /// Checks that the version is at least `minimum`.
+    ///
+    /// # Errors
+    ///
+    /// - `Fault::VersionLimit` if the version is less than `minimum`.
     pub fn require_version(&self, minimum: u32) -> Result<(), Fault>
         ensures ok { IsOk result ↔ (minimum ≤ self.now.fields.version) }
         ensures err { IsOkUnless result Fault.VersionLimit }
@@ -86,7 +90,7 @@ impl Header {
         Ok(())
     }
 
-    /// A cluster has 2 to this power of bytes: from 9 to 21.
+    /// Returns the base-2 logarithm of the cluster size in bytes: 9 to 21.
     pub fn cluster_bits(&self) -> u32
         ensures value { result ≡ self.now.fields.cluster_bits }
         ensures shaped { Shaped self.now.fields }
@@ -94,7 +98,7 @@ impl Header {
         self.v2.cluster_bits
     }
 
-    /// The size of a cluster, in bytes: from 512 to 2 MiB.
+    /// Returns the size of a cluster, in bytes: 512 to 2 MiB.
     pub fn cluster_size(&self) -> usize
         ensures value { result ≡ cluster_size_of self.now.fields }
         ensures bounds { (512 ≤ result) × (result ≤ 2_097_152) }
@@ -102,14 +106,14 @@ impl Header {
         1 << self.v2.cluster_bits
     }
 
-    /// The number of words of an L2 table, which fills a cluster.
+    /// Returns the number of entries of an L2 table, which fills one cluster.
     pub fn l2_entries(&self) -> usize
         ensures { result ≡ entries_of_cluster self.now.fields }
     {
         self.cluster_size() / 8
     }
 
-    /// A counter has 2 to this power of bits: from 0 to 6.
+    /// Returns the base-2 logarithm of the refcount width in bits: 0 to 6.
     pub fn refcount_order(&self) -> u32
         ensures value { result ≡ self.now.fields.refcount_order }
         ensures shaped { Shaped self.now.fields }
@@ -117,7 +121,7 @@ impl Header {
         self.v3.refcount_order
     }
 
-    /// A refcount block, which fills a cluster, has 2 to this power of counters.
+    /// Returns the base-2 logarithm of the number of refcounts in a refcount block, which fills one cluster.
     pub fn rb_bits(&self) -> u32
         ensures value { result ≡ self.now.fields.cluster_bits + 3 - self.now.fields.refcount_order }
         ensures entries { 2 ^ result ≡ counters_of_block self.now.fields }
@@ -126,7 +130,7 @@ impl Header {
         self.v2.cluster_bits + 3 - self.v3.refcount_order
     }
 
-    /// The number of counters of a refcount block: from 2^6 to 2^24.
+    /// Returns the number of refcounts in a refcount block: 2^6 to 2^24.
     pub fn rb_entries(&self) -> usize
         ensures value { result ≡ counters_of_block self.now.fields }
         ensures bounds { (64 ≤ result) × (result ≤ 2 ^ 24) }
@@ -134,79 +138,81 @@ impl Header {
         1 << self.rb_bits()
     }
 
-    /// Where the L1 table stands.
+    /// Returns the host offset of the L1 table.
     pub fn l1_table_offset(&self) -> HostOffset
         ensures { result ≡ self.now.fields.l1_offset }
     {
         HostOffset(self.v2.l1_table_offset)
     }
 
-    /// The number of words of the L1 table.
+    /// Returns the number of entries of the L1 table.
     pub fn l1_table_entries(&self) -> usize
         ensures { result ≡ self.now.fields.l1_entries }
     {
         self.v2.l1_size as usize
     }
 
-    /// Where the refcount table stands.
+    /// Returns the host offset of the refcount table.
     pub fn reftable_offset(&self) -> HostOffset
         ensures { result ≡ self.now.fields.refcount_table_offset }
     {
         HostOffset(self.v2.refcount_table_offset)
     }
 
-    /// The number of clusters of the refcount table.
+    /// Returns the number of clusters of the refcount table.
     pub fn reftable_clusters(&self) -> ClusterCount
         ensures { result ≡ self.now.fields.refcount_table_clusters }
     {
         ClusterCount(u64::from(self.v2.refcount_table_clusters))
     }
 
-    /// The number of words of the refcount table.
+    /// Returns the number of entries of the refcount table.
     pub fn reftable_entries(&self) -> usize
         ensures { result ≡ refcount_table_entries self.now.fields }
     {
         self.v2.refcount_table_clusters as usize * self.l2_entries()
     }
 
-    /// The name of the backing file, where there is one.
+    /// Returns the name of the backing file, or `None` if the image has no backing file.
     pub fn backing_filename(&self) -> Option<&str>
         ensures { option_copied result ≡ self.now.backing_name }
     {
         self.backing_filename.as_deref()
     }
 
-    /// The format of the backing file, where it is named.
+    /// Returns the format of the backing file, or `None` if the header doesn't give it.
     pub fn backing_format(&self) -> Option<&str>
         ensures { option_copied result ≡ self.now.backing_format }
     {
         self.backing_format.as_deref()
     }
 
-    /// Whether the data is in an external file: incompatible feature bit 2.
+    /// Returns true if the guest's data is in an external data file (incompatible feature bit 2).
     pub fn external_data_file(&self) -> bool
         ensures { result ≡ has_external_data self.now.fields }
     {
         self.v3.incompatible_features >> 2 & 1 == 1
     }
 
-    /// The name of the external data file, where it is given. It may be given where the data isn't in an external file.
+    /// Returns the name of the external data file, if the header gives it. The name may be present even if the guest's data is in the image
+    /// file.
     pub fn external_data_filename(&self) -> Option<&str>
         ensures { option_copied result ≡ self.now.data_file_name }
     {
         self.external_data_filename.as_deref()
     }
 
-    /// The name of a feature bit, where the image gives one.
+    /// Returns the name of a feature bit, if the image gives one.
     pub fn feature_name(&self, kind: FeatureType, bit: u32) -> Option<&str>
         ensures { option_copied result ≡ name_of (kind_of kind) bit self.now.features }
     {
         name_in(&self.feature_names, kind, bit)
     }
 
-    /// Lets the names of feature bits go, and the memory that they take. The file is not written and keeps them. A header that is
-    /// written afterwards has no feature name table (the section "Feature name table"), and to `update` this one and a header with
-    /// names are different ones.
+    /// Removes the names of feature bits, and frees their memory.
+    ///
+    /// The file is not written and keeps the names. A header that is written afterwards has no feature name table (the
+    /// section "Feature name table"). `update` treats this header and a header with names as different.
     pub fn forget_feature_names(&mut self)
         ensures { self.new ≡ record self.old { features = [] } }
     {
@@ -214,7 +220,7 @@ impl Header {
         self.feature_names.shrink_to_fit();
     }
 
-    /// The number of snapshots.
+    /// Returns the number of snapshots.
     pub fn snapshots(&self) -> u32
         ensures { result ≡ self.now.fields.snapshots }
     {

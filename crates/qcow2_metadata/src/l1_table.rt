@@ -1,4 +1,4 @@
-// The L1 table. A word of it is an L1 entry in qemu and imago.
+// The L1 table, and how it grows.
 ghost use Rattle.std.specs.Prelude.{◌≡◌, ℕ, ◌+◌, ◌*◌, ◌^◌, ◌<◌, ◌≤◌, ◌-◌, ◌↔◌, IsTrue, IsOk, IfOk, IsErrOf, IsOkUnless, length, min, refl, Some, None, true, false};
 ghost use Rattle.qcow2_types.specs.Header.{layout_of};
 ghost use Rattle.qcow2_metadata.specs.Tables.{CanBeReferenced, grown_l1, with_raw_entry, table_start};
@@ -12,22 +12,24 @@ use imago_storage::Fault;
 use qcow2_types::{HostOffset, PendingClusters};
 use std::alloc::Global;
 
-/// The L1 table: each of its words says where an L2 table stands. It is kept in memory.
+/// The L1 table, kept in memory. Each entry has the host offset of an L2 table.
 pub type L1Table = EntryTable<L1Entry>;
 
 impl L1Table {
-    /// Whether there is a word at an index.
+    /// Returns true if the table has an entry at this index.
     pub fn in_bounds(&self, index: usize) -> bool
         ensures { IsTrue result ↔ (index < length self.now.raw_entries) }
     {
         index < self.entries()
     }
 
-    /// A copy for the image with this header that has a word at the index `at`: what is added is 0. It has no cluster, and is
-    /// modified.
+    /// Returns a copy that has an entry at the index `at`, for the image with this header. New entries are 0. The copy has no cluster in
+    /// the file yet, and is dirty.
     ///
-    /// Refused with `Fault::Limit(at + 1)`, or the greatest number, exactly where `at + 1` is more than `MAX_ENTRIES`; and else
-    /// with `Fault::Memory` alone.
+    /// # Errors
+    ///
+    /// - `Fault::Limit(at + 1)` exactly if `at + 1` is more than `MAX_ENTRIES`. The number is 2^64 - 1 if `at + 1` doesn't fit `u64`.
+    /// - `Fault::Memory`.
     pub fn clone_and_grow(
         &self,
         alloc: Global,
@@ -47,8 +49,8 @@ impl L1Table {
         Ok(L1Table::from_data(content, header))
     }
 
-    /// Names an L2 table, as one whose reference count is 1, at an index: so this table is modified. Its clusters, which
-    /// `pending` holds, are named then.
+    /// Makes an entry reference an L2 table, with the COPIED flag. This table is now dirty. If the L2 table's cluster is newly allocated,
+    /// `pending` holds it, and is consumed: the entry now references it.
     pub fn enter_l2_table(
         &mut self,
         index: usize,

@@ -1,4 +1,4 @@
-// L2 tables. A word of one is an L2 entry in qemu and imago.
+// L2 tables in memory. They are changed through a guard: each change of an entry returns the clusters that the entry no longer references.
 ghost use Rattle.std.specs.Prelude.{◌≡◌, ℕ, ◌+◌, ◌*◌, ◌%◌, ◌^◌, ◌<◌, ◌≤◌, ◌↔◌, ◌⊎◌, IsTrue, IsOk, OnOk, OnErr, IfOk, IsOkUnless, MatchOption, length, map, replicate, refl, Some, None, true, false};
 ghost use Rattle.std.specs.Option.{is_some};
 ghost use Rattle.qcow2_types.specs.Header.{layout_of, entries_of_cluster};
@@ -25,17 +25,19 @@ use qcow2_types::{
 };
 use std::alloc::{AllocFailed, Global};
 
-/// An L2 table: each of its words says where the bytes of a guest cluster are. It fills one cluster, and is kept in memory.
+/// An L2 table, kept in memory. Each entry says where the bytes of a guest cluster are. The table fills one cluster.
 pub type L2Table = EntryTable<L2Entry>;
 
 impl L2Table {
     ghost use Rattle.qcow2_metadata.specs.MappingView.{mapping_seen, BacksAt, IsHostAddressable};
     ghost use Rattle.qcow2_metadata.specs.Allocations.{allocation_of, freed, replaced, kept_where, zeroed_raw_entry, unkept, newly, packed_part, Conserves, IsKeptAddressable};
 
-    /// A table for an image with this header whose words are all 0: each guest cluster is unmapped. It has no cluster, and is
-    /// modified.
+    /// Returns a table of zero entries for an image with this header: each guest cluster is unmapped (read from the backing file). The
+    /// table has no cluster in the file yet, and is dirty.
     ///
-    /// Refused with `Fault::Memory` alone.
+    /// # Errors
+    ///
+    /// - `Fault::Memory`.
     pub fn new_cleared(alloc: Global, header: &Header) -> Result<L2Table, Fault>
         ensures ok { IfOk result (λ table. table ≡ record {
           layout = layout_of header.now.fields;
@@ -52,7 +54,7 @@ impl L2Table {
         Ok(L2Table::of_raw_entries(content, TableLayout::of_header(header)))
     }
 
-    // What the word at an index means. The layer below is read at `backing_offset`.
+    // Returns the meaning of the entry at an index. If the entry is unmapped, the backing file is read at `backing_offset`.
     fn mapping_at(&self, index: usize, backing_offset: u64) -> L2Mapping
         requires { index < length self.now.raw_entries }
         ensures means { mapping_seen result ≡ mapping_in self.now index }
@@ -65,7 +67,7 @@ impl L2Table {
         }
     }
 
-    /// Where the bytes of a guest cluster are. Where they are in the layer below, they are there at the cluster's own place.
+    /// Returns where the bytes of a guest cluster are. If they are in the backing file, their offset there is that of the guest cluster.
     pub fn get_mapping(&self, lookup_cluster: GuestCluster) -> L2Mapping
         requires { lookup_cluster * 2 ^ self.now.layout.cluster_bits < 2 ^ 64 }
         ensures means { mapping_seen result ≡ mapping_in self.now (lookup_cluster % l2_entries self.now.layout.cluster_bits) }
@@ -77,7 +79,7 @@ impl L2Table {
         self.mapping_at(lookup_cluster.l2_index(cluster_bits), place)
     }
 
-    /// Lends the table to one that changes its words.
+    /// Returns a guard through which the entries can be changed.
     pub fn lock_write(&mut self) -> L2TableWriteGuard<'_>
         ensures same { result.table.ghost_name ≡ self.entry.ghost_name }
         ensures value { result.table.now ≡ self.old }
@@ -85,9 +87,11 @@ impl L2Table {
         L2TableWriteGuard { table: self }
     }
 
-    /// Writes the table to its cluster, which is this one, if it is modified.
+    /// Writes the table to its cluster, which must be `cluster`, if it is dirty. Otherwise there is no I/O.
     ///
-    /// Refused as `write`. A table that isn't modified asks nothing of the image.
+    /// # Errors
+    ///
+    /// - Those of `write`.
     pub fn write_if_modified<S: Storage>(
         &mut self,
         alloc: Global,
@@ -103,7 +107,7 @@ impl L2Table {
         ensures err { OnErr result (self.new ≡ record self.old { modified = true }) }
     {
         let _ = cluster;
-        // It fills its cluster.
+        // This shows that the table fills its cluster.
         let _ = self.entries();
         if self.is_modified() {
             self.write(alloc, image)
@@ -112,11 +116,14 @@ impl L2Table {
         }
     }
 
-    /// A copy whose words aren't marked as copied, since two tables share their clusters now. With an external data file, whose
-    /// clusters aren't counted, the words stay: there the mark may be all that says that one names a cluster. The copy has no
-    /// cluster, and is modified.
+    /// Returns a copy whose entries don't have the COPIED flag, since two tables now share their clusters.
     ///
-    /// Refused with `Fault::Memory` alone.
+    /// With an external data file the entries are unchanged. Its clusters have no refcounts, and the flag may be all that says that an
+    /// entry references a cluster. The copy has no cluster in the file yet, and is dirty.
+    ///
+    /// # Errors
+    ///
+    /// - `Fault::Memory`.
     pub fn clone(&self, alloc: Global) -> Result<L2Table, Fault>
         ensures ok { IfOk result (λ table. table ≡ record self.now
             { raw_entries = map (shared_raw_entry self.now.layout) self.now.raw_entries; cluster = None; modified = true }) }
@@ -133,7 +140,7 @@ impl L2Table {
         Ok(L2Table::of_raw_entries(content, self.layout()))
     }
 
-    /// Where the compressed bytes of a guest cluster are, or none where it isn't compressed. Nothing is decompressed.
+    /// Returns where the compressed bytes of a guest cluster are, or `None` if it isn't compressed. Nothing is decompressed.
     pub fn lock_compressed_read(
         &self,
         cluster: GuestCluster,
@@ -156,7 +163,7 @@ impl L2Table {
         }
     }
 
-    // The host clusters of the word at an index.
+    // Returns the host clusters that the entry at an index references.
     fn allocation_at(&self, index: usize) -> Option<(HostCluster, ClusterCount)>
         requires { index < length self.now.raw_entries }
         ensures { result ≡ allocation_of self.now.layout.cluster_bits (mapping_in self.now index) }
@@ -164,7 +171,7 @@ impl L2Table {
         allocation(self.mapping_at(index, 0), self.cluster_bits())
     }
 
-    // The host cluster of the word at an index that is kept when its guest cluster is zeroed, with its copied mark.
+    // Returns the host cluster that the entry at an index keeps when its guest cluster is zeroed, with its COPIED flag.
     fn kept_at(&self, index: usize, keep: bool) -> Option<(HostCluster, bool)>
         requires { index < length self.now.raw_entries }
         ensures kept_host { result ≡ kept_where keep (mapping_in self.now index) }
@@ -173,8 +180,8 @@ impl L2Table {
         kept_cluster(self.mapping_at(index, 0), keep, self.cluster_bits())
     }
 
-    // Makes the word at an index name a host cluster, as one whose reference count is 1. It answers the clusters that the word named
-    // before, to be freed; none where that was exactly this cluster.
+    // Makes the entry at an index reference a host cluster, with the COPIED flag. Returns the clusters that the entry
+    // referenced before, to be freed, or `None` if it referenced exactly this cluster.
     fn map_at(
         &mut self,
         index: usize,
@@ -197,7 +204,7 @@ impl L2Table {
         to_free_unless(old, cluster)
     }
 
-    // Makes the word at an index 0. It answers the clusters that the word named before, to be freed.
+    // Sets the entry at an index to 0. Returns the clusters that the entry referenced before, to be freed.
     fn discard_at(&mut self, index: usize) -> Option<ClustersToFreeEntry>
         requires { index < length self.old.raw_entries }
         ensures table { self.new ≡ with_raw_entry self.old index 0 }
@@ -210,9 +217,9 @@ impl L2Table {
         to_free(old)
     }
 
-    // Makes the word at an index mean zeroes, with its own cluster kept where `keep_allocation` is set and it has one. It answers
-    // the clusters that the word named before, to be freed; none where its cluster is kept. Refused, with nothing changed, exactly
-    // in version 2.
+    // Makes the entry at an index mean zeroes. If `keep_allocation` is set and the entry has a cluster of its own, it keeps
+    // that cluster. Returns the other clusters that the entry referenced before, to be freed. Fails, with nothing changed,
+    // exactly in version 2.
     fn zero_at(
         &mut self,
         index: usize,
@@ -242,7 +249,7 @@ impl L2Table {
     }
 }
 
-/// Where the compressed bytes of a guest cluster are, while its table isn't changed.
+/// The location of a guest cluster's compressed bytes. The table can't change while the guard exists.
 #[derive(Drop)]
 pub struct CompressedClusterReadGuard<'a> {
     _table: &'a L2Table,
@@ -251,14 +258,14 @@ pub struct CompressedClusterReadGuard<'a> {
 }
 
 impl CompressedClusterReadGuard<'_> {
-    /// The place of the first byte.
+    /// Returns the host offset of the first byte.
     pub fn host_offset(&self) -> HostOffset
         ensures { result ≡ self.now.host_offset }
     {
         self.host_offset
     }
 
-    /// The bytes from there to the end of the last sector of 512 bytes. The compressed data may end before.
+    /// Returns the length in bytes, up to the end of the last sector of 512 bytes. The compressed data may end before.
     pub fn length(&self) -> u64
         ensures { result ≡ self.now.length }
     {
@@ -266,10 +273,10 @@ impl CompressedClusterReadGuard<'_> {
     }
 }
 
-/// An L2 table whose words may be changed.
+/// A guard through which the entries of an L2 table can be changed.
 ///
-/// Its calls answer the clusters that a word named before. With an external data file these are clusters of that file, which
-/// aren't counted: they are handed back all the same, and there is nothing to free.
+/// Its calls return the clusters that an entry referenced before. With an external data file these are clusters of the external file, which
+/// have no refcounts. Then the caller has nothing to free.
 #[derive(Drop)]
 pub struct L2TableWriteGuard<'a> {
     table: &'a mut L2Table,
@@ -279,7 +286,7 @@ impl L2TableWriteGuard<'_> {
     ghost use Rattle.qcow2_metadata.specs.MappingView.{mapping_seen, BacksAt, IsHostAddressable};
     ghost use Rattle.qcow2_metadata.specs.Allocations.{allocation_of, freed, replaced, kept_where, zeroed_raw_entry, unkept, newly, packed_part, Conserves, IsKeptAddressable};
 
-    /// Where the bytes of a guest cluster are. Where they are in the layer below, they are there at the cluster's own place.
+    /// Returns where the bytes of a guest cluster are. If they are in the backing file, their offset there is that of the guest cluster.
     pub fn get_mapping(&self, lookup_cluster: GuestCluster) -> L2Mapping
         requires { lookup_cluster * 2 ^ self.now.table.now.layout.cluster_bits < 2 ^ 64 }
         ensures means { mapping_seen result ≡ mapping_in self.now.table.now
@@ -290,7 +297,7 @@ impl L2TableWriteGuard<'_> {
         self.table.get_mapping(lookup_cluster)
     }
 
-    /// Where the compressed bytes of a guest cluster are, or none where it isn't compressed. Nothing is decompressed.
+    /// Returns where the compressed bytes of a guest cluster are, or `None` if it isn't compressed. Nothing is decompressed.
     pub fn compressed_read_guard(
         &self,
         cluster: GuestCluster,
@@ -303,10 +310,11 @@ impl L2TableWriteGuard<'_> {
         self.table.lock_compressed_read(cluster)
     }
 
-    /// Maps the guest cluster of the word at an index to a host cluster, as one whose reference count is 1: so the table is
-    /// modified. The cluster, which `pending` holds, is named then.
+    /// Maps the guest cluster of the entry at `index` to a host cluster, with the COPIED flag. The table is now dirty. If the cluster is
+    /// newly allocated, `pending` holds it, and is consumed: the entry now references it.
     ///
-    /// It answers the clusters that the word named before, to be freed; none where that was exactly this cluster.
+    /// The result is the clusters that the entry referenced before, which must be freed. It is `None` if the entry referenced none, or
+    /// exactly this cluster.
     pub fn map_cluster(
         &mut self,
         index: usize,
@@ -320,7 +328,7 @@ impl L2TableWriteGuard<'_> {
             (2 ^ 63 + cluster * 2 ^ self.old.table.now.layout.cluster_bits) }
         ensures back { result ≡ freed (replaced cluster
             (allocation_of self.old.table.now.layout.cluster_bits (mapping_in self.old.table.now index))) }
-        // It is the same table, so that what calls do to it adds up.
+        // The guard is still for the same table, so that consecutive calls change one table.
         ensures same { self.new.table.ghost_name ≡ self.old.table.ghost_name }
         ensures conserved { Conserves self.old.table.now.layout.cluster_bits (mapping_in self.old.table.now index)
             (mapping_of self.old.table.now.layout (2 ^ 63 + cluster * 2 ^ self.old.table.now.layout.cluster_bits)) result
@@ -329,12 +337,15 @@ impl L2TableWriteGuard<'_> {
         self.table.map_at(index, cluster, pending)
     }
 
-    /// Makes the guest cluster of the word at an index read as zeroes: so the table is modified. Its host cluster is kept for it
-    /// where `keep_allocation` is set, and where it has one of its own, which a compressed cluster has not.
+    /// Makes the guest cluster of the entry at `index` read as zeroes. The table is now dirty.
     ///
-    /// It answers the clusters that the word named before, to be freed; none where its cluster is kept.
+    /// If `keep_allocation` is set, the entry keeps its host cluster as a preallocated one. A compressed cluster has none to keep. The
+    /// result is the clusters that the entry referenced before, which must be freed. It is `None` if the entry referenced none, or keeps
+    /// its cluster.
     ///
-    /// Refused with `Fault::VersionLimit`, with nothing changed, exactly in version 2.
+    /// # Errors
+    ///
+    /// - `Fault::VersionLimit` exactly if the version is 2. Nothing changes.
     pub fn zero_cluster(
         &mut self,
         index: usize,
@@ -358,9 +369,9 @@ impl L2TableWriteGuard<'_> {
         self.table.zero_at(index, keep_allocation)
     }
 
-    /// Makes the guest cluster of the word at an index unmapped: so the table is modified.
+    /// Unmaps the guest cluster of the entry at `index`: it now reads as the backing file, if any. The table is now dirty.
     ///
-    /// It answers the clusters that the word named before, to be freed.
+    /// The result is the clusters that the entry referenced before, if any, which must be freed.
     pub fn discard_cluster(&mut self, index: usize) -> Option<ClustersToFreeEntry>
         requires { index < length self.old.table.now.raw_entries }
         ensures table { self.new.table.now ≡ with_raw_entry self.old.table.now index 0 }

@@ -1,12 +1,12 @@
-// What the words of an image depend on: in qemu fields of `BDRVQcow2State`.
+// The three header values that the meaning of an entry depends on.
 ghost use Rattle.std.specs.Prelude.{◌≡◌, ◌≤◌};
 ghost use Rattle.qcow2_types.specs.Header.{Shaped, layout_of};
 
 use crate::Header;
 use std::marker::Model;
 
-/// What of a header the meaning of an image's words depends on: the cluster bits, the version, and whether the data is in an
-/// external file.
+/// The header values that the meaning of an entry depends on: the cluster bits, the version, and whether the guest's data is in an external
+/// data file.
 #[derive(Clone, Copy)]
 pub struct TableLayout {
     cluster_bits: u32,
@@ -29,7 +29,7 @@ impl Model for TableLayout {
 }
 
 impl TableLayout {
-    /// The layout of an image with this header.
+    /// Returns the layout of an image with this header.
     pub fn of_header(header: &Header) -> TableLayout
         ensures value { result ≡ layout_of header.now.fields }
         ensures shaped { Shaped header.now.fields }
@@ -41,7 +41,7 @@ impl TableLayout {
         }
     }
 
-    /// A cluster has 2 to this power of bytes: from 9 to 21.
+    /// Returns the base-2 logarithm of the cluster size in bytes: 9 to 21.
     pub fn cluster_bits(self) -> u32
         ensures value { result ≡ self.cluster_bits }
         ensures bounds { (9 ≤ result) × (result ≤ 21) }
@@ -49,14 +49,14 @@ impl TableLayout {
         self.cluster_bits
     }
 
-    /// The version of the format.
+    /// Returns the version of the format.
     pub fn version(self) -> u32
         ensures { result ≡ self.version }
     {
         self.version
     }
 
-    /// Whether the data is in an external file.
+    /// Returns true if the guest's data is in an external data file.
     pub fn external_data(self) -> bool
         ensures { result ≡ self.external_data }
     {

@@ -1,6 +1,7 @@
-//! The metadata of a qcow2 image: its header, tables and refcount blocks, as they are in memory and in the file.
+//! The metadata of a qcow2 image: its header, its tables and its refcount blocks.
 //!
-//! In qemu and imago a word of a table is its entry, and a counter of a block a refcount.
+//! Each is a value in memory that is loaded from the file, changed, and written back. The laws in [`laws`] add to the contracts. Terms are
+//! explained in docs/GLOSSARY.md.
 #![tactic(auto)]
 
 mod clusters;

@@ -1,4 +1,4 @@
-// What the words of L2 tables mean, and the host clusters that they take: in qemu each has a `QCow2ClusterType`.
+// The meaning of L2 entries, and the host clusters that they reference.
 ghost use Rattle.std.specs.Prelude.{◌≡◌, ◌==◌, ℕ, Bool, Some, None, ◌+◌, ◌<◌, ◌^◌, ◌≤◌};
 ghost use Rattle.qcow2_metadata.specs.MappingView.{mapping_seen, IsHostAddressable, follows};
 ghost use Rattle.qcow2_metadata.specs.Allocations.{allocation_of, clusters_of_range as clusters_of_range_of, freed, replaced, unkept, kept_where, zeroed_raw_entry, IsKeptAddressable};
@@ -6,41 +6,42 @@ ghost use Rattle.qcow2_metadata.specs.Allocations.{allocation_of, clusters_of_ra
 use crate::entries::L2Entry;
 use qcow2_types::{ClusterCount, ClustersToFreeEntry, HostCluster, HostOffset};
 
-/// What a word of an L2 table says of its guest cluster.
+/// The meaning of an L2 entry for its guest cluster.
 #[derive(Clone, Copy, Debug, PartialEq, Eq)]
 pub enum L2Mapping {
     /// The guest's bytes are in this host cluster.
     DataFile {
         host_cluster: HostCluster,
-        /// Whether the word says that the cluster's reference count is 1.
+        /// The COPIED flag: the cluster's refcount is exactly 1.
         copied: bool,
     },
-    /// The guest's bytes are those of the layer below.
+    /// The guest's bytes are those of the backing file, or zeroes if the image has none.
     Backing {
-        /// The guest cluster's place there, in bytes.
+        /// The offset of the guest cluster's bytes in the backing file.
         backing_offset: u64,
     },
     /// The guest's bytes are zeroes.
     Zero {
-        /// The host cluster that is kept for it, where there is one.
+        /// The preallocated host cluster, if any.
         host_cluster: Option<HostCluster>,
-        /// Whether the word says that the cluster's reference count is 1.
+        /// The COPIED flag: the cluster's refcount is exactly 1.
         copied: bool,
     },
     /// The guest's bytes are compressed.
     Compressed {
-        /// The place of the first byte of the compressed data.
+        /// The host offset of the first byte of the compressed data.
         host_offset: HostOffset,
-        /// From there to the end of its last sector of 512 bytes, in bytes. The compressed data may end before.
+        /// The length up to the end of the last sector of 512 bytes, in bytes. The compressed data may end before.
         length: u64,
     },
 }
 
 impl L2Mapping {
-    /// Whether the mapping goes on where the one of the guest cluster before, `preceding`, ends: both are of one kind, and this
-    /// is at the next host cluster, with the same copied mark, or at the next place of the layer below. Zeroes go on from zeroes
-    /// where neither has a host cluster, whatever their marks. Nothing goes on from the last host cluster, and nothing that is
-    /// compressed goes on.
+    /// Returns true if the mapping continues `preceding`, which is the mapping of the guest cluster before.
+    ///
+    /// Both must be of one kind. A host cluster must follow the preceding one, with the same COPIED flag. An offset in the backing file
+    /// must be one cluster after the preceding one. Zeroes without host clusters always continue each other. Nothing continues from the
+    /// last host cluster, and compressed mappings never continue.
     pub fn is_consecutive(&self, preceding: &L2Mapping, cluster_bits: u32) -> bool
         requires { (9 ≤ cluster_bits) × (cluster_bits ≤ 21) }
         ensures { result ≡ follows cluster_bits preceding.now self.now }
@@ -65,7 +66,7 @@ impl L2Mapping {
     }
 }
 
-// Whether data in this cluster goes on from the mapping before.
+// Returns true if data in this cluster continues the mapping before.
 fn data_goes_on(preceding: L2Mapping, cluster: HostCluster, copied: bool) -> bool
     ensures { (bits : ℕ) → result ≡ follows bits preceding (L2Mapping.DataFile cluster copied) }
 {
@@ -78,7 +79,7 @@ fn data_goes_on(preceding: L2Mapping, cluster: HostCluster, copied: bool) -> boo
     }
 }
 
-// Whether the layer below at this place goes on from the mapping before.
+// Returns true if the backing file's bytes at this offset continue the mapping before.
 fn backing_goes_on(preceding: L2Mapping, place: u64, cluster_bits: u32) -> bool
     requires { cluster_bits ≤ 21 }
     ensures { result ≡ follows cluster_bits preceding (L2Mapping.Backing place) }
@@ -89,7 +90,7 @@ fn backing_goes_on(preceding: L2Mapping, place: u64, cluster_bits: u32) -> bool
     }
 }
 
-// Whether zeroes with this cluster go on from the mapping before.
+// Returns true if zeroes with this preallocated cluster continue the mapping before.
 fn kept_goes_on(preceding: L2Mapping, cluster: HostCluster, copied: bool) -> bool
     ensures { (bits : ℕ) → result ≡ follows bits preceding (L2Mapping.Zero (Some cluster) copied) }
 {
@@ -105,7 +106,7 @@ fn kept_goes_on(preceding: L2Mapping, cluster: HostCluster, copied: bool) -> boo
     }
 }
 
-// Whether zeroes with no cluster go on from the mapping before. A mark is that of a cluster, so none of theirs says anything.
+// Returns true if zeroes without a cluster continue the mapping before. Without a cluster the COPIED flags don't matter.
 fn zero_goes_on(preceding: L2Mapping) -> bool
     ensures { (bits : ℕ) (copied : Bool) → result ≡ follows bits preceding (L2Mapping.Zero None copied) }
 {
@@ -115,14 +116,14 @@ fn zero_goes_on(preceding: L2Mapping) -> bool
     }
 }
 
-// Whether a number is `step` above the one before.
+// Returns true if `number` is `before + step`.
 fn is_after(before: u64, number: u64, step: u64) -> bool
     ensures { result ≡ (number == before + step) }
 {
     number >= step && number - step == before
 }
 
-/// The host clusters that a mapping takes: the first, and how many.
+/// Returns the first host cluster that a mapping references, and the number of clusters, if any.
 pub fn allocation(mapping: L2Mapping, cluster_bits: u32) -> Option<(HostCluster, ClusterCount)>
     requires bits { (9 ≤ cluster_bits) × (cluster_bits ≤ 21) }
     requires named { IsHostAddressable cluster_bits mapping }
@@ -142,7 +143,7 @@ pub fn allocation(mapping: L2Mapping, cluster_bits: u32) -> Option<(HostCluster,
     }
 }
 
-// The clusters that hold the bytes of a range: the first, and how many.
+// Returns the first cluster that holds bytes of a range, and the number of clusters.
 fn clusters_of_range(
     offset: HostOffset,
     length: u64,
@@ -158,7 +159,7 @@ fn clusters_of_range(
     (first, ClusterCount(last.0 - first.0 + 1))
 }
 
-/// The clusters, to be freed.
+/// Returns the clusters of an allocation, if any, as an entry of the free list (the list of clusters to free).
 pub fn to_free(allocation: Option<(HostCluster, ClusterCount)>) -> Option<ClustersToFreeEntry>
     ensures { result ≡ freed allocation }
 {
@@ -168,7 +169,8 @@ pub fn to_free(allocation: Option<(HostCluster, ClusterCount)>) -> Option<Cluste
     }
 }
 
-/// The clusters of an allocation, to be freed, unless it is exactly this cluster.
+/// Returns the clusters of an allocation as an entry of the free list. The result is `None` if they are exactly the given cluster, or
+/// without an allocation.
 pub fn to_free_unless(
     allocation: Option<(HostCluster, ClusterCount)>,
     cluster: HostCluster,
@@ -187,7 +189,7 @@ pub fn to_free_unless(
     }
 }
 
-/// The clusters of an allocation, to be freed, unless it is kept.
+/// Returns the clusters of an allocation as an entry of the free list. The result is `None` if they are kept, or without an allocation.
 pub fn to_free_unless_kept(
     allocation: Option<(HostCluster, ClusterCount)>,
     is_kept: bool,
@@ -206,7 +208,8 @@ pub fn to_free_unless_kept(
     }
 }
 
-/// The host cluster that is kept for a guest cluster that is zeroed, with its copied mark; none unless `keep` is set.
+/// Returns the host cluster that a guest cluster keeps when it is zeroed, with its COPIED flag. The result is `None`
+/// unless `keep` is set.
 pub fn kept_cluster(
     mapping: L2Mapping,
     keep: bool,
@@ -236,7 +239,7 @@ pub fn kept_cluster(
     }
 }
 
-/// The word of a guest cluster that is zeroed, where it keeps this cluster.
+/// Returns the entry of a zeroed guest cluster that keeps the given cluster, if any.
 pub fn zero_entry(kept: Option<(HostCluster, bool)>, cluster_bits: u32) -> L2Entry
     requires bits { (9 ≤ cluster_bits) × (cluster_bits ≤ 21) }
     requires reach { IsKeptAddressable cluster_bits kept }

@@ -1,11 +1,11 @@
-// Reads of an image's file at places that lie well below 2^64.
+// Reads from an image file at offsets below 2^63.
 ghost use Rattle.std.specs.Prelude.{◌≡◌, ◌+◌, ◌≤◌, ◌^◌, length, OnOk};
 ghost use Rattle.imago_storage.specs.Calls.{CountsFaults, UnchangedButFaults, Reads};
 
 use imago_storage::{Fault, Storage, StorageExt};
 use std::alloc::Global;
 
-/// Fills the buffer with the bytes from an offset on. Past the file's end it reads zeroes.
+/// Fills the buffer with the bytes of the file from an offset on. Bytes past the end of the file are zeroes.
 pub(crate) fn read_at<S: Storage>(
     alloc: Global,
     image: &mut S,

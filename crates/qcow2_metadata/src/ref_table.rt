@@ -1,4 +1,4 @@
-// The refcount table. A word of it is a refcount table entry in qemu and imago.
+// The refcount table, and how it grows.
 ghost use Rattle.std.specs.Prelude.{◌≡◌, ℕ, ◌+◌, ◌-◌, ◌*◌, ◌^◌, ◌<◌, ◌≤◌, ◌↔◌, IsTrue, MatchOption, IsOk, IfOk, IsErrOf, IsOkUnless, length, refl, Some, None, true, false};
 ghost use Rattle.qcow2_types.specs.Header.{Shaped, layout_of, entries_of_cluster};
 ghost use Rattle.qcow2_types.specs.Counts.{counters_of_block};
@@ -16,12 +16,14 @@ use imago_storage::Fault;
 use qcow2_types::{HostOffset, PendingClusters};
 use std::alloc::Global;
 
-/// The refcount table: each of its words says where a refcount block stands. It is kept in memory.
+/// The refcount table, kept in memory. Each entry has the host offset of a refcount block.
 pub type RefTable = EntryTable<RefTableEntry>;
 
-/// The least length of at most `RefTable::MAX_ENTRIES` words that fills its clusters, of `cluster_words` words each, is above
-/// `at`, and whose new blocks, of `counters` counters each, have room to count the table's clusters and the blocks themselves;
-/// or none where there is none.
+/// Returns the length that a refcount table must grow to, in entries, or `None` if that is more than
+/// `RefTable::MAX_ENTRIES`.
+///
+/// It is the least length above `at` that fills its clusters, of `cluster_words` entries each, and for which the new blocks have enough
+/// refcounts. The refcounts must cover the clusters of the table and those of the new blocks. A block has `counters` refcounts.
 fn grown_length(cluster_words: usize, counters: usize, at: usize) -> Option<usize>
     requires raw_entries { (64 ≤ cluster_words) × (cluster_words ≤ 2 ^ 18) }
     requires counters { (64 ≤ counters) × (counters ≤ 2 ^ 24) }
@@ -37,7 +39,7 @@ fn grown_length(cluster_words: usize, counters: usize, at: usize) -> Option<usiz
     None
 }
 
-/// The words of a cluster, and the counters of a refcount block.
+/// Returns the number of entries in a cluster, and the number of refcounts in a refcount block.
 fn sizes(header: &Header) -> (usize, usize)
     ensures raw_entries { result.0 ≡ entries_of_cluster header.now.fields }
     ensures counters { result.1 ≡ counters_of_block header.now.fields }
@@ -50,18 +52,23 @@ fn sizes(header: &Header) -> (usize, usize)
 }
 
 impl RefTable {
-    /// Whether there is a word at an index.
+    /// Returns true if the table has an entry at this index.
     pub fn in_bounds(&self, index: usize) -> bool
         ensures { IsTrue result ↔ (index < length self.now.raw_entries) }
     {
         index < self.entries()
     }
 
-    /// A copy for the image with this header that has a word at the index `at`, and room for the blocks that count its own
-    /// clusters: what is added is 0. It has the least such length that fills its clusters, has no cluster, and is modified.
+    /// Returns a longer copy that has an entry at the index `at`, for the image with this header.
     ///
-    /// Refused with `Fault::Limit` exactly where that length is more than `MAX_ENTRIES`, with the first length past it that
-    /// fills its clusters; and else with `Fault::Memory` alone.
+    /// The copy has enough free entries for the refcount blocks of its own clusters. It has the least length that is enough and fills whole
+    /// clusters. The new entries are 0. The copy has no cluster in the file yet, and is dirty.
+    ///
+    /// # Errors
+    ///
+    /// - `Fault::Limit(n)` exactly if the length is more than `MAX_ENTRIES`. `n` is the first greater length that fills its
+    ///   clusters.
+    /// - `Fault::Memory`.
     pub fn clone_and_grow(
         &self,
         alloc: Global,
@@ -87,14 +94,14 @@ impl RefTable {
         let Some(count) = grown_length(cluster_words, counters, at) else {
             return Err(Fault::Limit((RefTable::MAX_ENTRIES + cluster_words) as u64));
         };
-        // Each of its words is sound.
+        // This shows that each entry of the table is valid.
         let _ = self.layout();
         let content = longer_content(alloc, self, count)?;
         Ok(RefTable::from_data(content, header))
     }
 
-    /// Names a refcount block at an index: so the table is modified. The block's clusters, which `pending` holds, are named
-    /// then.
+    /// Makes an entry reference a refcount block. The table is now dirty. If the block's cluster is newly allocated, `pending` holds it,
+    /// and is consumed: the entry now references it.
     pub fn enter_refblock(
         &mut self,
         index: usize,

@@ -1,4 +1,4 @@
-// Refcount blocks. A counter of one is a refcount in qemu and imago.
+// Refcount blocks, kept in memory as the bytes of their cluster.
 ghost use Rattle.std.specs.Prelude.{◌≡◌, ℕ, ◌+◌, ◌-◌, ◌*◌, ◌^◌, ◌<◌, ◌≤◌, ◌↔◌, ◌==◌, true, false, length, replicate, slice_index, slice_set, IsTrue, IsOk, OnOk, OnErr, IfOk, IfErr, IsOkUnless, Some, None};
 ghost use Rattle.imago_storage.specs.Calls.{CountsFaults, UnchangedButFaults, Reads};
 ghost use Rattle.imago_storage.specs.State.{IsAlignment, unit_of};
@@ -16,9 +16,9 @@ use qcow2_types::{HostCluster, HostOffset};
 use std::alloc::{AllocError, Global};
 use std::marker::Model;
 
-/// A refcount block: the counters of consecutive host clusters, which fill one cluster.
+/// A refcount block: the refcounts of consecutive host clusters. It fills one cluster.
 ///
-/// It is kept in memory. Contracts see its counters as a list.
+/// It is kept in memory. In contracts its refcounts are a list.
 #[derive(Drop)]
 pub struct RefBlock {
     // as in the file
@@ -45,7 +45,7 @@ impl RefBlock {
     ghost use Rattle.qcow2_metadata.specs.Cells.{counters_of};
     ghost use Rattle.qcow2_metadata.specs.Blocks.{block_of, with_counter, block_in, BlockPut};
 
-    // The block of these bytes.
+    // Returns the block of these bytes.
     fn of_bytes(
         bytes: Vec<u8>,
         header: &Header,
@@ -67,9 +67,11 @@ impl RefBlock {
         }
     }
 
-    /// A block for an image with this header whose counters are all 0. It has no cluster, and is modified.
+    /// Returns a block for an image with this header whose refcounts are all 0. The block has no cluster in the file yet, and is dirty.
     ///
-    /// Refused with `Fault::Memory` alone.
+    /// # Errors
+    ///
+    /// - `Fault::Memory`.
     pub fn new_cleared(alloc: Global, header: &Header) -> Result<RefBlock, Fault>
         ensures ok { IfOk result (λ block. block ≡ record {
           cluster_bits = header.now.fields.cluster_bits;
@@ -86,9 +88,15 @@ impl RefBlock {
         }
     }
 
-    /// Loads the block in a cluster of an image with this header. It isn't modified.
+    /// Loads the block in a cluster of an image with this header. The loaded block isn't dirty. The file is unchanged, also on error.
     ///
-    /// Refused with `Fault::Memory` and `Fault::Storage`. It changes nothing in the image.
+    /// # Preconditions
+    ///
+    /// The offset of the cluster fits an entry.
+    ///
+    /// # Errors
+    ///
+    /// - `Fault::Memory`, `Fault::Storage`.
     pub fn load<S: Storage>(
         alloc: Global,
         image: &mut S,
@@ -105,10 +113,15 @@ impl RefBlock {
         Ok(RefBlock::of_bytes(bytes, header, Some(cluster), false))
     }
 
-    /// Writes the block to its cluster, by one request. It isn't modified then.
+    /// Writes the block to its cluster, in one request. After success the block isn't dirty.
     ///
-    /// Refused with `Fault::Memory` and `Fault::Storage`, after which the block is modified, and each byte of the cluster
-    /// old or new.
+    /// # Preconditions
+    ///
+    /// The block has a cluster, and the cluster's offset fits an entry.
+    ///
+    /// # Errors
+    ///
+    /// - `Fault::Memory`, `Fault::Storage`. The block is now dirty, and each byte of the cluster is old or new.
     pub fn write<S: Storage>(&mut self, alloc: Global, image: &mut S) -> Result<(), Fault>
         requires { IsPlaced self.old.cluster_bits self.old.cluster }
         ensures request { BlockPut self.old (place_of self.old.cluster_bits self.old.cluster) (S.state image.old)
@@ -122,9 +135,15 @@ impl RefBlock {
         result
     }
 
-    /// Writes the block to its cluster, which is this one, if it is modified.
+    /// Writes the block to its cluster, which must be `cluster`, if it is dirty. Otherwise there is no I/O.
     ///
-    /// Refused as `write`. A block that isn't modified asks nothing of the image.
+    /// # Preconditions
+    ///
+    /// The offset of `cluster` fits an entry.
+    ///
+    /// # Errors
+    ///
+    /// - Those of `write`.
     pub fn write_if_modified<S: Storage>(
         &mut self,
         alloc: Global,
@@ -147,14 +166,18 @@ impl RefBlock {
         }
     }
 
-    /// The cluster where it stands, if it has one.
+    /// Returns the cluster of the block, if it has one.
     pub fn get_cluster(&self) -> Option<HostCluster>
         ensures { result ≡ self.now.cluster }
     {
         self.cluster
     }
 
-    /// Where it stands, in bytes, if it has a cluster.
+    /// Returns the host offset of the block in bytes, if it has a cluster.
+    ///
+    /// # Preconditions
+    ///
+    /// The offset fits 64 bits.
     pub fn get_offset(&self) -> Option<HostOffset>
         requires { place_of self.now.cluster_bits self.now.cluster < 2 ^ 64 }
         ensures none { self.now.cluster ≡ None → result ≡ None }
@@ -166,7 +189,7 @@ impl RefBlock {
         }
     }
 
-    /// Gives it a cluster to stand in, where it is not yet: so it is modified.
+    /// Sets the cluster of the block. The file doesn't have the block there yet, so the block is now dirty.
     pub fn set_cluster(&mut self, cluster: HostCluster)
         ensures { self.new ≡ record self.old { cluster = Some cluster; modified = true } }
     {
@@ -174,7 +197,7 @@ impl RefBlock {
         self.modified = true;
     }
 
-    /// A cluster has 2 to this power of bytes: from 9 to 21.
+    /// Returns the base-2 logarithm of the cluster size in bytes: 9 to 21.
     pub fn cluster_bits(&self) -> u32
         ensures value { result ≡ self.now.cluster_bits }
         ensures bounds { (9 ≤ result) × (result ≤ 21) }
@@ -182,7 +205,7 @@ impl RefBlock {
         self.cluster_bits
     }
 
-    /// The number of its counters. They fill its cluster.
+    /// Returns the number of refcounts. They fill the cluster.
     pub fn entries(&self) -> usize
         ensures value { result ≡ length self.now.counters }
         ensures whole { result * 2 ^ self.now.order ≡ 2 ^ self.now.cluster_bits * 8 }
@@ -193,7 +216,11 @@ impl RefBlock {
         (self.bytes.len() * 8) >> self.refcount_order
     }
 
-    /// The counter at an index.
+    /// Returns the refcount at an index.
+    ///
+    /// # Preconditions
+    ///
+    /// `index` is less than the number of refcounts.
     pub fn get(&self, index: usize) -> u64
         requires { index < length self.now.counters }
         ensures { result ≡ slice_index self.now.counters index }
@@ -201,7 +228,11 @@ impl RefBlock {
         get(&self.bytes, self.refcount_order, index)
     }
 
-    /// Whether the counter at an index is 0.
+    /// Returns true if the refcount at an index is 0.
+    ///
+    /// # Preconditions
+    ///
+    /// `index` is less than the number of refcounts.
     pub fn is_zero(&self, index: usize) -> bool
         requires { index < length self.now.counters }
         ensures { result ≡ (slice_index self.now.counters index == 0) }
@@ -209,28 +240,28 @@ impl RefBlock {
         self.get(index) == 0
     }
 
-    /// Whether the file may hold something else.
+    /// Returns true if the block is dirty: the file may differ from it.
     pub fn is_modified(&self) -> bool
         ensures { result ≡ self.now.modified }
     {
         self.modified
     }
 
-    /// Notes that the file may hold something else.
+    /// Sets the block to dirty: the file may differ from it.
     pub fn set_modified(&mut self)
         ensures { self.new ≡ record self.old { modified = true } }
     {
         self.modified = true;
     }
 
-    /// Notes that the file holds the block.
+    /// Sets the block to clean: the file has it.
     pub fn clear_modified(&mut self)
         ensures { self.new ≡ record self.old { modified = false } }
     {
         self.modified = false;
     }
 
-    /// Lends the block to one that changes its counters.
+    /// Returns a guard through which the refcounts can be changed.
     pub fn lock_write(&mut self) -> RefBlockWriteGuard<'_>
         ensures same { result.block.ghost_name ≡ self.entry.ghost_name }
         ensures value { result.block.now ≡ self.old }
@@ -238,7 +269,7 @@ impl RefBlock {
         RefBlockWriteGuard { block: self }
     }
 
-    // The counter, one higher.
+    // Increments the refcount, and returns the new one.
     fn raise(&mut self, index: usize) -> Result<u64, Fault>
         requires { index < length self.old.counters }
         ensures possible { IsOk result ↔ (slice_index self.old.counters index + 1 < 2 ^ (2 ^ self.old.order)) }
@@ -252,7 +283,7 @@ impl RefBlock {
         Ok(self.get(index))
     }
 
-    // The counter, one lower.
+    // Decrements the refcount, and returns the new one.
     fn lower(&mut self, index: usize) -> Result<u64, Fault>
         requires { index < length self.old.counters }
         ensures possible { IsOk result ↔ (0 < slice_index self.old.counters index) }
@@ -267,7 +298,7 @@ impl RefBlock {
     }
 }
 
-/// A refcount block whose counters may be changed.
+/// A guard through which the refcounts of a block can be changed.
 #[derive(Drop)]
 pub struct RefBlockWriteGuard<'a> {
     block: &'a mut RefBlock,
@@ -276,9 +307,15 @@ pub struct RefBlockWriteGuard<'a> {
 impl RefBlockWriteGuard<'_> {
     ghost use Rattle.qcow2_metadata.specs.Blocks.{with_counter};
 
-    /// Adds one to the counter at an index, and answers it. The block is modified then.
+    /// Increments the refcount at an index, and returns the new refcount. The block is now dirty.
     ///
-    /// Refused with `Fault::Counter`, with nothing changed, exactly where the counter is the greatest of its width.
+    /// # Preconditions
+    ///
+    /// `index` is less than the number of refcounts.
+    ///
+    /// # Errors
+    ///
+    /// - `Fault::Counter` exactly if the refcount is the greatest of its width. Nothing changes.
     pub fn increment(&mut self, index: usize) -> Result<u64, Fault>
         requires { index < length self.old.block.now.counters }
         ensures possible { IsOk result ↔ (slice_index self.old.block.now.counters index + 1 < 2 ^ (2 ^ self.old.block.now.order)) }
@@ -291,9 +328,15 @@ impl RefBlockWriteGuard<'_> {
         self.block.raise(index)
     }
 
-    /// Takes one from the counter at an index, and answers it. The block is modified then.
+    /// Decrements the refcount at an index, and returns the new refcount. The block is now dirty.
     ///
-    /// Refused with `Fault::Counter`, with nothing changed, exactly where the counter is 0.
+    /// # Preconditions
+    ///
+    /// `index` is less than the number of refcounts.
+    ///
+    /// # Errors
+    ///
+    /// - `Fault::Counter` exactly if the refcount is 0. Nothing changes.
     pub fn decrement(&mut self, index: usize) -> Result<u64, Fault>
         requires { index < length self.old.block.now.counters }
         ensures possible { IsOk result ↔ (0 < slice_index self.old.block.now.counters index) }
@@ -306,7 +349,11 @@ impl RefBlockWriteGuard<'_> {
         self.block.lower(index)
     }
 
-    /// Whether the counter at an index is 0.
+    /// Returns true if the refcount at an index is 0.
+    ///
+    /// # Preconditions
+    ///
+    /// `index` is less than the number of refcounts.
     pub fn is_zero(&self, index: usize) -> bool
         requires { index < length self.now.block.now.counters }
         ensures { result ≡ (slice_index self.now.block.now.counters index == 0) }

@@ -10,10 +10,10 @@ use crate::words::is_cluster_offset;
 use imago_storage::Fault;
 use qcow2_types::{MAGIC, OnDiskStruct, V2Header, V3HeaderBase};
 
-/// The greatest incompatible feature bits that are carried.
+/// The known incompatible feature bits, all set.
 const KNOWN_FEATURES: u64 = 0xf;
 
-/// The fields in the first 72 bytes of a file.
+/// Returns the fields in the first 72 bytes of a file.
 fn v2_part(bytes: &[u8]) -> V2Header
     requires { length bytes.now ≡ 72 }
     ensures { IsV2At (bytes_of bytes.now) result }
@@ -21,7 +21,7 @@ fn v2_part(bytes: &[u8]) -> V2Header
     V2Header::from_bytes(bytes)
 }
 
-/// The fields in the 32 bytes behind them.
+/// Returns the fields in bytes 72 to 103 of a file.
 fn v3_part(bytes: &[u8]) -> V3HeaderBase
     requires { length bytes.now ≡ 32 }
     ensures { IsV3At (bytes_of bytes.now) result }
@@ -29,8 +29,8 @@ fn v3_part(bytes: &[u8]) -> V3HeaderBase
     V3HeaderBase::from_bytes(bytes)
 }
 
-/// The fields in the first 104 bytes of a file. Version 2 has no field past byte 71: it means counters of 16 bits, and no
-/// feature bits.
+/// Returns the fields in the first 104 bytes of a file. Version 2 has no field past byte 71: its refcounts have 16 bits,
+/// and it has no feature bits.
 pub(crate) fn fields_at_start(start: &[u8]) -> (V2Header, V3HeaderBase)
     requires { length start.now ≡ 104 }
     ensures fields { seen_fields result.0 result.1 ≡ fields_of (bytes_of start.now) }
@@ -52,7 +52,7 @@ pub(crate) fn fields_at_start(start: &[u8]) -> (V2Header, V3HeaderBase)
     (v2, v3)
 }
 
-/// The rules on magic and version.
+/// Checks the magic number and the version.
 pub(crate) fn check_kind(start: &[u8], v2: &V2Header) -> Result<(), Fault>
     requires magic { v2.now.magic ≡ be (bytes_of start.now) 0 4 }
     requires version { v2.now.version ≡ be (bytes_of start.now) 4 4 }
@@ -67,7 +67,7 @@ pub(crate) fn check_kind(start: &[u8], v2: &V2Header) -> Result<(), Fault>
     Ok(())
 }
 
-/// The rules on widths, the header's length, encryption and features.
+/// Checks the widths, the header's length, encryption and features.
 pub(crate) fn check_shape(v2: &V2Header, v3: &V3HeaderBase) -> Result<(), Fault>
     ensures { result_err result ≡ first_fault (rules_of_shape (seen_fields v2.now v3.now)) }
 {
@@ -89,7 +89,7 @@ pub(crate) fn check_shape(v2: &V2Header, v3: &V3HeaderBase) -> Result<(), Fault>
     Ok(())
 }
 
-/// The rules on sizes, and on the places of the tables.
+/// Checks the sizes, and the offsets of the tables.
 pub(crate) fn check_sizes(v2: &V2Header, v3: &V3HeaderBase) -> Result<(), Fault>
     requires low { 9 ≤ v2.now.cluster_bits }
     requires high { v2.now.cluster_bits ≤ 21 }

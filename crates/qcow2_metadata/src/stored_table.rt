@@ -1,4 +1,4 @@
-// L2 tables that are read where their bytes lie, as qemu keeps its own, in slices; imago decodes all.
+// L2 tables that are only read. They keep the bytes of their cluster, and decode an entry when it is looked up.
 ghost use Rattle.std.specs.Prelude.{◌≡◌, ℕ, ◌+◌, ◌*◌, ◌/◌, ◌%◌, ◌^◌, ◌<◌, ◌≤◌, length, slice_index, OnOk, IfOk, IfErr};
 ghost use Rattle.imago_storage.specs.Calls.{UnchangedButFaults};
 ghost use Rattle.qcow2_types.specs.Bytes.{bytes_of};
@@ -20,7 +20,9 @@ use qcow2_types::{GuestCluster, GuestOffset, HostCluster};
 use std::alloc::Global;
 use std::marker::Model;
 
-/// An L2 table as the file holds it, to be read alone: it takes the memory of one cluster, and each lookup decodes its word.
+/// A read-only L2 table that keeps the bytes of the file.
+///
+/// It takes the memory of one cluster, and each lookup decodes its entry.
 #[derive(Drop)]
 pub struct StoredL2Table {
     bytes: Vec<u8>,
@@ -37,7 +39,7 @@ impl Model for StoredL2Table {
     ghost invariant = { IsStored };
 }
 
-/// Refuses bytes that hold a word with no meaning in an image with this header.
+/// Checks that each entry in the bytes is valid in an image with this header.
 fn check_raw_entries(bytes: &[u8], header: &Header) -> Result<(), Fault>
     ensures sound { OnOk result (AreSound l2_table_kind (layout_of header.now.fields) (raw_entries_in (bytes_of bytes.now) 0 (length bytes.now / 8))) }
     ensures refused { IfErr result (WhyNotDecoded l2_table_kind (layout_of header.now.fields)
@@ -50,10 +52,14 @@ fn check_raw_entries(bytes: &[u8], header: &Header) -> Result<(), Fault>
 }
 
 impl StoredL2Table {
-    /// Loads the table in a cluster of an image with this header, as `L2Table::load` does. It reads one cluster.
+    /// Loads the table in a cluster of an image with this header, like `L2Table::load`. The call reads one cluster.
     ///
-    /// Refused with `Fault::DamagedTable` where the format gives one of the words no meaning; with `Fault::Memory` and
-    /// `Fault::Storage`. It changes nothing in the image. From the format's section "Cluster mapping".
+    /// The rules are in the format's section "Cluster mapping". The file is unchanged, also on error.
+    ///
+    /// # Errors
+    ///
+    /// - `Fault::DamagedTable` if an entry is invalid.
+    /// - `Fault::Memory`, `Fault::Storage`.
     pub fn load<S: Storage>(
         alloc: Global,
         image: &mut S,
@@ -78,7 +84,7 @@ impl StoredL2Table {
         Ok(StoredL2Table { bytes, layout })
     }
 
-    /// The number of its words, which fill a cluster: of 2^9 to 2^21 bytes.
+    /// Returns the number of entries. They fill one cluster of 2^9 to 2^21 bytes.
     #[tactic(auto, using(crate::proofs::TableFacts::words_long))]
     pub fn entries(&self) -> usize
         ensures value { result ≡ length self.now.raw_entries }
@@ -88,7 +94,7 @@ impl StoredL2Table {
         self.bytes.len() / 8
     }
 
-    // The word at an index.
+    // Returns the raw entry at an index.
     #[tactic(auto, using(crate::proofs::TableFacts::words_long, crate::proofs::TableFacts::word_in_bytes))]
     fn raw_entry(&self, index: usize) -> u64
         requires { index < length self.now.raw_entries }
@@ -97,7 +103,7 @@ impl StoredL2Table {
         raw_entry_at(&self.bytes, 8 * index)
     }
 
-    /// Where the bytes of a guest cluster are. Where they are in the layer below, they are there at the cluster's own place.
+    /// Returns where the bytes of a guest cluster are. If they are in the backing file, their offset there is that of the guest cluster.
     pub fn get_mapping(&self, lookup_cluster: GuestCluster) -> L2Mapping
         requires { lookup_cluster * 2 ^ self.now.layout.cluster_bits < 2 ^ 64 }
         ensures means { mapping_seen result

@@ -1,7 +1,7 @@
-// What the tables of 64-bit words have in common. A word of one is its entry in qemu and imago.
+// The `Table` trait: what L1, L2 and refcount tables have in common, with loading and writing.
 //
-// From the sections "Host cluster management" and "Cluster mapping" of the format: the words of a table are big-endian, and
-// stand in a row from the table's place on.
+// From the sections "Host cluster management" and "Cluster mapping" of the format: the entries of a table are big-endian
+// and consecutive, from the table's offset on.
 ghost use Rattle.std.specs.Prelude.{◌≡◌, ℕ, ◌+◌, ◌-◌, ◌*◌, ◌/◌, ◌%◌, ◌^◌, ◌<◌, ◌≤◌, ◌↔◌, List, length, map, replicate, slice_index, OnOk, OnErr, IfOk, IfErr, IsErrOf, IsOkUnless, IsTrue, MatchOption, Some, None, true, false};
 ghost use Rattle.imago_storage.specs.Calls.{CountsFaults, UnchangedButFaults, Reads};
 ghost use Rattle.imago_storage.specs.State.{unit_of};
@@ -21,27 +21,29 @@ use imago_storage::{Fault, Storage, StorageExt};
 use qcow2_types::{ClusterCount, HostCluster, HostOffset, PendingClusters};
 use std::alloc::{AllocError, Global};
 
-/// A table of 64-bit words, kept in memory. Contracts see a `TableValue`.
+/// A table of 64-bit entries, kept in memory. In contracts it is a `TableValue`.
 pub trait Table: Sized {
-    /// A word as the table keeps it.
+    /// An entry as the table keeps it.
     type InternalEntry: TableEntry;
 
-    /// A word as `get` answers it.
+    /// An entry as `get` returns it.
     type Entry: TableEntry;
 
-    /// What contracts see of it.
+    /// The table as contracts see it.
     ghost value: { Self → TableValue };
 
     ghost MAX_ENTRIES: { ℕ };
 
-    /// What the table is called.
+    /// The name of the table.
     const NAME: &'static str;
 
-    /// The greatest number of its words.
+    /// The maximum number of entries.
     const MAX_ENTRIES: usize;
 
-    /// The table of these words, for an image with this header: each has 64 bits and a meaning there, and there are at most
-    /// `MAX_ENTRIES`, of an L2 table as many as fill a cluster. It has no cluster, and is modified.
+    /// Returns the table of these entries, for an image with this header. The table has no cluster in the file yet, and is dirty.
+    ///
+    /// Each entry must have 64 bits and be valid in the image. The entries of an L2 table must fill one cluster. Other tables have at most
+    /// `MAX_ENTRIES` entries.
     fn from_data(content: Vec<Self::InternalEntry>, header: &Header) -> Self
         requires long { IsLength Self.InternalEntry.kind (layout_of header.now.fields) (length (Self.InternalEntry.raw_entries content.items)) }
         requires sound { AreSound Self.InternalEntry.kind (layout_of header.now.fields) (Self.InternalEntry.raw_entries content.items) }
@@ -53,51 +55,51 @@ pub trait Table: Sized {
           modified = true;
         } };
 
-    /// The number of its words.
+    /// Returns the number of entries.
     fn entries(&self) -> usize
         ensures value { result ≡ length (value self.now).raw_entries }
         ensures table { IsTable Self.InternalEntry.kind (value self.now) };
 
-    /// The word at an index, or none past the end.
+    /// Returns the entry at an index, or `None` past the end.
     fn get_ref(&self, index: usize) -> Option<&Self::InternalEntry>
         ensures { MatchOption result (length (value self.now).raw_entries ≤ index) (λ entry.
             (index < length (value self.now).raw_entries) × (Self.InternalEntry.raw_entry entry.now ≡ slice_index (value self.now).raw_entries index)) };
 
-    /// The word at an index, or the empty one past the end.
+    /// Returns the entry at an index, or the empty entry past the end.
     fn get(&self, index: usize) -> Self::Entry
         ensures { Self.Entry.raw_entry result ≡ slice_index (value self.now).raw_entries index };
 
-    /// The cluster where it begins, if it has one.
+    /// Returns the cluster where the table starts, if it has one.
     fn get_cluster(&self) -> Option<HostCluster>
         ensures { result ≡ (value self.now).cluster };
 
-    /// Gives it a cluster to begin in, where it is not yet: so it is modified.
+    /// Sets the cluster where the table starts. The file doesn't have the table there yet, so the table is now dirty.
     fn set_cluster(&mut self, cluster: HostCluster)
         ensures { value self.new ≡ record (value self.old) { cluster = Some cluster; modified = true } };
 
-    /// Takes its cluster from it.
+    /// Sets the table to have no cluster. The file is unchanged.
     fn unset_cluster(&mut self)
         ensures { value self.new ≡ record (value self.old) { cluster = None } };
 
-    /// A cluster has 2 to this power of bytes: from 9 to 21.
+    /// Returns the base-2 logarithm of the cluster size in bytes: 9 to 21.
     fn cluster_bits(&self) -> u32
         ensures value { result ≡ (value self.now).layout.cluster_bits }
         ensures bounds { (9 ≤ result) × (result ≤ 21) }
         ensures table { IsTable Self.InternalEntry.kind (value self.now) };
 
-    /// Whether the file may hold something else.
+    /// Returns true if the table is dirty: the file may differ from it.
     fn is_modified(&self) -> bool
         ensures { result ≡ (value self.now).modified };
 
-    /// Notes that the file may hold something else.
+    /// Sets the table to dirty: the file may differ from it.
     fn set_modified(&mut self)
         ensures { value self.new ≡ record (value self.old) { modified = true } };
 
-    /// Notes that the file holds the table.
+    /// Sets the table to clean: the file has it.
     fn clear_modified(&mut self)
         ensures { value self.new ≡ record (value self.old) { modified = false } };
 
-    /// Where it begins, in bytes, if it has a cluster.
+    /// Returns the host offset of the table in bytes, if it has a cluster.
     final fn get_offset(&self) -> Option<HostOffset>
         requires { table_start (value self.now) < 2 ^ 64 }
         ensures none { (value self.now).cluster ≡ None → result ≡ None }
@@ -110,14 +112,14 @@ pub trait Table: Sized {
         }
     }
 
-    /// The bytes that its words take: 8 each.
+    /// Returns the length of the entries in bytes, 8 for each entry.
     final fn byte_size(&self) -> usize
         ensures { result ≡ 8 * length (value self.now).raw_entries }
     {
         8 * self.entries()
     }
 
-    /// The clusters that its words take, of which the last may be filled in part.
+    /// Returns the number of clusters of the table. The last one may be filled in part.
     final fn cluster_count(&self) -> ClusterCount
         ensures { result ≡ (8 * length (value self.now).raw_entries + (2 ^ (value self.now).layout.cluster_bits - 1)) / 2 ^ (value
             self.now).layout.cluster_bits }
@@ -125,12 +127,16 @@ pub trait Table: Sized {
         ClusterCount::from_byte_size(self.byte_size() as u64, self.cluster_bits())
     }
 
-    /// Loads the table of `entries` words that begins with a cluster of an image with this header. It isn't modified; one of
-    /// 0 words has no cluster.
+    /// Loads the table of `entries` entries that starts at a cluster of an image with this header.
     ///
-    /// Refused with `Fault::Limit(entries)` exactly where there are more than `MAX_ENTRIES`, before anything is asked of the
-    /// image; with `Fault::DamagedTable` where the format gives one of the words no meaning; with `Fault::Memory` and
-    /// `Fault::Storage`. It changes nothing in the image.
+    /// The loaded table isn't dirty. If `entries` is 0, the loaded table has no cluster (`get_cluster` returns `None`). The file is
+    /// unchanged, also on error.
+    ///
+    /// # Errors
+    ///
+    /// - `Fault::Limit(entries)` exactly if `entries` is more than `MAX_ENTRIES`. There is no I/O.
+    /// - `Fault::DamagedTable` if an entry is invalid.
+    /// - `Fault::Memory`, `Fault::Storage`.
     final fn load<S: Storage>(
         alloc: Global,
         image: &mut S,
@@ -162,15 +168,17 @@ pub trait Table: Sized {
         Ok(table)
     }
 
-    /// Writes the table to its place, by one call of `StorageExt::write` of exactly its bytes. It isn't modified then.
+    /// Writes the table at its offset, by one call of `StorageExt::write` with exactly its bytes. After success the table isn't dirty.
     ///
-    /// Refused with `Fault::Memory` and `Fault::Storage`, after which the table is modified, and each of its bytes in the
-    /// file old or new.
+    /// # Errors
+    ///
+    /// - `Fault::Memory`, `Fault::Storage`. The table is now dirty, and each of its bytes in the file is old or new.
     final fn write<S: Storage>(&mut self, alloc: Global, image: &mut S) -> Result<(), Fault>
         requires { IsPlacedTable (value self.old) }
         ensures request { WriteOutcome (S.state image.old) (S.state image.new) (table_start (value self.old))
             (table_bytes (value self.old).raw_entries) result }
-        // Where the storage's unit allows it, it is one request; and so is a table that fills one cluster, at every alignment.
+        // If the storage's unit allows it, the write is one request. A table that fills one cluster is one request for every alignment of
+        // the storage.
         ensures in_one_request { FitsOneRequest (unit_of (S.state image.old).shape) (table_start (value self.old)) (8 * length (value self.old).raw_entries)
             → AtomicWriteOutcome (S.state image.old) (S.state image.new) (table_start (value self.old)) (table_bytes (value self.old).raw_entries) result }
         ensures single_request { 8 * length (value self.old).raw_entries ≡ 2 ^ (value self.old).layout.cluster_bits
@@ -187,10 +195,11 @@ pub trait Table: Sized {
         result
     }
 
-    /// Writes the word at an index to its place, by one request of its 8 bytes.
+    /// Writes the entry at `index` at its offset, in one request of 8 bytes.
     ///
-    /// Refused with `Fault::Memory` and `Fault::Storage`, after which the table is modified, and each of the bytes old or
-    /// new.
+    /// # Errors
+    ///
+    /// - `Fault::Memory`, `Fault::Storage`. The table is now dirty, and each of the 8 bytes in the file is old or new.
     final fn write_entry<S: Storage>(
         &mut self,
         alloc: Global,
@@ -214,14 +223,14 @@ pub trait Table: Sized {
     ghost few: { MAX_ENTRIES ≡ max_entries Self.InternalEntry.kind };
 }
 
-/// How many words are asked at once whether all are 0.
+/// The number of entries that are checked for zeroes in one step.
 const CHUNK_WORDS: usize = 64;
 
-/// Whether all bytes are 0.
+/// Returns true if all bytes are 0.
 fn is_clear(bytes: &[u8]) -> bool
     ensures { IsTrue result ↔ ((k : ℕ) → slice_index bytes.now k ≡ 0) }
 {
-    // The loop has no early exit, so that the compiler may take many bytes at a time.
+    // The loop has no early exit, so that the compiler can process many bytes in one step.
     let mut bits = 0;
     for byte in bytes {
         bits |= *byte;
@@ -229,7 +238,7 @@ fn is_clear(bytes: &[u8]) -> bool
     bits == 0
 }
 
-/// Decodes the words that bytes represent, in an image with this header, into as many empty entries.
+/// Decodes the entries in the bytes, for an image with this header, into as many empty entries.
 fn decode<E: TableEntry>(bytes: &[u8], header: &Header, entries: &mut [E]) -> Result<(), Fault>
     requires { E.raw_entries entries.old ≡ replicate (length bytes.now / 8) 0 }
     ensures raw_entries { OnOk result (E.raw_entries entries.new ≡ raw_entries_in (bytes_of bytes.now) 0 (length bytes.now / 8)) }
@@ -239,7 +248,7 @@ fn decode<E: TableEntry>(bytes: &[u8], header: &Header, entries: &mut [E]) -> Re
         (raw_entries_in (bytes_of bytes.now) 0 (length bytes.now / 8))) }
     ensures refused { IsOkUnless result Fault.DamagedTable }
 {
-    // Most words of most tables are 0, as what stands there already.
+    // Most entries of most tables are 0, which `entries` has already.
     if is_clear(bytes) {
         return Ok(());
     }
@@ -252,7 +261,7 @@ fn decode<E: TableEntry>(bytes: &[u8], header: &Header, entries: &mut [E]) -> Re
     Ok(())
 }
 
-/// The words that bytes represent, in an image with this header.
+/// Returns the entries in the bytes, for an image with this header.
 fn entries_in<E: TableEntry>(alloc: Global, bytes: &[u8], header: &Header) -> Result<Vec<E>, Fault>
     ensures raw_entries { IfOk result (λ entries. E.raw_entries entries.items ≡ raw_entries_in (bytes_of bytes.now) 0 (length bytes.now / 8)) }
     ensures sound { OnOk result (AreSound E.kind (layout_of header.now.fields) (raw_entries_in (bytes_of bytes.now) 0 (length bytes.now / 8))) }
@@ -270,7 +279,11 @@ fn entries_in<E: TableEntry>(alloc: Global, bytes: &[u8], header: &Header) -> Re
     Ok(entries)
 }
 
-/// The bytes of the `entries` words from the begin of a cluster of an image with this header on.
+/// Reads the bytes of the `entries` entries that start at a cluster of an image with this header.
+///
+/// # Errors
+///
+/// - `Fault::Memory`, `Fault::Storage`. The file is unchanged.
 pub fn load_bytes<S: Storage>(
     alloc: Global,
     image: &mut S,
@@ -291,7 +304,7 @@ pub fn load_bytes<S: Storage>(
     read_cluster(alloc, image, place, entries * 8)
 }
 
-/// The `entries` words from the begin of a cluster of an image with this header on.
+/// Loads the `entries` entries that start at a cluster of an image with this header.
 fn load_entries<E: TableEntry, S: Storage>(
     alloc: Global,
     image: &mut S,
@@ -317,7 +330,7 @@ fn load_entries<E: TableEntry, S: Storage>(
     entries_in(alloc, &bytes, header)
 }
 
-/// The word at an index, or the empty one past the end.
+/// Returns the entry at an index, or the empty entry past the end.
 fn entry_or_empty<T: Table>(table: &T, index: usize) -> T::InternalEntry
     ensures { T.InternalEntry.raw_entry result ≡ slice_index (T.value table.now).raw_entries index }
 {
@@ -327,7 +340,11 @@ fn entry_or_empty<T: Table>(table: &T, index: usize) -> T::InternalEntry
     }
 }
 
-/// The words of a table and then empty ones, `count` in all.
+/// Returns the entries of a table, followed by empty ones, `count` in all.
+///
+/// # Errors
+///
+/// - `Fault::Memory` if memory runs out.
 pub fn longer_content<T: Table>(
     alloc: Global,
     table: &T,
@@ -344,7 +361,7 @@ pub fn longer_content<T: Table>(
     Ok(content)
 }
 
-/// Where a table begins that has a cluster.
+/// Returns the host offset of a table that has a cluster.
 pub fn first_byte<T: Table>(table: &T) -> u64
     requires { IsPlacedTable (T.value table.now) }
     ensures place { result ≡ table_start (T.value table.now) }
@@ -353,28 +370,28 @@ pub fn first_byte<T: Table>(table: &T) -> u64
     first_byte_of(table.get_cluster(), table.cluster_bits())
 }
 
-/// Spends the value: its clusters are named now.
+/// Makes the pending clusters persistent: a table or the header now references them.
 pub fn spend(pending: Option<PendingClusters>) {
     if let Some(pending) = pending {
         pending.make_persistent();
     }
 }
 
-/// Puts the bytes of a table's words into as many zeroes.
+/// Writes the bytes of a table's entries over as many zeroes.
 fn put_raw_entries<T: Table>(table: &T, bytes: &mut [u8])
     requires { bytes.old ≡ replicate (8 * length (T.value table.now).raw_entries) 0 }
     ensures { bytes.new ≡ table_bytes (T.value table.now).raw_entries }
 {
     for index in 0..table.entries() {
         let raw_entry = table.get(index).to_plain();
-        // A word 0 stands there already.
+        // The bytes of an entry 0 are there already.
         if raw_entry != 0 {
             bytes[8 * index..8 * index + 8].copy_from_slice(&raw_entry.to_be_bytes());
         }
     }
 }
 
-/// The bytes of a table's words.
+/// Returns the bytes of a table's entries.
 fn bytes_in<T: Table>(alloc: Global, table: &T) -> Result<Vec<u8>, Fault>
     ensures bytes { IfOk result (λ bytes. bytes.items ≡ table_bytes (T.value table.now).raw_entries) }
     ensures refused { IsOkUnless result Fault.Memory }
@@ -384,7 +401,7 @@ fn bytes_in<T: Table>(alloc: Global, table: &T) -> Result<Vec<u8>, Fault>
     Ok(bytes)
 }
 
-/// Writes a table's bytes to its place.
+/// Writes a table's bytes at its offset.
 fn put_table<T: Table, S: Storage>(alloc: Global, table: &T, image: &mut S) -> Result<(), Fault>
     requires { IsPlacedTable (T.value table.now) }
     ensures request { WriteOutcome (S.state image.old) (S.state image.new) (table_start (T.value table.now))
@@ -401,7 +418,7 @@ fn put_table<T: Table, S: Storage>(alloc: Global, table: &T, image: &mut S) -> R
     image.write(alloc, &bytes, place)
 }
 
-/// Writes the bytes of a table's word to its place.
+/// Writes the bytes of one entry of a table at its offset.
 fn put_raw_entry<T: Table, S: Storage>(
     alloc: Global,
     table: &T,

@@ -1,5 +1,4 @@
-//! The 64-bit words of tables, which are their entries in qemu and imago, decoded. What an L2 entry says of a cluster is its descriptor
-//! in qemu, a standard or a compressed one.
+//! Decodes the raw entries of tables. An L2 entry is a standard or a compressed one.
 //!
 //! From the sections "Host cluster management" and "Cluster mapping" of the format.
 
@@ -14,7 +13,7 @@ use crate::numbers::byte_at;
 use imago_storage::Fault;
 use qcow2_types::{HostCluster, HostOffset, MAX_OFFSET};
 
-/// The big-endian number of the 8 bytes from a place on, 0 past the end.
+/// Returns the big-endian number in the 8 bytes from an index on. Bytes past the end are 0.
 pub fn raw_entry_at(bytes: &[u8], at: usize) -> u64
     requires { at + 8 < 2 ^ 64 }
     ensures { result ≡ be (bytes_of bytes.now) at 8 }
@@ -35,7 +34,7 @@ pub fn raw_entry_at(bytes: &[u8], at: usize) -> u64
     }
 }
 
-/// The same, of a word that may pass the end.
+/// Like `raw_entry_at`, but byte by byte, for an entry that may pass the end.
 fn raw_entry_at_end(bytes: &[u8], at: usize) -> u64
     requires { at + 8 < 2 ^ 64 }
     ensures { result ≡ be (bytes_of bytes.now) at 8 }
@@ -47,7 +46,7 @@ fn raw_entry_at_end(bytes: &[u8], at: usize) -> u64
     number
 }
 
-/// Whether a bit is set.
+/// Returns true if a bit is set.
 pub(crate) fn has_bit(raw_entry: u64, bit: u32) -> bool
     requires { bit < 64 }
     ensures { result ≡ has_bit_of raw_entry bit }
@@ -55,7 +54,7 @@ pub(crate) fn has_bit(raw_entry: u64, bit: u32) -> bool
     raw_entry >> bit & 1 == 1
 }
 
-/// The number that `count` bits from `first` on represent.
+/// Returns the number in `count` bits from `first` on.
 pub(crate) fn bits(raw_entry: u64, first: u32, count: u32) -> u64
     requires first { first < 64 }
     requires count { count < 64 }
@@ -64,21 +63,21 @@ pub(crate) fn bits(raw_entry: u64, first: u32, count: u32) -> u64
     raw_entry >> first & ((1 << count) - 1)
 }
 
-/// The place in an L1 word or a standard L2 word; 0 is none.
+/// Returns the offset in an L1 entry or a standard L2 entry. An offset of 0 means none.
 pub fn offset_in(raw_entry: u64) -> u64
     ensures { result ≡ table_offset raw_entry }
 {
     raw_entry & MAX_OFFSET
 }
 
-/// The place in a word of the refcount table; 0 is none.
+/// Returns the offset in a refcount table entry. An offset of 0 means none.
 pub fn block_offset_in(raw_entry: u64) -> u64
     ensures { result ≡ block_offset raw_entry }
 {
     raw_entry >> 9 << 9
 }
 
-/// Whether a cluster can begin at a place.
+/// Returns true if the offset is a valid offset of a cluster.
 pub(crate) fn is_cluster_offset(offset: u64, cluster_bits: u32) -> bool
     requires { cluster_bits ≤ 21 }
     ensures { result ≡ is_place_of cluster_bits offset }
@@ -86,7 +85,7 @@ pub(crate) fn is_cluster_offset(offset: u64, cluster_bits: u32) -> bool
     bits(offset, 0, cluster_bits) == 0 && offset <= MAX_OFFSET
 }
 
-/// Whether a word may stand in the L1 table.
+/// Returns true if the raw entry is valid in an L1 table.
 pub(crate) fn is_l1_entry(raw_entry: u64, cluster_bits: u32) -> bool
     requires { cluster_bits ≤ 21 }
     ensures { result ≡ l1_entry_valid cluster_bits raw_entry }
@@ -96,7 +95,7 @@ pub(crate) fn is_l1_entry(raw_entry: u64, cluster_bits: u32) -> bool
         && is_cluster_offset(offset_in(raw_entry), cluster_bits)
 }
 
-/// Whether a word may stand in the refcount table.
+/// Returns true if the raw entry is valid in a refcount table.
 pub(crate) fn is_reftable_entry(raw_entry: u64, cluster_bits: u32) -> bool
     requires { cluster_bits ≤ 21 }
     ensures { result ≡ reftable_entry_valid cluster_bits raw_entry }
@@ -104,7 +103,7 @@ pub(crate) fn is_reftable_entry(raw_entry: u64, cluster_bits: u32) -> bool
     bits(raw_entry, 0, 9) == 0 && is_cluster_offset(block_offset_in(raw_entry), cluster_bits)
 }
 
-/// The place of the first byte that a compressed word names, and the bytes from there to the end of its last sector.
+/// Returns the host offset of a compressed entry's data, and its length in bytes up to the end of the last sector.
 #[tactic(auto, using(qcow2_types::proofs::Numbers::Reach::sectors_fit, crate::proofs::WordFacts::packed_fits))]
 pub(crate) fn compressed_byte_range(raw_entry: u64, cluster_bits: u32) -> (u64, u64)
     requires { (9 ≤ cluster_bits) × (cluster_bits ≤ 21) }
@@ -120,7 +119,7 @@ pub(crate) fn compressed_byte_range(raw_entry: u64, cluster_bits: u32) -> (u64, 
     (place, end - place)
 }
 
-/// What a compressed word means, or `Fault::DamagedTable` where it means nothing.
+/// Returns the meaning of a compressed entry, or `Fault::DamagedTable` if it is invalid.
 pub(crate) fn compressed(raw_entry: u64, cluster_bits: u32) -> Result<L2Mapping, Fault>
     requires { (9 ≤ cluster_bits) × (cluster_bits ≤ 21) }
     ensures means { seen result ≡ compressed_mapping cluster_bits raw_entry }
@@ -138,7 +137,8 @@ pub(crate) fn compressed(raw_entry: u64, cluster_bits: u32) -> Result<L2Mapping,
     })
 }
 
-/// What a standard word means, or `Fault::DamagedTable` where it means nothing. The layer below is read at `backing_offset`.
+/// Returns the meaning of a standard entry, or `Fault::DamagedTable` if it is invalid. If the entry is unmapped, the backing file is read
+/// at `backing_offset`.
 #[tactic(auto, using(qcow2_types::proofs::Numbers::Reach::cluster_begin))]
 pub(crate) fn standard(
     raw_entry: u64,
@@ -177,7 +177,8 @@ pub(crate) fn standard(
     }
 }
 
-/// What an L2 word means, or `Fault::DamagedTable` where it means nothing. The layer below is read at `backing_offset`.
+/// Returns the meaning of an L2 entry, or `Fault::DamagedTable` if it is invalid. If the entry is unmapped, the backing file is read at
+/// `backing_offset`.
 #[tactic(auto, unfolding(qcow2_types::specs::Words::mapping_of))]
 pub(crate) fn l2_mapping(
     raw_entry: u64,

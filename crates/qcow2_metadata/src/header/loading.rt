@@ -1,4 +1,4 @@
-// Loading a header.
+// Loads a header from a file, and checks it against the rules of the format.
 ghost use Rattle.std.specs.Prelude.{◌≡◌, ◌≤◌, length, Ok, IfOk, IfErr, OnOk};
 ghost use Rattle.std.specs.Result.{result_err};
 ghost use Rattle.std.specs.Option.{option_copied};
@@ -17,7 +17,7 @@ use crate::rules::{check_kind, check_shape, check_sizes, fields_at_start};
 use imago_storage::{Fault, Storage};
 use std::alloc::Global;
 
-/// The text of these bytes, where there are some. Bytes that aren't UTF-8 are `Fault::DamagedHeader`.
+/// Returns the text of the given bytes, if any. Bytes that aren't UTF-8 are `Fault::DamagedHeader`.
 fn text(alloc: Global, bytes: Option<&[u8]>) -> Result<Option<String>, Fault>
     ensures ok { IfOk result (λ found. text_read (option_copied bytes.entry) ≡ Ok (seen_text found)) }
     ensures err { IfErr result (RefusedBy (text_read (option_copied bytes.entry))) }
@@ -32,25 +32,39 @@ fn text(alloc: Global, bytes: Option<&[u8]>) -> Result<Option<String>, Fault>
 }
 
 impl Header {
-    /// Loads the header of an image, for reading or, if `writable`, for writing. It reads the file's first 104 bytes, and then
-    /// its first cluster, of at most 2 MiB.
+    /// Loads the header of an image, for reading or, if `writable`, for writing.
     ///
-    /// It is refused by the first of these rules of the format's section "Header" that the file breaks:
+    /// The call reads the first 104 bytes of the file, and then its first cluster, of at most 2 MiB. If the file has several
+    /// extensions of one type, the last one is used; so is the last name of a feature bit. A header of version 2 has no
+    /// extensions.
     ///
-    /// - a wrong magic number: `Fault::DamagedHeader`; a version other than 2 and 3: `Fault::Unsupported`;
-    /// - cluster bits outside 9 to 21, a refcount order above 6, or a header length below 104 or above the cluster's size:
-    ///   `Fault::DamagedHeader`;
-    /// - an encrypted image, or an incompatible feature other than the first four: `Fault::Unsupported`;
-    /// - a size above 2^63 - 1, more than 2^22 words of the L1 table or 2^20 of the refcount table: `Fault::Limit`, with that
-    ///   number; one of these tables at a place where no cluster begins, or above 0x00ff_ffff_ffff_fe00:
-    ///   `Fault::DamagedHeader`;
-    /// - a backing file's name of more than 1,023 bytes, past the first cluster, or that isn't UTF-8; an extension that runs
-    ///   past its area; a backing format or an external data file's name that isn't UTF-8: `Fault::DamagedHeader`;
-    /// - for writing, a dirty or corrupt image, one with an autoclear bit, or one whose backing file's name begins in bytes 0
-    ///   to 63: `Fault::Unsupported`.
+    /// # Errors
     ///
-    /// Else it is refused with `Fault::Memory` and `Fault::Storage`. Of extensions of one type the last counts, and of names
-    /// of one feature bit; a header of version 2 has no extensions. Nothing is written, so a refusal leaves the file as it was.
+    /// The call fails for the first of these rules of the format's section "Header" that the file breaks:
+    ///
+    /// - `Fault::DamagedHeader` if the magic number is wrong.
+    /// - `Fault::Unsupported` if the version is neither 2 nor 3.
+    /// - `Fault::DamagedHeader` if the cluster bits are outside 9 to 21, the refcount order is above 6, or the header length
+    ///   is below 104 or above the cluster size.
+    /// - `Fault::Unsupported` if the image is encrypted, or has an incompatible feature other than the first four.
+    /// - `Fault::Limit(n)` if `n` is a size above 2^63 - 1, more than 2^22 L1 entries, or more than 2^20 refcount table
+    ///   entries.
+    /// - `Fault::DamagedHeader` if the offset of one of these tables isn't a multiple of the cluster size, or is above
+    ///   0x00ff_ffff_ffff_fe00.
+    /// - `Fault::DamagedHeader` if the backing file's name has more than 1,023 bytes, ends past the first cluster, or isn't
+    ///   UTF-8.
+    /// - `Fault::DamagedHeader` if an extension ends past the area of the extensions, or the backing format or the external data file's
+    ///   name isn't UTF-8.
+    /// - `Fault::Unsupported`, only for writing, if the image is dirty or corrupt, has a set autoclear bit, or if the backing file's name
+    ///   starts in bytes 0 to 63.
+    ///
+    /// If memory runs out or the storage fails, the call fails with:
+    ///
+    /// - `Fault::Memory`, `Fault::Storage`.
+    ///
+    /// # On error
+    ///
+    /// The file is unchanged.
     pub fn load<S: Storage>(alloc: Global, image: &mut S, writable: bool) -> Result<Self, Fault>
         ensures ok { IfOk result (λ header. header_of writable (file (S.state image.old)) ≡ Ok header) }
         ensures err { IfErr result (NotLoaded (header_of writable (file (S.state image.old))) (S.state image.old) (S.state image.new)) }
@@ -66,7 +80,7 @@ impl Header {
         Ok(header)
     }
 
-    // The bytes of the first cluster. It is refused with `Fault::Memory` and `Fault::Storage`.
+    // Reads the bytes of the first cluster. Fails with `Fault::Memory` and `Fault::Storage`.
     fn read_first_cluster<S: Storage>(&self, alloc: Global, image: &mut S) -> Result<Vec<u8>, Fault>
         ensures read { IfOk result (λ cluster. Reads (S.state image.old).bytes 0 cluster.items) }
         ensures size { IfOk result (λ cluster. length cluster.items ≡ cluster_size self.now.fields) }
@@ -78,7 +92,7 @@ impl Header {
         Ok(cluster)
     }
 
-    // The header of these first bytes of a file, without its texts, or the first rule on fields that they break.
+    // Returns the header in the first bytes of a file, without its texts. Fails for the first rule on fields that is broken.
     fn with_fields(alloc: Global, start: &[u8]) -> Result<Self, Fault>
         requires { length start.now ≡ 104 }
         ensures fields { IfOk result (λ header. header.fields ≡ fields_of (bytes_of start.now)) }
@@ -98,7 +112,7 @@ impl Header {
         })
     }
 
-    // The backing file's name, where there is one: it lies inside the first cluster, and has at most 1,023 bytes.
+    // Returns the backing file's name, if any. The name must be inside the first cluster, and has at most 1,023 bytes.
     fn read_backing_filename(&self, alloc: Global, cluster: &[u8]) -> Result<Option<String>, Fault>
         requires { length cluster.now ≡ cluster_size self.now.fields }
         ensures ok { IfOk result (λ name. backing_name_read (bytes_of cluster.now) self.now.fields ≡ Ok (seen_text name)) }
@@ -116,8 +130,8 @@ impl Header {
         text(alloc, Some(&cluster[offset as usize..end as usize]))
     }
 
-    // Where the area of the extensions ends: where the backing file's name begins, if that is behind the header's fields, or
-    // else with the cluster.
+    // Returns the end of the extension area: the start of the backing file's name, if that is after the header's fields, and
+    // otherwise the end of the cluster.
     fn extensions_end(&self) -> u64
         ensures { result ≡ end_of_extensions self.now.fields }
     {
@@ -130,7 +144,7 @@ impl Header {
         }
     }
 
-    // What the extensions in the first cluster say. Only version 3 has any.
+    // Returns the known extensions in the first cluster. Only version 3 has extensions.
     fn extensions_in<'a>(&self, cluster: &'a [u8]) -> Result<KnownExtensions<'a>, Fault>
         requires size { length cluster.now ≡ cluster_size self.now.fields }
         requires inside { end_of_extensions self.now.fields ≤ cluster_size self.now.fields }
@@ -144,7 +158,7 @@ impl Header {
         known_extensions(cluster, start, self.extensions_end() as usize)
     }
 
-    // The header with the texts that stand in its first cluster.
+    // Returns the header with the texts of its first cluster.
     fn with_texts(self, alloc: Global, cluster: &[u8]) -> Result<Self, Fault>
         requires { length cluster.now ≡ cluster_size self.fields }
         ensures ok { IfOk result (λ header. texts_of (bytes_of cluster.now) self.fields ≡ Ok header) }
@@ -165,8 +179,8 @@ impl Header {
         })
     }
 
-    // The rules on images that are to be written: none that is dirty or corrupt, or has an autoclear bit; and no backing file's
-    // name in the bytes that each change of the size or of a table's place writes.
+    // Checks the rules for writing. The image must not be dirty or corrupt, or have an autoclear bit. The backing file's
+    // name must not start in the first 64 bytes, which each change of the size or of a table's offset overwrites.
     fn check_writing(&self, writable: bool) -> Result<(), Fault>
         ensures { result_err result ≡ first_fault (rules_of_writing writable self.now.fields) }
     {

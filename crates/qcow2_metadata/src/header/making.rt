@@ -1,4 +1,4 @@
-// Making a header.
+// Makes the header of a new image.
 ghost use Rattle.std.specs.Prelude.{◌≡◌, ◌≤◌, IfOk, IsOkUnless, map};
 ghost use Rattle.qcow2_types.specs.HeaderBytes.{new_header, new_fields, first_features};
 ghost use Rattle.qcow2_metadata.specs.FieldsView.{seen_fields};
@@ -12,7 +12,7 @@ use imago_storage::Fault;
 use qcow2_types::{FeatureType, IncompatibleFeatures, MAGIC, V2Header, V3HeaderBase};
 use std::alloc::{AllocError, Global};
 
-/// The name of an incompatible feature bit.
+/// Returns the name of an incompatible feature bit.
 fn incompatible(
     alloc: Global,
     bit: IncompatibleFeatures,
@@ -27,7 +27,7 @@ fn incompatible(
     })
 }
 
-/// The names that each new header gives to feature bits.
+/// Returns the names of feature bits of a new header.
 fn first_names(alloc: Global) -> Result<Vec<FeatureName>, AllocError>
     ensures { IfOk result (λ names. map seen_name names.items ≡ first_features) }
 {
@@ -41,7 +41,7 @@ fn first_names(alloc: Global) -> Result<Vec<FeatureName>, AllocError>
     Ok(vec![in alloc; dirty, corrupt, external]?)
 }
 
-/// The fields of a new header.
+/// Returns the fields of a new header.
 fn first_fields(
     cluster_bits: u32,
     refcount_order: u32,
@@ -75,12 +75,16 @@ fn first_fields(
 }
 
 impl Header {
-    /// A header of version 3 for a new image: of size 0, without tables and snapshots, with clusters of 2^`cluster_bits` bytes
-    /// and counters of 2^`refcount_order` bits. It names the dirty bit, the corrupt bit and that of the external data file
-    /// (the section "Feature name table" of the format).
+    /// Makes a header of version 3 for a new image.
     ///
-    /// Incompatible feature bit 2 is set exactly if an external data file is named. It refuses with `Fault::Memory` alone, and
-    /// then drops the texts.
+    /// The size is 0, and the image has no tables and no snapshots. Clusters have 2^`cluster_bits` bytes and refcounts
+    /// 2^`refcount_order` bits. The feature name table (the section "Feature name table" of the format) has the dirty bit,
+    /// the corrupt bit and the external data file bit. Incompatible feature bit 2 is set exactly if an external data file's
+    /// name is given.
+    ///
+    /// # Errors
+    ///
+    /// - `Fault::Memory`. The given texts are dropped.
     pub fn new(
         alloc: Global,
         cluster_bits: u32,

@@ -1,4 +1,4 @@
-// Where the tables of an image stand, as its header says. A place is an offset in qemu and imago.
+// Sets the offsets and lengths of an image's tables in its header.
 ghost use Rattle.std.specs.Prelude.{◌≡◌, ◌+◌, ◌-◌, ◌*◌, ◌/◌, ◌%◌, ◌^◌, length, None};
 ghost use Rattle.qcow2_types.specs.Header.{first_fault, refcount_table_entries, rules_of_size};
 ghost use Rattle.qcow2_types.specs.HeaderSwitch.{FirstFieldsFit};
@@ -10,7 +10,7 @@ use crate::ref_table::RefTable;
 use crate::table::{Table, first_byte, spend};
 use qcow2_types::PendingClusters;
 
-// The clusters that the words of a refcount table take: few, since it has at most 2^20 words.
+// Returns the number of clusters of a refcount table. It fits 32 bits, since the table has at most 2^20 entries.
 fn clusters_taken(reftable: &RefTable) -> u32
     ensures value { result ≡ (8 * length reftable.now.raw_entries + (2 ^ reftable.now.layout.cluster_bits - 1)) / 2
         ^ reftable.now.layout.cluster_bits }
@@ -21,9 +21,11 @@ fn clusters_taken(reftable: &RefTable) -> u32
 }
 
 impl Header {
-    /// Takes over the place of an L1 table of the image, and its number of words. The table's clusters, which `pending`
-    /// holds, are named then. The file is not written: `write_l1_table_pointer` does that. A header that keeps the rules on sizes and
-    /// offsets still keeps them after the call.
+    /// Sets the offset and the number of entries of the L1 table. If the table's clusters are newly allocated, `pending` holds them, and is
+    /// consumed: the header now references them.
+    ///
+    /// The file is not written: `write_l1_table_pointer` does that. If the header obeys the format's rules on sizes and offsets, it still
+    /// does after the call.
     pub fn set_l1_table(&mut self, l1_table: &L1Table, pending: Option<PendingClusters>)
         requires bits { l1_table.now.layout.cluster_bits ≡ self.old.fields.cluster_bits }
         requires placed { IsPlacedTable l1_table.now }
@@ -38,10 +40,13 @@ impl Header {
         spend(pending);
     }
 
-    /// Takes over the place of a refcount table of the image, and the number of clusters that its words take, of which the last
-    /// may be filled in part: the words behind the table's, up to the end of that cluster, are those of the file. The file is not
-    /// written: `write_reftable_pointer` does that. A header that keeps the rules on sizes and offsets still keeps them after the call.
-    /// If the table fills its clusters, the header's table has as many entries as the given one.
+    /// Sets the offset and the number of clusters of the refcount table.
+    ///
+    /// The table may end inside its last cluster. Then the entries from the end of the table to the end of the cluster are those in the
+    /// file. If the table fills its clusters, the header's table has as many entries as the given one.
+    ///
+    /// The file is not written: `write_reftable_pointer` does that. If the header obeys the format's rules on sizes and offsets, it still
+    /// does after the call.
     pub fn set_reftable(&mut self, reftable: &RefTable)
         requires bits { reftable.now.layout.cluster_bits ≡ self.old.fields.cluster_bits }
         requires placed { IsPlacedTable reftable.now }
@@ -55,7 +60,7 @@ impl Header {
         ensures whole { 8 * length reftable.now.raw_entries % 2 ^ self.old.fields.cluster_bits ≡ 0
             → refcount_table_entries self.new.fields ≡ length reftable.now.raw_entries }
         ensures sizes { first_fault (rules_of_size self.old.fields) ≡ None → first_fault (rules_of_size self.new.fields) ≡ None }
-        // So they can be written.
+        // So the fields can be written.
         ensures fit { FirstFieldsFit self.new.fields }
     {
         self.v2.refcount_table_offset = first_byte(reftable);

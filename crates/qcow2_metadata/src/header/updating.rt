@@ -1,4 +1,4 @@
-// Taking over what another header says of an image that is open.
+// Updates the header of an open image from another header of the same image.
 ghost use Rattle.std.specs.Prelude.{◌≡◌, ◌↔◌, map, IsTrue, IsOk, OnOk, OnErr, IsOkUnless};
 ghost use Rattle.std.specs.Option.{option_copied};
 ghost use Rattle.qcow2_metadata.specs.Features.{seen_name};
@@ -9,21 +9,21 @@ use crate::features::FeatureName;
 use imago_storage::Fault;
 use qcow2_types::V2Header;
 
-/// Whether two texts, or none, are the same.
+/// Returns true if both texts are equal, or both are `None`.
 fn is_same_text(one: Option<&str>, other: Option<&str>) -> bool
     ensures { IsTrue result ↔ (option_copied one.entry ≡ option_copied other.entry) }
 {
     one == other
 }
 
-/// Whether two names are of one feature bit, and the same.
+/// Returns true if both names are equal and belong to the same feature bit.
 fn is_same_name(one: &FeatureName, other: &FeatureName) -> bool
     ensures { IsTrue result ↔ (seen_name one.now ≡ seen_name other.now) }
 {
     one.kind == other.kind && one.bit == other.bit && one.name.as_str() == other.name.as_str()
 }
 
-/// Whether two lists have the same names.
+/// Returns true if both lists have the same names.
 fn are_same_names(some: &[FeatureName], others: &[FeatureName]) -> bool
     ensures { IsTrue result ↔ (map seen_name some.now ≡ map seen_name others.now) }
 {
@@ -39,7 +39,7 @@ fn are_same_names(some: &[FeatureName], others: &[FeatureName]) -> bool
 }
 
 impl Header {
-    // Whether the other header has the same texts.
+    // Returns true if both headers have the same texts.
     fn has_same_texts(&self, other: &Header) -> bool
         ensures { IsTrue result ↔ SameTexts self.now other.now }
     {
@@ -52,10 +52,14 @@ impl Header {
             && are_same_names(&self.feature_names, &other.feature_names)
     }
 
-    /// Takes over the size of the disk, the L1 table's place and number of words, and the refcount table's place and number of
-    /// clusters from another header of the image. The file is not written.
+    /// Copies the fields that may change while an image is open from another header of the image. The file is not written.
     ///
-    /// It refuses with `Fault::Unsupported`, and changes nothing, where any other field or a text differs.
+    /// The fields are the size of the disk, the offset and number of entries of the L1 table, and the offset and number of
+    /// clusters of the refcount table.
+    ///
+    /// # Errors
+    ///
+    /// - `Fault::Unsupported` if any other field or a text differs. Nothing changes.
     pub fn update(&mut self, new: &Header) -> Result<(), Fault>
         ensures allowed { IsOk result ↔ (with_places_of new.now self.old ≡ new.now) }
         ensures ok { OnOk result (self.new ≡ new.now) }

@@ -1,4 +1,4 @@
-// Writing a header: `qcow2_update_header` in qemu.
+// Writes a header, as a whole or only its first 64 bytes.
 ghost use Rattle.std.specs.Prelude.{◌≡◌, ◌+◌, ◌≤◌, ◌++◌, length, drop, replicate, Some, None, OnOk, OnErr, IfOk, IfErr, IsTrue, IsFalse, if◌then◌else◌};
 ghost use Rattle.std.specs.Result.{result_err};
 ghost use Rattle.imago_storage.specs.State.{unit_of};
@@ -14,12 +14,12 @@ use imago_storage::{Fault, Storage, StorageExt};
 use qcow2_types::{OnDiskStruct, V2Header, V3HeaderBase};
 use std::alloc::{AllocError, Global};
 
-/// How many bytes the fields have in version 2.
+/// The length of the fields in version 2, in bytes.
 const OLDER_LENGTH: usize = 72;
-/// How many bytes the fields have in version 3.
+/// The length of the fields in version 3, in bytes.
 const NEWER_LENGTH: usize = 104;
 
-/// Overwrites the first of these bytes with the fields.
+/// Overwrites the start of the bytes with the fields.
 fn put_fields(bytes: &mut [u8], v2: &V2Header, v3: &V3HeaderBase)
     requires magic { v2.now.magic ≡ 0x5146_49fb }
     requires room { fields_length (seen_fields v2.now v3.now) ≤ length bytes.old }
@@ -32,7 +32,7 @@ fn put_fields(bytes: &mut [u8], v2: &V2Header, v3: &V3HeaderBase)
 }
 
 impl Header {
-    // How many bytes the fields have.
+    // Returns the length of the fields, in bytes.
     fn fields_length(&self) -> usize
         ensures { result ≡ fields_length self.now.fields }
     {
@@ -43,7 +43,7 @@ impl Header {
         }
     }
 
-    // The backing file's name, empty where there is none.
+    // Returns the bytes of the backing file's name, empty if the image has no backing file.
     fn name_bytes(&self) -> &[u8]
         ensures { result.now ≡ name_bytes self.now.backing_name }
     {
@@ -69,7 +69,7 @@ impl Header {
         bytes.extend_from_slice(&[0; 8])
     }
 
-    // The extensions, behind zeroes in place of the fields.
+    // Returns the extensions, preceded by zeroes for the fields.
     fn after_fields(&self, alloc: Global) -> Result<Vec<u8>, AllocError>
         ensures { IfOk result (λ bytes. bytes.items ≡ replicate (fields_length self.now.fields) 0 ++ extensions_bytes self.now) }
     {
@@ -78,7 +78,7 @@ impl Header {
         Ok(bytes)
     }
 
-    // Checks that a header of so many bytes fits the first cluster, and that the backing file's name isn't too long.
+    // Checks that a header of `count` bytes fits the first cluster, and that the backing file's name isn't too long.
     fn check_length(&self, count: usize) -> Result<(), Fault>
         requires { count ≡ length (header_bytes self.now) }
         ensures { result_err result ≡ (if fits_first_cluster self.now then None else Some (Fault.Limit count)) }
@@ -89,7 +89,7 @@ impl Header {
         Ok(())
     }
 
-    // The fields as they are written, where the backing file's name begins at this place if there is one.
+    // Returns the fields as they are written. The backing file's name, if any, starts at `name_at`.
     fn placed_fields(&self, name_at: usize) -> (V2Header, V3HeaderBase)
         requires at { name_at ≡ fields_length self.now.fields + length (extensions_bytes self.now) }
         requires short { length (name_bytes self.now.backing_name) ≤ 1023 }
@@ -113,7 +113,7 @@ impl Header {
         (v2, v3)
     }
 
-    // All that is written of the header, and its fields in it; `Fault::Limit` where it doesn't fit.
+    // Returns the bytes of the header, and the fields in them. Fails with `Fault::Limit` if they don't fit.
     fn prepared(&self, alloc: Global) -> Result<(Vec<u8>, V2Header, V3HeaderBase), Fault>
         ensures bytes { IfOk result (λ made. made.0.items ≡ header_bytes self.now) }
         ensures fields { IfOk result (λ made. seen_fields made.1 made.2 ≡ written_fields self.now) }
@@ -130,18 +130,28 @@ impl Header {
         Ok((bytes, v2, v3))
     }
 
-    /// Writes the header: its fields, its extensions and the backing file's name, in one `StorageExt::write` at byte 0 (the
-    /// sections "Header" and "Header extensions" of the format). Version 3 has extensions for the backing file's format, the
-    /// external data file's name and the names of feature bits (each cut to 46 bytes), in this order and each where there is one;
-    /// version 2 has none. Once it is written the header has the name's place and length, and the fields' length, as the file
-    /// does. Fields that the format put behind byte 103 are dropped.
+    /// Writes the header: its fields, its extensions and the backing file's name.
     ///
-    /// It refuses with `Fault::Limit(n)`, where n is the number of bytes, if they don't fit the first cluster or the backing
-    /// file's name has more than 1,023 bytes, before it asks anything of the image; else with `Fault::Memory` and
-    /// `Fault::Storage`, which leave each of these bytes of the file old or new. A refusal leaves the header as it was.
+    /// The header is written by one `StorageExt::write` at byte 0 (the sections "Header" and "Header extensions" of the
+    /// format). Version 3 has extensions for the backing file's format, the external data file's name and the names of
+    /// feature bits. They are written in this order if present, and each name is cut to 46 bytes. Version 2 has no
+    /// extensions.
+    ///
+    /// After success the header has the same name offset, name length and header length as the file. Fields that the file had
+    /// after byte 103 are dropped.
+    ///
+    /// # Errors
+    ///
+    /// - `Fault::Limit(n)` if the header's `n` bytes don't fit the first cluster, or if the backing file's name has more than 1,023 bytes.
+    ///   There is no I/O.
+    /// - `Fault::Memory`, `Fault::Storage`.
+    ///
+    /// # On error
+    ///
+    /// The header in memory is unchanged. After `Fault::Memory` or `Fault::Storage` each byte of the header in the file is old or new.
     pub fn write<S: Storage>(&mut self, alloc: Global, image: &mut S) -> Result<(), Fault>
         ensures put { IsTrue (fits_first_cluster self.old) → WriteOutcome (S.state image.old) (S.state image.new) 0 (header_bytes self.old) result }
-        // Where the storage's unit allows it, it is one request.
+        // If the storage's unit allows it, the write is one request.
         ensures in_one_request { IsTrue (fits_first_cluster self.old)
             → FitsOneRequest (unit_of (S.state image.old).shape) 0 (length (header_bytes self.old))
             → AtomicWriteOutcome (S.state image.old) (S.state image.new) 0 (header_bytes self.old) result }
@@ -156,7 +166,7 @@ impl Header {
         Ok(())
     }
 
-    // Writes the fields up to the number of snapshots.
+    // Writes the fields up to and including the number of snapshots.
     fn write_first_fields<S: Storage>(&self, alloc: Global, image: &mut S) -> Result<(), Fault>
         ensures { AtomicWriteOutcome (S.state image.old) (S.state image.new) 0 (first_bytes self.now.fields) result }
     {
@@ -165,19 +175,23 @@ impl Header {
         image.write(alloc, &bytes[..FIRST_FIELDS], 0)
     }
 
-    /// Writes the size of the disk, and with it all of bytes 0 to 63 of the header, in one request at every alignment.
+    /// Writes the size of the disk. The call writes bytes 0 to 63 of the header, in one request for every alignment of the storage.
     ///
-    /// It refuses with `Fault::Memory` and `Fault::Storage`, which leave each of these bytes of the file old or new.
+    /// # Errors
+    ///
+    /// - `Fault::Memory`, `Fault::Storage`. Each of bytes 0 to 63 of the file is old or new.
     pub fn write_size<S: Storage>(&self, alloc: Global, image: &mut S) -> Result<(), Fault>
         ensures { AtomicWriteOutcome (S.state image.old) (S.state image.new) 0 (first_bytes self.now.fields) result }
     {
         self.write_first_fields(alloc, image)
     }
 
-    /// Writes the place and the number of words of the L1 table, and with them all of bytes 0 to 63 of the header, in one
-    /// request at every alignment.
+    /// Writes the offset and the number of entries of the L1 table. The call writes bytes 0 to 63 of the header, in one request for every
+    /// alignment of the storage.
     ///
-    /// It refuses with `Fault::Memory` and `Fault::Storage`, which leave each of these bytes of the file old or new.
+    /// # Errors
+    ///
+    /// - `Fault::Memory`, `Fault::Storage`. Each of bytes 0 to 63 of the file is old or new.
     pub fn write_l1_table_pointer<S: Storage>(
         &self,
         alloc: Global,
@@ -188,10 +202,12 @@ impl Header {
         self.write_first_fields(alloc, image)
     }
 
-    /// Writes the place and the number of clusters of the refcount table, and with them all of bytes 0 to 63 of the header, in
-    /// one request at every alignment.
+    /// Writes the offset and the number of clusters of the refcount table. The call writes bytes 0 to 63 of the header, in one request for
+    /// every alignment of the storage.
     ///
-    /// It refuses with `Fault::Memory` and `Fault::Storage`, which leave each of these bytes of the file old or new.
+    /// # Errors
+    ///
+    /// - `Fault::Memory`, `Fault::Storage`. Each of bytes 0 to 63 of the file is old or new.
     pub fn write_reftable_pointer<S: Storage>(
         &self,
         alloc: Global,

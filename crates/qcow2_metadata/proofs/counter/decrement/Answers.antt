@@ -1,4 +1,4 @@
--- The cell is lowered in its place, and the rest stays.
+-- The cell is decremented in place, and the other bytes are unchanged.
 use Rattle.std.proofs.Common.{sym, ◌≡◌, ◌+◌, ◌-◌, ◌≤◌, ◌∙◌, length, drop, arith}
 use Rattle.std.proofs.lemmas.List.{length-take-le, length-drop}
 use Rattle.std.proofs.lemmas.Grind.{common_steps}

@@ -1,4 +1,4 @@
--- The bit fits: a cell has at most 64.
+-- The bit fits its type: a cell has at most 64 bits.
 use Rattle.std.proofs.Common.{◌+◌, ◌*◌, ◌≤◌, ◌%◌, ◌^◌, arith}
 use Rattle.std.proofs.Math.Nat.{mod-eq_of_lt}
 use Rattle.qcow2_metadata.specs.Cells.{bit_start, cell_bytes}

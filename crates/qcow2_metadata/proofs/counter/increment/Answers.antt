@@ -1,4 +1,4 @@
--- The cell is raised in its place, and the rest stays.
+-- The cell is incremented in place, and the other bytes are unchanged.
 use Rattle.std.proofs.Common.{◌≡◌, ◌+◌, ◌-◌, ◌≤◌, ◌∙◌, length, drop, arith}
 use Rattle.std.proofs.lemmas.List.{length-take-le, length-drop}
 use Rattle.std.proofs.lemmas.Grind.{common_steps}

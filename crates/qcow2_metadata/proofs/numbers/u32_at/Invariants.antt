@@ -2,6 +2,6 @@ use Rattle.std.proofs.Common.{◌≡◌, ◌<◌, ◌^◌}
 use Rattle.qcow2_types.specs.Bytes.{be, bytes_of}
 use Rattle.qcow2_metadata.proofs.numbers.u32_at.Given as goal
 
--- The bytes so far spell the number, which has no more than their bits.
+-- The number is that of the bytes before index `i`, and it fits their bits.
 abbrev pub invariant-loop-i : goal.invariant-loop-i
 invariant-loop-i l = (l.number ≡ be (bytes_of l.bytes) l.at l.i) × (l.number < 256 ^ l.i)

@@ -13,7 +13,7 @@ use Rattle.qcow2_metadata.proofs.TableSteps.{each_zero, zero_sound}
 use Rattle.qcow2_metadata.proofs.WordLists.{AreClear, ArePut, clear-behind, put-more, put-same, put-whole, words-long, words_set}
 use Rattle.qcow2_metadata.proofs.table.decode.Goals as goal
 
--- bytes of 0 leave all words 0, which are sound
+-- Bytes of 0 leave all entries 0, which are valid.
 pub returns-then-is_clear-clause-raw_entries : goal.returns-then-is_clear-clause-raw_entries
 returns-then-is_clear-clause-raw_entries g c =
     let bytes = c.args.bytes.now in
@@ -48,7 +48,7 @@ returns-in_err-entries-clause-damaged g c =
     let why : Fault → Type 0 = λ fault. HasUnsound kind layout (raw_entries_in f 0 n) in
     passed c.from_residual.result why _ c.from_residual.ensures.1 (unsound_at kind layout f 0 n i inside unsound)
 
--- one more word is put, or is 0 as it stands there
+-- One more entry is written, or is 0 already.
 pub loop-index-preserved : goal.loop-index-preserved
 loop-index-preserved g c =
     let f = bytes_of c.args.bytes.now in

@@ -6,7 +6,7 @@ use Rattle.qcow2_metadata.proofs.WordLists.{AreClear, ArePut}
 use Rattle.qcow2_types.specs.TableBytes.{AreFit}
 use Rattle.qcow2_metadata.proofs.table.decode.Given as goal
 
--- There is room for all words. The first ones are put, each of which is sound and has 64 bits, and the others are 0.
+-- All entries fit the slice. The first ones are written, valid and of 64 bits; the others are 0.
 abbrev pub invariant-loop-index : goal.invariant-loop-index
 invariant-loop-index g l = record {
   long : length l.entries ≡ length l.bytes / 8;

@@ -31,7 +31,7 @@ loop-chunk-init g c =
       decoded = subst (λ k. AreDecoded kind layout f n (raw_entries entries) k) none (none-decoded kind layout f n (raw_entries entries) clear);
     }
 
--- where the chunk stands that comes next
+-- The range of the next chunk.
 chunk-range : (chunk count n end : ℕ) → chunk < count → count ≡ n / 64 + min 1 (n % 64) → end ≡ min n (chunk * 64 + 64) → ((chunk * 64 < n) × (chunk * 64 ≤ end)) × (end ≤ n)
 chunk-range chunk count n end inside is end-is = ((omega arith, omega arith), omega arith)
 
@@ -68,7 +68,7 @@ returns-in_err-decode-clause-refused g c =
     passed c.from_residual-in_err-decode.result why _ c.from_residual-in_err-decode.ensures.1
     (subst why (sym c.in_err-decode.ensures.refused) (unsound-behind f first kind layout n (end - first) room unsound))
 
--- the words of one more chunk are put
+-- The entries of one more chunk are written.
 pub loop-chunk-preserved : goal.loop-chunk-preserved
 loop-chunk-preserved g c =
     let bytes = c.args.bytes.now in
@@ -100,7 +100,7 @@ loop-chunk-preserved g c =
           (subst (λ k. AreDecoded kind layout f n (put_mid first (end - first) (raw_entries was.items) (raw_entries chunk)) k) next decoded);
     }))
 
--- behind the last chunk all words are decoded
+-- After the last chunk all entries are decoded.
 all-chunks : (g : Over) (c : goal.After-loop-chunk g) → AreDecoded g.E.TableEntry.kind (layout_of c.args.header.now.fields) (bytes_of c.args.bytes.now) (length c.args.bytes.now / 8)
     (g.E.TableEntry.raw_entries c.loop-chunk.entries.items) (length c.args.bytes.now / 8)
 all-chunks g c =

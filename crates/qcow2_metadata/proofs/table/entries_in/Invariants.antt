@@ -4,7 +4,7 @@ use Rattle.qcow2_types.specs.Header.{layout_of}
 use Rattle.qcow2_metadata.proofs.Chunks.{AreDecoded}
 use Rattle.qcow2_metadata.proofs.table.entries_in.Given as goal
 
--- There is room for all words, and those of the chunks so far are decoded.
+-- All entries fit the list, and those of the chunks before are decoded.
 abbrev pub invariant-loop-chunk : goal.invariant-loop-chunk
 invariant-loop-chunk g l =
     let n = length l.bytes / 8 in

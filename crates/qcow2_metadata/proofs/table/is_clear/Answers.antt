@@ -5,7 +5,7 @@ use Rattle.std.proofs.lemmas.Nat.{le_or_l, le_or_r}
 use Rattle.std.specs.Int.Bits.{or_zero_r}
 use Rattle.qcow2_metadata.proofs.table.is_clear.Goals as goal
 
--- one more byte is 0 where it brings no bit
+-- One more byte is 0 if it adds no bit.
 pub loop-byte-preserved : goal.loop-byte-preserved
 loop-byte-preserved c =
     let bytes = c.args.bytes.now in

@@ -5,7 +5,7 @@ use Rattle.qcow2_metadata.specs.Tables.{raw_entries_in}
 use Rattle.qcow2_metadata.proofs.TableFacts.{decoded_loaded}
 use Rattle.qcow2_metadata.proofs.table.load_entries.Goals as goal
 
--- the words of a slice of what was read are those of what was read
+-- The slice is all of the bytes that were read.
 words_read : (slice bytes raw_entries : List ℕ) → slice ≡ bytes → raw_entries_in (bytes_of bytes) 0 (length bytes / 8) ≡ raw_entries → raw_entries_in (bytes_of slice) 0 (length slice / 8) ≡ raw_entries
 words_read slice bytes raw_entries same read = ap (λ (bs : List ℕ). raw_entries_in (bytes_of bs) 0 (length bs / 8)) same ∙ read
 

@@ -11,7 +11,7 @@ loop-index-init g c =
     let long = ap length c.requires ∙ length-replicate (8 * length (g.T.Table.value c.args.table.now).raw_entries) 0 in
     record { long = long; front = refl; zeroes = c.requires ∙ ap (λ n. replicate n 0) (omega (arith, long)) }
 
--- the bytes of one more word are put, or are 0 as they stand there
+-- The bytes of one more entry are written, or are 0 already.
 pub loop-index-preserved : goal.loop-index-preserved
 loop-index-preserved g c =
     let raw_entries = (g.T.Table.value c.args.table.now).raw_entries in

@@ -3,7 +3,7 @@ use Rattle.qcow2_types.specs.TableBytes.{table_bytes}
 use Rattle.qcow2_metadata.proofs.WordLists.{AreZeroes}
 use Rattle.qcow2_metadata.proofs.table.put_raw_entries.Given as goal
 
--- There is room for all bytes. The first ones are those of the words so far, and the others are 0.
+-- All bytes fit the slice. The first ones are those of the entries before this index, and the others are 0.
 abbrev pub invariant-loop-index : goal.invariant-loop-index
 invariant-loop-index g l = record {
   long : length l.bytes ≡ 8 * length (g.T.Table.value l.table).raw_entries;

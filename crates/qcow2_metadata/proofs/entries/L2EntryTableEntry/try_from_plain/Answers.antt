@@ -5,7 +5,7 @@ use Rattle.qcow2_metadata.specs.Tables.{l2_table_kind, raw_entry_valid}
 use Rattle.qcow2_metadata.proofs.TableSteps.{zero_sound}
 use Rattle.qcow2_metadata.proofs.entries.L2EntryTableEntry.try_from_plain.Goals as goal
 
--- The word 0 is sound in every table.
+-- The entry 0 is valid in every table.
 pub returns-then-value-eq0-clause-possible : goal.returns-then-value-eq0-clause-possible
 returns-then-value-eq0-clause-possible c =
     let layout = layout_of c.args.header.now.fields in
