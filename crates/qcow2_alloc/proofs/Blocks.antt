@@ -1,4 +1,4 @@
--- Refcount blocks: counted in, made and named.
+-- Proofs about refcount blocks: incrementing their counters, making new ones and linking them.
 pub mod ClusterBlocks
 pub mod TableBlocks
 pub mod BlockNames

@@ -1,4 +1,4 @@
--- Entries of the caches: found, loaded, put, used, dropped.
+-- Entries of the caches: found, loaded, put, used and dropped.
 pub mod Entries
 pub mod SingleEntries
 pub mod EmptyCaches

@@ -1,4 +1,4 @@
--- Writes of cached tables and blocks, in the announced order.
+-- Flushing cached tables and blocks, in the set order.
 pub mod Turns
 pub mod EntryWriteBacks
 pub mod TableWriteBacks

@@ -1,4 +1,4 @@
--- Clusters that wait to be freed are counted down.
+-- Decrementing the refcounts of the clusters on the free list.
 pub mod Lists
 pub mod ClusterOccurrences
 pub mod ClusterFrees

@@ -1,4 +1,4 @@
--- The refcount table grows, and moves.
+-- Growing and moving the refcount table.
 pub mod TableLoads
 pub mod TableSwitches
 pub mod LongerReftables

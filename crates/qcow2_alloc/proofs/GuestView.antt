@@ -1,4 +1,4 @@
--- What leaves the disk as it is.
+-- Calls that leave the guest unchanged.
 pub mod ShownDisks
 pub mod QuietFlushes
 pub mod QuietSequences

@@ -1,4 +1,4 @@
--- Clusters are handed out.
+-- Allocating clusters.
 pub mod SingleCounts
 pub mod ClustersHandedOut
 pub mod SingleAllocations

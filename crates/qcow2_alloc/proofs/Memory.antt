@@ -1,4 +1,4 @@
--- What is in memory over the file.
+-- The image in memory: cached tables and blocks over the file.
 pub mod EntryKinds
 pub mod Patches
 pub mod MemoryWords

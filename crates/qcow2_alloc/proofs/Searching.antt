@@ -1,4 +1,4 @@
--- Searches for free clusters.
+-- Searching for free clusters.
 pub mod RunsInSearch
 pub mod FreeClusters
 pub mod SearchesBeforeCounts

@@ -1,4 +1,4 @@
--- Where there is room, an allocation finds it.
+-- If enough space is free, an allocation finds it.
 pub mod RoomConsumption
 pub mod RoomToGrow
 pub mod SizesOfSpace

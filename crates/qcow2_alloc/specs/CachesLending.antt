@@ -1,4 +1,5 @@
--- Either of the two caches (`OneCache`), and what both end as once a reference into it has ended.
+-- Specifies references into the caches of L2 tables and refcount blocks: the state of both caches after a reference has ended. `OneCache`
+-- is either cache.
 use Rattle.std.specs.Prelude.{◌≡◌, ℕ, List, Some, Result, Ok, Err, IfOk, IfErr, nat_eq}
 use Rattle.std.specs.Option.{option_map}
 use Rattle.std.specs.Map.{lookup}
@@ -22,7 +23,7 @@ use Rattle.qcow2_alloc.specs.CachedKinds.{Beside, CachedKind, block_entries, by_
 use Rattle.qcow2_alloc.specs.Finding.{EntryFound}
 
 module _ {S : Type 0} where
-  -- the caches with other tables, and with other blocks
+  -- The caches with other tables, or with other blocks.
   abbrev pub with_tables : MetadataCaches S → List (ℕ × Slot TableValue) → MetadataCaches S
   with_tables caches es = record caches { l2 = with_entries caches.l2 es }
 
@@ -30,14 +31,14 @@ module _ {S : Type 0} where
   with_blocks caches es = record caches { rb = with_entries caches.rb es }
 
   module _ (state : S → StorageState) where
-    -- what caches of so many of them are like
+    -- The kind of a cache of at most `cap` tables, or blocks.
     abbrev pub table_kind : ℕ → CacheKind ℕ TableValue (ImageFile S)
     table_kind cap = cache_kind nat_eq (loads_of (table_entries state)) (flushes_of (table_entries state)) cap
 
     abbrev pub block_kind : ℕ → CacheKind ℕ Block (ImageFile S)
     block_kind cap = cache_kind nat_eq (loads_of (block_entries state)) (flushes_of (block_entries state)) cap
 
--- One of the two caches: what its entries are, how it is seen, and what both are with other entries in it.
+-- One of the two caches: the kind of its entries, its view of both caches, and both caches with other entries in it.
 pub record OneCache (S V W A B : Type 0) : Type 1 where
   pub kind : CachedKind S V W
   pub see : MetadataCaches S → Beside S V W A B
@@ -51,7 +52,7 @@ module _ {S : Type 0} (state : S → StorageState) where
   of_blocks = record { kind = block_entries state; see = by_blocks; put = with_blocks }
 
 module _ (S V : RattleType) {W A B : Type 0} (cache : OneCache S.Denot V.Denot W A B) where
-  -- The entry is found or loaded with the value that r shows, and goes first, with the last value written through r.
+  -- The entry is found or loaded, and r has its value. It becomes the first entry, with the last value that is written through r.
   abbrev pub lends_entry : MutBor (MetadataCaches S.Denot) → ImageFile S.Denot → ImageFile S.Denot → ℕ
       → Result (MutBor V.Denot) Fault → Fml
   lends_entry c before after cluster r = LendsSoOk (the_row S) V c r
@@ -61,11 +62,11 @@ module _ (S V : RattleType) {W A B : Type 0} (cache : OneCache S.Denot V.Denot W
       (λ n. IfErr r (λ fault. EntryFound cache.kind cluster (cache.see c.now) before (Err fault) (cache.see n) after))
 
 module _ (S : RattleType) (state : S.Denot → StorageState) where
-  -- So is a table,
+  -- Like `lends_entry`, for an L2 table.
   abbrev pub lends_table : MutBor (MetadataCaches S.Denot) → ImageFile S.Denot → ImageFile S.Denot → ℕ
       → Result (MutBor TableValue) Fault → Fml
   lends_table = lends_entry S (table_row entry_row ghosts) (of_tables state)
 
-  -- and so is a block.
+  -- Like `lends_entry`, for a refcount block.
   abbrev pub lends_block : MutBor (MetadataCaches S.Denot) → ImageFile S.Denot → ImageFile S.Denot → ℕ → Result (MutBor Block) Fault → Fml
   lends_block = lends_entry S block_row (of_blocks state)

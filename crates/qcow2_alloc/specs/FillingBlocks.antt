@@ -1,12 +1,12 @@
--- Which clusters the blocks take that are made where there were none.
+-- The clusters in which missing refcount blocks are made. `mark` is the first-free hint, where searches for free clusters start.
 use Rattle.std.specs.Prelude.{◌≡◌, ◌≢◌, ℕ, ◌+◌, ◌-◌, ◌*◌, ◌/◌, ◌<◌, ◌≤◌, slice_index}
 use Rattle.qcow2_types.specs.Counts.{counters_of_block}
 use Rattle.qcow2_types.specs.Words.{block_offset}
 use Rattle.qcow2_alloc.specs.Growing.{lacking}
 use Rattle.qcow2_alloc.specs.GuestView.{Metadata, counted, one_at}
 
--- A block was made for a word of the refcount table: one more cluster is counted, no later than any free one from the mark on that a block
--- before it counts, and than the first one that it counts itself.
+-- A block is made for an entry of the refcount table: the refcount of one more cluster is above 0. That cluster is at most the first one
+-- that the block counts itself, and at most any free one from the hint on that an earlier block counts.
 pub record IsBlockPlaced (mark index : ℕ) (m m' : Metadata) : Type 0 where
   pub place : ℕ
   pub raised : (c : ℕ) → counted m' c ≡ counted m c + one_at place c
@@ -14,13 +14,13 @@ pub record IsBlockPlaced (mark index : ℕ) (m m' : Metadata) : Type 0 where
       → block_offset (slice_index m.table.raw_entries (c / counters_of_block m.header.fields)) ≢ 0 → counted m c ≡ 0 → place ≤ c
   pub own : place ≤ index * counters_of_block m.header.fields
 
--- how many blocks are there for a run that were lacking for it
+-- The number of blocks that were missing for a run and aren't any more.
 abbrev pub made_for : Metadata → Metadata → ℕ → ℕ → ℕ
 made_for m m' first n = lacking m.table (counters_of_block m.header.fields) first n - lacking m'.table
     (counters_of_block m.header.fields) first n
 
--- Blocks were made for a run, those of a range of indices, one for each at most. Where as many clusters, from one on that the first of
--- these counts, weren't counted, what is counted anew lies before their end; and none lies behind the first one that its block counts.
+-- Blocks are made for a run, at most one for each index of a range. If enough consecutive clusters are free from a cluster z of the range's
+-- first block on, the new blocks take no cluster past these. No new block is after the first cluster that it counts.
 pub record FillsFrom (mark index end : ℕ) (m m' : Metadata) : Type 0 where
   pub fewer : (first n : ℕ) → lacking m'.table (counters_of_block m.header.fields) first n
       ≤ lacking m.table (counters_of_block m.header.fields) first n

@@ -1,4 +1,5 @@
--- How the refcount table grows.
+-- Specifies how the refcount table grows. `mark` is the first-free hint, where searches for free clusters start, and `at` the index for
+-- which the table grows.
 use Rattle.std.specs.Prelude.{◌≡◌, ◌⊎◌, ℕ, ◌+◌, ◌-◌, ◌*◌, ◌/◌, ◌^◌, ◌<◌, ◌≤◌, ◌==◌, ◌++◌, ◌∷◌, [], min, true, if◌then◌else◌, List, Some, Result, Err, OnOk, OnErr, IfErr, length, slice_index, Bool}
 use Rattle.imago_storage.specs.State.{StorageState}
 use Rattle.imago_storage.specs.declared.fault.Fault.{Fault}
@@ -19,32 +20,32 @@ use Rattle.qcow2_alloc.specs.MakingRoom.{run_of, rank}
 use Rattle.qcow2_alloc.specs.GuestView.{Metadata, counted}
 use Rattle.qcow2_alloc.specs.State.{AllocatorState, metadata, IsGuarded, WhereGuarded}
 
--- the clusters of the refcount table of an image, if there are any
+-- The clusters of an image's refcount table, if it has any.
 abbrev pub table_run : Fields → List FreeEntry
 table_run h = if h.refcount_table_clusters == 0 then [] else run_of
     (h.refcount_table_offset / cluster_size h) h.refcount_table_clusters ∷ []
 
--- the list as it was; or the refcount table became longer, and the clusters of the old one are behind
+-- The list is unchanged; or the refcount table became longer, and the old one's clusters were added to the list.
 abbrev pub IsLengthenedByTable : Fields → TableValue → TableValue → List FreeEntry → List FreeEntry → Type 0
 IsLengthenedByTable h table table' old new = (new ≡ old) ⊎ ((length table.raw_entries < length table'.raw_entries) × (new ≡ old ++ table_run h))
 
--- where the search of a room begins: at the mark, or where the clusters end that the table can count
+-- The start of the search for a free area: the first-free hint, or the end of the clusters that the table can count if that is less.
 abbrev pub free_area_from : Metadata → ℕ → ℕ
 free_area_from m mark = min mark (length m.table.raw_entries * counters_of_block m.header.fields)
 
--- A room of `total` clusters from `first` on is the first one for the table, grown to so many clusters for an index.
+-- The area of `total` clusters from `first` on is the first free area for the table, grown to `clusters` clusters for an index.
 pub record IsFreeAreaToGrow (m : Metadata) (mark at first total clusters : ℕ) : Type 0 where
   pub long : IsGrownLength (entries_of_cluster m.header.fields) (counters_of_block m.header.fields) at
       (clusters * entries_of_cluster m.header.fields)
   pub room : IsFirstFreeArea m.table (counters_of_block m.header.fields) (counted m) (free_area_from m mark) clusters first total
 
--- Words can name the clusters of the room, and the grown table can name a block for each.
+-- The clusters of the area are addressable, and the grown table can reference a block for each.
 pub record IsAreaAddressable (m : Metadata) (first total clusters : ℕ) : Type 0 where
   pub reach : IsAddressable m.header.fields.cluster_bits (first + (total - 1))
   pub inside : first + total ≤ clusters * entries_of_cluster m.header.fields * counters_of_block m.header.fields
 
--- There is no place for a table that holds an index, as a number tells: that of the words that it would have at least, which are too many;
--- or that of the last cluster of its room, which is out of reach.
+-- A table can't grow to hold an index, and `number` is what the limit reports. Either the table would have too many entries: the number is
+-- the first length that is too long. Or the free area isn't addressable: the number is its last cluster.
 abbrev pub NoPlaceToGrow : Metadata → (mark at number : ℕ) → Type 0
 NoPlaceToGrow m mark at number =
     (((n : ℕ) → IsEnough (entries_of_cluster m.header.fields) (counters_of_block m.header.fields) at n → 2 ^ 20 < n)
@@ -52,18 +53,19 @@ NoPlaceToGrow m mark at number =
     ⊎ ((first : ℕ) × (total : ℕ) × (clusters : ℕ) × IsFreeAreaToGrow m mark at first total clusters
     × (IsAreaAddressable m first total clusters → ⊥) × (number ≡ first + (total - 1)))
 
--- A cluster of the room that the table takes to hold an index, which it has no word for.
+-- Cluster c is in the free area that the table takes to hold an index for which it has no entry.
 abbrev pub IsInFreeAreaToGrow : Metadata → (mark at c : ℕ) → Type 0
 IsInFreeAreaToGrow m mark at c = (length m.table.raw_entries ≤ at) × (first : ℕ) × (total : ℕ) × (clusters : ℕ)
     × IsFreeAreaToGrow m mark at first total clusters × (first ≤ c) × (c < first + total)
 
--- What is counted anew for a cluster comes no later than it, or is the room of a table that has a word for its block.
+-- Newly allocated clusters aren't after `cluster`, or they are in the free area of a table that grows for its block.
 abbrev pub IsTakenFor : (mark cluster : ℕ) → Metadata → Metadata → Type 0
 IsTakenFor mark cluster m m' = (c : ℕ) → counted m c ≡ 0 → 0 < counted m' c
     → (c ≤ cluster) ⊎ IsInFreeAreaToGrow m mark (cluster / counters_of_block m.header.fields) c
 
--- The table has grown for an index: it stands in its room behind the blocks that were lacking for that, in the order of their indices. Its
--- words name these blocks, and those that they named before. Each cluster of the room is counted, and no other count changed.
+-- The table has grown for an index. It is in its free area, after the blocks that were missing for the area, in the order of their indices.
+-- Its entries reference these blocks, and those that they referenced before. The refcount of each cluster of the area increases by 1, and
+-- no other.
 pub record TableGrown (mark at : ℕ) (m m' : Metadata) : Type 0 where
   pub first : ℕ
   pub total : ℕ
@@ -79,15 +81,16 @@ pub record TableGrown (mark at : ℕ) (m m' : Metadata) : Type 0 where
       → block_offset (slice_index m'.table.raw_entries i) ≡ block_offset (slice_index m.table.raw_entries i)
   pub counts : (c : ℕ) → counted m' c ≡ counted m c + covers c (run_of first total)
 
--- What a refused call has counted and nobody was handed: only one that found the cache full has, and so none of a sound image where there
--- is room to spare, as `loose` says.
+-- Clusters that a failed call has leaked. Only a call that found the cache full leaks any. In a consistent image (`sound`) it leaks none if
+-- the cache isn't full of pinned blocks (`loose`).
 pub record Leaks {T : Type 0} (sound : Type 0) (loose : Bool → Type 0) (result : Result T Fault) (leaked : ℕ → ℕ) : Type 0 where
   pub none : (result ≡ Err CacheFull → ⊥) → (c : ℕ) → leaked c ≡ 0
   pub pinned : sound → loose true → (c : ℕ) → leaked c ≡ 0
 
--- The refcount table grows until it holds an index, while blocks are written before tables. The old table waits to be freed then. Refused
--- without being cut off, table, header and list are what they were, and of a sound image nothing is counted otherwise unless the cache is
--- full of what is pinned.
+-- The refcount table grows until it holds an index, while blocks are written before tables. The old table's clusters are added to the list.
+--
+-- After an error that isn't a resource error, table, header and list are unchanged. In a consistent image refcounts are unchanged, too,
+-- unless the cache is full of pinned blocks.
 pub record GrowsTable {S : Type 0} (state : S → StorageState) (at : ℕ) (s : AllocatorState S) (result : Result Unit Fault)
     (s' : AllocatorState S) : Type 0 where
   pub leaked : ℕ → ℕ

@@ -1,4 +1,5 @@
--- What leaves the disk as it is: flushes of what is cached, and all that the allocator does.
+-- Specifies changes that the guest can't see: flushes of the caches, and all that the allocator does. `IsSound` is the invariant of an
+-- image with its caches, its allocator and its free list.
 use Rattle.std.specs.Prelude.{◌≡◌, ◌⊎◌, ℕ, ◌+◌, ◌*◌, ◌/◌, ◌<◌, ◌≤◌, ◌==◌, if◌then◌else◌, IsTrue, List, Some, length, slice_index}
 use Rattle.std.specs.List.{filter}
 use Rattle.imago_storage.specs.State.{StorageState}
@@ -22,23 +23,23 @@ use Rattle.qcow2_alloc.specs.FreeList.{covers, listed}
 use Rattle.qcow2_alloc.specs.Memory.{Cached, memory}
 use Rattle.qcow2_alloc.specs.WellFormedness.{WellFormed}
 
--- The refcount table in memory names the blocks that the file's does.
+-- The refcount table in memory references the same blocks as the file's.
 pub record IsTableOf (f : Bytes) (h : Fields) (table : TableValue) : Type 0 where
   pub layout : table.layout ≡ layout_of h
   pub long : length table.raw_entries ≡ refcount_table_entries h
   pub placed : table.cluster ≡ Some (h.refcount_table_offset / cluster_size h)
   pub names : (i : ℕ) → i < refcount_table_entries h → block_offset (slice_index table.raw_entries i) ≡ block_at f h i
 
--- the entries that held metadata
+-- The entries of metadata.
 abbrev pub metadata_in : List FreeEntry → List FreeEntry
 metadata_in entries = filter (λ e. e.metadata) entries
 
--- 1 where cluster c is one of such an entry's, else 0
+-- 1 if cluster c is one of the entry's and the entry is metadata, else 0.
 abbrev pub covers_metadata : ℕ → FreeEntry → ℕ
 covers_metadata c e = if e.metadata then covers c e else 0
 
--- The metadata of an open image: its file and header, what is cached of it and in which order that is written, its refcount table as it
--- is in memory, and the clusters that wait to be freed.
+-- The metadata of an open image: its file and header, its cached entries and their write order, its refcount table in memory, and its free
+-- list.
 pub record Metadata : Type 0 where
   pub file : Bytes
   pub header : Header
@@ -48,44 +49,46 @@ pub record Metadata : Type 0 where
   pub pending : List FreeEntry
 
 module _ (m : Metadata) where
-  -- what is in memory over the file
+  -- The image in memory: the file with the dirty tables and blocks.
   abbrev pub in_memory : Bytes
   in_memory = memory m.file m.header.fields m.cached
 
-  -- In memory: how often a cluster is counted, and how often it is named,
+  -- The refcount of a cluster in memory.
   abbrev pub counted : ℕ → ℕ
   counted = count in_memory m.header.fields
 
+  -- The number of references to a cluster in memory.
   abbrev pub referenced : ℕ → ℕ
   referenced = refs in_memory m.header.fields
 
-  -- how often it is named by the file or in memory, each word taken once,
+  -- The number of references to a cluster in the file or in memory. An entry that is the same in both counts once.
   abbrev pub referenced_at_all : ℕ → ℕ
   referenced_at_all = references_in_either m.file in_memory m.header.fields
 
-  -- and how many entries wait to free it, of all and of those that held metadata.
+  -- The number of list entries that have a cluster.
   abbrev pub waiting : ℕ → ℕ
   waiting = listed m.pending
 
+  -- The number of list entries of metadata that have a cluster.
   abbrev pub waiting_metadata : ℕ → ℕ
   waiting_metadata = listed (metadata_in m.pending)
 
-  -- A cluster that is counted for a word or for a pending allocation, and holds no table, block or header.
+  -- A cluster with a refcount greater than its list entries, which holds no table, block or header.
   pub record IsUsed (c : ℕ) : Type 0 where
     pub apart : structure m.file m.header.fields (meets m.header.fields c) ≡ 0
     pub taken : waiting c < counted c
 
-  -- What is cached is safe, and the refcount table is that of the file. In memory clusters are counted at least for what names them and for
-  -- what waits to free them; nothing names metadata that waits to be freed, in the file or in memory.
+  -- The invariant: the caches are well-formed, and the refcount table is the file's. In memory each refcount covers the references and the
+  -- list entries. Nothing references a metadata cluster that is on the list, in the file or in memory.
   pub record IsSound : Type 0 where
     pub well_formed : WellFormed m.file m.header m.cached m.order
     pub table : IsTableOf m.file m.header.fields m.table
     pub covered : (c : ℕ) → referenced c + waiting c ≤ counted c
     pub not_referenced : (c : ℕ) → 0 < waiting_metadata c → referenced_at_all c ≡ 0
 
-  -- A file with this header shows what the image does in its file or in memory: it is consistent, each of its words means what it does in
-  -- one of them, and what it names has the bytes that it has in the file. Its refcount table may stand elsewhere. Words of the L1 table
-  -- keep each bit, and the header's cluster each byte behind the first 64, which hold numbers alone.
+  -- File x with header H reads like the image, in its file or in memory. It is consistent, and each of its L2 entries means what it means
+  -- in one of the two. The clusters that its L2 entries reference have the same bytes as in the file. Its refcount table may be elsewhere.
+  -- The L1 table has the same entries. The header's cluster has the same bytes from offset 64 on. The first 64 bytes hold only numbers.
   pub record ShowsEither (x : Bytes) (H : Header) : Type 0 where
     pub consistent : IsConsistent x H
     pub moved : (offset : ℕ) × (clusters : ℕ) × (H ≡ with_refcount_table m.header offset clusters)
@@ -97,9 +100,10 @@ module _ (m : Metadata) where
     pub contents : (i j : ℕ) → Live (l2_table m.file m.header.fields) m.header.fields i j → (p : ℕ)
         → 0 < of_mapping m.header.fields (touches p 1) (slot x H.fields i j) → x p ≡ m.file p
 
--- The image is as it was to the disk: in memory each word means what it did, and the file shows what it did there or in memory. What is
--- used and not taken keeps its bytes and its place, and no more entries wait to free it. In memory, how often a cluster is counted beyond
--- what names it and what waits to free it has changed by what was handed out and by what was taken back, to be named, to wait or to be
+-- The guest is unchanged: in memory each L2 entry means the same, and the file reads as before or as the image in memory.
+--
+-- A cluster that is used and not taken keeps its bytes, holds no metadata, and gets no more list entries. `handed` is added to a cluster's
+-- excess refcount (refcount minus references minus list entries), and `taken` is subtracted: a taken cluster becomes referenced, listed or
 -- free.
 pub record GuestUnchanged (handed taken : ℕ → ℕ) (old new : Metadata) : Type 0 where
   pub shows : ShowsEither old new.file new.header
@@ -112,20 +116,20 @@ pub record GuestUnchanged (handed taken : ℕ → ℕ) (old new : Metadata) : Ty
   pub law : (c : ℕ) → counted new c + referenced old c + waiting old c + taken c
       ≡ counted old c + referenced new c + waiting new c + handed c
 
--- one at cluster c, and none elsewhere
+-- 1 for cluster c, and 0 for others.
 abbrev pub one_at : ℕ → ℕ → ℕ
 one_at c d = if d == c then 1 else 0
 
--- so many at cluster c, and none elsewhere
+-- `by` for cluster c, and 0 for others.
 abbrev pub many_at : (c by : ℕ) → ℕ → ℕ
 many_at c by d = if d == c then by else 0
 
--- the bytes of the image's file are those of its storage
+-- The image's file is the storage's bytes.
 abbrev pub IsIn : StorageState → Metadata → Type 0
 IsIn s m = m.file ≡ bytes_of s.bytes
 
--- What a call does that leaves the disk as it is: where the storage keeps what is written, and the image was sound, each file that a stop
--- in it leaves shows what the image did, and where the call wasn't cut off the image is sound again.
+-- A call leaves the guest unchanged, if the storage keeps what is written and the image was consistent. Each crash image of the call reads
+-- like the image. If `ok` holds, the image is consistent after the call.
 pub record PreservesGuest (ok : Type 0) (handed taken : ℕ → ℕ) (old : StorageState) (m : Metadata) (new : StorageState)
     (m' : Metadata) : Type 0 where
   pub shape : new.shape ≡ old.shape

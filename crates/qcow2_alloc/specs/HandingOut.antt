@@ -1,4 +1,5 @@
--- What the public calls do that hand out clusters and let the refcount table grow.
+-- Specifies the public calls that allocate clusters and grow the refcount table. `mark` is the first-free hint, where searches for free
+-- clusters start, and s and s' are the states before and after.
 use Rattle.std.specs.Prelude.{◌≡◌, ◌≢◌, ⊤, ◌⊎◌, ◌==◌, ℕ, ◌+◌, ◌-◌, ◌/◌, ◌<◌, ◌≤◌, ◌++◌, [], if◌then◌else◌, Bool, false, List, Option, Some, None, Result, OnOk, OnErr, IfOk, IfErr, Ok, Err, length}
 use Rattle.imago_storage.specs.State.{StorageState}
 use Rattle.imago_storage.specs.Calls.{IsFaultless}
@@ -24,16 +25,18 @@ use Rattle.qcow2_alloc.specs.GuestView.{Metadata, IsSound, GuestUnchanged, Prese
 use Rattle.qcow2_alloc.specs.ReadyingRuns.{allocated_by, first_free_after, IsRunCounted, IsRunTold}
 use Rattle.qcow2_alloc.specs.State.{AllocatorState, ImageState, MetadataWithFirstFree, image_state, metadata_with_first_free, metadata, with_first_free, KeepsWritesAndSound, WhereKept}
 
--- Caches that had room to spare have it still, and the refcount table names what is pinned where it did; there is as much room, and the L2
--- tables are kept; and nothing of the header has changed but perhaps the refcount table's place.
+-- The header differs at most in the refcount table's offset and length, and the caches keep their capacities and L2 tables. If the cache of
+-- blocks had unpinned space (`HasUnpinnedRoom`), it still has.
 pub record StaysInShape {S : Type 0} (s s' : ImageState S) : Type 0 where
   pub moved : MovedTable s.file.header s'.file.header
   pub keeps_unpinned_room : (any : Bool) → HasUnpinnedRoom s.table s.caches any → HasUnpinnedRoom s'.table s'.caches any
   pub room : KeepsTables s.caches s'.caches
 
--- The refcount table grows until it holds an index: first it is announced that blocks are written before tables. The old table waits to be
--- freed then. A sound image stays sound, and its disk as it is, stops included. Refused without being cut off, table, header and list are
--- what they were, and nothing is counted otherwise unless the cache is full of what is pinned.
+-- The refcount table grows until it holds an index, after L2 tables were made to depend on blocks. The old table's clusters are added to
+-- the list. A consistent image stays consistent, and the guest unchanged, in crash images, too.
+--
+-- After an error that isn't a resource error, table, header and list are unchanged. Refcounts are unchanged, too, unless the cache is full
+-- of pinned blocks.
 pub record GrowsReftable {S : Type 0} (state : S → StorageState) (at : ℕ) (s : AllocatorState S) (result : Result Unit Fault)
     (s' : AllocatorState S) : Type 0 where
   pub faults : HadNoResourceError result → IsFaultless (state s.file.image) (state s'.file.image)
@@ -55,8 +58,8 @@ pub record GrowsReftable {S : Type 0} (state : S → StorageState) (at : ℕ) (s
       (λ number. WhereKept state s.image (NoPlaceToGrow (metadata state s.image) s.mark at number))
       (state s.file.image).faults (state s'.file.image).faults) result
 
--- The image once something of what waited was freed: no cluster is counted more often. The search begins at a cluster before which each is
--- counted where that was so.
+-- The image after some clusters on the list were freed: no refcount is greater. If no cluster before the old first-free hint was free, none
+-- before the new hint is.
 pub record IsFreed (m m' : MetadataWithFirstFree) : Type 0 where
   pub sound : IsSound m'.image
   pub guest_unchanged : GuestUnchanged (λ _. 0) (λ _. 0) m.image m'.image
@@ -66,19 +69,18 @@ pub record IsFreed (m m' : MetadataWithFirstFree) : Type 0 where
   pub lower : m'.mark ≤ m.mark
   pub marked : NoneFreeBefore m.image m.mark → NoneFreeBefore m'.image m'.mark
 
--- an answer of the search itself: clusters, or that there is no room
+-- A result of the search: clusters, or a limit.
 abbrev pub IsSearched : Result FreeEntry Fault → Type 0
 IsSearched (Ok entry) = ⊤
 IsSearched (Err (Limit number)) = ⊤
 IsSearched (Err fault) = ⊥
 
--- Clusters are handed out: none of them is named by any version of a word, and none waits to be freed.
+-- Allocated clusters have no references, in the file or in memory, and are on no list entry.
 abbrev pub AreUnreferenced : Metadata → FreeEntry → Type 0
 AreUnreferenced m entry = (c : ℕ) → entry.first ≤ c → c < entry.first + entry.count → (referenced_at_all m c ≡ 0) × (waiting m c ≡ 0)
 
--- Clusters in a row are handed out: first what waits is freed, then it is announced that blocks are written before tables, and then the
--- first run of n clusters from the mark on is taken of which none is counted. A sound image stays sound, and its disk as it is, stops
--- included.
+-- Consecutive clusters are allocated: the list is freed, L2 tables are made to depend on blocks, and the first free run of n clusters is
+-- taken. The search starts at the first-free hint. A consistent image stays consistent, and the guest unchanged, in crash images, too.
 pub record AllocatesClusters {S : Type 0} (state : S → StorageState) (n : ℕ) (is_metadata : Bool) (s : AllocatorState S)
     (result : Result FreeEntry Fault) (s' : AllocatorState S) : Type 0 where
   pub faults : HadNoResourceError result → IsFaultless (state s.file.image) (state s'.file.image)
@@ -90,12 +92,12 @@ pub record AllocatesClusters {S : Type 0} (state : S → StorageState) (n : ℕ)
       (λ entry. (entry.count ≡ n) × (entry.metadata ≡ is_metadata)
       × (0 < n → (entry.first ≢ 0) × IsAddressable s.file.header.fields.cluster_bits (entry.first + (n - 1))))
   pub not_referenced : WhereKept state s.image (IfOk result (AreUnreferenced (metadata state s'.image)))
-  -- What waits is freed; where that is refused nothing else is done.
+  -- The list is freed. If that fails, nothing else is done.
   pub answer : Result Unit Fault
   pub between : MetadataCaches S
   pub at : ImageFile S
   pub left : List FreeEntry
-  -- the image once the order was announced then
+  -- the image after the write order was set
   pub mid : MetadataWithFirstFree
   pub frees : Frees state s answer (with_first_free (image_state s.table between at left) mid.mark)
   pub remains_in_turn : IsRestInTurn s.pending left
@@ -112,7 +114,7 @@ pub record AllocatesClusters {S : Type 0} (state : S → StorageState) (n : ℕ)
   pub marked : WhereKept state s.image (HadNoResourceError result
       → NoneFreeBefore (metadata state s.image) s.mark → NoneFreeBefore (metadata state s'.image) s'.mark)
   pub further : IfOk result (λ entry. s'.mark ≡ first_free_after mid.mark n entry.first)
-  -- If the call fails, the mark stays where the freeing left it.
+  -- If the call fails, the first-free hint stays where the freeing left it.
   pub stays : OnErr result (s'.mark ≡ mid.mark)
   pub order : OnOk result (order_of s'.caches ≡ L2DependsOnRb)
   pub shape : StaysInShape s.image s'.image
@@ -121,13 +123,13 @@ pub record AllocatesClusters {S : Type 0} (state : S → StorageState) (n : ℕ)
       (λ number. WhereKept state s.image (IsCrowded mid.image mid.mark n × IsRunTold (metadata state s'.image) mid.mark n number))
       (state s.file.image).faults (state s'.file.image).faults) result
 
--- what a call hands out that may answer none
+-- The excess refcounts that a call adds. It may allocate nothing.
 abbrev pub handed_at : Result (Option FreeEntry) Fault → (ℕ → ℕ) → ℕ → ℕ
 handed_at (Ok (Some entry)) leaked c = one_at entry.first c
 handed_at (Ok None) leaked c = 0
 handed_at (Err fault) leaked c = leaked c
 
--- room is held for one entry more where clusters were handed out
+-- The reserved slots after a call: one more if clusters were allocated.
 abbrev pub held_at : Result (Option FreeEntry) Fault → ℕ → ℕ
 held_at (Ok (Some entry)) held = held + 1
 held_at result held = held
@@ -136,33 +138,32 @@ abbrev pub held_by : Result FreeEntry Fault → ℕ → ℕ
 held_by (Ok entry) held = held + 1
 held_by (Err fault) held = held
 
--- There is no place for a cluster, or no refcount table has a word for what counts it.
+-- A cluster isn't addressable, or the refcount table has no entry for its block and can't grow that far.
 abbrev pub IsBarred : Metadata → (mark cluster : ℕ) → Type 0
 IsBarred m mark cluster = (IsAddressable m.header.fields.cluster_bits cluster → ⊥)
     ⊎ ((length m.table.raw_entries ≤ cluster / counters_of_block m.header.fields) × (number : ℕ)
     × NoPlaceToGrow m mark (cluster / counters_of_block m.header.fields) number)
 
--- What an answer says of one cluster: it was free, and is handed out; or it was counted, a table or a block stands in it now, or it is
--- barred.
+-- The result for one cluster: it was free and is allocated now; or it wasn't free, a table or a block is there now, or it is barred.
 abbrev pub IsAllocatedAt : Type 0 → ℕ → Metadata → Metadata → Option FreeEntry → Type 0
 IsAllocatedAt barred cluster m m' (Some entry) = (counted m cluster ≡ 0) × (counted m' cluster ≡ 1) × (referenced_at_all m' cluster ≡ 0)
     × (waiting m' cluster ≡ 0)
 IsAllocatedAt barred cluster m m' None = (0 < counted m cluster)
     ⊎ ((0 < structure m'.file m'.header.fields (meets m'.header.fields cluster)) ⊎ barred)
 
--- The entry is this one cluster of the guest's data.
+-- The entry is one given cluster of guest data.
 abbrev pub IsOneAt : ℕ → ℕ → Option FreeEntry → Type 0
 IsOneAt cluster bits (Some entry) = (entry ≡ record { first = cluster; count = 1; metadata = false }) × (cluster ≢ 0)
     × IsAddressable bits cluster
 IsOneAt cluster bits None = ⊤
 
--- where the search begins once this cluster was handed out, or none was
+-- The first-free hint after one cluster was allocated, or none.
 abbrev pub first_free_past : ℕ → ℕ → Option FreeEntry → ℕ
 first_free_past mark cluster (Some entry) = if cluster == mark then cluster + 1 else mark
 first_free_past mark cluster None = mark
 
--- One cluster is handed out if it is free: first it is announced that blocks are written before tables. A sound image stays sound, and its
--- disk as it is, stops included. What waits to be freed waits on.
+-- One cluster is allocated if it is free, after L2 tables were made to depend on blocks. A consistent image stays consistent, and the guest
+-- unchanged, in crash images, too. The clusters on the list aren't freed.
 pub record AllocatesClusterAt {S : Type 0} (state : S → StorageState) (cluster : ℕ) (s : AllocatorState S)
     (result : Result (Option FreeEntry) Fault) (s' : AllocatorState S) : Type 0 where
   pub faults : HadNoResourceError result → IsFaultless (state s.file.image) (state s'.file.image)

@@ -1,4 +1,5 @@
--- How one cluster is given a counter, and handed out.
+-- Specifies the allocation of one given cluster, and how the block that has its refcount is made. `mark` is the first-free hint, where
+-- searches for free clusters start.
 use Rattle.std.specs.Prelude.{◌≡◌, ◌≢◌, ℕ, ◌/◌, ◌<◌, Bool, false, true, Option, Some, Result, OnOk, OnErr, IfOk, Ok, Err, length, slice_index}
 use Rattle.imago_storage.specs.State.{StorageState}
 use Rattle.imago_storage.specs.declared.fault.Fault.{Fault}
@@ -17,18 +18,18 @@ use Rattle.qcow2_alloc.specs.HandingOut.{handed_at, first_free_past, IsBarred, I
 use Rattle.qcow2_alloc.specs.GuestView.{Metadata}
 use Rattle.qcow2_alloc.specs.State.{AllocatorState, ImageState, metadata, IsGuarded, WhereGuarded}
 
--- A refusal tells of a limit.
+-- The fault is a limit.
 abbrev pub tells_limit : Fault → Bool
 tells_limit (Limit number) = true
 tells_limit fault = false
 
--- Nothing is handed out by an answer; a refusal may have leaked something.
+-- A result without clusters allocates none; an error may have leaked some.
 abbrev pub leaked_by : {T : Type 0} → Result T Fault → (ℕ → ℕ) → ℕ → ℕ
 leaked_by (Ok done) leaked c = 0
 leaked_by (Err fault) leaked c = leaked c
 
--- What a call does that counts clusters, while blocks are written before tables, and hands out those that its answer names. The clusters of
--- an old refcount table may come to wait to be freed.
+-- A call increments refcounts, while blocks are written before tables, and allocates what its result has. An old refcount table's clusters
+-- may be added to the list.
 pub record AllocatesByAnswer {S T : Type 0} (state : S → StorageState) (handed : Result T Fault → (ℕ → ℕ) → ℕ → ℕ) (s : ImageState S)
     (result : Result T Fault) (s' : ImageState S) : Type 0 where
   pub leaked : ℕ → ℕ
@@ -38,7 +39,7 @@ pub record AllocatesByAnswer {S T : Type 0} (state : S → StorageState) (handed
   pub cause : FailsFor (allocating_causes (IsGuarded state s) (HasUnpinnedRoom s.table s.caches) (λ _. ⊥) (state s.file.image).faults
       (state s'.file.image).faults) result
 
--- The refcount table has a word for a cluster, or there is no place for one that has;
+-- The refcount table has an entry for a cluster, or it can't grow that far.
 pub record ReadiesRawEntry {S : Type 0} (state : S → StorageState) (cluster : ℕ) (s : AllocatorState S) (result : Result Readiness Fault)
     (s' : AllocatorState S) : Type 0 where
   pub did : AllocatesByAnswer state leaked_by s.image result s'.image
@@ -47,7 +48,7 @@ pub record ReadiesRawEntry {S : Type 0} (state : S → StorageState) (cluster : 
   pub barred : WhereGuarded state s.image (IfOk result (λ answer. answer ≡ NoPlace → IsBarred (metadata state s.image) s.mark cluster))
   pub taken_up_to_cluster : WhereGuarded state s.image (IfOk result (λ _. IsTakenFor s.mark cluster (metadata state s.image) (metadata state s'.image)))
 
--- and so it names the block that counts the cluster.
+-- The refcount table references the block of a cluster, or it can't grow that far.
 pub record ReadiesCounter {S : Type 0} (state : S → StorageState) (cluster : ℕ) (s : AllocatorState S) (result : Result Readiness Fault)
     (s' : AllocatorState S) : Type 0 where
   pub did : AllocatesByAnswer state leaked_by s.image result s'.image
@@ -57,12 +58,12 @@ pub record ReadiesCounter {S : Type 0} (state : S → StorageState) (cluster : �
   pub barred : WhereGuarded state s.image (IfOk result (λ answer. answer ≡ NoPlace → IsBarred (metadata state s.image) s.mark cluster))
   pub taken_up_to_cluster : WhereGuarded state s.image (IfOk result (λ _. IsTakenFor s.mark cluster (metadata state s.image) (metadata state s'.image)))
 
--- whether a cluster was counted
+-- The result without its cluster.
 abbrev pub counting_of : Result (Option FreeEntry) Fault → Result Unit Fault
 counting_of (Ok found) = Ok tt
 counting_of (Err fault) = Err fault
 
--- One cluster is counted, and was in use by nobody.
+-- The refcount of one free cluster becomes 1.
 pub record CountsOne {S : Type 0} (state : S → StorageState) (cluster : ℕ) (s : ImageState S) (result : Result (Option FreeEntry) Fault)
     (s' : ImageState S) : Type 0 where
   pub counts : CountsRun state cluster 1 s (counting_of result) s'
@@ -70,7 +71,7 @@ pub record CountsOne {S : Type 0} (state : S → StorageState) (cluster : ℕ) (
   pub entry : IfOk result (λ found. found ≡ Some (record { first = cluster; count = 1; metadata = false }))
   pub cluster_nonzero : OnOk result (cluster ≢ 0)
 
--- A cluster is handed out where it is free and not barred, while blocks are written before tables.
+-- A cluster is allocated if it is free and not barred, while blocks are written before tables.
 pub record AllocatesAt {S : Type 0} (state : S → StorageState) (barred : Metadata → Type 0) (cluster : ℕ) (s : AllocatorState S)
     (result : Result (Option FreeEntry) Fault) (s' : AllocatorState S) : Type 0 where
   pub did : AllocatesByAnswer state handed_at s.image result s'.image

@@ -1,4 +1,4 @@
--- What a cache ends as, once a reference into it has ended.
+-- Specifies references to a value in a cache: the state of the cache after the reference has ended.
 use Rattle.std.specs.Prelude.{◌≡◌, Bool, List, Option, Some, Result, Ok, Err, IfOk}
 use Rattle.std.specs.Option.{option_map}
 use Rattle.std.specs.Map.{lookup}
@@ -14,13 +14,13 @@ use Rattle.qcow2_alloc.specs.declared.async_lru_cache.Slot.{Slot}
 use Rattle.qcow2_alloc.specs.declared.async_lru_cache.AsyncLruCache.{AsyncLruCache}
 use Rattle.qcow2_alloc.specs.contracts.async_lru_cache.AsyncLruCache.{the_row}
 
--- the answer of the search
+-- The result of the lookup.
 abbrev pub answer_of : {V : Type 0} → Result V NotLent → Result Admission Fault
 answer_of (Ok v) = Ok Granted
 answer_of (Err Full) = Ok Denied
 answer_of (Err (Refused fault)) = Err fault
 
--- The types of a cache, as the logic holds them, and what is known of its keys.
+-- The types of a cache, as the logic has them, and the laws of its keys.
 pub record CacheTypes : Type 1 where
   pub K : RattleType
   pub V : RattleType
@@ -32,21 +32,21 @@ abbrev pub cache_types : (K V B D : RattleType) → HashMembers K.Denot → Cach
 cache_types K V B D members = record { K = K; V = V; B = B; D = D; members = members }
 
 module _ (types : CacheTypes) where
-  -- the cache's type
+  -- The type of the cache.
   abbrev pub cache_row : RattleType
   cache_row = the_row types.K types.V types.B types.D (record {}) (record { eq = types.members.eq })
       (record { hash_input = types.members.hash_input })
 
-  -- a cache of these types
+  -- A cache of these types.
   abbrev pub CacheOf : Type 0
   CacheOf = AsyncLruCache types.K.Denot types.V.Denot types.B.Denot types.D.Denot
 
-  -- the entry at the key goes first, with the last value written through r; with none the cache stays
+  -- The entry at the key becomes the first, with the last value that is written through r. If the result is `None`, the cache is unchanged.
   abbrev pub lends_value : MutBor CacheOf → types.K.Denot → Option (MutBor types.V.Denot) → Fml
   lends_value c k r = LendsSo cache_row types.V c r
       (λ n w. n ≡ with_entries c.now (hit (types.members.eq k) c.now.slots.entries w)) (λ n. n ≡ c.now)
 
-  -- the entry at the key is found or loaded with the value that r shows, and goes first, with the last value written through r
+  -- The entry at the key is found or loaded, and r has its value. It becomes the first, with the last value that is written through r.
   abbrev pub lends_found : CacheKind types.K.Denot types.V.Denot types.D.Denot → MutBor CacheOf → types.D.Denot → types.D.Denot
       → types.K.Denot → Bool → Result (MutBor types.V.Denot) NotLent → Fml
   lends_found kind c before after k may_flush r = LendsSoOk cache_row types.V c r

@@ -1,4 +1,4 @@
--- How a refcount block is made where there was none.
+-- Specifies how a missing refcount block is made: it is written to a cluster, and then an entry of the refcount table references it.
 use Rattle.std.specs.Prelude.{◌≡◌, ◌≢◌, ⊤, ℕ, ◌+◌, ◌*◌, ◌/◌, ◌<◌, Bool, Result, Ok, Err, slice_index}
 use Rattle.std.specs.Int.{w64, to_be_bytes}
 use Rattle.imago_storage.specs.State.{StorageState}
@@ -20,18 +20,18 @@ use Rattle.qcow2_alloc.specs.Freeing.{HasUnpinnedRoom}
 use Rattle.qcow2_alloc.specs.GuestView.{Metadata, PreservesGuest, counted}
 use Rattle.qcow2_alloc.specs.State.{ImageState, image_state, metadata, WhereGuarded}
 
--- A word of the refcount table can be written, of an image whose clusters have 2 to this power of bytes, and name this cluster.
+-- An entry of the refcount table can be written and reference this cluster. The image's clusters have 2^`cluster_bits` bytes.
 pub record CanReference (table : TableValue) (cluster_bits place : ℕ) : Type 0 where
   pub placed : IsPlacedTable table
   pub bits : table.layout.cluster_bits ≡ cluster_bits
   pub offset_nonzero : place ≢ 0
 
--- Why none can: the word can't be written, or the cluster is out of reach.
+-- The causes of a failure to reference a cluster: the entry can't be written, or the cluster isn't addressable.
 abbrev pub naming_causes : TableValue → (cluster_bits place : ℕ) → Causes
 naming_causes table cluster_bits place =
     bare_causes (CanReference table cluster_bits place → ⊥) (λ number. (IsAddressable cluster_bits place → ⊥) × (number ≡ place))
 
--- A block is written, and then word i of the refcount table, which names it. Where the block wasn't written the table stays.
+-- A block is written, and then entry i of the refcount table, which references it. If the block isn't written, the table is unchanged.
 pub record LinksWritten (table : TableValue) (i : ℕ) (block : Block) (old : StorageState) (result : Result Unit Fault)
     (table' : TableValue) (new : StorageState) : Type 0 where
   pub done : Result Unit Fault
@@ -42,13 +42,13 @@ pub record LinksWritten (table : TableValue) (i : ℕ) (block : Block) (old : St
       (to_be_bytes w64 (slice_index (with_raw_entry table i (place_of block.cluster_bits block.cluster)).raw_entries i)) result
       × ((modified : Bool) × (table' ≡ record (with_raw_entry table i (place_of block.cluster_bits block.cluster)) { modified = modified }))
 
--- A cluster that isn't counted, and that another block counts, before those that block i does.
+-- A free cluster that a block counts, before those that block i counts.
 pub record IsFreePlace (m : Metadata) (i place : ℕ) : Type 0 where
   pub below : place < i * counters_of_block m.header.fields
   pub uncounted : counted m place ≡ 0
   pub block_exists : block_offset (slice_index m.table.raw_entries (place / counters_of_block m.header.fields)) ≢ 0
 
--- So far came a call: these clusters were handed out, while blocks are written before tables, and nothing else changed.
+-- The state within a call: `handed` is allocated, while blocks are written before tables, and nothing else has changed.
 pub record Begins {S : Type 0} (state : S → StorageState) (s : ImageState S) (handed : ℕ → ℕ) (s' : ImageState S) : Type 0 where
   pub shape : (state s'.file.image).shape ≡ (state s.file.image).shape
   pub counts_not_fallen : CountsNotFallen (state s.file.image) (state s'.file.image)
@@ -61,7 +61,8 @@ pub record Begins {S : Type 0} (state : S → StorageState) (s : ImageState S) (
   pub keeps_unpinned_room : (any : Bool) → HasUnpinnedRoom s.table s.caches any → HasUnpinnedRoom s.table s'.caches any
   pub room : KeepsTables s.caches s'.caches
 
--- A block is made in a cluster that another counts, by a call that came so far and knows by what the image was that this one is free.
+-- A block is made in a cluster that another block counts. The call has come to this state, and knows from the earlier image that the
+-- cluster is free.
 abbrev pub MakesIn : {S : Type 0} → (S → StorageState) → (index place : ℕ) → ImageState S → Result Unit Fault → ImageState S → Type 0
 MakesIn {S} state index place s result s' = (first : MetadataCaches S) (file : ImageFile S)
     → Begins state (image_state s.table first file s.pending) (λ _. 0) s

@@ -1,4 +1,4 @@
--- How room is made to count clusters: free clusters are written, and become blocks or another refcount table.
+-- Specifies how free clusters are written, and become refcount blocks or another refcount table.
 use Rattle.std.specs.Prelude.{◌≡◌, ◌≢◌, true, false, ℕ, ◌+◌, ◌*◌, ◌/◌, ◌%◌, ◌<◌, ◌≤◌, ◌==◌, if◌then◌else◌, Bool, IsTrue, Some, length, slice_index}
 use Rattle.std.specs.List.{AllByRecursion}
 use Rattle.qcow2_types.specs.Bytes.{Bytes, raw_entry, sum_below}
@@ -14,15 +14,16 @@ use Rattle.qcow2_metadata.specs.Tables.{TableValue, with_raw_entry}
 use Rattle.qcow2_metadata.specs.Places.{IsAddressable}
 use Rattle.qcow2_alloc.specs.GuestView.{Metadata, counted, referenced, referenced_at_all, waiting, one_at}
 
--- Each cluster is counted and named as often as it was, in the file and in memory.
+-- Each cluster has the same refcount and the same references, in the file and in memory.
 pub record CountsTheSame (old new : Metadata) : Type 0 where
   pub file : (c : ℕ) → count new.file new.header.fields c ≡ count old.file old.header.fields c
   pub memory : (c : ℕ) → counted new c ≡ counted old c
   pub references : (c : ℕ) → referenced new c ≡ referenced old c
   pub names : (c : ℕ) → referenced_at_all new c ≡ referenced_at_all old c
 
--- Cluster d can become block i, which there isn't yet: nothing names it and nothing waits to free it, and it has the bytes of a block that
--- counts no cluster but perhaps itself. Where another block counts it, it is counted. What is cached of it has these counters.
+-- Cluster d can become the missing block i. It has no references and no list entries, and the bytes of a block with all refcounts 0, except
+-- that it may count itself once. If another block counts the cluster, its refcount is above 0. A block that is cached for it has these
+-- refcounts.
 pub record IsReadyBlock (m : Metadata) (i d : ℕ) : Type 0 where
   pub inside : i < refcount_table_entries m.header.fields
   pub empty : block_offset (slice_index m.table.raw_entries i) ≡ 0
@@ -36,14 +37,14 @@ pub record IsReadyBlock (m : Metadata) (i d : ℕ) : Type 0 where
   pub cached : AllByRecursion (λ e. e.0 ≡ d → e.1.value.counters ≡ counters_in m.file m.header.fields (d * cluster_size m.header.fields))
       m.cached.blocks
 
--- The image with this file, where word i of the refcount table in memory names cluster d. The table may be marked as modified or not.
+-- The image with this file, and with entry i of the refcount table in memory referencing cluster d. The table is dirty or not.
 abbrev pub with_block : Metadata → ℕ → ℕ → Bool → Bytes → Metadata
 with_block m i d modified file = record m {
   file = file;
   table = record (with_raw_entry m.table i (d * cluster_size m.header.fields)) { modified = modified };
 }
 
--- Cluster d became block i: it is named, and counts its clusters as its bytes say. Nothing else is counted or named otherwise.
+-- Cluster d has become block i: it is referenced, and its bytes are the refcounts. No other refcount or reference changes.
 pub record BlockLinked (old new : Metadata) (i d : ℕ) : Type 0 where
   pub here : block_at new.file new.header.fields i ≡ d * cluster_size old.header.fields
   pub blocks : (b : ℕ) → b ≢ i → block_at new.file new.header.fields b ≡ block_at old.file old.header.fields b
@@ -54,8 +55,8 @@ pub record BlockLinked (old new : Metadata) (i d : ℕ) : Type 0 where
   pub references : (c : ℕ) → referenced new c ≡ referenced old c + one_at d c
   pub names : (c : ℕ) → referenced_at_all new c ≡ referenced_at_all old c + one_at d c
 
--- How often cluster c is one of a new refcount table of n clusters at cluster t, or of the blocks that this names where the old one named
--- none; and how often it is one of the old table.
+-- The number of times that cluster c is in a new refcount table of n clusters at cluster t, or in its new blocks. `formerly` is the number
+-- for the old table.
 abbrev pub newly : Metadata → ℕ → ℕ → ℕ → ℕ
 newly m t n c = newly_referenced m.file m.header.fields (t * cluster_size m.header.fields) n (meets m.header.fields c)
 
@@ -63,13 +64,15 @@ abbrev pub formerly : Metadata → ℕ → ℕ
 formerly m c = meets m.header.fields c m.header.fields.refcount_table_offset
     (m.header.fields.refcount_table_clusters * cluster_size m.header.fields)
 
--- what of these an old block counts
+-- The part of `newly` that an old block counts.
 abbrev pub newly_counted : Metadata → ℕ → ℕ → ℕ → ℕ
 newly_counted m t n c = if block_at m.file m.header.fields (c / counters_of_block m.header.fields) == 0 then 0 else newly m t n c
 
--- This table of n clusters stands at cluster t of the file, and can become the refcount table. It names the blocks that the old one does,
--- and perhaps new ones, and stands apart from these, in clusters that nothing names and nothing waits to free. Each of them is counted: by
--- an old block, in the file and in memory, or by a new one, which counts no other. What is cached of the new blocks has their counters.
+-- A table of n clusters is at cluster t of the file, and can become the refcount table.
+--
+-- It references the blocks that the old one does, and maybe new ones. It and the new blocks don't overlap, and are in clusters without
+-- references and list entries. Each of these clusters has a refcount: in an old block, in the file and in memory, or in a new one, which
+-- counts no other. Blocks that are cached for the new ones have the same refcounts.
 pub record IsReadyTable (m : Metadata) (table : TableValue) (t n : ℕ) : Type 0 where
   pub layout : table.layout ≡ layout_of m.header.fields
   pub long : length table.raw_entries ≡ n * entries_of_cluster m.header.fields
@@ -89,7 +92,7 @@ pub record IsReadyTable (m : Metadata) (table : TableValue) (t n : ℕ) : Type 0
       ≡ e.0 * cluster_size m.header.fields → e.0 ≢ 0
       → e.1.value.counters ≡ counters_in m.file m.header.fields (e.0 * cluster_size m.header.fields)) m.cached.blocks
 
--- The image with this file, where this table of n clusters at cluster t is the refcount table.
+-- The image with this file, and with this table of n clusters at cluster t as its refcount table.
 abbrev pub with_table : Metadata → TableValue → ℕ → ℕ → Bytes → Metadata
 with_table m table t n file = record m {
   file = file;
@@ -97,7 +100,7 @@ with_table m table t n file = record m {
   table = table;
 }
 
--- It became the refcount table: its clusters and the new blocks are named, and the old table no longer.
+-- The table has become the refcount table: its clusters and the new blocks are referenced, and the old table isn't.
 pub record TableSwitched (old new : Metadata) (t n : ℕ) : Type 0 where
   pub own : (c : ℕ) → block_at old.file old.header.fields (c / counters_of_block old.header.fields) ≡ 0 → (counted old c ≡ 0)
       × (counted new c ≡ newly old t n c) × (count new.file new.header.fields c ≡ newly old t n c)
@@ -106,18 +109,20 @@ pub record TableSwitched (old new : Metadata) (t n : ℕ) : Type 0 where
   pub references : (c : ℕ) → referenced new c + formerly old c ≡ referenced old c + newly old t n c
   pub names : (c : ℕ) → referenced_at_all new c + formerly old c ≡ referenced_at_all old c + newly old t n c
 
--- clusters in a row
+-- `count` consecutive clusters of metadata.
 abbrev pub run_of : ℕ → ℕ → FreeEntry
 run_of first count = record { first = first; count = count; metadata = true }
 
--- How many of the words before one name new blocks, where `new` tells which.
+-- The number of entries before one that reference new blocks, as `new` says.
 abbrev pub rank : (ℕ → Bool) → ℕ → ℕ
 rank new i = sum_below i (λ j. if new j then 1 else 0)
 
--- From cluster s on stand new blocks in a row, by their indices, and behind them this table of n clusters, where nothing was named and
--- nothing waits to be freed. The table names each of them where the old one names none, and else what that does. Each cluster of the run is
--- counted: the new blocks count those that are theirs and no other, and old blocks the rest, in the file and in memory. What is cached of
--- the new blocks has their counters.
+-- New blocks are at consecutive clusters from s on, by their indices, and after them this table of n clusters. None of these clusters had
+-- references or list entries.
+--
+-- The table references each new block where the old one references none; otherwise it references the same block. Each cluster of the run
+-- has a refcount: the new blocks count those that are theirs and no other, and old blocks count the rest, in the file and in memory. Blocks
+-- that are cached for the new ones have the same refcounts.
 pub record IsGrownTable (m : Metadata) (table : TableValue) (s : ℕ) (new : ℕ → Bool) (n : ℕ) : Type 0 where
   pub layout : table.layout ≡ layout_of m.header.fields
   pub long : length table.raw_entries ≡ n * entries_of_cluster m.header.fields

@@ -1,4 +1,4 @@
--- How a refcount table that has grown takes its room, and becomes the image's.
+-- Specifies how a grown refcount table is written to a run of free clusters (its free area), and becomes the image's table.
 use Rattle.std.specs.Prelude.{◌≡◌, ◌≢◌, true, ℕ, ◌+◌, ◌-◌, ◌*◌, ◌/◌, ◌%◌, ◌^◌, ◌<◌, ◌≤◌, ◌++◌, false, IsTrue, List, Some, None, Result, Ok, Err, OnOk, OnErr, IfErr, length, slice_index, nat_eq, Bool}
 use Rattle.std.specs.Map.{lookup}
 use Rattle.imago_storage.specs.State.{StorageState}
@@ -35,15 +35,15 @@ use Rattle.qcow2_alloc.specs.NewBlocks.{HasCountedOwn}
 use Rattle.qcow2_alloc.specs.GuestView.{Metadata, in_memory, counted, referenced_at_all, IsSound, GuestUnchanged, PreservesGuest}
 use Rattle.qcow2_alloc.specs.State.{ImageState, image_state, metadata, WhereKept, WhereGuarded}
 
--- how many clusters the words of a table take, where a cluster has 2 to this power of bytes
+-- The number of clusters that a table's entries take, if a cluster has 2^`cluster_bits` bytes.
 abbrev pub clusters_of : TableValue → ℕ → ℕ
 clusters_of table cluster_bits = (8 * length table.raw_entries + (2 ^ cluster_bits - 1)) / 2 ^ cluster_bits
 
--- the header that names a table in place of the refcount table that it named
+-- The header that references another table as its refcount table.
 abbrev pub naming_table : Header → TableValue → Header
 naming_table H table = with_refcount_table H (table_start table) (clusters_of table H.fields.cluster_bits)
 
--- A table is written to its place, and then the header's pointer to it. Where this is refused the image has the table that it had.
+-- A table is written to its clusters, and then the header's reference to it. If a write fails, the image has the old table.
 pub record MovesTable {S : Type 0} (state : S → StorageState) (table was : TableValue) (before : ImageFile S) (result : Result Unit Fault)
     (now : TableValue) (after : ImageFile S) : Type 0 where
   pub done : Result Unit Fault
@@ -57,7 +57,8 @@ pub record MovesTable {S : Type 0} (state : S → StorageState) (table was : Tab
   pub ok : OnOk result ((now ≡ record table { modified = false }) × (after.header ≡ naming_table before.header table))
   pub err : OnErr result ((now ≡ was) × MovedTable before.header after.header)
 
--- The blocks that are lacking for a run are named, in its first clusters, by the words of a table. The other words stay.
+-- The blocks that are missing for a run are linked: entries of a table reference them in the run's first clusters. Other entries stay the
+-- same.
 pub record LinksNewBlocks (h : Fields) (was : TableValue) (run : Run) (old new : TableValue) : Type 0 where
   pub layout : new.layout ≡ old.layout
   pub placed : new.cluster ≡ old.cluster
@@ -67,8 +68,8 @@ pub record LinksNewBlocks (h : Fields) (was : TableValue) (run : Run) (old new :
   pub olds : (i : ℕ) → lacks was (counters_of_block h) run.first run.len i ≡ false → slice_index new.raw_entries i ≡ slice_index old.raw_entries i
   pub table : IsTable refcount_table_kind old → old.layout.cluster_bits ≡ h.cluster_bits → IsTable refcount_table_kind new
 
--- A copy of the refcount table, grown to n clusters, is to stand in a run behind the blocks that are lacking for it. Its words name these,
--- and what the old ones name.
+-- A copy of the refcount table, grown to n clusters, is for a run, after the blocks that are missing for it. Its entries reference these,
+-- and the same blocks as the old ones.
 pub record IsGrownCopy (h : Fields) (table : TableValue) (run : Run) (n : ℕ) (copy : TableValue) : Type 0 where
   pub layout : copy.layout ≡ layout_of h
   pub long : length copy.raw_entries ≡ n * entries_of_cluster h
@@ -83,7 +84,7 @@ pub record IsGrownCopy (h : Fields) (table : TableValue) (run : Run) (n : ℕ) (
   pub olds : (i : ℕ) → lacks table (counters_of_block h) run.first run.len i ≡ false
       → block_offset (slice_index copy.raw_entries i) ≡ block_offset (slice_index table.raw_entries i)
 
--- The run has room for both, in reach of words and of the counters of the copy's blocks.
+-- The run has space for the missing blocks and the copy of the table. Its clusters are addressable, and the copy's blocks can count them.
 pub record HasFreeAreaFor (h : Fields) (table : TableValue) (run : Run) (n : ℕ) : Type 0 where
   pub start_nonzero : run.first ≢ 0
   pub more : 1 ≤ n
@@ -91,26 +92,26 @@ pub record HasFreeAreaFor (h : Fields) (table : TableValue) (run : Run) (n : ℕ
   pub reach : IsAddressable h.cluster_bits (run.first + (run.len - 1))
   pub inside : run.first + run.len ≤ n * entries_of_cluster h * counters_of_block h
 
--- A copy of the refcount table may take a run, and the header name it. The old table stands where words can name it.
+-- A grown copy of the refcount table may be written to a run, and the header may reference it. The old table's cluster is addressable.
 pub record IsPlan (h : Fields) (table : TableValue) (run : Run) (copy : TableValue) : Type 0 where
   pub grown : IsGrownCopy h table run (clusters_of copy h.cluster_bits) copy
   pub room : HasFreeAreaFor h table run (clusters_of copy h.cluster_bits)
   pub placed : IsPlacedTable table
   pub bits : table.layout.cluster_bits ≡ h.cluster_bits
 
--- The refcount table, grown in memory until it holds an index: what is added is 0, and it stands nowhere yet.
+-- The refcount table, grown in memory until it holds an index: new entries are 0, and it has no cluster yet.
 pub record IsGrownFor (h : Fields) (table : TableValue) (at : ℕ) (copy : TableValue) : Type 0 where
   pub copied : copy ≡ record { layout = layout_of h; raw_entries = padded table.raw_entries (length copy.raw_entries); cluster = None; modified = true }
   pub long : IsGrownLength (entries_of_cluster h) (counters_of_block h) at (length copy.raw_entries)
   pub bits : table.layout.cluster_bits ≡ h.cluster_bits
 
--- Why it can't be, but for want of memory: it is the table of another image, or would be too long.
+-- The causes of a failed growth, apart from `Memory`: the table is another image's, or would be too long.
 abbrev pub growing_causes : Fields → TableValue → (at : ℕ) → Causes
 growing_causes h table at = bare_causes (table.layout.cluster_bits ≢ h.cluster_bits)
     (λ number. ((n : ℕ) → IsEnough (entries_of_cluster h) (counters_of_block h) at n → 2 ^ 20 < n)
     × (number ≡ 2 ^ 20 + entries_of_cluster h))
 
--- A copy of the refcount table has grown in memory by whole clusters of empty words, and a run has room for it.
+-- A copy of the refcount table has grown in memory by whole clusters of empty entries, and a run has space for it.
 pub record IsCopyFor (h : Fields) (table : TableValue) (run : Run) (copy : TableValue) : Type 0 where
   pub copied : copy ≡ record { layout = layout_of h; raw_entries = padded table.raw_entries (length copy.raw_entries); cluster = None; modified = true }
   pub whole : length copy.raw_entries % entries_of_cluster h ≡ 0
@@ -118,15 +119,15 @@ pub record IsCopyFor (h : Fields) (table : TableValue) (run : Run) (copy : Table
   pub more : 1 ≤ clusters_of copy h.cluster_bits
   pub enough : run.len ≡ clusters_of copy h.cluster_bits + lacking table (counters_of_block h) run.first run.len
 
--- Why such a copy can't take the run, but for want of memory: it begins with the first cluster, or the table's words can't be written; or
--- it is out of reach.
+-- The causes of a failure to use the run for the copy, apart from `Memory`: it starts at cluster 0, the table's entries can't be written,
+-- or it isn't addressable.
 abbrev pub placing_causes : Fields → TableValue → Run → TableValue → Causes
 placing_causes h table run copy =
     bare_causes ((run.first ≢ 0) × CanReference table h.cluster_bits (run.first + (run.len - 1)) → ⊥) (λ number.
     (IsAddressable h.cluster_bits (run.first + (run.len - 1)) × (run.first + run.len ≤ length copy.raw_entries * counters_of_block h) → ⊥)
     × (number ≡ run.first + (run.len - 1)))
 
--- The image shows the same, with the same in memory.
+-- The guest is unchanged, and the image in memory is the same.
 pub record StaysInMemory (m m' : Metadata) : Type 0 where
   pub sound : IsSound m'
   pub guest_unchanged : GuestUnchanged (λ _. 0) (λ _. 0) m m'
@@ -135,17 +136,17 @@ pub record StaysInMemory (m m' : Metadata) : Type 0 where
 abbrev pub with_cached : Metadata → Cached → Metadata
 with_cached m cached = record m { cached = cached }
 
--- What is cached of the blocks in a run, which nothing names, is forgotten.
+-- Blocks that are cached for a run without references are dropped.
 pub record ForgetsRun (first n : ℕ) (old : Cached) (result : Result Unit Fault) (new : Cached) : Type 0 where
   pub stays : (m : Metadata) → IsSound (with_cached m old) → ((d : ℕ) → first ≤ d → d < first + n → referenced_at_all (with_cached m old) d ≡ 0)
       → StaysInMemory (with_cached m old) (with_cached m new)
       × OnOk result ((d : ℕ) → first ≤ d → d < first + n → lookup (nat_eq d) new.blocks ≡ None)
 
--- A block in one of so many clusters is pinned.
+-- A block that is cached for one of n clusters is pinned.
 abbrev pub IsPinnedWithin : {S : Type 0} → ℕ → ℕ → MetadataCaches S → Type 0
 IsPinnedWithin first n caches = (d : ℕ) × (first ≤ d) × (d < first + n) × (0 < pinned_among (nat_eq d) (cached_in caches).blocks)
 
--- The run of an image is counted, and has the blocks that are lacking for it in its first clusters. Nothing names it yet.
+-- The run's refcounts are set, and the blocks that are missing for it are in its first clusters. Nothing references it yet.
 pub record IsTaken (m : Metadata) (run : Run) : Type 0 where
   pub free : (c : ℕ) → run.first ≤ c → c < run.first + run.len → referenced_at_all m c ≡ 0
   pub counters : (i : ℕ) → lacks m.table (counters_of_block m.header.fields) run.first run.len i ≡ true
@@ -155,25 +156,24 @@ pub record IsTaken (m : Metadata) (run : Run) : Type 0 where
   pub uncached : (i : ℕ) → lacks m.table (counters_of_block m.header.fields) run.first run.len i ≡ true
       → lookup (nat_eq (run.first + rank (lacks m.table (counters_of_block m.header.fields) run.first run.len) i)) m.cached.blocks ≡ None
 
--- nothing of a run is counted
+-- The run is free.
 abbrev pub IsUncounted : Metadata → Run → Type 0
 IsUncounted m run = (c : ℕ) → run.first ≤ c → c < run.first + run.len → counted m c ≡ 0
 
--- what waits to be freed once a table has grown: the clusters of the old one too
+-- The free list after a table has grown: the old table's clusters are added.
 abbrev pub waiting_then : Result Unit Fault → Fields → List FreeEntry → List FreeEntry
 waiting_then (Ok done) h pending = pending ++ table_run h
 waiting_then (Err fault) h pending = pending
 
 module _ {S : Type 0} (state : S → StorageState) where
-  -- A run that wasn't counted is taken: those of its clusters are counted that an old block counts, and the blocks that are lacking for it
-  -- are written.
+  -- A free run is taken: refcounts in old blocks are set, and the blocks that are missing for it are written.
   pub record TakesFreeArea (run : Run) (s : ImageState S) (result : Result Unit Fault) (s' : ImageState S) : Type 0 where
     pub counts : CountsReferenced state run.first run.len s result s'
     pub taken : WhereGuarded state s (IsUncounted (metadata state s) run
         → OnOk result (IsTaken (metadata state s') run))
 
-  -- A copy of the refcount table takes a run, and becomes the image's, while the old one comes to wait; where something is known of the
-  -- image that says that the run isn't counted.
+  -- A copy of the refcount table is written to a run and becomes the image's table, and the old one is added to the list. If `known` holds,
+  -- the run was free.
   pub record FillsFreeArea (known : Type 0) (run : Run) (copy : TableValue) (s : ImageState S) (result : Result Unit Fault)
       (s' : ImageState S) : Type 0 where
     pub leaked : ℕ → ℕ
@@ -198,15 +198,15 @@ module _ {S : Type 0} (state : S → StorageState) where
     pub cause : FailsFor (counting_causes (known × IsTrue (state s.file.image).shape.keeps × IsSound (metadata state s))
         (HasUnpinnedRoom s.table s.caches) (state s.file.image).faults (state s'.file.image).faults) result
 
-  -- blocks are written first, and the run isn't counted
+  -- Blocks are written before tables, and the run is free.
   abbrev pub IsFreeIn : Run → ImageState S → Type 0
   IsFreeIn run s = (order_of s.caches ≡ L2DependsOnRb) × IsUncounted (metadata state s) run
 
-  -- it was sound before, in an image that keeps what is written
+  -- The image was consistent earlier, in a storage that keeps what is written.
   abbrev pub WasSound : ImageState S → Type 0
   WasSound s = (order_of s.caches ≡ L2DependsOnRb) × IsTrue (state s.file.image).shape.keeps × IsSound (metadata state s)
 
-  -- So it is where, of what the image was before some of the call, follows that the run isn't counted.
+  -- Like `FillsFreeArea`, if the image before a part of the call implies that the run is free.
   abbrev pub EntersFree : Run → TableValue → ImageState S → Result Unit Fault → ImageState S → Type 0
   EntersFree run copy s result s' = (first : MetadataCaches S) (file : ImageFile S)
       → (WasSound (image_state s.table first file s.pending) → IsFreeIn run s)

@@ -1,4 +1,4 @@
--- What an image is right after it was opened.
+-- The state of an image right after it is opened: its metadata is loaded, and nothing is cached yet.
 use Rattle.std.specs.Prelude.{◌≡◌, IsTrue, []}
 use Rattle.qcow2_types.specs.Bytes.{Bytes}
 use Rattle.qcow2_types.specs.Header.{Fields, Header, layout_of}
@@ -7,11 +7,11 @@ use Rattle.qcow2_metadata.specs.Tables.{TableValue, raw_entries_in}
 use Rattle.qcow2_alloc.specs.declared.cache.CacheDependency.TheVariants.{Unset}
 use Rattle.qcow2_alloc.specs.GuestView.{Metadata}
 
--- It has the header and the refcount table that were loaded. Nothing is cached, no order is announced, and nothing waits to be freed.
+-- The image has the header and the refcount table that were loaded. Nothing is cached, no write order is set, and the free list is empty.
 abbrev pub opened : Bytes → Header → TableValue → Metadata
 opened f H table = record { file = f; header = H; cached = record { tables = []; blocks = [] }; order = Unset; table = table; pending = [] }
 
--- The L1 table in memory has the words of the file's, each of which has a meaning.
+-- The L1 table in memory has the entries of the file's, and each is valid.
 pub record IsL1Of (f : Bytes) (h : Fields) (table : TableValue) : Type 0 where
   pub layout : table.layout ≡ layout_of h
   pub raw_entries : table.raw_entries ≡ raw_entries_in f h.l1_offset h.l1_entries

@@ -1,4 +1,5 @@
--- How a run of free clusters is found and made ready to be counted, and handed out.
+-- Specifies the search for a run of free clusters, the refcount blocks made for it, and its allocation. `mark` is the first-free hint,
+-- where searches for free clusters start.
 use Rattle.std.specs.Prelude.{◌≡◌, ◌≢◌, ◌⊎◌, ◌==◌, ℕ, ◌+◌, ◌-◌, ◌/◌, ◌<◌, ◌≤◌, if◌then◌else◌, Bool, false, Result, OnErr, IfOk, Ok, Err, length, slice_index}
 use Rattle.imago_storage.specs.State.{StorageState}
 use Rattle.imago_storage.specs.declared.fault.Fault.{Fault}
@@ -20,14 +21,14 @@ use Rattle.qcow2_alloc.specs.ReadyingBlocks.{last_number}
 use Rattle.qcow2_alloc.specs.SearchingClusters.{IsFirstRun, KeepsClean}
 use Rattle.qcow2_alloc.specs.State.{AllocatorState, ImageState, metadata, IsGuarded, WhereGuarded}
 
--- As long as a call hasn't begun to change anything, nor what came before it, as a flag tells: the allocator, the list and the header are
--- what they were, and where nothing waited in memory to be written nothing does, and no byte of the file was changed.
+-- If the flag `begun` isn't set, nothing has changed: the allocator, the list and the header are the same. If the caches were clean, they
+-- still are, and no byte of the file has changed.
 abbrev pub LeavesUntouched : {S : Type 0} → (S → StorageState) → (was now : Bool) → Allocator → ImageState S → Allocator → ImageState S → Type 0
 LeavesUntouched state was now a s a' s' = now ≡ false → (was ≡ false) × (a' ≡ a) × (s'.pending ≡ s.pending) × (s'.file.header ≡ s.file.header)
     × KeepsClean state (cached_file s.caches s.file) (cached_file s'.caches s'.file)
 
--- Why the first run of n clusters from the mark on that aren't counted isn't made ready to be, as a number tells: that of its last cluster,
--- which words can't name or the refcount table doesn't count; or what tells that there is no place for a table that has grown for it.
+-- The cause of a limit for the first free run of n clusters. `number` is its last cluster, which isn't addressable or has no entry in the
+-- refcount table; or the number of a failed growth of the table.
 pub record IsRunTold (m : Metadata) (mark n number : ℕ) : Type 0 where
   pub first : ℕ
   pub run : IsFirstRun (counted m) mark n first
@@ -36,8 +37,8 @@ pub record IsRunTold (m : Metadata) (mark n number : ℕ) : Type 0 where
       → length m.table.raw_entries ≤ (first + (n - 1)) / counters_of_block m.header.fields))
       ⊎ NoPlaceToGrow m mark ((first + (n - 1)) / counters_of_block m.header.fields + (n / counters_of_block m.header.fields + 2)) number
 
--- The first run of n clusters from the mark on that aren't counted is ready to be: the refcount table names a block for each, and words can
--- name it.
+-- The first free run of n clusters from the first-free hint on is prepared: it is addressable, and the refcount table references a block
+-- for each cluster.
 pub record ReadiesRun {S : Type 0} (state : S → StorageState) (n : ℕ) (s : AllocatorState S) (result : Result ℕ Fault)
     (s' : AllocatorState S) : Type 0 where
   pub leaked : ℕ → ℕ
@@ -58,22 +59,22 @@ pub record ReadiesRun {S : Type 0} (state : S → StorageState) (n : ℕ) (s : A
       × IsRunTold (metadata state s'.image) s.mark n number))
       (state s.file.image).faults (state s'.file.image).faults) result
 
--- where the search begins once a run is counted: each cluster before is counted
+-- The first-free hint after a run is allocated. No cluster before it is free if that was so before.
 abbrev pub first_free_after : ℕ → ℕ → ℕ → ℕ
 first_free_after mark n first = if first == mark then first + n else if n == 1 then first + 1 else mark
 
--- what is handed out: the clusters of the answer, or where it is refused what was leaked
+-- The excess refcounts that a call adds: the result's clusters, or after an error what has leaked.
 abbrev pub allocated_by : Result FreeEntry Fault → (ℕ → ℕ) → ℕ → ℕ
 allocated_by (Ok entry) leaked c = covers c entry
 allocated_by (Err fault) leaked c = leaked c
 
--- The clusters that are handed out are a run of n, the first one from the mark on that wasn't counted. They are counted once now.
+-- The allocated clusters are the first free run of n clusters from the first-free hint on. Their refcounts are 1 now.
 pub record IsRunCounted (mark n : ℕ) (m' : Metadata) (entry : FreeEntry) : Type 0 where
   pub not_before_start : mark ≤ entry.first
   pub once : (c : ℕ) → entry.first ≤ c → c < entry.first + n → counted m' c ≡ 1
   pub least : (z : ℕ) → mark ≤ z → z < entry.first → (c : ℕ) × (z ≤ c) × (c < z + n) × (covers c entry ≡ 0) × (0 < counted m' c)
 
--- A run of n clusters is handed out, while blocks are written before tables. One of none begins at the mark.
+-- A run of n clusters is allocated, while blocks are written before tables. An empty run starts at the first-free hint.
 pub record Allocates {S : Type 0} (state : S → StorageState) (n : ℕ) (is_metadata : Bool) (s : AllocatorState S)
     (result : Result FreeEntry Fault) (s' : AllocatorState S) : Type 0 where
   pub leaked : ℕ → ℕ

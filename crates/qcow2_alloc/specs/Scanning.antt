@@ -1,4 +1,4 @@
--- What a search makes of the counters of one block.
+-- Specifies the search for free clusters within one refcount block.
 use Rattle.std.specs.Prelude.{◌≡◌, ◌≢◌, ℕ, ◌+◌, ◌*◌, ◌/◌, ◌<◌, ◌≤◌, Result, Err, IfOk, MatchResult, Option, MatchOption, List, length, slice_index}
 use Rattle.imago_storage.specs.State.{StorageState}
 use Rattle.imago_storage.specs.declared.fault.Fault.{Fault}
@@ -10,46 +10,46 @@ use Rattle.qcow2_alloc.specs.declared.allocation.searching.Run.{Run}
 use Rattle.qcow2_alloc.specs.Caches.{CachedFile}
 use Rattle.qcow2_alloc.specs.SearchingClusters.{counts_in, IsSafeWith, Looked}
 
--- the cluster behind a run
+-- The cluster after a run.
 abbrev pub next_of : Run → ℕ
 next_of run = run.first + run.len
 
--- A run of clusters that aren't counted, as far as a search for n of them, from one on, has come: no longer one begins before it.
+-- The state of a search for n free clusters from `from` on: the run is free, and no free run of n clusters starts before it.
 pub record IsRunSoFar (counts : ℕ → ℕ) (from n : ℕ) (run : Run) : Type 0 where
   pub not_before_start : from ≤ run.first
   pub free : (c : ℕ) → run.first ≤ c → c < next_of run → counts c ≡ 0
   pub least : (z : ℕ) → from ≤ z → z < run.first → (c : ℕ) × (z ≤ c) × (c < z + n) × (0 < counts c)
 
--- The counters of a block, whose first is that of cluster `base`, say how often clusters are counted.
+-- The refcounts of a block, which start with that of cluster `base`, are those of the clusters.
 abbrev pub AreCounted : (ℕ → ℕ) → ℕ → List ℕ → Type 0
 AreCounted counts base counters = (j : ℕ) → j < length counters → counts (base + j) ≡ slice_index counters j
 
--- The counters of a block from one index to another were scanned, from the cluster behind a run on.
+-- The refcounts of a block from index to `scan_end` were scanned, starting with the cluster after a run.
 pub record Scans (counters : List ℕ) (n index scan_end : ℕ) (was now : Run) : Type 0 where
   pub moved : next_of now + index ≡ next_of was + scan_end
   pub rising : was.first ≤ now.first
   pub so_far : (counts : ℕ → ℕ) (from base : ℕ) → next_of was ≡ base + index → AreCounted counts base counters
       → IsRunSoFar counts from n was → IsRunSoFar counts from n now
 
--- One of them was at least.
+-- Like `Scans`, and at least one refcount was scanned.
 pub record ScansSome (counters : List ℕ) (n index : ℕ) (was now : Run) : Type 0 where
   pub scan_end : ℕ
   pub more : index < scan_end
   pub inside : scan_end ≤ length counters
   pub scans : Scans counters n index scan_end was now
 
--- the first counter from an index on that is 0, if there is one
+-- The first refcount from an index on that is 0, if any.
 abbrev pub FindsZero : ℕ → List ℕ → Option ℕ → Type 0
 FindsZero index counters found = MatchOption found ((j : ℕ) → index ≤ j → j < length counters → 0 < slice_index counters j)
     (λ i. (index ≤ i) × (i < length counters) × (slice_index counters i ≡ 0) × ((j : ℕ) → index ≤ j → j < i → 0 < slice_index counters j))
 
--- A block of k counters is read, and stays as it is. One of another length is refused.
+-- A block of k refcounts is read and unchanged. For a block of another length the call fails with `DamagedTable`.
 pub record Reads {T : Type 0} (k : ℕ) (P : List ℕ → T → Type 0) (block : Block) (result : Result T Fault) (block' : Block) : Type 0 where
   pub same : block' ≡ block
   pub odd : length block.counters ≢ k → result ≡ Err DamagedTable
   pub even : length block.counters ≡ k → MatchResult result (P block.counters) (λ fault. ⊥)
 
--- A run is extended, from the cluster behind it on, by clusters that one block counts.
+-- A run is extended, from the cluster after it on, by clusters of one block.
 pub record ExtendsRun {S : Type 0} (state : S → StorageState) (table : TableValue) (n : ℕ) (was : Run) (old : CachedFile S)
     (result : Result Run Fault) (new : CachedFile S) : Type 0 where
   pub looked : Looked state table old result new

@@ -1,4 +1,4 @@
--- An image as a call of the allocator is lent it, with what is known of a sound one.
+-- The state of an image in a call of the allocator, and the invariant that holds for it.
 use Rattle.std.specs.Prelude.{◌≡◌, ℕ, IsTrue, List}
 use Rattle.imago_storage.specs.State.{StorageState}
 use Rattle.qcow2_types.specs.Pending.{FreeEntry}
@@ -12,7 +12,7 @@ use Rattle.qcow2_alloc.specs.Caches.{order_of}
 use Rattle.qcow2_alloc.specs.FreeList.{FreeList}
 use Rattle.qcow2_alloc.specs.GuestView.{Metadata, IsSound}
 
--- The refcount table in memory, the caches, the file with its header, and the clusters that wait to be freed.
+-- The refcount table in memory, the caches, the file with its header, and the free list.
 pub record ImageState (S : Type 0) : Type 0 where
   pub table : TableValue
   pub caches : MetadataCaches S
@@ -22,11 +22,11 @@ pub record ImageState (S : Type 0) : Type 0 where
 abbrev pub image_state : {S : Type 0} → TableValue → MetadataCaches S → ImageFile S → List FreeEntry → ImageState S
 image_state table caches file pending = record { table = table; caches = caches; file = file; pending = pending }
 
--- what a call is lent, with its allocator and its list
+-- The image's state, from the arguments of a call.
 abbrev pub seen : {S : Type 0} → Allocator → MetadataCaches S → ImageFile S → FreeList → ImageState S
 seen allocator caches file list = image_state (table_of allocator) caches file list.entries
 
--- What a call of an allocator is lent: an image, and the mark, where the search for free clusters begins.
+-- The image and the first-free hint (`mark`), where the search for free clusters starts.
 pub record AllocatorState (S : Type 0) : Type 0 where
   pub image : ImageState S
   pub open image use *
@@ -38,11 +38,11 @@ with_first_free image mark = record { image = image; mark = mark }
 abbrev pub allocator_state : {S : Type 0} → Allocator → MetadataCaches S → ImageFile S → FreeList → AllocatorState S
 allocator_state allocator caches file list = with_first_free (seen allocator caches file list) (first_free_of allocator)
 
--- what contracts see of an image,
+-- The image, as contracts see it.
 abbrev pub metadata : {S : Type 0} → (S → StorageState) → ImageState S → Metadata
 metadata state s = metadata_of state s.file s.caches s.table s.pending
 
--- and of one with its mark
+-- An image with its first-free hint.
 pub record MetadataWithFirstFree : Type 0 where
   pub image : Metadata
   pub open image use *
@@ -51,18 +51,18 @@ pub record MetadataWithFirstFree : Type 0 where
 abbrev pub metadata_with_first_free : {S : Type 0} → (S → StorageState) → AllocatorState S → MetadataWithFirstFree
 metadata_with_first_free state s = record { image = metadata state s.image; mark = s.mark }
 
--- It is sound, in a storage that keeps what is written;
+-- The image is consistent, in a storage that keeps what is written.
 abbrev pub KeepsWritesAndSound : {S : Type 0} → (S → StorageState) → ImageState S → Type 0
 KeepsWritesAndSound state s = IsTrue (state s.file.image).shape.keeps × IsSound (metadata state s)
 
--- and blocks are written before tables.
+-- The image is consistent, in a storage that keeps what is written, and blocks are written before tables.
 abbrev pub IsGuarded : {S : Type 0} → (S → StorageState) → ImageState S → Type 0
 IsGuarded state s = IsTrue (state s.file.image).shape.keeps × (order_of s.caches ≡ L2DependsOnRb) × IsSound (metadata state s)
 
--- Something holds where the one is so,
+-- A fact that holds if the image is consistent, in a storage that keeps what is written.
 abbrev pub WhereKept : {S : Type 0} → (S → StorageState) → ImageState S → Type 0 → Type 0
 WhereKept state s fact = IsTrue (state s.file.image).shape.keeps → IsSound (metadata state s) → fact
 
--- or where the other is.
+-- A fact that holds if the image is consistent, in a storage that keeps what is written, and blocks are written before tables.
 abbrev pub WhereGuarded : {S : Type 0} → (S → StorageState) → ImageState S → Type 0 → Type 0
 WhereGuarded state s fact = order_of s.caches ≡ L2DependsOnRb → IsTrue (state s.file.image).shape.keeps → IsSound (metadata state s) → fact

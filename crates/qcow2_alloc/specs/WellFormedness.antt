@@ -1,5 +1,4 @@
--- What holds of an image file and of the tables and blocks that are cached of it, so that the file is consistent whenever the machine
--- stops.
+-- The invariant of the two caches over their file (`WellFormed`). It keeps the file consistent at each crash.
 use Rattle.imago_storage.specs.State.{StorageState, HasRisen, CrashImageIsBytes}
 use Rattle.std.specs.Prelude.{IsTrue, ◌≡◌, ◌≢◌, ◌⊎◌, ℕ, ◌*◌, ◌<◌, ◌≤◌, ◌^◌, true, false, List, length, slice_index, nat_eq, Some}
 use Rattle.std.specs.List.{AllByRecursion, IsDistinct}
@@ -17,16 +16,16 @@ use Rattle.qcow2_alloc.specs.declared.cache.CacheDependency.{CacheDependency}
 use Rattle.qcow2_alloc.specs.declared.cache.CacheDependency.TheVariants.{Unset, L2DependsOnRb, RbDependsOnL2}
 use Rattle.qcow2_alloc.specs.Memory.{Cached, memory}
 
--- a word of the L1 table names the L2 table in this cluster
+-- An L1 entry references the L2 table in this cluster.
 abbrev pub IsLiveTable : Bytes → Fields → ℕ → Type 0
 IsLiveTable f h cluster = (i : ℕ) × (i < h.l1_entries) × (l2_table f h i ≡ cluster * cluster_size h) × (cluster ≢ 0)
 
--- a word of the refcount table names the block in this cluster
+-- An entry of the refcount table references the block in this cluster.
 abbrev pub IsLiveBlock : Bytes → Fields → ℕ → Type 0
 IsLiveBlock f h cluster = (i : ℕ) × (i < refcount_table_entries h) × (block_at f h i ≡ cluster * cluster_size h) × (cluster ≢ 0)
 
--- A cached L2 table is what the file has, or is to be written to a table that an L1 word names. One that no L1 word names any more may
--- be left of a table that was replaced: it isn't modified.
+-- A cached L2 table is what the file has, or is dirty and referenced by an L1 entry. A table that no L1 entry references any more may still
+-- be cached after it was replaced: it is clean.
 pub record IsCachedTable (f : Bytes) (h : Fields) (cluster : ℕ) (table : TableValue) : Type 0 where
   pub fits : IsTable l2_table_kind table
   pub placed : table.cluster ≡ Some cluster
@@ -34,7 +33,7 @@ pub record IsCachedTable (f : Bytes) (h : Fields) (cluster : ℕ) (table : Table
   pub modified : table.modified ≡ true → IsLiveTable f h cluster
   pub clean : table.modified ≡ false → IsLiveTable f h cluster → table.raw_entries ≡ raw_entries_in f (cluster * cluster_size h) (entries_of_cluster h)
 
--- A cached block is what the file has, or is to be written to a block that a word of the refcount table names.
+-- A cached block is what the file has, or is dirty and referenced by an entry of the refcount table.
 pub record IsCachedBlock (f : Bytes) (h : Fields) (cluster : ℕ) (block : Block) : Type 0 where
   pub placed : block.cluster ≡ Some cluster
   pub cluster_bits : block.cluster_bits ≡ h.cluster_bits
@@ -44,14 +43,14 @@ pub record IsCachedBlock (f : Bytes) (h : Fields) (cluster : ℕ) (block : Block
   pub modified : block.modified ≡ true → IsLiveBlock f h cluster
   pub clean : block.modified ≡ false → IsLiveBlock f h cluster → block.counters ≡ counters_in f h (cluster * cluster_size h)
 
--- The order that was announced is kept: f is the file, and g what is in memory over it. Before any is announced both hold.
+-- The write order holds between the file f and the image in memory g. If no order is set, both orders hold.
 abbrev pub IsOrdered : CacheDependency → Bytes → Bytes → Fields → Type 0
 IsOrdered Unset f g h = BlocksFirst f g h × TablesFirst f g h
 IsOrdered L2DependsOnRb f g h = BlocksFirst f g h
 IsOrdered RbDependsOnL2 f g h = TablesFirst f g h
 
--- What keeps each file that a stop may leave consistent: the file is; what is cached fits it; what the structure or a copied word names
--- in the file or in memory is named once; counts cover what is named, in the announced order and in memory.
+-- The invariant that keeps each crash image consistent: the file is consistent, and the cached entries fit it. The structure and COPIED
+-- clusters are referenced once in the file and in memory together. Refcounts cover references, as the write order requires and in memory.
 pub record WellFormed (f : Bytes) (H : Header) (cached : Cached) (order : CacheDependency) : Type 0 where
   pub consistent : IsConsistent f H
   pub tables_apart : IsDistinct nat_eq (keys_of cached.tables)
@@ -62,27 +61,28 @@ pub record WellFormed (f : Bytes) (H : Header) (cached : Cached) (order : CacheD
   pub ordered : IsOrdered order f (memory f H.fields cached) H.fields
   pub covered : (c : ℕ) → refs (memory f H.fields cached) H.fields c ≤ count (memory f H.fields cached) H.fields c
 
--- A file that a stop may leave, where f is the file and g what is in memory over it: it is consistent, each word means what it does in the
--- file or in memory, and each byte is that of the file or of memory.
+-- A crash image x of file f, with the image g in memory: it is consistent, each entry means what it means in f or in g, and each byte is
+-- that of f or of g.
 pub record IsCrashImage (f g : Bytes) (H : Header) (x : Bytes) : Type 0 where
   pub consistent : IsConsistent x H
   pub raw_entries : IsBetween f x g H.fields
   pub bytes : (p : ℕ) → (x p ≡ f p) ⊎ (x p ≡ g p)
 
--- nothing of a cache waits to be written
+-- No table, or no block, is dirty.
 abbrev pub AreTablesClean : Cached → Type 0
 AreTablesClean cached = AllByRecursion (λ e. e.1.value.modified ≡ false) cached.tables
 
 abbrev pub AreBlocksClean : Cached → Type 0
 AreBlocksClean cached = AllByRecursion (λ e. e.1.value.modified ≡ false) cached.blocks
 
--- nothing kept it from telling its stops: no change was refused since, and a stop left then what the file was
+-- The storage exposes its crash images (the file after a crash between two requests), and no change of it has failed since. The crash image
+-- before was the file's bytes.
 pub record NoChangeRefused (old new : StorageState) : Type 0 where
   pub no_change_refused : HasRisen old.refusals new.refusals → ⊥
   pub crash_image_is_bytes : CrashImageIsBytes old
   pub tells : IsTrue old.shape.tells
 
--- what is cached of a file, safe as before: memory is what it was, and the file one that a stop could have left
+-- The caches are well-formed, and the image in memory is the same. The file is one that a crash could have left.
 pub record IsSettled (H : Header) (order : CacheDependency) (old : List ℕ) (cached : Cached) (new : List ℕ)
     (cached' : Cached) : Type 0 where
   pub well_formed : WellFormed (bytes_of new) H cached' order

@@ -1,6 +1,8 @@
-//! Who gets which cluster of an image file: allocation, and the freeing of what nothing names any more. To hand out is to allocate for qemu
-//! (`qcow2_alloc_clusters`) and imago (`allocate_clusters`). What waits to be freed is imago's `clusters_to_free`, and the mark qemu's
-//! `free_cluster_index`, imago's `first_free_cluster`.
+//! The allocator: allocates clusters of an image file, frees the clusters on the free list, and grows the refcount table.
+//!
+//! The promises here are for a consistent image, in a storage that keeps what is written. An image is consistent if its file and its
+//! metadata in memory are, and each refcount in memory covers the references and the entries on the free list (`IsSound`,
+//! specs/GuestView.antt).
 ghost use Rattle.std.specs.Prelude.{◌≡◌, ◌≤◌, ◌<◌, ◌-◌, ◌%◌, ◌^◌, ◌+◌, ℕ, true, Ok, Err, OnOk, OnErr, IfOk, IfErr, Some, None, slice_index, length, min, [], Result, MatchOption};
 
 use crate::cache::MetadataCaches;
@@ -19,7 +21,7 @@ mod moving_table;
 mod readying_runs;
 mod searching;
 
-/// The allocator of the clusters of an image file: its refcount table in memory, and where the search for free clusters begins.
+/// The allocator of an image: its refcount table in memory, and the first-free hint, where the search for free clusters starts.
 #[derive(Drop)]
 pub struct Allocator {
     alloc: Global,
@@ -44,11 +46,14 @@ impl Allocator {
     ghost use Rattle.qcow2_alloc.specs.GuestView.{metadata_in};
     ghost use Rattle.qcow2_alloc.specs.State.{allocator_state, seen};
 
-    /// The allocator of an image: its refcount table is loaded, and the search for free clusters begins at cluster 0.
+    /// Loads the refcount table of an image. The search for free clusters starts at cluster 0.
     ///
-    /// It refuses with `Fault::DamagedTable` where the table doesn't begin with a cluster that words can name, and then asks nothing of the
-    /// storage, or where one of its words has no meaning; with `Fault::Limit` where the table has more than 2^20 words; with
-    /// `Fault::Memory`; and with `Fault::Storage`.
+    /// # Errors
+    ///
+    /// - `Fault::DamagedTable` if the header's offset of the table isn't that of an addressable cluster, before anything is read; or if an
+    ///   entry of the table is invalid.
+    /// - `Fault::Limit` if the table has more than 2^20 entries.
+    /// - `Fault::Memory`, `Fault::Storage`.
     pub fn new<S: Storage>(alloc: Global, file: &mut ImageFile<S>) -> Result<Allocator, Fault>
         ensures loads { LoadsAllocator (S.state file.old.image) file.old.header.fields result (S.state file.new.image) }
         ensures header { file.new.header ≡ file.old.header }
@@ -65,7 +70,8 @@ impl Allocator {
         Ok(Allocator::from_table(alloc, table, HostCluster(0)))
     }
 
-    /// An allocator over this refcount table, which begins its search at `first_free`: each cluster before is counted.
+    /// Returns an allocator over a refcount table. The search for free clusters starts at `first_free`: all clusters before it should be
+    /// allocated.
     pub fn from_table(alloc: Global, table: RefTable, first_free: HostCluster) -> Allocator
         ensures table { table_of result ≡ table }
         ensures mark { first_free_of result ≡ first_free }
@@ -78,14 +84,14 @@ impl Allocator {
         }
     }
 
-    /// How many words the refcount table has.
+    /// Returns the number of entries of the refcount table.
     pub fn reftable_entries(&self) -> usize
         ensures { result ≡ length (table_of self.now).raw_entries }
     {
         self.reftable.entries()
     }
 
-    // The cluster of the block at an index of the refcount table, if there is one.
+    // Returns the cluster of the block that an entry of the refcount table references, if any.
     fn block_cluster(&self, rt_index: usize) -> Option<HostCluster>
         ensures { result ≡ referenced_block (table_of self.now) rt_index }
     {
@@ -96,7 +102,7 @@ impl Allocator {
         }
     }
 
-    // Counts a cluster down. The search for free clusters begins there if it began behind.
+    // Decrements the refcount of a cluster. The first-free hint becomes the cluster if it was greater.
     fn free_cluster<S: Storage>(
         &mut self,
         file: &mut ImageFile<S>,
@@ -120,7 +126,7 @@ impl Allocator {
         Ok(())
     }
 
-    // Counts the last cluster of an entry down, and takes it off the entry.
+    // Frees the last cluster of an entry of the list, and removes it from the entry.
     fn free_last<S: Storage>(
         &mut self,
         file: &mut ImageFile<S>,
@@ -147,7 +153,7 @@ impl Allocator {
         Ok(())
     }
 
-    // Counts the clusters of an entry down, from the last to the first, and takes it off the list.
+    // Frees the clusters of an entry, from the last to the first, and removes the entry from the list.
     fn free_entry<S: Storage>(
         &mut self,
         file: &mut ImageFile<S>,
@@ -174,7 +180,7 @@ impl Allocator {
         Ok(())
     }
 
-    // Counts the clusters of each entry that held metadata down.
+    // Frees the clusters of each entry of metadata.
     fn free_metadata<S: Storage>(
         &mut self,
         file: &mut ImageFile<S>,
@@ -197,7 +203,7 @@ impl Allocator {
         Ok(())
     }
 
-    // Counts the clusters of every entry down.
+    // Frees the clusters of every entry.
     fn free_all<S: Storage>(
         &mut self,
         file: &mut ImageFile<S>,
@@ -220,15 +226,29 @@ impl Allocator {
         Ok(())
     }
 
-    /// Counts down the clusters of each entry of the list: first those that held metadata, which nothing names, in the file or in memory;
-    /// then, once it was announced that tables are written before blocks, those of the guest's data. In an image whose data is in an
-    /// external file, nothing is counted for these: they are taken off the list, and nothing is announced.
+    /// Frees the clusters on the free list: decrements their refcounts and removes the entries.
     ///
-    /// It refuses with `Fault::Memory`; with `Fault::Storage`; with `Fault::CacheFull` only where as many blocks are pinned as there is
-    /// room for; with `Fault::Counter` where a cluster is counted 0 times, and with `Fault::DamagedTable` where no block counts it, which
-    /// no sound image has. What wasn't counted down stays on the list, a part of an entry included; the list takes no memory. The file of
-    /// a sound image shows the same at each stop; and a sound image stays sound, also where memory or the storage refused, if that tells
-    /// its stops and refused no change. Whatever it answers, the file gets no shorter.
+    /// Entries of metadata come first: nothing references their clusters, in the file or in memory. Then the call makes refcount blocks
+    /// depend on L2 tables (tables are written first), and frees the entries of guest data. If the image has an external data file, entries
+    /// of guest data are only removed: no refcount changes for them, and the write order stays. Changes of the list take no memory.
+    ///
+    /// # Errors
+    ///
+    /// - `Fault::Memory`, `Fault::Storage`.
+    /// - `Fault::CacheFull` only if as many blocks are pinned (not to be evicted) as the cache can hold.
+    /// - `Fault::Counter` if the refcount of a cluster is already 0, and `Fault::DamagedTable` if no block has its refcount. A consistent
+    ///   image has neither.
+    ///
+    /// # On error
+    ///
+    /// Clusters that weren't freed stay on the list, even a part of an entry. A consistent image stays consistent. After `Fault::Memory` or
+    /// `Fault::Storage` it does if the storage exposes its crash images and no change of the storage has failed. The file never gets
+    /// shorter.
+    ///
+    /// # Crash safety
+    ///
+    /// If the storage exposes its crash images (the file after a crash between two requests) and no change of the storage has failed, each
+    /// crash image of a consistent image is consistent, and the guest reads the same bytes from it.
     pub fn process_clusters_to_free<S: Storage>(
         &mut self,
         file: &mut ImageFile<S>,
@@ -260,23 +280,38 @@ impl Allocator {
         self.free_all(file, caches, list)
     }
 
-    /// Hands out so many clusters in a row, for metadata or for the guest's data: first what waits on the list is freed, by
-    /// `process_clusters_to_free`; then it is announced that blocks are written before tables; and then the first run of free clusters
-    /// from the mark on is counted. No table names one of them, in the file or in memory. A run of no clusters begins at the mark.
+    /// Allocates `count` consecutive clusters, for metadata or for guest data.
     ///
-    /// The parts of the answer are to be spent: the clusters by their `make_persistent` once a table names them, and the room by the list's
-    /// `release`; or both by its `give_back`. The room is held before anything else, so want of memory for it leaves all as it was.
+    /// It first frees the clusters on the free list (`process_clusters_to_free`). It then makes L2 tables depend on refcount blocks (blocks
+    /// are written first). The first run of `count` free clusters from the first-free hint on is allocated: the refcount of each becomes 1.
+    /// No table references any of them, in the file or in memory. If `count` is 0, the run is empty and starts at the hint.
     ///
-    /// It refuses with `Fault::Limit` only where a sixteenth of the space and three times the clusters asked for aren't free in a row from
-    /// the mark on, so only where no quarter of it is, or more than a sixteenth is asked for. It tells the last cluster of the first free
-    /// run of so many, or the greatest number where that is more, if words can't name it or the refcount table doesn't count it; or else
-    /// what a growth of that table tells.
+    /// The caller must consume both parts of the result: the clusters, and a reserved slot (memory for their entry on the free list). Once
+    /// a table references the clusters, call `make_persistent` on them and `release` on the list; or return both with `give_back`. The slot
+    /// is reserved first, so running out of memory for it changes nothing.
     ///
-    /// Else it refuses with `Fault::Memory`; with `Fault::Storage`; with `Fault::CacheFull` only where a block is pinned, and of a sound
-    /// image whose refcount table names each that is only where as many are as there is room for; and with `Fault::Counter` and
-    /// `Fault::DamagedTable`, which no sound image has. Nothing is handed out where it refuses, and no room is held. Blocks may have been
-    /// made, and the refcount table may have grown and moved, whatever is answered: the old table's clusters wait on the list then. The
-    /// file of a sound image shows the same at each stop, where the storage tells its stops and has refused no change.
+    /// # Errors
+    ///
+    /// - `Fault::Limit` only if no free run from the hint on has a sixteenth of the space plus `3 * count` clusters. The space is the
+    ///   number of clusters that a file can have. So no quarter of the space is free in one run from the hint on, or `count` is more than a
+    ///   sixteenth of the space. The fault's number is the last cluster of the first free run, or 2^64 - 1 if that is less. The offset of
+    ///   that cluster doesn't fit an entry, or the refcount table has no entry for it. If growing the table failed, the number is that of
+    ///   `grow_reftable`.
+    /// - `Fault::Memory`, `Fault::Storage`.
+    /// - `Fault::CacheFull` only if a block is pinned (not to be evicted). If the image is consistent and its refcount table references
+    ///   each pinned block, only if as many blocks are pinned as the cache can hold. Clusters may have leaked.
+    /// - `Fault::Counter`, `Fault::DamagedTable` only if the image isn't consistent.
+    ///
+    /// # On error
+    ///
+    /// Nothing is allocated for the caller, and no slot stays reserved. On success and on error, blocks may have been made, and the
+    /// refcount table may have grown and moved; the old table's clusters are on the free list then. After `Fault::Memory` or
+    /// `Fault::Storage` the image may no longer be consistent in memory: treat it as failed.
+    ///
+    /// # Crash safety
+    ///
+    /// If the storage exposes its crash images (the file after a crash between two requests) and no change of the storage has failed, each
+    /// crash image of a consistent image is consistent, and the guest reads the same bytes from it.
     pub fn allocate_clusters<S: Storage>(
         &mut self,
         file: &mut ImageFile<S>,
@@ -293,8 +328,12 @@ impl Allocator {
         self.try_allocate_clusters(file, caches, list, count, metadata, &mut begun)
     }
 
-    /// The same, and before the first change it sets `begun`. So where it is refused and `begun` isn't set, nothing has changed: of caches
-    /// with nothing to be written no byte of the file, and nothing is to be written; and the refcount table and the list stay.
+    /// Like `allocate_clusters`, but sets `begun` before its first change.
+    ///
+    /// # On error
+    ///
+    /// If `begun` isn't set, the allocator, the list's entries and the header are unchanged. If the caches were clean, they still are, and
+    /// no byte of the file has changed.
     pub fn try_allocate_clusters<S: Storage>(
         &mut self,
         file: &mut ImageFile<S>,
@@ -321,17 +360,33 @@ impl Allocator {
         }
     }
 
-    /// Hands out this cluster for the guest's data, where it is free: first it is announced that blocks are written before tables. What
-    /// waits on the list isn't freed. It answers none where the cluster is counted, also where this call has taken it for a block or for
-    /// the refcount table; and where there is no place for it, for the block that counts it, or for a refcount table that names this one.
+    /// Allocates one given cluster for guest data if it is free.
     ///
-    /// The answer is to be spent as that of `allocate_clusters`.
+    /// It first makes L2 tables depend on refcount blocks (blocks are written first). It doesn't free the clusters on the free list.
     ///
-    /// It refuses with `Fault::Memory`; with `Fault::Storage`; with `Fault::CacheFull` only where a block is pinned, and of a sound image
-    /// whose refcount table names each that is only where as many are as there is room for; and with `Fault::Counter` and
-    /// `Fault::DamagedTable`, which no sound image has. Nothing is handed out then, and no room is held. A block may have been made, and
-    /// the refcount table may have grown and moved, whatever is answered: the old table's clusters wait on the list then. The file of a
-    /// sound image shows the same at each stop, where the storage tells its stops and has refused no change.
+    /// It returns `None` if the cluster isn't free, or if the call itself has used the cluster for a block or for the refcount table. It
+    /// also returns `None` if the cluster's offset doesn't fit an entry, or if the refcount table has no entry for the cluster and can't
+    /// grow that far.
+    ///
+    /// The caller must consume both parts of the result, the clusters and the reserved slot, as for `allocate_clusters`.
+    ///
+    /// # Errors
+    ///
+    /// - `Fault::Memory`, `Fault::Storage`.
+    /// - `Fault::CacheFull` only if a block is pinned (not to be evicted). If the image is consistent and its refcount table references
+    ///   each pinned block, only if as many blocks are pinned as the cache can hold. Clusters may have leaked.
+    /// - `Fault::Counter`, `Fault::DamagedTable` only if the image isn't consistent.
+    ///
+    /// # On error
+    ///
+    /// Nothing is allocated for the caller, and no slot stays reserved. On success and on error, a block may have been made, and the
+    /// refcount table may have grown and moved; the old table's clusters are on the free list then. After `Fault::Memory` or
+    /// `Fault::Storage` the image may no longer be consistent in memory: treat it as failed.
+    ///
+    /// # Crash safety
+    ///
+    /// If the storage exposes its crash images (the file after a crash between two requests) and no change of the storage has failed, each
+    /// crash image of a consistent image is consistent, and the guest reads the same bytes from it.
     pub fn allocate_cluster_at<S: Storage>(
         &mut self,
         file: &mut ImageFile<S>,
@@ -357,21 +412,38 @@ impl Allocator {
         }
     }
 
-    /// Lets the refcount table grow until it has a word at an index, which it has none at yet: first it is announced that blocks are
-    /// written before tables. It gets the least length that fills its clusters and leaves room to count these, and stands in the first free
-    /// room from the mark on, or from where the clusters end that the old table can count, behind the blocks that are lacking there. The
-    /// clusters of the old table are put on the list.
+    /// Grows the refcount table until it has an entry at `index`, which moves the table. Its old clusters are added to the free list.
     ///
-    /// The grown copy of the table, and room for the old one's clusters on the list, are taken before anything else, so want of memory for
-    /// these leaves all as it was.
+    /// The call first makes L2 tables depend on refcount blocks (blocks are written first). The new length is the least one that fills
+    /// whole clusters and can count these clusters. The table goes to the first free area: a free run that is long enough for the table and
+    /// for the blocks that are missing for the area. The search for the area starts at the first-free hint, or at the end of what the old
+    /// table can count if that comes first. The missing blocks are written to the area's first clusters, and the table after them.
     ///
-    /// It refuses with `Fault::Limit` where the table would have more than 2^20 words, and tells the first length past that which fills its
-    /// clusters; or where its room ends out of reach of words or behind what the table could count, and tells the room's last cluster;
-    /// with `Fault::Memory`; with `Fault::Storage`; with `Fault::CacheFull` only where a block is pinned, and of a sound image whose
-    /// refcount table names each that is only where as many are as there is room for; and with `Fault::Counter` and `Fault::DamagedTable`,
-    /// which no sound image has. The list stays then, and unless memory or the storage failed so do table and header; with
-    /// `Fault::CacheFull` clusters may leak. The file of a sound image shows the same at each stop, where the storage tells its stops and
-    /// has refused no change.
+    /// Memory for the grown copy, and for the old clusters' entry on the list, is taken first. So running out of memory for these changes
+    /// nothing.
+    ///
+    /// # Preconditions
+    ///
+    /// The table has no entry at `index` yet.
+    ///
+    /// # Errors
+    ///
+    /// - `Fault::Limit` if the table would have more than 2^20 entries; its number is 2^20 plus the entries of a cluster. Also if the free
+    ///   area ends at a cluster whose offset doesn't fit an entry, or that the grown table can't count; its number is that cluster.
+    /// - `Fault::Memory`, `Fault::Storage`.
+    /// - `Fault::CacheFull` only if a block is pinned (not to be evicted). If the image is consistent and its refcount table references
+    ///   each pinned block, only if as many blocks are pinned as the cache can hold. Clusters may have leaked.
+    /// - `Fault::Counter`, `Fault::DamagedTable` only if the image isn't consistent.
+    ///
+    /// # On error
+    ///
+    /// The list is unchanged. The table and the header are unchanged, too, except after `Fault::Memory` or `Fault::Storage`: then the image
+    /// may no longer be consistent in memory, so treat it as failed.
+    ///
+    /// # Crash safety
+    ///
+    /// If the storage exposes its crash images (the file after a crash between two requests) and no change of the storage has failed, each
+    /// crash image of a consistent image is consistent, and the guest reads the same bytes from it.
     pub fn grow_reftable<S: Storage>(
         &mut self,
         file: &mut ImageFile<S>,
@@ -395,9 +467,12 @@ impl Allocator {
         }
     }
 
-    /// Drops each refcount block that isn't pinned from its cache, without writing it.
+    /// Drops each refcount block that isn't pinned from its cache, without writing it. Changes of dirty blocks are lost. If no block is
+    /// dirty, the invariant of the caches (`WellFormed`) is kept.
     ///
-    /// It refuses with `Fault::CacheFull` where something stays. What was to be written is lost: an image stays safe where nothing was.
+    /// # Errors
+    ///
+    /// - `Fault::CacheFull` if a pinned block is still cached. The other blocks are dropped.
     pub fn invalidate_rb_cache<S: Storage>(
         &self,
         caches: &mut MetadataCaches<S>,
@@ -412,7 +487,7 @@ impl Allocator {
     }
 }
 
-// The last cluster of an entry, or none where its number has more than 64 bits.
+// Returns the last cluster of an entry, or `None` if its number doesn't fit in 64 bits.
 fn last_cluster(entry: &ClustersToFreeEntry) -> Option<HostCluster>
     requires { 0 < entry.now.count }
     ensures { MatchOption result (2 ^ 64 ≤ entry.now.first + (entry.now.count - 1)) (λ last.
@@ -426,7 +501,7 @@ fn last_cluster(entry: &ClustersToFreeEntry) -> Option<HostCluster>
     }
 }
 
-// Takes every entry off a list.
+// Removes every entry of a list.
 fn drop_entries(list: &mut ClustersToFreeList)
     ensures { list.new ≡ record { entries = []; held = list.old.held } }
 {

@@ -1,5 +1,5 @@
-//! A cache of entries that a backend loads and flushes, the most recently used first. qemu's is `Qcow2Cache`. A pin is a reference to an
-//! entry there, and a clone of a value's `Arc` in imago.
+//! A least-recently-used cache over a backend that loads and flushes its values. A value that is pinned is neither evicted nor dropped.
+//! Definitions: specs/Cache.antt.
 ghost use Rattle.std.specs.Prelude.{IsTrue, IsErr, ◌↔◌, List, ◌≡◌, ◌<◌, ◌+◌, ◌-◌, ◌^◌, ℕ, [], IfOk, OnOk, IfErr, length, ◌∷◌, true, Ok, Err, None, IfSome, IsSome, Result, Some, Option};
 ghost use Rattle.std.specs.Option.{option_map, option_copied};
 ghost use Rattle.std.specs.NonZero.{non_zero_usize_get};
@@ -16,28 +16,28 @@ use std::alloc::Global;
 use std::hash::Hash;
 use std::num::NonZeroUsize;
 
-/// Loads and flushes the entries of a cache.
+/// Loads and flushes the values of a cache.
 pub trait AsyncLruCacheBackend {
-    /// What a value is found by.
+    /// The key that identifies a value.
     type Key: Copy + Eq + Hash;
 
-    /// What is cached.
+    /// The values that are cached.
     type Value: Drop;
 
-    /// What values are loaded from and flushed to.
+    /// The device that values are loaded from and flushed to.
     type Device;
 
-    /// What a load makes of the device, with its answer.
+    /// Relates the device before a load, the key, the result, and the device after it.
     ghost loads: { Self.Device → Self.Key → Result Self.Value Fault → Self.Device → Type 0 };
 
-    /// What a flush makes of the device and of the value, with its answer.
+    /// Relates the device and the value before a flush, the result, and the device and the value after it.
     ghost flushes: { Self.Device → Self.Key → Self.Value → Result Unit Fault → Self.Device → Self.Value → Type 0 };
 
-    /// The value at a key, as the device has it.
+    /// Returns the value at `key`, as the device has it.
     fn load(&self, device: &mut Self::Device, key: Self::Key) -> Result<Self::Value, Fault>
         ensures { loads device.old key result device.new };
 
-    /// Writes a value to the device where it has to be. Refused, it leaves the value to be flushed again.
+    /// Writes a value to the device if it is dirty. If the call fails, the value can be flushed again.
     fn flush(
         &self,
         device: &mut Self::Device,
@@ -50,34 +50,34 @@ pub trait AsyncLruCacheBackend {
     fn evict(&self, _key: Self::Key, _value: Self::Value) {}
 }
 
-/// Why a cache lends no value.
+/// The reason why a cache returns no reference to a value.
 #[derive(Clone, Copy, Debug, Drop, PartialEq, Eq)]
 pub enum NotLent {
-    /// It is full, and must not flush.
+    /// The cache is full, and a flush isn't allowed.
     Full,
-    /// A flush, a load or want of memory.
+    /// A flush or a load failed, all entries are pinned, or memory ran out.
     Refused(Fault),
 }
 
-// Whether a cache grants what it is asked for, or is full and must not flush.
+// The outcome of a request for an entry: granted, or denied because the cache is full and a flush isn't allowed.
 #[derive(Clone, Copy, Drop)]
 pub(crate) enum Admission {
     Granted,
     Denied,
 }
 
-/// A value, and how many hold on to it.
+/// A value and the number of its pins.
 #[derive(Drop)]
 pub struct Slot<V> {
     /// The value.
     pub value: V,
-    /// How many hold on to it: while there are any, it is neither evicted nor dropped.
+    /// The number of pins. While it is above 0, the value is neither evicted nor dropped.
     pub pins: usize,
 }
 
-/// A cache of values by key, of at most so many entries.
+/// A cache of values by key, with a fixed maximum number of entries.
 ///
-/// Contracts see the list of its entries, the most recently used first.
+/// In contracts the cache is the list of its entries, the most recently used first.
 #[derive(Drop)]
 pub struct AsyncLruCache<K: Copy + Eq + Hash, V, B: AsyncLruCacheBackend<Key = K, Value = V>> {
     pub(crate) backend: B,
@@ -98,7 +98,7 @@ impl<K: Copy + Eq + Hash, V: Drop, B: AsyncLruCacheBackend<Key = K, Value = V>> 
     ghost use Rattle.std.specs.Option.{option_copied_mut};
     ghost use Rattle.qcow2_alloc.specs.Lending.{cache_types, lends_value, lends_found};
 
-    // The value of a key, for writing; its entry goes first.
+    // Returns the value at `key` for writing. Its entry becomes the most recently used.
     pub(crate) fn get_mut(&mut self, key: K) -> Option<&mut V>
         ensures* writes_back { sem 𝓛 (lends_value (cache_types K.row V.row B.row B.Device.row K.Hash) self.entry key result) }
         ensures value { option_copied_mut result ≡ option_map (λ s. s.value) (lookup (K.eq key) self.old.slots.entries) }
@@ -109,7 +109,7 @@ impl<K: Copy + Eq + Hash, V: Drop, B: AsyncLruCacheBackend<Key = K, Value = V>> 
         }
     }
 
-    /// The value at a key, if it is there; the order of use stays.
+    /// Returns the value at `key`, if it is cached. The order of use doesn't change.
     pub fn get(&self, key: K) -> Option<&V>
         ensures { option_copied result ≡ option_map (λ s. s.value) (lookup (K.eq key) self.now.slots.entries) }
     {
@@ -119,7 +119,7 @@ impl<K: Copy + Eq + Hash, V: Drop, B: AsyncLruCacheBackend<Key = K, Value = V>> 
         }
     }
 
-    /// How often the value at a key is held on to, if it is there; the order of use stays.
+    /// Returns the number of pins of the value at `key`, if it is cached. The order of use doesn't change.
     pub fn pins(&self, key: K) -> Option<u64>
         ensures { result ≡ option_map (λ s. s.pins) (lookup (K.eq key) self.now.slots.entries) }
     {
@@ -129,7 +129,7 @@ impl<K: Copy + Eq + Hash, V: Drop, B: AsyncLruCacheBackend<Key = K, Value = V>> 
         }
     }
 
-    // The least recently used key that is not pinned.
+    // Returns the least recently used key that isn't pinned.
     fn victim(&self) -> Option<K>
         ensures { result ≡ victim self.now.slots.entries }
     {
@@ -142,7 +142,7 @@ impl<K: Copy + Eq + Hash, V: Drop, B: AsyncLruCacheBackend<Key = K, Value = V>> 
         None
     }
 
-    // Flushes the value at a key in place.
+    // Flushes the value at `key`. Its entry stays cached.
     fn flush_at(&mut self, device: &mut B::Device, key: K) -> Result<(), Fault>
         requires { IsSome (lookup (K.eq key) self.old.slots.entries) }
         ensures flushed { FlushedAt K.eq B.flushes key device.old self.old.slots.entries result device.new self.new.slots.entries }
@@ -154,7 +154,7 @@ impl<K: Copy + Eq + Hash, V: Drop, B: AsyncLruCacheBackend<Key = K, Value = V>> 
         }
     }
 
-    // Makes room for one entry more, where there is none.
+    // Makes space for one more entry: if the cache is full, it evicts the least recently used entry that isn't pinned.
     fn make_room(&mut self, device: &mut B::Device, may_flush: bool) -> Result<Admission, Fault>
         ensures fits { result ≡ Ok Granted → length self.new.slots.entries < self.new.slots.cap }
         ensures absent { result ≡ Ok Granted → (k : K) → lookup (K.eq k) self.old.slots.entries ≡ None
@@ -175,7 +175,7 @@ impl<K: Copy + Eq + Hash, V: Drop, B: AsyncLruCacheBackend<Key = K, Value = V>> 
         }
     }
 
-    // Flushes the entry at a key and removes it.
+    // Flushes the value at `key` and removes its entry.
     fn evict_at(&mut self, device: &mut B::Device, key: K) -> Result<Admission, Fault>
         requires { IsSome (lookup (K.eq key) self.old.slots.entries) }
         ensures shorter { OnOk result (length self.new.slots.entries < length self.old.slots.entries) }
@@ -189,7 +189,7 @@ impl<K: Copy + Eq + Hash, V: Drop, B: AsyncLruCacheBackend<Key = K, Value = V>> 
         Ok(Admission::Granted)
     }
 
-    // Puts a value in front, where its key is new and there is room.
+    // Adds a new key with its value as the most recently used entry. The cache isn't full.
     fn put_new(&mut self, key: K, value: V) -> Result<(), (Fault, V)>
         requires room { length self.old.slots.entries < self.old.slots.cap }
         requires fresh { lookup (K.eq key) self.old.slots.entries ≡ None }
@@ -202,7 +202,7 @@ impl<K: Copy + Eq + Hash, V: Drop, B: AsyncLruCacheBackend<Key = K, Value = V>> 
         }
     }
 
-    // Loads the value at a key, which is not there, into the room for it.
+    // Loads the value at a key that isn't cached, and adds it. The cache isn't full.
     fn load_at(&mut self, device: &mut B::Device, key: K) -> Result<Admission, Fault>
         requires room { length self.old.slots.entries < self.old.slots.cap }
         requires fresh { lookup (K.eq key) self.old.slots.entries ≡ None }
@@ -216,7 +216,7 @@ impl<K: Copy + Eq + Hash, V: Drop, B: AsyncLruCacheBackend<Key = K, Value = V>> 
         }
     }
 
-    // Finds or loads the entry at a key.
+    // Finds the entry at `key`, or loads it.
     pub(crate) fn ready(
         &mut self,
         device: &mut B::Device,
@@ -236,7 +236,7 @@ impl<K: Copy + Eq + Hash, V: Drop, B: AsyncLruCacheBackend<Key = K, Value = V>> 
         }
     }
 
-    // Replaces the value at a key that is there, whose entry goes first.
+    // Replaces the value at a cached key. Its entry becomes the most recently used.
     fn put_over(&mut self, key: K, value: V)
         requires { IsSome (lookup (K.eq key) self.old.slots.entries) }
         ensures { self.new ≡ with_entries self.old (hit (K.eq key) self.old.slots.entries value) }
@@ -246,7 +246,7 @@ impl<K: Copy + Eq + Hash, V: Drop, B: AsyncLruCacheBackend<Key = K, Value = V>> 
         }
     }
 
-    // Flushes the value at a key that is there, and then replaces it.
+    // Flushes the value at a cached key, and then replaces it.
     fn overwrite(
         &mut self,
         device: &mut B::Device,
@@ -267,7 +267,7 @@ impl<K: Copy + Eq + Hash, V: Drop, B: AsyncLruCacheBackend<Key = K, Value = V>> 
         }
     }
 
-    // Puts a value in front, whose key is new.
+    // Adds a new key with its value, and evicts an entry for it if the cache is full.
     fn add(
         &mut self,
         device: &mut B::Device,
@@ -290,12 +290,16 @@ impl<K: Copy + Eq + Hash, V: Drop, B: AsyncLruCacheBackend<Key = K, Value = V>> 
         }
     }
 
-    /// The value at a key, found or loaded, whose entry goes first.
+    /// Returns the value at `key`, found or loaded. Its entry becomes the most recently used.
     ///
-    /// Where the cache is full, the least recently used value that isn't pinned is flushed in place and its entry removed, if that is
-    /// allowed. It refuses with `NotLent::Full` where it isn't allowed, and then changes nothing; with `Fault::CacheFull` where all are
-    /// pinned, and then changes nothing; as the backend's flush does, and then all entries stay; and as its load does, or with
-    /// `Fault::Memory`, where the flushed entry is gone.
+    /// If the cache is full and `may_flush` is set, the least recently used value that isn't pinned is flushed, and its entry is removed.
+    ///
+    /// # Errors
+    ///
+    /// - `NotLent::Full` if the cache is full and `may_flush` isn't set. Nothing has changed.
+    /// - `Fault::CacheFull` if all entries of the full cache are pinned. Nothing has changed.
+    /// - The error of the backend's flush. All entries are still cached.
+    /// - The error of the backend's load, or `Fault::Memory`. An entry that was flushed to make space is gone.
     pub fn get_or_insert(
         &mut self,
         device: &mut B::Device,
@@ -319,11 +323,17 @@ impl<K: Copy + Eq + Hash, V: Drop, B: AsyncLruCacheBackend<Key = K, Value = V>> 
         }
     }
 
-    /// Puts a value at a key, whose entry goes first. A value that was there is flushed first, and its pins stay.
+    /// Puts a value at `key`. Its entry becomes the most recently used. A value that was cached there is flushed first, and its pins stay.
     ///
-    /// It gives the value back, and changes nothing, where a flush is needed and not allowed. Refused, it gives the value back beside the
-    /// fault: with `Fault::CacheFull` where all are pinned, and then nothing changes; as the backend's flush does, and then all entries
-    /// stay; and with `Fault::Memory`, where an entry that had to go is gone.
+    /// If a flush is needed and `may_flush` isn't set, the call returns the value and changes nothing.
+    ///
+    /// # Errors
+    ///
+    /// The value is returned with the fault.
+    ///
+    /// - `Fault::CacheFull` if all entries of the full cache are pinned. Nothing has changed.
+    /// - The error of the backend's flush. All entries are still cached.
+    /// - `Fault::Memory` if memory ran out. The entry that was evicted for the value is gone.
     pub fn insert(
         &mut self,
         device: &mut B::Device,
@@ -344,7 +354,7 @@ impl<K: Copy + Eq + Hash, V: Drop, B: AsyncLruCacheBackend<Key = K, Value = V>> 
         self.overwrite(device, key, value)
     }
 
-    // Flushes the least recently used value in place; its entry goes first.
+    // Flushes the least recently used value. Its entry becomes the most recently used.
     fn flush_last(&mut self, device: &mut B::Device) -> Result<(), Fault>
         requires nonempty { 0 < length self.old.slots.entries }
         requires distinct { IsDistinct K.eq (keys_of self.old.slots.entries) }
@@ -361,8 +371,12 @@ impl<K: Copy + Eq + Hash, V: Drop, B: AsyncLruCacheBackend<Key = K, Value = V>> 
         }
     }
 
-    /// Flushes every value in place, the least recently used first, past faults too, and answers the last of those; but where one was
-    /// `Fault::Memory` or `Fault::Storage`, the last of these. The order of use stays.
+    /// Flushes every value, the least recently used first. All entries stay cached, and the order of use doesn't change.
+    ///
+    /// # Errors
+    ///
+    /// After a fault the other values are flushed, too. The last fault is returned; but if there was a `Fault::Memory` or `Fault::Storage`,
+    /// the last of these.
     pub fn flush(&mut self, device: &mut B::Device) -> Result<(), Fault>
         ensures flushed { FlushedEach B.flushes device.old self.old.slots.entries (fault_of result) device.new self.new.slots.entries }
         ensures others { self.new ≡ with_entries self.old self.new.slots.entries }
@@ -378,7 +392,7 @@ impl<K: Copy + Eq + Hash, V: Drop, B: AsyncLruCacheBackend<Key = K, Value = V>> 
         }
     }
 
-    // Drops the least recently used value without flushing it, or keeps it where it is pinned: then its entry goes first.
+    // Drops the least recently used value without flushing it. If it is pinned, its entry becomes the most recently used instead.
     fn drop_last(&mut self)
         requires nonempty { 0 < length self.old.slots.entries }
         requires distinct { IsDistinct K.eq (keys_of self.old.slots.entries) }
@@ -398,7 +412,9 @@ impl<K: Copy + Eq + Hash, V: Drop, B: AsyncLruCacheBackend<Key = K, Value = V>> 
 
     /// Drops every value that isn't pinned, without flushing it.
     ///
-    /// It refuses with `Fault::CacheFull` where something stays.
+    /// # Errors
+    ///
+    /// - `Fault::CacheFull` if a pinned value is still cached. The other values are dropped.
     pub fn invalidate(&mut self) -> Result<(), Fault>
         ensures keeps_pinned { self.new ≡ with_entries self.old (kept_pinned self.old.slots.entries) }
         ensures ok { OnOk result (kept_pinned self.old.slots.entries ≡ []) }
@@ -414,7 +430,7 @@ impl<K: Copy + Eq + Hash, V: Drop, B: AsyncLruCacheBackend<Key = K, Value = V>> 
         }
     }
 
-    // Whether someone holds on to the value at a key.
+    // Returns true if the value at `key` is pinned.
     fn is_pinned(&self, key: K) -> bool
         ensures { IsTrue result ↔ IsSomeAnd (lookup (K.eq key) self.now.slots.entries) (λ s. 0 < s.pins) }
     {
@@ -425,9 +441,11 @@ impl<K: Copy + Eq + Hash, V: Drop, B: AsyncLruCacheBackend<Key = K, Value = V>> 
         }
     }
 
-    /// Drops the value at a key, if it is there, without flushing it.
+    /// Drops the value at `key`, if it is cached, without flushing it.
     ///
-    /// It refuses with `Fault::CacheFull` where that is pinned, and then changes nothing.
+    /// # Errors
+    ///
+    /// - `Fault::CacheFull` if the value is pinned. Nothing has changed.
     pub fn forget(&mut self, key: K) -> Result<(), Fault>
         ensures pinned { IsSomeAnd (lookup (K.eq key) self.old.slots.entries) (λ s. 0 < s.pins) → IsErr result }
         ensures ok { OnOk result (self.new ≡ with_entries self.old (remove_entry (K.eq key) self.old.slots.entries)) }
@@ -443,7 +461,11 @@ impl<K: Copy + Eq + Hash, V: Drop, B: AsyncLruCacheBackend<Key = K, Value = V>> 
         Ok(())
     }
 
-    /// An empty cache of at most that many entries.
+    /// Returns an empty cache of at most `size` entries.
+    ///
+    /// # Errors
+    ///
+    /// - `Fault::Memory` if memory ran out.
     pub fn new(alloc: Global, backend: B, size: usize) -> Result<Self, Fault>
     where
         B: Drop,
@@ -460,7 +482,7 @@ impl<K: Copy + Eq + Hash, V: Drop, B: AsyncLruCacheBackend<Key = K, Value = V>> 
         }
     }
 
-    /// Holds on to the value at a key; the order of use stays.
+    /// Adds a pin to the value at `key`, which must be cached. The order of use doesn't change.
     pub fn pin(&mut self, key: K)
         requires { IsSomeAnd (lookup (K.eq key) self.old.slots.entries) (λ s. s.pins + 1 < 2 ^ 64) }
         ensures { IfSome (lookup (K.eq key) self.old.slots.entries) (λ s.
@@ -471,7 +493,7 @@ impl<K: Copy + Eq + Hash, V: Drop, B: AsyncLruCacheBackend<Key = K, Value = V>> 
         }
     }
 
-    /// Lets go of the value at a key; the order of use stays.
+    /// Removes a pin from the value at `key`, which must be cached and pinned. The order of use doesn't change.
     pub fn unpin(&mut self, key: K)
         requires { IsSomeAnd (lookup (K.eq key) self.old.slots.entries) (λ s. 0 < s.pins) }
         ensures { IfSome (lookup (K.eq key) self.old.slots.entries) (λ s.
@@ -483,7 +505,7 @@ impl<K: Copy + Eq + Hash, V: Drop, B: AsyncLruCacheBackend<Key = K, Value = V>> 
     }
 }
 
-// The fault to report, after one more answer.
+// Returns the fault to report after one more result.
 fn latest(first: Option<Fault>, answer: Result<(), Fault>) -> Option<Fault>
     ensures { result ≡ spec.latest first answer }
 {
@@ -503,7 +525,7 @@ fn latest(first: Option<Fault>, answer: Result<(), Fault>) -> Option<Fault>
     }
 }
 
-// Whether a fault is neither want of memory nor of the storage.
+// Returns true if the fault is neither `Fault::Memory` nor `Fault::Storage`.
 fn is_not_resource_error(fault: Fault) -> bool
     ensures { result ≡ spec.is_not_resource_error fault }
 {

@@ -1,5 +1,6 @@
-// The caches of L2 tables and of refcount blocks, and the order in which they are written. An announced order is a dependency of qemu's
-// caches (`qcow2_cache_set_dependency`), and imago's `l2_depends_on_rb` or `rb_depends_on_l2`.
+// The caches of L2 tables and refcount blocks, and the order in which they are written. The order is a dependency between the two caches:
+// dirty entries of one are written before any entry of the other. Writing makes no flush request of the storage. Definitions:
+// specs/WellFormedness.antt, specs/Finding.antt.
 ghost use Rattle.std.specs.Prelude.{◌≡◌, ◌≤◌, ◌<◌, IsTrue, IsOk, IfOk, OnOk, OnErr, IsOkUnless, Ok, [], ◌∷◌};
 ghost use Rattle.imago_storage.specs.State.{StorageState};
 ghost use Rattle.qcow2_metadata.specs.Places.{IsAddressable};
@@ -21,7 +22,7 @@ pub struct L2CacheBackend<S> {
 }
 
 impl<S: Storage> L2CacheBackend<S> {
-    /// A backend that takes memory from `alloc`.
+    /// Returns a backend that allocates memory from `alloc`.
     pub fn new(alloc: Global) -> L2CacheBackend<S> {
         L2CacheBackend {
             alloc,
@@ -78,7 +79,7 @@ pub struct RefBlockCacheBackend<S> {
 }
 
 impl<S: Storage> RefBlockCacheBackend<S> {
-    /// A backend that takes memory from `alloc`.
+    /// Returns a backend that allocates memory from `alloc`.
     pub fn new(alloc: Global) -> RefBlockCacheBackend<S> {
         RefBlockCacheBackend {
             alloc,
@@ -126,18 +127,18 @@ impl<S: Storage> AsyncLruCacheBackend for RefBlockCacheBackend<S> {
     }
 }
 
-/// Which cache has to be written before the other.
+/// The write order of the two caches.
 #[derive(Clone, Copy, Debug, Drop, PartialEq, Eq)]
 pub enum CacheDependency {
-    /// Neither.
+    /// No order is set.
     Unset,
-    /// Refcount blocks before any L2 table, as clusters are allocated.
+    /// Dirty refcount blocks are written before any L2 table, as allocation requires.
     L2DependsOnRb,
-    /// L2 tables before any refcount block, as clusters are freed.
+    /// Dirty L2 tables are written before any refcount block, as freeing requires.
     RbDependsOnL2,
 }
 
-/// The caches of the L2 tables and of the refcount blocks of an image, which are written in the announced order.
+/// The caches of an image's L2 tables and refcount blocks, with their write order.
 #[derive(Drop)]
 pub struct MetadataCaches<S: Storage> {
     pub(crate) l2: AsyncLruCache<HostCluster, L2Table, L2CacheBackend<S>>,
@@ -167,9 +168,13 @@ impl<S: Storage> MetadataCaches<S> {
     ghost use Rattle.std.specs.Option.{option_map};
     ghost use Rattle.std.specs.Prelude.{nat_eq, length, None, Some, false, IsSome, IsSomeAnd, IfSome, IsErr, IfErr};
 
-    /// Empty caches of at most so many L2 tables and refcount blocks, with no order announced. They are safe over every consistent image.
+    /// Returns empty caches of at most `l2_entries` L2 tables and `rb_entries` refcount blocks. No write order is set.
     ///
-    /// It refuses with `Fault::Memory`.
+    /// They have the invariant `WellFormed` for every consistent image.
+    ///
+    /// # Errors
+    ///
+    /// - `Fault::Memory` if memory ran out.
     pub fn new(alloc: Global, l2_entries: usize, rb_entries: usize) -> Result<Self, Fault>
         requires tables { 0 < l2_entries }
         requires blocks { 0 < rb_entries }
@@ -185,7 +190,7 @@ impl<S: Storage> MetadataCaches<S> {
         })
     }
 
-    // Writes the modified L2 tables.
+    // Writes the dirty L2 tables.
     fn flush_l2(&mut self, file: &mut ImageFile<S>) -> Result<(), Fault>
         ensures writes_back_cached { WritesBackCached file.old.header (order_of self.old) (ReadyTables (order_of self.old)) (result ≡ Ok tt)
             (S.state file.old.image) (cached_in self.old) (S.state file.new.image) (cached_in self.new) }
@@ -201,7 +206,7 @@ impl<S: Storage> MetadataCaches<S> {
         self.l2.flush(file)
     }
 
-    // Writes the modified refcount blocks.
+    // Writes the dirty refcount blocks.
     fn flush_blocks(&mut self, file: &mut ImageFile<S>) -> Result<(), Fault>
         ensures writes_back_cached { WritesBackCached file.old.header (order_of self.old) (ReadyBlocks (order_of self.old)) (result ≡ Ok tt)
             (S.state file.old.image) (cached_in self.old) (S.state file.new.image) (cached_in self.new) }
@@ -217,7 +222,7 @@ impl<S: Storage> MetadataCaches<S> {
         self.rb.flush(file)
     }
 
-    // Writes the modified blocks, where an L2 table must not be written before them.
+    // Writes the dirty blocks if L2 tables depend on blocks.
     fn before_tables(&mut self, file: &mut ImageFile<S>) -> Result<(), Fault>
         ensures writes_back_cached { WritesBackCached file.old.header (order_of self.old) Always (result ≡ Ok tt) (S.state file.old.image) (cached_in self.old)
             (S.state file.new.image) (cached_in self.new) }
@@ -238,7 +243,7 @@ impl<S: Storage> MetadataCaches<S> {
         Ok(())
     }
 
-    // Writes the modified L2 tables, where a block must not be written before them.
+    // Writes the dirty L2 tables if blocks depend on L2 tables.
     fn before_blocks(&mut self, file: &mut ImageFile<S>) -> Result<(), Fault>
         ensures writes_back_cached { WritesBackCached file.old.header (order_of self.old) Always (result ≡ Ok tt) (S.state file.old.image) (cached_in self.old)
             (S.state file.new.image) (cached_in self.new) }
@@ -259,11 +264,23 @@ impl<S: Storage> MetadataCaches<S> {
         Ok(())
     }
 
-    /// Writes all modified refcount blocks, and before them the modified L2 tables where these come first.
+    /// Writes all dirty refcount blocks to the file, without a flush of the storage. If blocks depend on L2 tables, the dirty tables are
+    /// written first.
     ///
-    /// It refuses with `Fault::Memory`, `Fault::Storage`, and `Fault::DamagedTable` where words can't name the cluster of one of them,
-    /// which no safe cache has; what is cached then stays, and what wasn't written stays modified. The file of a safe cache is consistent
-    /// at each stop.
+    /// # Errors
+    ///
+    /// - `Fault::Memory`, `Fault::Storage`.
+    /// - `Fault::DamagedTable` if the offset of a dirty table or block doesn't fit an entry. The invariant of the caches (`WellFormed`)
+    ///   rules that out.
+    ///
+    /// # On error
+    ///
+    /// All entries stay cached. Entries that weren't written stay dirty.
+    ///
+    /// # Crash safety
+    ///
+    /// If the invariant `WellFormed` holds and no change of the storage fails, each crash image (the file after a crash between two
+    /// requests) is consistent.
     pub fn flush_rb(&mut self, file: &mut ImageFile<S>) -> Result<(), Fault>
         ensures writes_back_cached { WritesBackCached file.old.header (order_of self.old) Always (result ≡ Ok tt) (S.state file.old.image) (cached_in self.old)
             (S.state file.new.image) (cached_in self.new) }
@@ -285,7 +302,7 @@ impl<S: Storage> MetadataCaches<S> {
         self.flush_blocks(file)
     }
 
-    // Writes all modified L2 tables, and before them the modified refcount blocks where these come first.
+    // Writes all dirty L2 tables. If L2 tables depend on blocks, the dirty blocks are written first.
     fn flush_tables(&mut self, file: &mut ImageFile<S>) -> Result<(), Fault>
         ensures writes_back_cached { WritesBackCached file.old.header (order_of self.old) Always (result ≡ Ok tt) (S.state file.old.image) (cached_in self.old)
             (S.state file.new.image) (cached_in self.new) }
@@ -307,11 +324,23 @@ impl<S: Storage> MetadataCaches<S> {
         self.flush_l2(file)
     }
 
-    /// Writes all modified L2 tables and refcount blocks, in the announced order, and else the tables first.
+    /// Writes all dirty L2 tables and refcount blocks to the file in the write order, without a flush of the storage. If no order is set,
+    /// the tables are written first.
     ///
-    /// It refuses with `Fault::Memory`, `Fault::Storage`, and `Fault::DamagedTable` where words can't name the cluster of one of them,
-    /// which no safe cache has; what is cached then stays, and what wasn't written stays modified. The file of a safe cache is consistent
-    /// at each stop.
+    /// # Errors
+    ///
+    /// - `Fault::Memory`, `Fault::Storage`.
+    /// - `Fault::DamagedTable` if the offset of a dirty table or block doesn't fit an entry. The invariant of the caches (`WellFormed`)
+    ///   rules that out.
+    ///
+    /// # On error
+    ///
+    /// All entries stay cached. Entries that weren't written stay dirty.
+    ///
+    /// # Crash safety
+    ///
+    /// If the invariant `WellFormed` holds and no change of the storage fails, each crash image (the file after a crash between two
+    /// requests) is consistent.
     pub fn flush_all(&mut self, file: &mut ImageFile<S>) -> Result<(), Fault>
         ensures writes_back_cached { WritesBackCached file.old.header (order_of self.old) Always (result ≡ Ok tt) (S.state file.old.image) (cached_in self.old)
             (S.state file.new.image) (cached_in self.new) }
@@ -338,10 +367,19 @@ impl<S: Storage> MetadataCaches<S> {
         self.flush_blocks(file)
     }
 
-    /// Announces that clusters will be allocated: from now on blocks are written before tables.
+    /// Makes L2 tables depend on refcount blocks: from now on blocks are written before tables. Allocation requires this order.
     ///
-    /// Where tables came first, those that are modified are written, and else nothing. It refuses as their flush does, and then the
-    /// order stays. The file of a safe cache is consistent at each stop.
+    /// If blocks depended on tables, the dirty tables are written first. Otherwise nothing is written.
+    ///
+    /// # Errors
+    ///
+    /// - `Fault::Memory`, `Fault::Storage`, `Fault::DamagedTable` if the tables can't be written, as in `flush_all`. The order is
+    ///   unchanged.
+    ///
+    /// # Crash safety
+    ///
+    /// If the invariant of the caches (`WellFormed`) holds and no change of the storage fails, each crash image (the file after a crash
+    /// between two requests) is consistent.
     pub fn l2_depends_on_rb(&mut self, file: &mut ImageFile<S>) -> Result<(), Fault>
         ensures writes_back_cached { WritesBackCached file.old.header (order_of self.old) Always (result ≡ Ok tt) (S.state file.old.image) (cached_in self.old)
             (S.state file.new.image) (cached_in self.new) }
@@ -369,10 +407,19 @@ impl<S: Storage> MetadataCaches<S> {
         Ok(())
     }
 
-    /// Announces that clusters will be freed: from now on tables are written before blocks.
+    /// Makes refcount blocks depend on L2 tables: from now on tables are written before blocks. Freeing requires this order.
     ///
-    /// Where blocks came first, those that are modified are written, and else nothing. It refuses as their flush does, and then the
-    /// order stays. The file of a safe cache is consistent at each stop.
+    /// If tables depended on blocks, the dirty blocks are written first. Otherwise nothing is written.
+    ///
+    /// # Errors
+    ///
+    /// - `Fault::Memory`, `Fault::Storage`, `Fault::DamagedTable` if the blocks can't be written, as in `flush_all`. The order is
+    ///   unchanged.
+    ///
+    /// # Crash safety
+    ///
+    /// If the invariant of the caches (`WellFormed`) holds and no change of the storage fails, each crash image (the file after a crash
+    /// between two requests) is consistent.
     pub fn rb_depends_on_l2(&mut self, file: &mut ImageFile<S>) -> Result<(), Fault>
         ensures writes_back_cached { WritesBackCached file.old.header (order_of self.old) Always (result ≡ Ok tt) (S.state file.old.image) (cached_in self.old)
             (S.state file.new.image) (cached_in self.new) }
@@ -398,7 +445,7 @@ impl<S: Storage> MetadataCaches<S> {
         Ok(())
     }
 
-    // Finds the L2 table in a cluster, or loads it where there is room.
+    // Finds the L2 table in a cluster, or loads it if the cache isn't full.
     fn l2_find(&mut self, file: &mut ImageFile<S>, cluster: HostCluster) -> Result<Admission, Fault>
         ensures readied { Readied (table_kind S.state self.old.l2.slots.cap) false cluster file.old self.old.l2.slots.entries
             result file.new self.new.l2.slots.entries }
@@ -407,7 +454,7 @@ impl<S: Storage> MetadataCaches<S> {
         self.l2.ready(file, cluster, false)
     }
 
-    // Loads the L2 table in a cluster into a full cache, once what has to be written before another table goes is.
+    // Loads the L2 table in a cluster into a full cache. Before another table is evicted, the blocks that it depends on are written.
     fn l2_load(&mut self, file: &mut ImageFile<S>, cluster: HostCluster) -> Result<(), Fault>
         requires absent { lookup (nat_eq cluster) self.old.l2.slots.entries ≡ None }
         requires full { self.old.l2.slots.cap ≤ length self.old.l2.slots.entries }
@@ -418,7 +465,7 @@ impl<S: Storage> MetadataCaches<S> {
         Ok(())
     }
 
-    // Finds or loads the L2 table in a cluster.
+    // Finds the L2 table in a cluster, or loads it.
     fn l2_ready(&mut self, file: &mut ImageFile<S>, cluster: HostCluster) -> Result<(), Fault>
         ensures { TableFound S.state cluster self.old file.old result self.new file.new }
     {
@@ -428,14 +475,27 @@ impl<S: Storage> MetadataCaches<S> {
         }
     }
 
-    /// The L2 table in a cluster, found or loaded, whose entry goes first. What is written to it is written to the file later, by a flush
-    /// or where it has to make room.
+    /// Returns the L2 table in a cluster, found or loaded. Its entry becomes the most recently used.
     ///
-    /// Where the cache is full, the least recently used table that isn't pinned is flushed in place and its entry removed, and before it
-    /// the modified refcount blocks are, where these come first. It refuses with `Fault::Memory`; with `Fault::Storage`; with
-    /// `Fault::CacheFull` where each table of a full cache is pinned; and with `Fault::DamagedTable` where words can't name the cluster, or
-    /// that of a table or block that is to be written, which no safe cache has, or where the file has words there that no L2 table has.
-    /// What is cached then stays, but for the table that made room. The file of a safe cache is consistent at each stop.
+    /// Changes of the table are written to the file later, by a flush or when the table is evicted. If the cache is full, the least
+    /// recently used table that isn't pinned is flushed, and its entry is removed. If L2 tables depend on blocks, the dirty blocks are
+    /// written before that table.
+    ///
+    /// # Errors
+    ///
+    /// - `Fault::Memory`, `Fault::Storage`.
+    /// - `Fault::CacheFull` if all tables of the full cache are pinned.
+    /// - `Fault::DamagedTable` if the file has an invalid entry in the cluster, or if the cluster's offset doesn't fit an entry. Also if
+    ///   the offset of a dirty table or block doesn't fit an entry, which the invariant of the caches (`WellFormed`) rules out.
+    ///
+    /// # On error
+    ///
+    /// All entries stay cached, except that a table may have been evicted for the new one.
+    ///
+    /// # Crash safety
+    ///
+    /// If the invariant `WellFormed` holds and no change of the storage fails, each crash image (the file after a crash between two
+    /// requests) is consistent.
     pub fn l2_get_or_insert(
         &mut self,
         file: &mut ImageFile<S>,
@@ -452,7 +512,7 @@ impl<S: Storage> MetadataCaches<S> {
         }
     }
 
-    // Finds the refcount block in a cluster, or loads it where there is room.
+    // Finds the refcount block in a cluster, or loads it if the cache isn't full.
     fn rb_find(&mut self, file: &mut ImageFile<S>, cluster: HostCluster) -> Result<Admission, Fault>
         ensures readied { Readied (block_kind S.state self.old.rb.slots.cap) false cluster file.old self.old.rb.slots.entries
             result file.new self.new.rb.slots.entries }
@@ -461,7 +521,7 @@ impl<S: Storage> MetadataCaches<S> {
         self.rb.ready(file, cluster, false)
     }
 
-    // Loads the refcount block in a cluster into a full cache, once what has to be written before another block goes is.
+    // Loads the refcount block in a cluster into a full cache. Before another block is evicted, the tables that it depends on are written.
     fn rb_load(&mut self, file: &mut ImageFile<S>, cluster: HostCluster) -> Result<(), Fault>
         requires absent { lookup (nat_eq cluster) self.old.rb.slots.entries ≡ None }
         requires full { self.old.rb.slots.cap ≤ length self.old.rb.slots.entries }
@@ -472,7 +532,7 @@ impl<S: Storage> MetadataCaches<S> {
         Ok(())
     }
 
-    // Finds or loads the refcount block in a cluster.
+    // Finds the refcount block in a cluster, or loads it.
     fn rb_ready(&mut self, file: &mut ImageFile<S>, cluster: HostCluster) -> Result<(), Fault>
         ensures { BlockFound S.state cluster self.old file.old result self.new file.new }
     {
@@ -482,14 +542,27 @@ impl<S: Storage> MetadataCaches<S> {
         }
     }
 
-    /// The refcount block in a cluster, found or loaded, whose entry goes first. What is written to it is written to the file later, by a
-    /// flush or where it has to make room.
+    /// Returns the refcount block in a cluster, found or loaded. Its entry becomes the most recently used.
     ///
-    /// Where the cache is full, the least recently used block that isn't pinned is flushed in place and its entry removed, and before it
-    /// the modified L2 tables are, where these come first. It refuses with `Fault::Memory`; with `Fault::Storage`; with
-    /// `Fault::CacheFull` where each block of a full cache is pinned; and with `Fault::DamagedTable` where words can't name the cluster, or
-    /// that of a table or block that is to be written, which no safe cache has. What is cached then stays, but for the block that made
-    /// room. The file of a safe cache is consistent at each stop.
+    /// Changes of the block are written to the file later, by a flush or when the block is evicted. If the cache is full, the least
+    /// recently used block that isn't pinned is flushed, and its entry is removed. If blocks depend on L2 tables, the dirty tables are
+    /// written before that block.
+    ///
+    /// # Errors
+    ///
+    /// - `Fault::Memory`, `Fault::Storage`.
+    /// - `Fault::CacheFull` if all blocks of the full cache are pinned.
+    /// - `Fault::DamagedTable` if the cluster's offset doesn't fit an entry. Also if the offset of a dirty table or block doesn't fit an
+    ///   entry, which the invariant of the caches (`WellFormed`) rules out.
+    ///
+    /// # On error
+    ///
+    /// All entries stay cached, except that a block may have been evicted for the new one.
+    ///
+    /// # Crash safety
+    ///
+    /// If the invariant `WellFormed` holds and no change of the storage fails, each crash image (the file after a crash between two
+    /// requests) is consistent.
     pub fn rb_get_or_insert(
         &mut self,
         file: &mut ImageFile<S>,
@@ -506,7 +579,7 @@ impl<S: Storage> MetadataCaches<S> {
         }
     }
 
-    // Puts an L2 table where nothing has to be written for it, or else gives it back.
+    // Puts an L2 table into the cache if nothing must be written for that. Otherwise returns the table.
     fn l2_put(
         &mut self,
         file: &mut ImageFile<S>,
@@ -520,7 +593,7 @@ impl<S: Storage> MetadataCaches<S> {
         self.l2.insert(file, cluster, table, false)
     }
 
-    // Puts an L2 table into a full cache or over another table, once what has to be written before one goes is.
+    // Puts an L2 table into a full cache or over another table. Before the other table goes, the blocks that it depends on are written.
     fn l2_put_over(
         &mut self,
         file: &mut ImageFile<S>,
@@ -540,7 +613,7 @@ impl<S: Storage> MetadataCaches<S> {
         }
     }
 
-    // Puts an L2 table at a cluster.
+    // Puts an L2 table into the cache, at a cluster.
     fn l2_insert_at(
         &mut self,
         file: &mut ImageFile<S>,
@@ -555,15 +628,30 @@ impl<S: Storage> MetadataCaches<S> {
         }
     }
 
-    /// Puts an L2 table at its cluster, whose entry goes first. One that was there is flushed before, where it is modified, and its pins
-    /// stay.
+    /// Puts an L2 table into the cache, at its cluster. Its entry becomes the most recently used.
     ///
-    /// Where the cache is full, the least recently used table that isn't pinned is flushed in place and its entry removed, and before a
-    /// flush the modified refcount blocks are written, where these come first. A safe image stays safe where the table is what the file has
-    /// there, and neither it nor one that was there is modified. It refuses with `Fault::Memory`; with `Fault::Storage`; with
-    /// `Fault::CacheFull` where each table of a full cache is pinned; and with `Fault::DamagedTable` where words can't name the cluster of
-    /// a table or block that is to be written, which no safe cache has. Refused, it gives the table back, and what is cached stays, but for
-    /// the table that made room.
+    /// If a table is cached at the cluster and dirty, it is flushed first, and its pins stay. If the cache is full, the least recently used
+    /// table that isn't pinned is flushed, and its entry is removed. If L2 tables depend on blocks, the dirty blocks are written before a
+    /// table is flushed.
+    ///
+    /// The invariant of the caches (`WellFormed`) is kept if the new table is clean, the file has it in the cluster, and no table cached
+    /// there is dirty.
+    ///
+    /// # Preconditions
+    ///
+    /// The cluster of the table is set.
+    ///
+    /// # Errors
+    ///
+    /// The table is returned with the fault.
+    ///
+    /// - `Fault::Memory`, `Fault::Storage`.
+    /// - `Fault::CacheFull` if all tables of the full cache are pinned.
+    /// - `Fault::DamagedTable` if the offset of a dirty table or block doesn't fit an entry. The invariant `WellFormed` rules that out.
+    ///
+    /// # On error
+    ///
+    /// All entries stay cached, except that a table may have been evicted for the new one.
     pub fn l2_insert(
         &mut self,
         file: &mut ImageFile<S>,
@@ -579,9 +667,12 @@ impl<S: Storage> MetadataCaches<S> {
         }
     }
 
-    /// Drops each L2 table that isn't pinned, without writing it.
+    /// Drops each L2 table that isn't pinned, without writing it. Changes of dirty tables are lost. If no table is dirty, the invariant of
+    /// the caches (`WellFormed`) is kept.
     ///
-    /// It refuses with `Fault::CacheFull` where something stays. What was to be written is lost: an image stays safe where nothing was.
+    /// # Errors
+    ///
+    /// - `Fault::CacheFull` if a pinned table is still cached. The other tables are dropped.
     pub fn invalidate_l2(&mut self) -> Result<(), Fault>
         ensures dropped { Dropped (cached_in self.old).tables result (cached_in self.new).tables }
         ensures others { (self.new.rb ≡ self.old.rb) × (self.new.order ≡ self.old.order) }
@@ -591,7 +682,7 @@ impl<S: Storage> MetadataCaches<S> {
         self.l2.invalidate()
     }
 
-    // Puts a refcount block where nothing has to be written for it, or else gives it back.
+    // Puts a refcount block into the cache if nothing must be written for that. Otherwise returns the block.
     fn rb_put(
         &mut self,
         file: &mut ImageFile<S>,
@@ -605,7 +696,8 @@ impl<S: Storage> MetadataCaches<S> {
         self.rb.insert(file, cluster, block, false)
     }
 
-    // Puts a refcount block into a full cache or over another block, once what has to be written before one goes is.
+    // Puts a refcount block into a full cache or over another block. Before the other block goes, the tables that it depends on are
+    // written.
     fn rb_put_over(
         &mut self,
         file: &mut ImageFile<S>,
@@ -625,7 +717,7 @@ impl<S: Storage> MetadataCaches<S> {
         }
     }
 
-    // Puts a refcount block at a cluster.
+    // Puts a refcount block into the cache, at a cluster.
     fn rb_insert_at(
         &mut self,
         file: &mut ImageFile<S>,
@@ -640,15 +732,30 @@ impl<S: Storage> MetadataCaches<S> {
         }
     }
 
-    /// Puts a refcount block at its cluster, whose entry goes first. One that was there is flushed before, where it is modified, and its
-    /// pins stay.
+    /// Puts a refcount block into the cache, at its cluster. Its entry becomes the most recently used.
     ///
-    /// Where the cache is full, the least recently used block that isn't pinned is flushed in place and its entry removed, and before a
-    /// flush the modified L2 tables are written, where these come first. A safe image stays safe where the block is what the file has
-    /// there, and neither it nor one that was there is modified. It refuses with `Fault::Memory`; with `Fault::Storage`; with
-    /// `Fault::CacheFull` where each block of a full cache is pinned; and with `Fault::DamagedTable` where words can't name the cluster of
-    /// a table or block that is to be written, which no safe cache has. Refused, it gives the block back, and what is cached stays, but for
-    /// the block that made room.
+    /// If a block is cached at the cluster and dirty, it is flushed first, and its pins stay. If the cache is full, the least recently used
+    /// block that isn't pinned is flushed, and its entry is removed. If blocks depend on L2 tables, the dirty tables are written before a
+    /// block is flushed.
+    ///
+    /// The invariant of the caches (`WellFormed`) is kept if the new block is clean, the file has it in the cluster, and no block cached
+    /// there is dirty.
+    ///
+    /// # Preconditions
+    ///
+    /// The cluster of the block is set.
+    ///
+    /// # Errors
+    ///
+    /// The block is returned with the fault.
+    ///
+    /// - `Fault::Memory`, `Fault::Storage`.
+    /// - `Fault::CacheFull` if all blocks of the full cache are pinned.
+    /// - `Fault::DamagedTable` if the offset of a dirty table or block doesn't fit an entry. The invariant `WellFormed` rules that out.
+    ///
+    /// # On error
+    ///
+    /// All entries stay cached, except that a block may have been evicted for the new one.
     pub fn rb_insert(
         &mut self,
         file: &mut ImageFile<S>,
@@ -664,8 +771,9 @@ impl<S: Storage> MetadataCaches<S> {
         }
     }
 
-    // Drops the refcount block in a cluster, if it is cached, without writing it: what was to be written of it is lost. It refuses with
-    // `Fault::CacheFull` where that is pinned, and then changes nothing.
+    // Drops the refcount block in a cluster, if it is cached, without writing it. Its changes are lost.
+    //
+    // If the block is pinned, the call fails with `Fault::CacheFull` and changes nothing.
     pub(crate) fn rb_forget(&mut self, cluster: HostCluster) -> Result<(), Fault>
         ensures pinned { IsSomeAnd (lookup (nat_eq cluster) (cached_in self.old).blocks) (λ s. 0 < s.pins) → IsErr result }
         ensures ok { OnOk result (self.new ≡ with_blocks self.old (remove_entry (nat_eq cluster) (cached_in self.old).blocks)) }
@@ -675,9 +783,12 @@ impl<S: Storage> MetadataCaches<S> {
         self.rb.forget(cluster)
     }
 
-    /// Drops each refcount block that isn't pinned, without writing it.
+    /// Drops each refcount block that isn't pinned, without writing it. Changes of dirty blocks are lost. If no block is dirty, the
+    /// invariant of the caches (`WellFormed`) is kept.
     ///
-    /// It refuses with `Fault::CacheFull` where something stays. What was to be written is lost: an image stays safe where nothing was.
+    /// # Errors
+    ///
+    /// - `Fault::CacheFull` if a pinned block is still cached. The other blocks are dropped.
     pub fn invalidate_rb(&mut self) -> Result<(), Fault>
         ensures dropped { Dropped (cached_in self.old).blocks result (cached_in self.new).blocks }
         ensures others { (self.new.l2 ≡ self.old.l2) × (self.new.order ≡ self.old.order) }

@@ -1,5 +1,5 @@
-//! The list of clusters that nothing names any more and that are still counted. The list is imago's `clusters_to_free`. qemu has none:
-//! counts in its cache fall at once.
+//! The list of clusters to free: no table references them any more, but their refcount is still above 0. They are freed later, by one call,
+//! so that a cluster isn't reused before the file has stopped referencing it.
 ghost use Rattle.std.specs.Prelude.{◌≡◌, ◌==◌, ◌+◌, ◌-◌, ◌<◌, ◌≤◌, [], ◌∷◌, ◌++◌, length, OnOk, IfOk, IfErr, MatchOption};
 ghost use Rattle.std.specs.List.{position, remove};
 ghost use Rattle.imago_storage.specs.declared.fault.Fault.TheVariants.{Memory};
@@ -11,30 +11,30 @@ use std::alloc::Global;
 use std::marker::Model;
 use std::mem;
 
-/// Room on a list for the entry of one pending allocation.
+/// A reserved slot on a free list: memory for one entry, in case allocated clusters are given back before any table references them.
 ///
-/// It can't be dropped, since nothing would end the hold: the list's `give_back` fills the room, and its `release` lets it go. It doesn't
-/// know its list: that room is held there is a condition of both. Where plain data stands for what is pending, `leave` spends it, and the
-/// list's `reserved_slot` takes it up again.
+/// A slot can't be dropped. The list's `give_back` fills it, and the list's `release` ends the reservation. The value doesn't know its
+/// list: both calls require that the list has a reserved slot. To keep only plain data of the clusters, call `leave`; later, the list's
+/// `reserved_slot` returns the slot again.
 #[derive(Debug)]
 pub struct ReservedSlot(());
 
 impl ReservedSlot {
-    /// Leaves the room to its list, where it stays held.
+    /// Leaves the slot to its list, where it stays reserved.
     pub fn leave(self) {
         let ReservedSlot(_held) = self;
     }
 }
 
-/// Clusters that were handed out and that nothing names yet, and room on the list for their entry, in case nothing ever does. Contracts see
-/// the clusters, as of `PendingClusters`.
+/// Allocated clusters that no table references yet, and a reserved slot on the free list: memory for their entry, in case no table ever
+/// will.
 ///
-/// It can't be dropped: each of its parts is to be spent.
+/// In contracts the value is its clusters, like `PendingClusters`. It can't be dropped: the caller must consume both parts.
 #[derive(Debug)]
 pub struct PendingAllocation {
     /// The clusters.
     pub pending: PendingClusters,
-    /// The room for their entry.
+    /// The reserved slot for their entry on the free list.
     pub hold: ReservedSlot,
 }
 
@@ -46,12 +46,12 @@ impl Model for PendingAllocation {
     ghost view = { λ a. a.pending };
 }
 
-/// Clusters that wait to be counted down, and room held for more of them.
+/// A list of clusters to free, with reserved slots: memory for further entries.
 ///
-/// Contracts see the entries, those that came last at the end, and for how many entries more room is held: one for each `ReservedSlot` of the
-/// list that neither `give_back` nor `release` has spent, those included that were left to it.
+/// In contracts the list is its entries, the newest last, and the number of reserved slots: one for each `ReservedSlot` that neither
+/// `give_back` nor `release` has consumed, including those that were left to the list.
 ///
-/// Dropping the list spends its entries: their clusters stay counted and leak.
+/// Dropping the list discards its entries. The refcounts of their clusters stay above 0, so the clusters leak.
 #[derive(Debug)]
 pub struct ClustersToFreeList {
     entries: Vec<ClustersToFreeEntry>,
@@ -70,7 +70,7 @@ impl Model for ClustersToFreeList {
 }
 
 impl ClustersToFreeList {
-    /// An empty list that holds no room. It takes no memory yet.
+    /// Returns an empty list without reserved slots. It takes no memory yet.
     pub fn new(alloc: Global) -> ClustersToFreeList
         ensures { result ≡ record { entries = []; held = 0 } }
     {
@@ -80,28 +80,28 @@ impl ClustersToFreeList {
         }
     }
 
-    /// Whether nothing is to be freed.
+    /// Returns true if the list has no entries.
     pub fn is_empty(&self) -> bool
         ensures { result ≡ (length self.now.entries == 0) }
     {
         self.entries.is_empty()
     }
 
-    /// The number of entries.
+    /// Returns the number of entries.
     pub fn len(&self) -> usize
         ensures { result ≡ length self.now.entries }
     {
         self.entries.len()
     }
 
-    /// For how many entries more room is held.
+    /// Returns the number of reserved slots.
     pub fn held(&self) -> usize
         ensures { result ≡ self.now.held }
     {
         self.held
     }
 
-    /// The entry at an index, which is below the number of entries.
+    /// Returns the entry at `index`, which must be less than the number of entries.
     pub fn entry(&self, index: usize) -> &ClustersToFreeEntry
         requires { index < length self.now.entries }
         ensures { result.now ≡ entry_at self.now.entries index }
@@ -109,16 +109,18 @@ impl ClustersToFreeList {
         &self.entries[index]
     }
 
-    /// The index of the first entry that holds metadata, if there is one.
+    /// Returns the index of the first entry of metadata, if any.
     pub fn position_of_metadata(&self) -> Option<usize>
         ensures { result ≡ position (λ e. e.metadata) self.now.entries }
     {
         self.entries.iter().position(|entry| entry.is_metadata())
     }
 
-    /// Adds an entry at the end. No held room is used up.
+    /// Adds an entry at the end. It uses none of the reserved slots.
     ///
-    /// Refused with `Fault::Memory` where there is no room for it, it gives the entry back, and the list is as it was.
+    /// # Errors
+    ///
+    /// - `Fault::Memory` if memory ran out. The entry is returned with the fault, and the list is unchanged.
     pub fn push(&mut self, entry: ClustersToFreeEntry) -> Result<(), (Fault, ClustersToFreeEntry)>
         ensures ok { OnOk result (self.new ≡ record { entries = self.old.entries ++ entry ∷ []; held = self.old.held }) }
         ensures err { IfErr result (λ e. (e ≡ (Memory, entry)) × (self.new ≡ self.old)) }
@@ -132,9 +134,11 @@ impl ClustersToFreeList {
         }
     }
 
-    /// Holds room for the entry of one pending allocation more, which can be made then without memory, by `PendingClusters::new`.
+    /// Reserves a slot: memory for one entry. With it, clusters that are allocated later can be given back without memory.
     ///
-    /// Refused with `Fault::Memory` where there is no room for it, the list is as it was.
+    /// # Errors
+    ///
+    /// - `Fault::Memory` if memory ran out. The list is unchanged.
     pub fn reserve_slot(&mut self) -> Result<ReservedSlot, Fault>
         ensures ok { OnOk result (self.new ≡ record { entries = self.old.entries; held = self.old.held + 1 }) }
         ensures err { IfErr result (λ fault. (fault ≡ Memory) × (self.new ≡ self.old)) }
@@ -149,7 +153,9 @@ impl ClustersToFreeList {
         }
     }
 
-    /// Room that was left to the list, if any is held. It is to be taken up once for each time that it was left.
+    /// Returns a reserved slot that was left to the list (`ReservedSlot::leave`), or `None` if the list has no reserved slot.
+    ///
+    /// Call it once for each slot that was left: the number of reserved slots doesn't change.
     pub fn reserved_slot(&self) -> Option<ReservedSlot>
         ensures { MatchOption result (self.now.held ≡ 0) (λ _. 0 < self.now.held) }
     {
@@ -160,10 +166,14 @@ impl ClustersToFreeList {
         }
     }
 
-    /// The clusters of `entry`, which are to be named, and room held for the entry, in case they never are. Spend both by `give_back`,
-    /// which frees the clusters after all, or the clusters by their `make_persistent` and the room by `release`.
+    /// Makes the clusters of `entry` pending (no table references them yet), with a reserved slot (memory for their entry on the list).
     ///
-    /// Refused with `Fault::Memory` where there is no room for it, it gives the entry back, and the list is as it was.
+    /// The caller must consume both parts. To free the clusters after all, use `give_back`. Once a table references them, call
+    /// `make_persistent` on the clusters and `release` on the slot.
+    ///
+    /// # Errors
+    ///
+    /// - `Fault::Memory` if memory ran out. The entry is returned with the fault, and the list is unchanged.
     pub fn pending_guard(
         &mut self,
         entry: ClustersToFreeEntry,
@@ -181,7 +191,11 @@ impl ClustersToFreeList {
         }
     }
 
-    /// Adds pending clusters that nothing will name at the end, in the room that was held for them. It takes no memory.
+    /// Adds allocated clusters that no table will reference to the end of the list, in the reserved slot. The call takes no memory.
+    ///
+    /// # Preconditions
+    ///
+    /// A slot is reserved on the list.
     pub fn give_back(&mut self, hold: ReservedSlot, pending: PendingClusters)
         requires { 0 < self.old.held }
         ensures { self.new ≡ record { entries = self.old.entries ++ pending ∷ []; held = self.old.held - 1 } }
@@ -191,7 +205,12 @@ impl ClustersToFreeList {
         self.entries.push_reserved(pending.into_entry());
     }
 
-    /// Lets the room for one entry go, whose clusters are named now and were spent by `make_persistent`. It takes no memory.
+    /// Ends the reservation of a slot: a table references the clusters now, and `make_persistent` has consumed them. The call takes no
+    /// memory.
+    ///
+    /// # Preconditions
+    ///
+    /// A slot is reserved on the list.
     pub fn release(&mut self, hold: ReservedSlot)
         requires { 0 < self.old.held }
         ensures { self.new ≡ record { entries = self.old.entries; held = self.old.held - 1 } }
@@ -200,10 +219,11 @@ impl ClustersToFreeList {
         self.held -= 1;
     }
 
-    /// Moves all entries out, and leaves the list empty. It takes no memory.
+    /// Moves all entries to a new list, and leaves this list empty. It takes no memory.
     ///
-    /// No room may be held: it is in the memory that goes with the entries, so what is pending could not be given back without
-    /// taking memory.
+    /// # Preconditions
+    ///
+    /// No slot is reserved. Reserved slots are in the memory that moves with the entries, so giving clusters back would need memory.
     pub fn take(&mut self) -> ClustersToFreeList
         requires { self.old.held ≡ 0 }
         ensures taken { result ≡ self.old }
@@ -213,8 +233,13 @@ impl ClustersToFreeList {
         mem::replace(self, empty)
     }
 
-    /// Takes the last `count` clusters, which were counted down, off the entry at an index. It has at least that many, and stays
-    /// on the list also where none is left. It takes no memory.
+    /// Removes the last `count` clusters, which have been freed, from the entry at `index`. It takes no memory.
+    ///
+    /// The entry stays on the list even if it has no clusters left.
+    ///
+    /// # Preconditions
+    ///
+    /// The entry has at least `count` clusters.
     pub fn shorten(&mut self, index: usize, count: ClusterCount)
         requires inside { index < length self.old.entries }
         requires enough { count ≤ (entry_at self.old.entries index).count }
@@ -231,8 +256,7 @@ impl ClustersToFreeList {
         let _parts = mem::replace(entry, shorter).into_parts();
     }
 
-    /// Takes the entry at an index, which is below the number of entries, off the list. Those behind it move up. It takes no
-    /// memory.
+    /// Removes the entry at `index`, which must be less than the number of entries. Later entries move up. It takes no memory.
     pub fn remove(&mut self, index: usize) -> ClustersToFreeEntry
         requires { index < length self.old.entries }
         ensures removed { result ≡ entry_at self.old.entries index }

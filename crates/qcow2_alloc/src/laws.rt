@@ -1,5 +1,10 @@
-//! What callers may rest on beside the contract of each call. The functions do nothing, and their contracts are the laws. What is named is
-//! referenced for qemu and imago, a count is a refcount, and a stop is a crash or a power cut.
+//! Laws: theorems that callers can use in addition to the contract of each call. The functions do nothing: their contracts are the
+//! theorems.
+//!
+//! The image in memory is the file with all dirty cached tables and blocks written over it. In these laws `counted` is the refcount in
+//! memory, and `waiting` the number of free list entries that have a cluster. `referenced` are the references in memory, and
+//! `referenced_at_all` those in the file or in memory. The excess refcount of a cluster is its refcount minus its references and list
+//! entries. `handed` and `taken` say how it changes: see `GuestUnchanged` (specs/GuestView.antt).
 
 ghost use Rattle.std.specs.Prelude.{◌≡◌, ◌⊎◌, ◌==◌, if◌then◌else◌, ◌≢◌, ℕ, ◌+◌, ◌*◌, ◌/◌, ◌%◌, ◌^◌, ◌<◌, ◌≤◌, Bool, true, false, Some, ⊤, IsTrue, Result, Ok, Err, OnOk, List, [], ◌∷◌, ◌++◌, length, nat_eq, slice_index, slice_set, replicate, None, IsFalse};
 ghost use Rattle.std.specs.Int.{w64, to_be_bytes};
@@ -44,45 +49,46 @@ ghost use Rattle.qcow2_alloc.specs.GuestView.{IsTableOf, Metadata, metadata_in, 
 ghost use Rattle.qcow2_alloc.specs.MakingRoom.{CountsTheSame, IsReadyBlock, BlockLinked, with_block, formerly, newly_counted, IsReadyTable, TableSwitched, with_table, newly, run_of, rank, IsGrownTable};
 ghost use Rattle.qcow2_alloc.specs.FreeList.{entry_at, tail_of, shortened, covers, listed};
 
-/// Words can name the cluster of each table and block that is to be written of a safe image. So no flush of one is refused as damaged.
+/// Law: if the cache invariant (`WellFormed`) holds, the offset of each dirty table and block fits an entry. So no flush fails with
+/// `Fault::DamagedTable`.
 pub fn what_is_well_formed_is_addressable()
     ensures { (f : Bytes) (H : Header) (cached : Cached) (order : CacheDependency) → WellFormed f H cached order → AreTablesAddressable cached
         × AreBlocksAddressable cached }
 {}
 
-/// Where nothing waits to be written, what is in memory is the file.
+/// Law: if no cached table or block is dirty, the image in memory and the file are equal.
 pub fn what_is_clean_is_in_the_file()
     ensures { (f : Bytes) (h : Fields) (cached : Cached) → AreTablesClean cached → AreBlocksClean cached → memory f h cached ≡ f }
 {}
 
-/// What is in memory of a safe image is a consistent image.
+/// Law: if the cache invariant (`WellFormed`) holds, the image in memory (the file with all dirty tables and blocks written) is consistent.
 pub fn what_is_in_memory_is_consistent()
     ensures { (f : Bytes) (H : Header) (cached : Cached) (order : CacheDependency) → WellFormed f H cached order
         → IsConsistent (memory f H.fields cached) H }
 {}
 
-/// In memory each cluster is counted as its counter says in the cached block,
+/// Law: if the cache invariant (`WellFormed`) holds, the refcount of a cluster in memory is the one in the cached block that has it.
 pub fn what_a_cached_block_counts()
     ensures { (f : Bytes) (H : Header) (cached : Cached) (order : CacheDependency) (key c : ℕ) (block : Block) → WellFormed f H cached order
         → CachesBlock f H.fields cached key c block
         → count (memory f H.fields cached) H.fields c ≡ slice_index block.counters (c % counters_of_block H.fields) }
 {}
 
-/// and each word of an L2 table means what it does in the cached one.
+/// Law: if the cache invariant (`WellFormed`) holds, each L2 entry means in memory what it means in the cached L2 table.
 pub fn what_a_cached_table_means()
     ensures { (f : Bytes) (H : Header) (cached : Cached) (order : CacheDependency) (key i : ℕ) (table : TableValue) → WellFormed f H cached order
         → CachesTable f H.fields cached key i table
         → (j : ℕ) → j < entries_of_cluster H.fields → slot (memory f H.fields cached) H.fields i j ≡ mapping_in table j }
 {}
 
-/// What is written of what is cached names no cluster anew: each is named, in the file or in memory, no more often than before.
+/// Law: if the caches are flushed, no cluster has more references in the file or in memory than before.
 pub fn what_is_written_back_references_no_more()
     ensures { (H : Header) (order : CacheDependency) (old new : List ℕ) (cached cached' : Cached) → IsSettled H order old cached new cached'
         → (c : ℕ) → references_in_either (bytes_of new) (memory (bytes_of new) H.fields cached') H.fields c
         ≤ references_in_either (bytes_of old) (memory (bytes_of old) H.fields cached) H.fields c }
 {}
 
-/// A cached table or block that is used and stays as it is leaves what is in memory, and safe.
+/// Law: if a cached table or block is looked up and not changed, the image in memory stays the same, and the cache invariant is kept.
 pub fn what_is_used_stays_well_formed()
     ensures tables { (f : Bytes) (H : Header) (cached : Cached) (order : CacheDependency) (key : ℕ) → WellFormed f H cached order
         → (table : TableValue) → option_map (λ s. s.value) (lookup (nat_eq key) cached.tables) ≡ Some table
@@ -92,24 +98,25 @@ pub fn what_is_used_stays_well_formed()
         → StaysAsItIs f H cached order (record cached { blocks = hit (nat_eq key) cached.blocks block }) }
 {}
 
-/// While blocks are written before tables a counter of a cached block that is 0 may be raised: nothing names its cluster, in the file or
-/// in memory, before and after. What is cached stays safe, and nothing else changes in memory.
+/// Law: if blocks are written before tables, incrementing a refcount from 0 in a cached block keeps the cache invariant. The cluster has no
+/// references, in the file or in memory, before and after. Nothing else changes in memory.
 pub fn raising_a_counter()
     ensures { (f : Bytes) (H : Header) (cached cached' : Cached) (key c : ℕ) → WellFormed f H cached L2DependsOnRb
         → SetsCounter f H.fields cached key c 1 cached' → count (memory f H.fields cached) H.fields c ≡ 0
         → CounterChanged f H L2DependsOnRb cached c 1 cached' × (references_in_either f (memory f H.fields cached) H.fields c ≡ 0) }
 {}
 
-/// A counter of a cached block may be lowered by 1 where what names its cluster is still covered. What is cached stays safe, and nothing
-/// else changes in memory.
+/// Law: if a refcount in a cached block still covers the cluster's references after a decrement, the decrement keeps the cache invariant.
+/// Nothing else changes in memory.
 pub fn decrementing_a_counter()
     ensures { (f : Bytes) (H : Header) (cached cached' : Cached) (order : CacheDependency) (key c n : ℕ) → WellFormed f H cached order
         → SetsCounter f H.fields cached key c n cached' → count (memory f H.fields cached) H.fields c ≡ n + 1
         → IsStillCovered order f (memory f H.fields cached) H.fields c n → CounterChanged f H order cached c n cached' }
 {}
 
-/// A word of a cached L2 table may be set to one that names no cluster that it didn't, and none as copied that wasn't, as where its
-/// cluster is dropped, or kept for zeroes, or is data again. What is cached stays safe, and nothing else changes in memory.
+/// Law: if an entry of a cached L2 table is set to one that references no other cluster and sets no COPIED flag that wasn't set, the cache
+/// invariant is kept. Nothing else changes in memory. Examples are discarding a cluster, zeroing it, and mapping a preallocated zero
+/// cluster.
 pub fn referencing_less()
     ensures { (f : Bytes) (H : Header) (cached cached' : Cached) (order : CacheDependency) (key i j w : ℕ) → WellFormed f H cached order
         → (sets : SetsEntry f H.fields cached key i j w cached') → w < 2 ^ 64
@@ -118,14 +125,16 @@ pub fn referencing_less()
         → ReferencesDropped (file_with f H order cached) i j (mapping_in sets.table j) (mapping_of (layout_of H.fields) w) cached' }
 {}
 
-/// So a guest cluster may be discarded,
+/// Law: if the entry of a guest cluster is set to 0 in a cached L2 table (discard), no cluster gets more references, and the cache
+/// invariant is kept.
 pub fn discarding_a_cluster()
     ensures { (f : Bytes) (H : Header) (cached cached' : Cached) (order : CacheDependency) (key i j : ℕ) → WellFormed f H cached order
         → (sets : SetsEntry f H.fields cached key i j 0 cached')
         → ReferencesDropped (file_with f H order cached) i j (mapping_in sets.table j) unmapped cached' }
 {}
 
-/// zeroed, with its host cluster kept or not,
+/// Law: if a guest cluster is zeroed in a cached L2 table (version 3), with or without its host cluster kept as preallocated, no cluster
+/// gets more references, and the cache invariant is kept.
 pub fn zeroing_a_cluster()
     ensures { (f : Bytes) (H : Header) (cached cached' : Cached) (order : CacheDependency) (key i j : ℕ) → WellFormed f H cached order
         → (w : ℕ) (sets : SetsEntry f H.fields cached key i j w cached') (keep : Bool) → H.fields.version ≡ 3
@@ -134,7 +143,8 @@ pub fn zeroing_a_cluster()
         (zeroed (kept_where keep (mapping_in sets.table j))) cached' }
 {}
 
-/// or mapped to the host cluster that is kept for its zeroes.
+/// Law: if a guest cluster is mapped to its preallocated zero cluster in a cached L2 table, no cluster gets more references, and the cache
+/// invariant is kept.
 pub fn mapping_a_kept_cluster()
     ensures { (f : Bytes) (H : Header) (cached cached' : Cached) (order : CacheDependency) (key i j : ℕ) → WellFormed f H cached order
         → (x : ℕ) (sets : SetsEntry f H.fields cached key i j (2 ^ 63 + x * cluster_size H.fields) cached')
@@ -142,8 +152,8 @@ pub fn mapping_a_kept_cluster()
         → ReferencesDropped (file_with f H order cached) i j (zeroes (Some x) true) (data_at x true) cached' }
 {}
 
-/// A word of a cached L2 table may be set to the one that `L2TableWriteGuard::map_cluster` writes for a data cluster that nothing names, in
-/// the file or in memory, and that is counted in memory. What is cached stays safe, and nothing else changes in memory.
+/// Law: if a data cluster has no references, in the file or in memory, and a refcount above 0 in memory, an entry of a cached L2 table may
+/// be set to reference it, as `L2TableWriteGuard::map_cluster` does. The cache invariant is kept, and nothing else changes in memory.
 pub fn linking_a_cluster()
     ensures { (f : Bytes) (H : Header) (cached cached' : Cached) (order : CacheDependency) (key i j x : ℕ) → WellFormed f H cached order
         → (sets : SetsEntry f H.fields cached key i j (2 ^ 63 + x * cluster_size H.fields) cached')
@@ -152,7 +162,8 @@ pub fn linking_a_cluster()
         → ClusterLinked (file_with f H order cached) i j (mapping_in sets.table j) x cached' }
 {}
 
-/// How many entries of the list of clusters to free have a cluster, as the list changes. An entry has the clusters that its bytes meet.
+/// Law: if an entry is added to the free list, removed or shortened, the number of list entries that have a cluster changes by that entry's
+/// clusters. An entry has the clusters that its bytes touch.
 pub fn entries_count_one_by_one()
     ensures empty { (c : ℕ) → listed [] c ≡ 0 }
     ensures pushed { (entries : List FreeEntry) (e : FreeEntry) (c : ℕ) → listed (entries ++ e ∷ []) c ≡ listed entries c + covers c e }
@@ -165,15 +176,17 @@ pub fn entries_count_one_by_one()
     ensures met { (h : Fields) (c : ℕ) (e : FreeEntry) → covers c e ≡ meets h c (e.first * cluster_size h) (e.count * cluster_size h) }
 {}
 
-/// A safe image of which nothing waits to be freed is sound.
+/// Law: if the cache invariant (`WellFormed`) holds, the refcount table in memory is the file's and the free list is empty, the image is
+/// consistent (`IsSound`).
 pub fn what_is_well_formed_is_sound()
     ensures { (f : Bytes) (H : Header) (cached : Cached) (order : CacheDependency) (table : TableValue) → WellFormed f H cached order
         → IsTableOf f H.fields table
         → IsSound (record { file = f; header = H; cached = cached; order = order; table = table; pending = [] }) }
 {}
 
-/// An image that a checker accepts is sound right after it was opened: by the header that loads from it, for reading or for writing, with
-/// new caches and a new allocator. Only memory and the storage refuse that allocator, and the L1 table, which is loaded as the file has it.
+/// Law: if `check` accepts an image, it is consistent right after it is opened: with the header that loads from it, for reading or for
+/// writing, new caches and a new allocator. The allocator and the L1 table fail to load only with `Fault::Memory` or `Fault::Storage`. The
+/// L1 table has the entries of the file.
 pub fn what_a_checker_accepts_opens_sound()
     ensures consistent { (f : Bytes) (found : List (ℕ × ℕ)) (writing : Bool) (H : Header) → IsVerdict f (Ok found)
         → header_of writing f ≡ Ok H → IsConsistent f H }
@@ -190,14 +203,15 @@ pub fn what_a_checker_accepts_opens_sound()
         → Cause before after fault }
 {}
 
-/// What flushes of a sound image leave shows what the image did, and so does its file.
+/// Law: if an image is consistent, its file, and each crash image that a flush can leave, reads the same as the image.
 pub fn what_is_left_shows_the_same()
     ensures left { (m : Metadata) (x : Bytes) → IsSound m → IsCrashImage m.file (in_memory m) m.header x → ShowsEither m x m.header }
     ensures file { (m : Metadata) → IsSound m → ShowsEither m m.file m.header }
 {}
 
-/// What is in memory may stay, be used, be written in another order that is safe, or be flushed: the image stays sound, and is to the
-/// disk as it was. Nothing is handed out or taken back.
+/// Law: if nothing happens, if cached entries are used and not changed, or if the caches are flushed, the image stays consistent and the
+/// guest reads the same bytes. It also does if the write order changes and the cache invariant holds for the new order. No excess refcount
+/// changes.
 pub fn what_stays_leaves_the_guest_unchanged()
     ensures none { (m : Metadata) → IsSound m → GuestUnchanged (λ _. 0) (λ _. 0) m m }
     ensures used { (m : Metadata) (cached' : Cached) → IsSound m → StaysAsItIs m.file m.header m.cached m.order cached'
@@ -210,9 +224,12 @@ pub fn what_stays_leaves_the_guest_unchanged()
         × GuestUnchanged (λ _. 0) (λ _. 0) m (record m { file = bytes_of new; cached = cached' }) }
 {}
 
-/// Flushes leave the disk as it is, also where they failed, if a storage that tells its stops refused no change; so do searches of the
-/// caches that weren't cut off, announcements, and what changes memory alone. Writes that weren't cut off succeeded, as all of a sound
-/// image is in reach.
+/// Law: if the caches are flushed, the guest reads the same bytes, also from each crash image. After an error it does if the storage
+/// exposes its crash images and no change of the storage has failed.
+///
+/// Lookups in the caches that end without a resource error (`Fault::Memory`, `Fault::Storage`), changes of the write order, and changes of
+/// memory only leave guest data unchanged, too. A write that ends without a resource error has succeeded, as the offset of each cluster of
+/// a consistent image fits an entry.
 pub fn what_preserves_the_guest()
     ensures flushes { (m : Metadata) (result : Result Unit Fault) (old new : StorageState) (cached' : Cached) → IsIn old m
         → WritesBackCached m.header m.order Always (result ≡ Ok tt) old m.cached new cached'
@@ -232,14 +249,16 @@ pub fn what_preserves_the_guest()
         → PreservesGuest ⊤ handed taken s m s m' }
 {}
 
-/// What shows an image that another became quietly shows that other too, if what is named there wasn't taken.
+/// Law: if guest data is unchanged from one image to another, a file that reads like the second reads like the first. No referenced cluster
+/// may be among the taken ones (`GuestUnchanged`).
 pub fn unchanged_guest_reads_the_same()
     ensures { (m m' : Metadata) (handed taken : ℕ → ℕ) → GuestUnchanged handed taken m m' → IsSound m
         → ((c : ℕ) → 0 < referenced m c → taken c ≡ 0) → (x : Bytes) (H : Header) → ShowsEither m' x H → ShowsEither m x H }
 {}
 
-/// What is done quietly one behind the other is quiet: what is handed out and taken adds up. It may be said otherwise, as where a cluster
-/// was handed out and then taken that wasn't used, where this leaves what is used and not taken.
+/// Law: if each of two consecutive changes leaves guest data unchanged, the pair leaves it unchanged too, and their changes of the excess
+/// refcounts (refcount minus references and list entries) add up. These may be stated differently if the difference is equal and no used
+/// cluster (`IsUsed`) is affected. An example is a cluster that was allocated and then taken.
 pub fn unchanged_guest_adds_up()
     ensures then { (m m' m'' : Metadata) (h t h' t' : ℕ → ℕ) → IsSound m → IsSound m' → ((c : ℕ) → 0 < referenced m c → t c ≡ 0)
         → GuestUnchanged h t m m' → GuestUnchanged h' t' m' m'' → GuestUnchanged (λ c. h c + h' c) (λ c. t c + t' c) m m'' }
@@ -251,16 +270,18 @@ pub fn unchanged_guest_adds_up()
         → GuestUnchanged (λ c. h c + both c) (λ c. t c + both c) m m' → GuestUnchanged h t m m' }
 {}
 
-/// What is done quietly names no cluster anew that is used and not taken. So what a caller was handed stays unnamed until it names it: it
-/// is used, as it is counted beyond what waits to free it and nothing names it.
+/// Law: if guest data is unchanged, a cluster that is used and not taken gets no new references. So an allocated cluster stays unreferenced
+/// until its owner links it: it is used, as its refcount is greater than the number of its list entries.
 pub fn what_is_used_is_not_newly_referenced()
     ensures names { (m m' : Metadata) (handed taken : ℕ → ℕ) → GuestUnchanged handed taken m m' → (c : ℕ) → IsUsed m c → taken c ≡ 0
         → referenced_at_all m' c ≤ referenced_at_all m c }
     ensures not_referenced { (m : Metadata) (c : ℕ) → waiting m c < counted m c → referenced_at_all m c ≡ 0 → IsUsed m c }
 {}
 
-/// Of two calls, where the first wasn't cut off, what is handed out and taken adds up, too; also where the second was cut off over a
-/// storage that tells its stops, which refused no change.
+/// Law: if each of two successive calls leaves guest data unchanged, and the first ends without a resource error (`Fault::Memory`,
+/// `Fault::Storage`), the pair leaves it unchanged too, and their changes of the excess refcounts (refcount minus references and list
+/// entries) add up. If the second call ends with a resource error, the storage must expose its crash images, and no change of it may have
+/// failed.
 pub fn what_preserves_the_guest_adds_up()
     ensures then { (first second : Result Unit Fault) (h t h' t' : ℕ → ℕ) (s : StorageState) (m : Metadata) (s' : StorageState)
         (m' : Metadata) (s'' : StorageState) (m'' : Metadata) → HadNoResourceError first → (IsSound m → (c : ℕ) → 0 < referenced m c → t c ≡ 0)
@@ -276,8 +297,8 @@ pub fn what_preserves_the_guest_adds_up()
         → PreservesGuest (HadNoResourceError result) h t s m s' m' }
 {}
 
-/// A counter of a cached block may be lowered where an entry of the list of clusters to free had its cluster, while tables are written
-/// before blocks, or if the entry is of metadata. The image stays sound, and is to the disk as it was.
+/// Law: if a cluster is on the free list, and its entry is metadata or tables are written before blocks, its refcount may be decremented in
+/// a cached block. The cluster leaves the list, the image stays consistent, and the guest reads the same bytes.
 pub fn freeing_a_cluster()
     ensures { (m : Metadata) (key c n : ℕ) (cached' : Cached) (pending' : List FreeEntry) → IsSound m → (m.order ≡ RbDependsOnL2)
         ⊎ (0 < waiting_metadata m c) → SetsCounter m.file m.header.fields m.cached key c n cached' → counted m c ≡ n + 1
@@ -286,29 +307,32 @@ pub fn freeing_a_cluster()
         × GuestUnchanged (λ _. 0) (λ _. 0) m (record m { cached = cached'; pending = pending' }) }
 {}
 
-/// A counter of a cached block that is 0 may be raised while blocks are written before tables: its cluster is handed out. Nothing names it.
+/// Law: if blocks are written before tables, a refcount of a cached block may be incremented from 0, which allocates the cluster. The image
+/// stays consistent, the guest reads the same bytes, and nothing references the cluster.
 pub fn allocating_a_cluster()
     ensures { (m : Metadata) (key c : ℕ) (cached' : Cached) → IsSound m → m.order ≡ L2DependsOnRb
         → SetsCounter m.file m.header.fields m.cached key c 1 cached' → counted m c ≡ 0
         → IsSound (record m { cached = cached' }) × GuestUnchanged (one_at c) (λ _. 0) m (record m { cached = cached' }) × (referenced_at_all m c ≡ 0) }
 {}
 
-/// A cluster that was handed out may be taken back: its counter is lowered, where what names it and what waits to free it is still covered.
+/// Law: if the refcount of an allocated cluster still covers its references and its list entries after a decrement, the cluster may be
+/// taken back by that decrement. The image stays consistent, and the guest reads the same bytes.
 pub fn taking_back_a_cluster()
     ensures { (m : Metadata) (key c n : ℕ) (cached' : Cached) → IsSound m → SetsCounter m.file m.header.fields m.cached key c n cached'
         → counted m c ≡ n + 1 → referenced_at_all m c + waiting m c ≤ n
         → IsSound (record m { cached = cached' }) × GuestUnchanged (λ _. 0) (one_at c) m (record m { cached = cached' }) }
 {}
 
-/// A cluster that leaks may be counted down by all that it leaks: its counter is lowered, where what names it and what waits to free it is
-/// still covered.
+/// Law: if a leaked cluster's refcount is lowered by its excess, or by a part of it, the image stays consistent, and the guest reads the
+/// same bytes. The lower refcount still covers the cluster's references and its list entries.
 pub fn decrementing_what_leaks()
     ensures { (m : Metadata) (key c n by : ℕ) (cached' : Cached) → IsSound m → SetsCounter m.file m.header.fields m.cached key c n cached'
         → counted m c ≡ n + by → referenced_at_all m c + waiting m c ≤ n
         → IsSound (record m { cached = cached' }) × GuestUnchanged (λ _. 0) (many_at c by) m (record m { cached = cached' }) }
 {}
 
-/// How many entries of metadata have a cluster, as the list of clusters to free changes; and a run of one cluster more.
+/// Law: if an entry is added to the free list, removed or shortened, the number of metadata entries that have a cluster changes by that
+/// entry's clusters. If a run gets one more cluster, that cluster has one more entry.
 pub fn entries_of_metadata_count_one_by_one()
     ensures pushed { (entries : List FreeEntry) (e : FreeEntry) (c : ℕ)
         → listed (metadata_in (entries ++ e ∷ [])) c ≡ listed (metadata_in entries) c + covers_metadata c e }
@@ -322,8 +346,8 @@ pub fn entries_of_metadata_count_one_by_one()
         ≡ covers c (record { first = first; count = count; metadata = metadata }) + one_at (first + count) c }
 {}
 
-/// Clusters may be put among those that wait to be freed, where the counts cover them beside what is named and what waits; nothing names
-/// those of metadata. They are taken back.
+/// Law: if refcounts cover a new entry of the free list, in addition to the references and the other entries, it may be added. Clusters of
+/// metadata must have no references. The image stays consistent, and the entry's clusters are taken: their excess refcount falls.
 pub fn deferring_a_free()
     ensures { (m : Metadata) (e : FreeEntry) → IsSound m → ((c : ℕ) → referenced m c + waiting m c + covers c e ≤ counted m c)
         → ((c : ℕ) → 0 < covers_metadata c e → referenced_at_all m c ≡ 0)
@@ -331,8 +355,9 @@ pub fn deferring_a_free()
         × GuestUnchanged (λ _. 0) (λ c. covers c e) m (record m { pending = m.pending ++ e ∷ [] }) }
 {}
 
-/// While blocks are written before tables, a cluster that isn't counted in memory is named nowhere, nothing waits to free it, and it isn't
-/// used. Flushes leave each count in memory, and name no cluster anew; where no block waits to be written the file counts what memory does.
+/// Law: if blocks are written before tables, a cluster with refcount 0 in memory has no references, is on no list entry, and isn't used.
+///
+/// Flushes change no refcount in memory, and add no references. If no block is dirty, the refcounts in the file are those in memory.
 pub fn what_is_uncounted_is_free()
     ensures free { (m : Metadata) → IsSound m → m.order ≡ L2DependsOnRb → (c : ℕ) → counted m c ≡ 0 → (referenced_at_all m c ≡ 0)
         × (waiting m c ≡ 0) × (IsUsed m c → ⊥) }
@@ -343,15 +368,16 @@ pub fn what_is_uncounted_is_free()
     ensures clean { (m : Metadata) → IsSound m → AreBlocksClean m.cached → (c : ℕ) → counted m c ≡ count m.file m.header.fields c }
 {}
 
-/// A write that is quiet where it succeeded is so where it wasn't cut off.
+/// Law: if a write leaves guest data unchanged on success, it does so whenever it ends without a resource error (`Fault::Memory`,
+/// `Fault::Storage`).
 pub fn what_is_written_preserves_the_guest()
     ensures { (m m' : Metadata) (handed taken : ℕ → ℕ) (old new : StorageState) (at : ℕ) (bytes : List ℕ) (result : Result Unit Fault)
         → WriteOutcome old new at bytes result
         → PreservesGuest (result ≡ Ok tt) handed taken old m new m' → PreservesGuest (HadNoResourceError result) handed taken old m new m' }
 {}
 
-/// Clusters c to c + k, which nothing names, in the file or in memory, may be written by any number of requests: the image is to the disk
-/// as it was, and counts and names what it did. What of them is used is taken for that.
+/// Law: if nothing references clusters `c` to `c + k`, in the file or in memory, they may be written by any number of requests. Guest data,
+/// refcounts and references are unchanged. `taken` must include those of the clusters that are used (`IsUsed`).
 pub fn writing_free_clusters()
     ensures preserves_guest { (m : Metadata) (c k at : ℕ) (bytes : List ℕ) (taken : ℕ → ℕ) (old new : StorageState) → IsIn old m
         → c * cluster_size m.header.fields ≤ at → at + length bytes ≤ (c + k + 1) * cluster_size m.header.fields
@@ -365,7 +391,8 @@ pub fn writing_free_clusters()
         → CountsTheSame m (record m { file = bytes_of new.bytes }) }
 {}
 
-/// So a block may be written to such a cluster, to be named there: the file has its counters then.
+/// Law: if nothing references a cluster, in the file or in memory, a block may be written to it, to be linked later. The file then has the
+/// block's refcounts there. `taken` must include the cluster if it is used (`IsUsed`).
 pub fn writing_a_new_block()
     ensures preserves_guest { (m : Metadata) (d : ℕ) (block : Block) (old new : StorageState) → IsIn old m
         → block.order ≡ m.header.fields.refcount_order → length block.counters ≡ counters_of_block m.header.fields
@@ -381,8 +408,8 @@ pub fn writing_a_new_block()
         × (counters_in (bytes_of new.bytes) m.header.fields (d * cluster_size m.header.fields) ≡ block.counters) }
 {}
 
-/// The counters of such a block are those that `IsReadyBlock` asks for, where it has zeroes alone, or counts itself once; and what is
-/// cached of it is what is found there.
+/// Law: if the refcounts of a new block are all 0, or only that of its own cluster is 1, they are those that `IsReadyBlock` requires. A
+/// block that is cached for the cluster has these refcounts.
 pub fn what_a_new_block_counts()
     ensures each { (f : Bytes) (h : Fields) (place : ℕ) (counters : List ℕ) → counters_in f h place ≡ counters → (j : ℕ)
         → j < counters_of_block h → counter f h place j ≡ slice_index counters j }
@@ -402,9 +429,9 @@ pub fn what_a_new_block_counts()
         → AllByRecursion (λ e. e.0 ≡ key → e.1.value.counters ≡ block.counters) blocks }
 {}
 
-/// A word of the refcount table, which named no block, may come to name one in a cluster that is ready for it, by one request. Where
-/// another block counts that cluster, it was handed out before, and is taken; where it counts itself, it is counted by this alone. Nothing
-/// else is counted or named otherwise.
+/// Law: if a cluster is prepared as a block (`IsReadyBlock`), an empty entry of the refcount table may be set to reference it, by one
+/// request. If another block counts the cluster, the cluster was allocated before and is taken. If the block counts itself, linking it
+/// makes its refcount 1. No other refcount or reference changes.
 pub fn linking_a_block()
     ensures counted { (m : Metadata) (i d : ℕ) (modified : Bool) (old new : StorageState) → IsIn old m → (IsSound m → IsReadyBlock m i d)
         → d / counters_of_block m.header.fields ≢ i
@@ -423,10 +450,12 @@ pub fn linking_a_block()
         → result ≡ Ok tt → BlockLinked m (with_block m i d modified (bytes_of new.bytes)) i d }
 {}
 
-/// The header may come to name another refcount table that is ready for it, by one request of its first bytes, where these make a header
-/// that loads. The old table's clusters are handed out by that: nothing names them then, and they are counted still. What of the new table
-/// and the new blocks an old block counts was handed out before, and is taken. The new header loads where it keeps the limits, as the old
-/// one does.
+/// Law: if a new refcount table is prepared (`IsReadyTable`) and the header that references it loads, the header may be set to that, by one
+/// request of its first bytes.
+///
+/// Nothing references the old table's clusters then, and their refcounts stay the same, which is their excess. Clusters of the new table
+/// and the new blocks that an old block counts were allocated before, and are taken. The new header loads if it keeps the size limits, as
+/// the old one does.
 pub fn switching_the_table()
     ensures preserves_guest { (m : Metadata) (table : TableValue) (t n : ℕ) (old new : StorageState) → IsIn old m
         → (IsSound m → IsReadyTable m table t n)
@@ -449,8 +478,9 @@ pub fn switching_the_table()
     ensures limits { (m : Metadata) → IsSound m → first_fault (rules_of_size m.header.fields) ≡ None }
 {}
 
-/// A table that has grown, with new blocks before it, is ready: it names the run of their clusters anew. Of these an old block counts all
-/// but those that the new blocks do.
+/// Law: if a refcount table has grown, with new blocks before it (`IsGrownTable`), it is prepared to replace the old one. That adds a
+/// reference to each cluster of the new blocks and the table. An old block counts each of these clusters, except those that the new blocks
+/// count.
 pub fn what_has_grown_is_ready()
     ensures ready { (m : Metadata) (table : TableValue) (s n : ℕ) (new : ℕ → Bool) → IsSound m → IsGrownTable m table s new n
         → IsReadyTable m table (s + rank new (length table.raw_entries)) n }
@@ -463,7 +493,8 @@ pub fn what_has_grown_is_ready()
         → new (c / counters_of_block m.header.fields) ≡ true → newly_counted m (s + rank new (length table.raw_entries)) n c ≡ 0 }
 {}
 
-/// The clusters of the refcount table that was replaced may be put among those that wait to be freed.
+/// Law: if the refcount table was replaced, the clusters of the old one may be added to the free list. The image stays consistent, and the
+/// guest reads the same bytes.
 pub fn the_old_table_waits_to_be_freed()
     ensures { (m : Metadata) (table : TableValue) (t n : ℕ) (x : Bytes) → IsSound m → IsReadyTable m table t n
         → TableSwitched m (with_table m table t n x) t n → IsSound (with_table m table t n x)
@@ -479,8 +510,8 @@ pub fn the_old_table_waits_to_be_freed()
         }) }
 {}
 
-/// Of two calls, the second may be shown to be quiet by what the first left, where the storage keeps what is written and the image was
-/// sound.
+/// Law: if a storage keeps what is written and the image was consistent, a proof that the second of two calls leaves guest data unchanged
+/// may use the outcome of the first.
 pub fn what_preserves_the_guest_may_use_what_was_done()
     ensures given { (result : Result Unit Fault) (handed taken : ℕ → ℕ) (s : StorageState) (m : Metadata) (s' : StorageState)
         (m' : Metadata) → s'.shape ≡ s.shape → CountsNotFallen s s'
@@ -493,8 +524,8 @@ pub fn what_preserves_the_guest_may_use_what_was_done()
         → PreservesGuest (second ≡ Ok tt) (λ c. h c + h' c) (λ c. t c + t' c) s m s'' m'' }
 {}
 
-/// While blocks are written before tables, a block that counts itself may be made in a cluster of which no block is cached, and that no
-/// block counts: it is written, and then named. Nothing is handed out by that, and nothing taken.
+/// Law: if blocks are written before tables, and no block is cached for a cluster, a block that counts its own cluster may be written there
+/// and then linked. No other block may count the cluster. No excess refcount changes.
 pub fn making_a_block_that_counts_itself()
     ensures { (m : Metadata) (d : ℕ) (block : Block) (modified : Bool) (old mid new : StorageState) → IsIn old m
         → block.order ≡ m.header.fields.refcount_order
@@ -513,8 +544,8 @@ pub fn making_a_block_that_counts_itself()
         (with_block m (d / counters_of_block m.header.fields) d modified (bytes_of new.bytes)) }
 {}
 
-/// So may a block of zeroes, in a cluster that another block counts, while no block waits to be written: the cluster was handed out, and is
-/// taken.
+/// Law: if no block is dirty, a block with refcounts 0 may be made in an allocated cluster that another block counts. The cluster is taken:
+/// its excess refcount falls by 1.
 pub fn making_a_block_that_another_counts()
     ensures { (m : Metadata) (i d : ℕ) (block : Block) (modified : Bool) (old mid new : StorageState) → IsIn old m
         → block.order ≡ m.header.fields.refcount_order
@@ -529,16 +560,16 @@ pub fn making_a_block_that_another_counts()
         → PreservesGuest (result ≡ Ok tt) (λ _. 0) (one_at d) old m new (with_block m i d modified (bytes_of new.bytes)) }
 {}
 
-/// A quarter of the space that is free in a row, from the mark on, is room for an allocation of no more than a sixteenth of it. So one that
-/// is refused with `Fault::Limit` asked for more, or there is no such quarter.
+/// Law: if a quarter of the space is free, in one run from the first-free hint on, an allocation of a sixteenth of the space or less has
+/// enough. So after `Fault::Limit` there was no such quarter, or more than a sixteenth was requested.
 pub fn a_quarter_is_room()
     ensures { (m : Metadata) (mark n first : ℕ) → mark ≤ first → first + space m.header.fields / 4 ≤ space m.header.fields
         → ((c : ℕ) → first ≤ c → c < first + space m.header.fields / 4 → counted m c ≡ 0) → n ≤ space m.header.fields / 16
         → IsRoomy m mark n }
 {}
 
-/// What an image has room for it has room for once what waits was freed. So one that is sound, and in which an allocation is refused with
-/// `Fault::Limit`, had none before that, either.
+/// Law: if an image has enough space for an allocation, it still has it after clusters on the free list were freed. So if an allocation
+/// fails with `Fault::Limit`, there wasn't enough space before the freeing, either.
 pub fn what_is_freed_leaves_room()
     ensures { (m m' : MetadataWithFirstFree) (n : ℕ) → IsFreed m m' → IsRoomy m.image m.mark n → IsRoomy m'.image m'.mark n }
 {}

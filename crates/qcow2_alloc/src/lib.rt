@@ -1,5 +1,5 @@
-//! The tables of a qcow2 image in memory: what is cached of them, in which order they are written, and who gets which cluster. A word of a
-//! table is its entry for qemu and imago, what it names it references, and a block is a refcount block, or refblock.
+//! The L2 tables and refcount blocks of a qcow2 image in memory: caches with a write order, and the allocator of clusters. The write order
+//! keeps the file consistent after a crash between any two requests. A block is a refcount block. Terms are explained in docs/GLOSSARY.md.
 #![tactic(auto)]
 
 mod allocation;

@@ -1,4 +1,4 @@
--- What the count of a cluster leaves of it: nothing names it, and no block of it is cached.
+-- Incrementing the refcount of an unreferenced cluster: nothing references it afterwards, and no block at it is cached.
 use Rattle.std.proofs.Common.{◌≡◌, ◌≢◌, ℕ, ◌/◌, ◌%◌, refl, arith, sym, subst, ◌∙◌, List, ◌++◌, length, Option, None, Some, Ok, Err, inl, inr}
 use Rattle.std.specs.Prelude.{IsTrue, nat_eq, nat_lt, slice_index, MatchOption}
 use Rattle.std.specs.Map.{lookup, remove_entry}
@@ -39,7 +39,7 @@ use Rattle.qcow2_alloc.proofs.Memory.Patches.{place-there}
 use Rattle.qcow2_alloc.proofs.Caching.Places.{place-of-key, place-hit}
 
 module _ {V : Type 0} (c : ℕ) where
-  -- A key that isn't there isn't once room was made,
+  -- An absent key stays absent when an entry is evicted, used or searched for.
   pub none-in-room : (size : ℕ) (es : List (ℕ × Slot V)) → lookup (nat_eq c) es ≡ None → lookup (nat_eq c) (with_room size es) ≡ None
   none-in-room size es none = elim (cases_Bool (nat_lt (length es) size)) [
     | inl t ↦ rw t none
@@ -50,7 +50,6 @@ module _ {V : Type 0} (c : ℕ) where
       by-victim None is = none
       by-victim (Some key) is = remove_absent (nat_eq key) (nat_eq c) es none
 
-  -- where another is used,
   pub none-in-hit : (key : ℕ) (es : List (ℕ × Slot V)) (value : V) → key ≢ c → lookup (nat_eq c) es ≡ None → lookup (nat_eq c) (hit (nat_eq key) es value) ≡ None
   none-in-hit key es value apart none = by-slot (lookup (nat_eq key) es) refl
     where
@@ -61,7 +60,6 @@ module _ {V : Type 0} (c : ℕ) where
           let rest : lookup (nat_eq c) (p.front ++ p.back) ≡ None = subst (λ (l : List (ℕ × Slot V)). lookup (nat_eq c) l ≡ None) p.removed (remove_absent (nat_eq key) (nat_eq c) es none) in
           rw (place-hit key es slot p value) (rw (ne_eqb c key (λ same. apart (sym same))) rest)
 
-  -- and where another was searched for.
   pub none-in-search : (written : ℕ × Slot V → ℕ × Slot V) (size key : ℕ) (read : V) (es es' : List (ℕ × Slot V)) → Sought written size key read es (Ok tt) es' → key ≢ c → lookup (nat_eq c) es ≡ None → lookup (nat_eq c) es' ≡ None
   none-in-search written size key read es es' sought apart none = by-slot (lookup (nat_eq key) es) refl
     where
@@ -129,7 +127,6 @@ module _ {S : Type 0} (state : S → StorageState) (table : TableValue) (pending
               (none-in-hit c key mid.blocks u.value' (key-apart key names) (none-in-search c written_block _ key _ (cached_in old).blocks mid.blocks u.found.sought (key-apart key names) uncached)),
         )
 
-    -- The count of a cluster names nothing anew, and caches no block there.
     pub counted-apart : IncrementsCluster state table c (cached_file old before) (Ok tt) (cached_file new after) → Apart
     counted-apart = by-name (referenced_block table i) refl
       where

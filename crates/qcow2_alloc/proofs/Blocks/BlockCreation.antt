@@ -1,4 +1,4 @@
--- A block is made, where there is none: it is written, and then named.
+-- Making a refcount block at an index that has none: it is written, then linked.
 use Rattle.std.proofs.Common.{◌≡◌, ◌≢◌, ℕ, ◌+◌, ◌*◌, ◌/◌, ◌%◌, ◌<◌, ◌≤◌, refl, arith, ap, sym, subst, inl, inr, ◌∙◌, List, length, Ok, None, Bool, Result}
 use Rattle.std.specs.Prelude.{nat_eq, slice_index, slice_set, replicate, IsTrue}
 use Rattle.std.specs.Int.{w64, to_be_bytes}
@@ -32,7 +32,7 @@ use Rattle.qcow2_alloc.proofs.Blocks.BlockNames.{count-none, counted-block-quiet
 use Rattle.qcow2_alloc.proofs.Blocks.NewBlocks.{zeroes-count, itself-counts, none-cached}
 use Rattle.qcow2_alloc.proofs.GuestView.QuietPremises.{quietly-then-given}
 
--- A block that is named raises the counts of its own clusters alone, and that from 0 to 1.
+-- Linking a block raises only the refcounts of its own clusters, from 0 to 1.
 only-named : (m m1 m2 : Metadata) (i d : ℕ) → ((c : ℕ) → counted m1 c ≡ counted m c) → BlockLinked m1 m2 i d → OnlyIncremented m m2
 only-named m m1 m2 i d same names c =
     let was = same c in
@@ -46,7 +46,6 @@ only-named m m1 m2 i d same names c =
           ]
     ]
 
--- Where the refcount table names no block nothing is counted.
 pub unnamed-uncounted : (m : Metadata) → IsSound m → (c : ℕ) → c / counters_of_block m.header.fields < refcount_table_entries m.header.fields → block_offset (slice_index m.table.raw_entries (c / counters_of_block m.header.fields)) ≡ 0 → counted m c ≡ 0
 unnamed-uncounted m sound c inside none =
     let places : SamePlaces m.file (in_memory m) m.header.fields = places-in-memory m.file m.header sound.well_formed.consistent m.cached sound.well_formed.tables sound.well_formed.blocks in
@@ -87,13 +86,11 @@ module _ (m : Metadata) (d : ℕ) (block : Block) (modified : Bool) (old mid new
           cached = none-cached d m.cached.blocks _ uncached;
         }
 
-    -- All in all nothing is handed out and nothing taken.
     pub own-block-made : (result : Result Unit Fault) → AtomicWriteOutcome mid new (table_start (with_raw_entry m.table i (d * cluster_size m.header.fields)) + 8 * i) (to_be_bytes w64 (slice_index (with_raw_entry m.table i (d * cluster_size m.header.fields)).raw_entries i)) result
         → PreservesGuest (result ≡ Ok tt) (λ _. 0) (λ _. 0) old m new (with_block m i d modified (bytes_of new.bytes))
     own-block-made result named = quietly-then-given (done ≡ Ok tt) (result ≡ Ok tt) (λ _. 0) (λ _. 0) (λ _. 0) (λ _. 0) old m mid m1 new (with_block m i d modified (bytes_of new.bytes)) ok (λ sound c refers. refl) written named.put.shape named.put.counts_not_fallen
         (λ keeps sound sound1 guest_unchanged. own-block-quietly m1 i d modified mid new refl (λ s. ready keeps sound sound1) refl result named)
 
-    -- Only what it counts is counted anew.
     pub own-block-raises : IsTrue old.shape.keeps → IsSound m → (result : Result Unit Fault)
         → AtomicWriteOutcome mid new (table_start (with_raw_entry m.table i (d * cluster_size m.header.fields)) + 8 * i) (to_be_bytes w64 (slice_index (with_raw_entry m.table i (d * cluster_size m.header.fields)).raw_entries i)) result
         → result ≡ Ok tt → OnlyIncremented m (with_block m i d modified (bytes_of new.bytes))
@@ -103,7 +100,7 @@ module _ (m : Metadata) (d : ℕ) (block : Block) (modified : Bool) (old mid new
         only-named m m1 (with_block m i d modified (bytes_of new.bytes)) i d all.0.memory
         (names-block m1 i d modified mid new refl (λ s. ready keeps sound s) (keeps_on old mid written.shape keeps) (written.holds keeps sound ok).0 result named is)
 
--- A block of zeroes is made in a cluster that another block counts, which was handed out and of which all is flushed.
+-- A block of zeros is made in an allocated cluster that another block counts. Everything is flushed before.
 module _ (m : Metadata) (i d : ℕ) (block : Block) (modified : Bool) (old mid new : StorageState) (is_in : IsIn old m) (order : block.order ≡ m.header.fields.refcount_order)
     (counts : block.counters ≡ replicate (counters_of_block m.header.fields) 0) (clean : AreBlocksClean m.cached) (inside : i < refcount_table_entries m.header.fields) (empty : block_offset (slice_index m.table.raw_entries i) ≡ 0)
     (other : d / counters_of_block m.header.fields ≢ i) (some : d ≢ 0) (reach : IsAddressable m.header.fields.cluster_bits d) (uncached : lookup (nat_eq d) m.cached.blocks ≡ None)
@@ -152,7 +149,6 @@ module _ (m : Metadata) (i d : ℕ) (block : Block) (modified : Bool) (old mid n
           absurd (omega (arith, le, none, here))
     ]
 
-    -- The cluster is taken for it.
     pub other-block-made : (result : Result Unit Fault)
         → AtomicWriteOutcome mid new (table_start (with_raw_entry m.table i (d * cluster_size m.header.fields)) + 8 * i) (to_be_bytes w64 (slice_index (with_raw_entry m.table i (d * cluster_size m.header.fields)).raw_entries i)) result
         → PreservesGuest (result ≡ Ok tt) (λ _. 0) (one_at d) old m new (with_block m i d modified (bytes_of new.bytes))

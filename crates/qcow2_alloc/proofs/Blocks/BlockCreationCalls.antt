@@ -1,4 +1,4 @@
--- A refcount block is made, from the first of the call to its last.
+-- A call that makes a refcount block, from its first step to its last.
 use Rattle.std.proofs.Common.{◌≡◌, ◌≢◌, ℕ, ◌+◌, ◌*◌, ◌^◌, ◌<◌, ◌≤◌, refl, arith, ap, sym, subst, ◌∙◌, inl, List, length, Ok, Err, Some, Bool, true, Option, Result}
 use Rattle.std.specs.Prelude.{⊤, nat_eq, slice_index, IsTrue, OnOk, IsSomeAnd, MatchResult}
 use Rattle.std.specs.Int.{w64, to_be_bytes}
@@ -52,7 +52,6 @@ use Rattle.qcow2_alloc.proofs.GuestView.QuietSequences.{quietly-otherwise, quiet
 use Rattle.qcow2_alloc.proofs.Caching.Pins.{pinned-there}
 
 module _ (m : Metadata) (sound : IsSound m) where
-  -- The first cluster is counted.
   pub first-counted : 0 < counted m 0
   first-counted =
       let part = header-part (in_memory m) m.header.fields (meets m.header.fields 0) in
@@ -62,7 +61,6 @@ module _ (m : Metadata) (sound : IsSound m) where
       let covers = sound.covered 0 in
       omega (arith, part, one, le, covers)
 
-  -- The words of the refcount table can be written.
   pub can-name : (place : ℕ) → place ≢ 0 → CanReference m.table m.header.fields.cluster_bits place
   can-name place some =
       let bits : m.table.layout.cluster_bits ≡ m.header.fields.cluster_bits = ap (λ (l : Layout). l.cluster_bits) sound.table.layout in
@@ -75,23 +73,20 @@ module _ (m : Metadata) (sound : IsSound m) where
         offset_nonzero = some;
       }
 
--- So a word can name the cluster of a block.
 pub namable : (table : TableValue) (bits d : ℕ) → CanReference table bits d → IsAddressable bits d → (cluster : Option ℕ) → cluster ≡ Some d → CanBeReferenced table.layout.cluster_bits cluster
 namable table bits d can reach cluster is =
     let place : CanBeReferenced bits (Some d) = record { placed = reach; cluster_nonzero = let there = place-there (2 ^ bits) d (pow_pos bits) can.offset_nonzero in omega (arith, there) } in
     subst (λ (b : ℕ). CanBeReferenced b cluster) (sym can.bits) (subst (λ (c : Option ℕ). CanBeReferenced bits c) (sym is) place)
 
--- What is known of a request that was refused,
 put-cause : (old new : StorageState) (at : ℕ) (bytes : List ℕ) (done : Result Unit Fault) → WriteOutcome old new at bytes done → (fault : Fault) → done ≡ Err fault → Cause old.faults new.faults fault
 put-cause old new at bytes (Ok done) put fault is = absurd (cc is)
 put-cause old new at bytes (Err other) put fault is = subst (λ (f : Fault). Cause old.faults new.faults f) (let e = is in cc) put.answer.cause
 
--- and of one that wasn't.
 put-faults : (old new : StorageState) (at : ℕ) (bytes : List ℕ) (done : Result Unit Fault) → WriteOutcome old new at bytes done → done ≡ Ok tt → new.faults ≡ old.faults
 put-faults old new at bytes (Ok done) put is = put.answer.faults
 put-faults old new at bytes (Err fault) put is = absurd (cc is)
 
--- A table is as it was, or names this cluster at an index.
+-- Only entry `i` may change; if it does, it references cluster `d`.
 pub record NamedAt (table : TableValue) (i d : ℕ) (result : Result Unit Fault) (table' : TableValue) : Type 0 where
   pub named : OnOk result (block_offset (slice_index table'.raw_entries i) ≢ 0)
   pub others : (k : ℕ) → k ≢ i → slice_index table'.raw_entries k ≡ slice_index table.raw_entries k
@@ -115,7 +110,7 @@ word-named table i d bits result modified inside low some reach = record {
   placed = refl;
 }
 
--- The end of the call: a block is written, and then named.
+-- The end of the call: the block is written and linked.
 module _ {S : Type 0} (state : S → StorageState) (i d : ℕ) (counters : List ℕ) (sC : ImageState S) where
   abbrev pub B : Block
   B = block_of sC.file.header.fields.cluster_bits sC.file.header.fields.refcount_order counters (Some d) true
@@ -123,7 +118,7 @@ module _ {S : Type 0} (state : S → StorageState) (i d : ℕ) (counters : List 
   abbrev mC : Metadata
   mC = metadata state sC
 
-  -- What it does, where these clusters are taken.
+  -- The outcome of these two steps, which use the allocated clusters `taken`.
   pub record Ends (ready : Type 0) (taken : ℕ → ℕ) (result : Result Unit Fault) (table' : TableValue) (after : StorageState) : Type 0 where
     pub shape : after.shape ≡ (state sC.file.image).shape
     pub counts_not_fallen : CountsNotFallen (state sC.file.image) after
@@ -152,7 +147,6 @@ module _ {S : Type 0} (state : S → StorageState) (i d : ℕ) (counters : List 
           cause = cause;
         }
 
-    -- what is known of the answer
     answer-caused : (result : Result Unit Fault) (old mid new : StorageState) (at : ℕ) (bytes : List ℕ) → mid.faults ≡ old.faults → WriteOutcome mid new at bytes result → MatchResult result (λ _. new.faults ≡ old.faults) (Cause old.faults new.faults)
     answer-caused (Ok done) old mid new at bytes same put = put.answer.faults ∙ same
     answer-caused (Err fault) old mid new at bytes same put = subst (λ n. Cause n new.faults fault) same put.answer.cause
@@ -185,7 +179,7 @@ module _ {S : Type 0} (state : S → StorageState) (i d : ℕ) (counters : List 
             let all = n.named is in
             subst (λ (t : TableValue). Ends ready taken result t after) (sym all.1.1) (named-end all.1.0 n.mid after n.done is n.put result all.0)
 
--- What allocates is refused for what refused a part of it that frees or searches, that counts, or that allocates.
+-- Each cause of a step (a free, a search, an increment, an allocation) is a cause of the whole allocation.
 pub freeing-allocates : {sound sound' loose : Type 0} {loose' : Bool → Type 0} {full : ℕ → Type 0} {a b c : ℕ} → (sound' → sound) → (IsUnbarred sound' loose' → loose) → b ≡ a → Implies (freeing_causes sound loose b c) (allocating_causes sound' loose' full a c)
 freeing-allocates from from' same = record { before = omega (arith, same); after = omega arith; damaged = λ wrong s. wrong (from s); counter = λ wrong s. wrong (from s); full = λ none u. none (from' u); limit = λ number. absurd }
 
@@ -206,7 +200,6 @@ module _ {S : Type 0} (state : S → StorageState) (i : ℕ) (image : ImageState
   abbrev pub Full : ℕ → Type 0
   Full number = (number ≤ i * counters_of_block image.file.header.fields) × (IsAddressable image.file.header.fields.cluster_bits number → ⊥)
 
-  -- Nothing was done yet.
   pub begins-none : Begins state image (λ _. 0) image
   begins-none = record {
     shape = refl;
@@ -220,7 +213,7 @@ module _ {S : Type 0} (state : S → StorageState) (i : ℕ) (image : ImageState
     room = record { tables = refl; blocks = refl; entries = refl };
   }
 
-  -- What is done next.
+  -- The outcome of the next step, which allocates `more` clusters.
   pub record Follows (ok : Type 0) (more : ℕ → ℕ) (C : MetadataCaches S) (fC : ImageFile S) (D : MetadataCaches S) (fD : ImageFile S) : Type 0 where
     pub shape : (state fD.image).shape ≡ (state fC.image).shape
     pub counts_not_fallen : CountsNotFallen (state fC.image) (state fD.image)
@@ -260,7 +253,7 @@ module _ {S : Type 0} (state : S → StorageState) (i : ℕ) (image : ImageState
       room = record { tables = follows.stays.room.tables ∙ begins.room.tables; blocks = follows.stays.room.blocks ∙ begins.room.blocks; entries = follows.stays.room.entries ∙ begins.room.entries };
     }
 
-    -- It is refused, and wasn't cut off only where nothing was handed out.
+    -- The next step fails. If that isn't a resource error, nothing is allocated.
     pub begins-refused : (fault : Fault) → Follows (HadNoResourceError (failed fault)) more C fC D fD
         → (order_of image.caches ≡ L2DependsOnRb → IsTrue (state image.file.image).shape.keeps → IsSound m0 → HadNoResourceError (failed fault) → (c : ℕ) → handed c + more c ≡ 0)
         → HasCause (allocating_causes Holds (HasUnpinnedRoom image.table image.caches) Full (state image.file.image).faults (state fD.image).faults) fault → MakesBlock state i image (Err fault) (image_state image.table D fD image.pending)
@@ -293,7 +286,7 @@ module _ {S : Type 0} (state : S → StorageState) (i : ℕ) (image : ImageState
       cause = why;
     }
 
-  -- It is refused before anything was handed out, and changes nothing more,
+  -- A failure before anything is allocated changes nothing more.
   module _ (C : MetadataCaches S) (fC : ImageFile S) (begins : Begins state image (λ _. 0) (image_state image.table C fC image.pending)) where
     abbrev mU : Metadata
     mU = metadata_of state fC C image.table image.pending
@@ -312,11 +305,10 @@ module _ {S : Type 0} (state : S → StorageState) (i : ℕ) (image : ImageState
         (λ order keeps sound whole c. omega arith)
         (subst (λ n. HasCause (allocating_causes Holds (HasUnpinnedRoom image.table image.caches) Full (state image.file.image).faults n) fault) (sym begins.faults.0) why)
 
-    -- for want of memory,
     pub unmade-memory : (fault : Fault) → fault ≡ Memory → MakesBlock state i image (Err fault) (image_state image.table C fC image.pending)
     unmade-memory fault is = unmade fault (subst (λ (f : Fault). HasCause (allocating_causes Holds (HasUnpinnedRoom image.table image.caches) Full (state image.file.image).faults (state image.file.image).faults) f) (sym is) tt)
 
-    -- for a cluster that no word can name,
+    -- No table entry can reference the cluster.
     pub unmade-place : (d : ℕ) (fault : Fault) → d ≤ i * counters_of_block fC.header.fields → (Holds → d ≢ 0) → HasCause (naming_causes image.table fC.header.fields.cluster_bits d) fault → MakesBlock state i image (Err fault) (image_state image.table C fC image.pending)
     unmade-place d fault low some why = unmade fault (bare-weaker _ (λ cannot holds. cannot (can-name mU ((begins.guest_unchanged holds.1).holds holds.0 holds.2 tt).0 d (some holds)))
         (λ number far. (
@@ -325,7 +317,7 @@ module _ {S : Type 0} (state : S → StorageState) (i : ℕ) (image : ImageState
           refl,
         )) fault why)
 
-    -- and where a block is pinned in a cluster that nothing names.
+    -- A block is pinned at a cluster that nothing references.
     pub unforgotten : (d : ℕ) (fault : Fault) (new : MetadataCaches S) → (Holds → referenced_at_all mU d ≡ 0) → (fault ≡ CacheFull) × IsSomeAnd (lookup (nat_eq d) (cached_in C).blocks) (λ s. 0 < s.pins) × (new ≡ C) → MakesBlock state i image (Err fault) (image_state image.table new fC image.pending)
     unforgotten d fault new not_referenced (is, pinned, same) =
         subst (λ (c : MetadataCaches S). MakesBlock state i image (Err fault) (image_state image.table c fC image.pending)) (sym same)
@@ -333,7 +325,7 @@ module _ {S : Type 0} (state : S → StorageState) (i : ℕ) (image : ImageState
         (λ u. let there = (begins.keeps_unpinned_room u.0 u.2).named d (pinned-there d (cached_in C).blocks pinned) in let holds = u.1 there.0 in
         never-unnamed mU ((begins.guest_unchanged holds.1).holds holds.0 holds.2 tt).0 d (not_referenced holds) there.1)))
 
-  -- What makes a block from there on makes it in all.
+  -- If the rest of the call makes the block, so does the whole call.
   pub begins-makes : (C : MetadataCaches S) (fC : ImageFile S) → Begins state image (λ _. 0) (image_state image.table C fC image.pending) → (result : Result Unit Fault) (table' : TableValue) (new : MetadataCaches S) (after : ImageFile S)
       → MakesBlock state i (image_state image.table C fC image.pending) result (image_state table' new after image.pending) → MakesBlock state i image result (image_state table' new after image.pending)
   begins-makes C fC begins result table' new after makes = record {
@@ -360,7 +352,7 @@ module _ {S : Type 0} (state : S → StorageState) (i : ℕ) (image : ImageState
         room = begins.room;
       }
 
-  -- Begin and end.
+  -- The beginning of the call, followed by its end.
   module _ (both : ℕ → ℕ) (ready : Type 0) (d : ℕ) (counters : List ℕ) (C : MetadataCaches S) (fC : ImageFile S) (begins : Begins state image both (image_state image.table C fC image.pending))
       (unused : order_of image.caches ≡ L2DependsOnRb → IsTrue (state image.file.image).shape.keeps → IsSound m0 → (c : ℕ) → IsUsed m0 c → both c ≡ 0)
       (from : order_of image.caches ≡ L2DependsOnRb → IsTrue (state image.file.image).shape.keeps → IsSound m0 → IsSound (metadata_of state fC C image.table image.pending) → ready) where

@@ -1,4 +1,4 @@
--- A word of the refcount table comes to name a block.
+-- Linking a block: an entry of the refcount table now references it.
 use Rattle.std.proofs.Common.{◌≡◌, ◌≢◌, ℕ, ◌+◌, ◌*◌, ◌/◌, ◌%◌, ◌^◌, ◌<◌, ◌≤◌, refl, arith, ap, sym, subst, ◌∙◌, List, inl, inr, true, Option, Some, Bool}
 use Rattle.std.specs.Prelude.{◌⊎◌, slice_index, slice_set, IsTrue, Result, Ok}
 use Rattle.std.specs.Int.{w64, to_be_bytes}
@@ -44,12 +44,10 @@ use Rattle.qcow2_alloc.proofs.Memory.StructureWrites.{memory-beside, unmet-stays
 use Rattle.qcow2_alloc.proofs.Memory.FittingWords.{table-fits, counters-same}
 use Rattle.qcow2_alloc.proofs.Memory.KeptWords.{word-contents, structure-named, named-more, copied-stays, ordered-still, block-fits}
 
--- Where there is no block nothing is counted.
 pub count-none : (f : Bytes) (h : Fields) (c : ℕ) → block_at f h (c / counters_of_block h) ≡ 0 → count f h c ≡ 0
 unfolding count
 count-none f h c none = rw none refl
 
--- A cluster meets itself alone.
 pub meets-one : (h : Fields) (c d : ℕ) → meets h c (d * cluster_size h) (cluster_size h) ≡ one_at d c
 meets-one h c d = elim (cases_eq c d) [
   | inl same ↦ subst (λ k. meets h k (d * cluster_size h) (cluster_size h) ≡ one_at d k) (sym same) (meets-own h d ∙ sym (here-one d))
@@ -103,7 +101,7 @@ module _ (m : Metadata) (i d : ℕ) (modified : Bool) (sound : IsSound m) (ready
   memory-is = memory-beside m.file m.header sound.well_formed.consistent m.cached sound.well_formed.tables sound.well_formed.blocks refcount_table tt refl h.refcount_table_offset (h.refcount_table_clusters * cluster_size h) (λ v. refl)
       at (to_be_bytes w64 w) (omega arith) (omega arith) (omega (arith, fits))
 
-  -- The block's bytes are in memory what they are in the file.
+  -- The block's cluster is outside the structure, so its bytes in memory are those in the file.
   unstructured : structure f h (meets h d) ≡ 0
   unstructured = let none = ready.not_referenced in let le = structure-named f g h d in omega (arith, none, le)
 
@@ -150,7 +148,6 @@ module _ (m : Metadata) (i d : ℕ) (modified : Bool) (sound : IsSound m) (ready
     | inr apart ↦ let same = over-there.references c apart in let none = away-none d c apart in omega (arith, same, none)
   ]
 
-  -- Either a cluster is another, or it is the block's.
   which : (c : ℕ) → (one_at d c ≡ 0) ⊎ ((one_at d c ≡ 1) × (referenced_at_all m c ≡ 0) × (waiting m c ≡ 0))
   which c = elim (cases_eq c d) [
     | inl same ↦ inr (subst (λ k. (one_at d k ≡ 1) × (referenced_at_all m k ≡ 0) × (waiting m k ≡ 0)) (sym same) (here-one d, ready.not_referenced, ready.unlisted))
@@ -202,7 +199,7 @@ module _ (m : Metadata) (i d : ℕ) (modified : Bool) (sound : IsSound m) (ready
     | inr apart ↦ let file = in-file.counts c apart in let cached = over-there.counts c apart in omega (arith, le, file, cached)
   ]
 
-  -- What is cached fits.
+  -- Cached tables and blocks still fit.
   not-new : (cluster b : ℕ) → block_at f h b ≡ cluster * cluster_size h → cluster ≢ 0 → b ≢ i
   not-new cluster b place some same = place-there (cluster_size h) cluster (pow_pos h.cluster_bits) some (sym place ∙ ap (block_at f h) same ∙ empty)
 
@@ -285,7 +282,6 @@ module _ (m : Metadata) (i d : ℕ) (modified : Bool) (sound : IsSound m) (ready
         ];
   }
 
-  -- What the structure doesn't have keeps its bytes.
   kept-there : (c : ℕ) → structure f h (meets h c) ≡ 0 → Same f x (c * cluster_size h) (cluster_size h)
   kept-there c none =
       let part = refcount_table-part f h (meets h c) in
@@ -354,7 +350,7 @@ module _ (m : Metadata) (i d : ℕ) (modified : Bool) (sound : IsSound m) (ready
     names = names-more;
   }
 
--- The word is written, by one request.
+-- The entry is written by one request.
 module _ (m : Metadata) (i d : ℕ) (modified : Bool) (old new : StorageState) (is_in : IsIn old m) (ready : IsSound m → IsReadyBlock m i d) where
   abbrev entered : TableValue
   entered = with_raw_entry m.table i (d * cluster_size m.header.fields)
@@ -380,7 +376,7 @@ module _ (m : Metadata) (i d : ℕ) (modified : Bool) (old new : StorageState) (
       (λ sound. subst (λ (x : Bytes). IsSound (with_block m i d modified x) × GuestUnchanged (λ _. 0) taken m (with_block m i d modified x)) (sym (put-there sound))
       (block-sound m i d modified sound (ready sound), block-quiet m i d modified sound (ready sound) taken (is sound).0 (is sound).1))
 
-  -- A block that another counts is taken for it, and one that counts itself is none's.
+  -- A block that another block counts uses an allocated cluster. A block that counts itself uses none.
   pub counted-block-quietly : d / counters_of_block m.header.fields ≢ i → (result : Result Unit Fault) → AtomicWriteOutcome old new (table_start entered + 8 * i) (to_be_bytes w64 (slice_index entered.raw_entries i)) result
       → PreservesGuest (result ≡ Ok tt) (λ _. 0) (one_at d) old m new (with_block m i d modified (bytes_of new.bytes))
   counted-block-quietly other = by-taken (one_at d) (λ sound. ((λ own. absurd (other own)), (λ _ c. refl)))

@@ -1,4 +1,4 @@
--- Which clusters blocks take that are made one behind the other.
+-- The clusters that several new blocks take, when they are made in order.
 use Rattle.std.proofs.Common.{Ok, ◌≡◌, ◌≢◌, ℕ, ◌+◌, ◌*◌, ◌/◌, ◌<◌, ◌≤◌, refl, arith, ap, sym, subst, ◌∙◌, inl, inr}
 use Rattle.std.specs.Prelude.{IsTrue, slice_index}
 use Rattle.std.proofs.lemmas.Bool.{cases_Bool, cases_eq, cases_lt}
@@ -27,14 +27,12 @@ use Rattle.qcow2_alloc.proofs.Blocks.BlockRows.{so}
 use Rattle.qcow2_alloc.proofs.Memory.Patches.{shaped-in}
 use Rattle.qcow2_alloc.proofs.GuestView.QuietCounters.{away-none}
 
--- A table that names a block wherever another does lacks none that this doesn't,
 pub lacking-fewer : (t t' : TableValue) (k first n : ℕ) → ((i : ℕ) → block_offset (slice_index t'.raw_entries i) ≡ 0 → block_offset (slice_index t.raw_entries i) ≡ 0) → lacking t' k first n ≤ lacking t k first n
 lacking-fewer t t' k first n from =
     rank-more (lacks t' k first n) (lacks t k first n) (first + n) (λ i lt is.
     let inside = lacks-inside t' k first n i is in
     lacks-so t k first n i (from i (lacks-none t' k first n i is)) inside.0 inside.1)
 
--- and one fewer where it names one of these.
 pub lacking-less : (t t' : TableValue) (k first n i : ℕ) → ((j : ℕ) → block_offset (slice_index t'.raw_entries j) ≡ 0 → block_offset (slice_index t.raw_entries j) ≡ 0) → 0 < k → first / k ≤ i → i * k < first + n
     → block_offset (slice_index t.raw_entries i) ≡ 0 → block_offset (slice_index t'.raw_entries i) ≢ 0 → lacking t' k first n + 1 ≤ lacking t k first n
 lacking-less t t' k first n i from some low inside none there =
@@ -48,16 +46,14 @@ module _ (mark index : ℕ) (m : Metadata) where
   abbrev k : ℕ
   k = counters_of_block m.header.fields
 
-  -- No block was made yet,
   pub fills-none : FillsFrom mark index index m m
   fills-none = record { fewer = λ first n. omega arith; fewer_by_range = λ first n. omega arith; taken_before_end = λ first n z low all above own free c changed. absurd (changed refl); own = λ c changed. absurd (changed refl) }
 
   module _ (c : ℕ) (mA : Metadata) (fills : FillsFrom mark index c m mA) where
-    -- one was there,
     pub fills-there : FillsFrom mark index (c + 1) m mA
     fills-there = record { fewer = fills.fewer; fewer_by_range = λ first n. let le = fills.fewer_by_range first n in omega (arith, le); taken_before_end = λ first n z low all. fills.taken_before_end first n z low (λ i lt. all i (omega (arith, lt))); own = λ x changed. let at = fills.own x changed in let lt = at.2 in (at.0, at.1, omega (arith, lt), at.3) }
 
-    -- or one was made.
+    -- One more block is made.
     module _ (mB : Metadata) (header : mA.header ≡ m.header) (placed : IsBlockPlaced mark c mA mB) (some : 0 < k) (above : index ≤ c) (named : (i : ℕ) → index ≤ i → i < c → block_offset (slice_index mA.table.raw_entries i) ≢ 0)
         (none : block_offset (slice_index mA.table.raw_entries c) ≡ 0) (there : block_offset (slice_index mB.table.raw_entries c) ≢ 0) (others : (i : ℕ) → i ≢ c → slice_index mB.table.raw_entries i ≡ slice_index mA.table.raw_entries i) where
       still-none : (i : ℕ) → block_offset (slice_index mB.table.raw_entries i) ≡ 0 → block_offset (slice_index mA.table.raw_entries i) ≡ 0
@@ -77,7 +73,7 @@ module _ (mark index : ℕ) (m : Metadata) where
           let inside = lacks-inside mA.table k first n i is in
           lacks-so mB.table k first n i (ap block_offset (others i apart) ∙ lacks-none mA.table k first n i is) inside.0 inside.1)
 
-      -- It takes no cluster behind the first free one.
+      -- The block isn't placed after a free cluster `w`.
       no-later : (w : ℕ) → mark ≤ w → index ≤ w / k → counted mA w ≡ 0 → placed.place ≤ w
       no-later w behind low zero = elim (cases_lt w (c * k)) [
         | inl before ↦ elim (cases_lt (w / k) c) [
@@ -119,7 +115,7 @@ module _ (mark index : ℕ) (m : Metadata) where
         ];
       }
 
--- One turn of a call that makes blocks.
+-- One turn of the loop that makes blocks.
 module _ {S : Type 0} (state : S → StorageState) (mark : ℕ) (sA : ImageState S) (first c : ℕ) (made : Provision) (tB : TableValue) (B : MetadataCaches S) (fB : ImageFile S) (one : MakesBlocks state first c sA (so made) (image_state tB B fB sA.pending)) where
   abbrev Start : Metadata
   Start = metadata state sA

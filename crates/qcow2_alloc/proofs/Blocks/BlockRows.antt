@@ -1,4 +1,4 @@
--- Blocks are made one behind the other.
+-- Making several refcount blocks, in order.
 use Rattle.std.proofs.Common.{◌≡◌, ◌≢◌, ℕ, ◌+◌, ◌*◌, ◌<◌, ◌≤◌, refl, arith, ap, sym, subst, ◌∙◌, List, length, Result, Ok, Err, inl, inr}
 use Rattle.std.specs.Prelude.{IsTrue, IfOk, OnOk, slice_index, slice_set, ◌==◌, if◌then◌else◌}
 use Rattle.std.specs.List.{sum_by}
@@ -31,20 +31,17 @@ use Rattle.qcow2_alloc.proofs.Causes.{cause-weaker}
 use Rattle.qcow2_alloc.proofs.Blocks.BlockCreationCalls.{allocating-weaker}
 use Rattle.qcow2_alloc.proofs.Handing.CountSequences.{allocating-none, allocating-then}
 
--- the answer of a call that succeeded
 abbrev pub so : Provision → Result Provision Fault
 so made = Ok made
 
--- and of one that was refused
 abbrev pub refused : Fault → Result Provision Fault
 refused fault = Err fault
 
--- what is answered once one more block was made, or wasn't
+-- The result after one more block, from the result of making that block.
 abbrev pub made_by : Result Unit Fault → Result Provision Fault
 made_by (Ok done) = Ok Extended
 made_by (Err fault) = Err fault
 
--- One word of a refcount table comes to name a block, and no other changes.
 fewer-missing : (table table' : TableValue) (index : ℕ) → index < length table.raw_entries → length table'.raw_entries ≡ length table.raw_entries → block_offset (slice_index table.raw_entries index) ≡ 0 → block_offset (slice_index table'.raw_entries index) ≢ 0
     → ((i : ℕ) → i ≢ index → slice_index table'.raw_entries i ≡ slice_index table.raw_entries i) → missing table' < missing table
 fewer-missing table table' index inside long none some others =
@@ -61,7 +58,6 @@ fewer-missing table table' index inside long none some others =
     omega (arith, sums, new, was, is)
 
 module _ {S : Type 0} (state : S → StorageState) (pending : List FreeEntry) (first : ℕ) where
-  -- None,
   pub blocks-none : (table : TableValue) (old : MetadataCaches S) (before : ImageFile S) → MakesBlocks state first first (image_state table old before pending) (so Complete) (image_state table old before pending)
   blocks-none table old before = record {
     step = allocating-none state (image_state table old before pending);
@@ -77,7 +73,6 @@ module _ {S : Type 0} (state : S → StorageState) (pending : List FreeEntry) (f
   }
 
   module _ (c : ℕ) (tA : TableValue) (A : MetadataCaches S) (fA : ImageFile S) (made : Provision) (tB : TableValue) (B : MetadataCaches S) (fB : ImageFile S) (one : MakesBlocks state first c (image_state tA A fA pending) (so made) (image_state tB B fB pending)) where
-    -- one that is there,
     pub blocks-there : block_offset (slice_index tB.raw_entries c) ≢ 0 → MakesBlocks state first (c + 1) (image_state tA A fA pending) (so made) (image_state tB B fB pending)
     blocks-there there = record {
       step = one.step;
@@ -95,7 +90,6 @@ module _ {S : Type 0} (state : S → StorageState) (pending : List FreeEntry) (f
       cause = one.cause;
     }
 
-    -- and one that is made.
     pub blocks-then : c < length tA.raw_entries → block_offset (slice_index tB.raw_entries c) ≡ 0 → first ≤ c → (result : Result Unit Fault) (tC : TableValue) (C : MetadataCaches S) (fC : ImageFile S) → MakesBlock state c (image_state tB B fB pending) result (image_state tC C fC pending)
         → MakesBlocks state first (c + 1) (image_state tA A fA pending) (made_by result) (image_state tC C fC pending)
     blocks-then inside none above result tC C fC two = record {
@@ -153,7 +147,7 @@ module _ {S : Type 0} (state : S → StorageState) (pending : List FreeEntry) (f
         caused (Ok done) same = same ∙ one.cause
         caused (Err fault) why = cause-weaker (allocating-weaker (λ holds. let guest_unchanged = one.step.guest_unchanged holds.1 in (keeps_on (state fA.image) (state fB.image) guest_unchanged.shape holds.0, one.step.order ∙ holds.1, (guest_unchanged.holds holds.0 holds.2 tt).0)) one.step.keeps_unpinned_room (λ number far. let at = subst (λ (h : Header). (number ≤ c * counters_of_block h.fields) × (IsAddressable h.fields.cluster_bits number → ⊥)) one.header far in (c, above, omega arith, at.0, at.1)) one.cause) fault why
 
-  -- They are part of more, where that was refused.
+  -- A failure within a prefix of the indices is a failure for all of them.
   pub blocks-within : (end more : ℕ) → end ≤ more → (tA : TableValue) (A : MetadataCaches S) (fA : ImageFile S) (fault : Fault) (tB : TableValue) (B : MetadataCaches S) (fB : ImageFile S)
       → MakesBlocks state first end (image_state tA A fA pending) (refused fault) (image_state tB B fB pending) → MakesBlocks state first more (image_state tA A fA pending) (refused fault) (image_state tB B fB pending)
   blocks-within end more le tA A fA fault tB B fB part = record {

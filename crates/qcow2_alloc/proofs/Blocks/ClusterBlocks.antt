@@ -1,4 +1,4 @@
--- The block that counts a cluster of a sound image.
+-- The block that counts a cluster, in an image with `IsSound`.
 use Rattle.std.proofs.Common.{◌≡◌, ◌≢◌, ℕ, ◌*◌, ◌/◌, ◌^◌, ◌<◌, ◌≤◌, refl, arith, ap, sym, subst, ◌∙◌, None, Some}
 use Rattle.std.specs.Prelude.{◌==◌, if◌then◌else◌, slice_index, IsTrue}
 use Rattle.std.proofs.lemmas.Bool.{ne_eqb}
@@ -18,7 +18,7 @@ module _ (m : Metadata) (sound : IsSound m) (c : ℕ) where
   abbrev r : ℕ
   r = c / counters_of_block m.header.fields
 
-  -- where it stands
+  -- The cluster `key` of the block, by the table in memory and by the file.
   pub record HasBlock : Type 0 where
     pub key : ℕ
     pub names : referenced_block m.table r ≡ Some key
@@ -35,7 +35,6 @@ module _ (m : Metadata) (sound : IsSound m) (c : ℕ) where
       let nothing : counted m c ≡ 0 = rw empty refl in
       omega (arith, some, nothing)
 
-  -- A word names it.
   pub block-named : block_at m.file m.header.fields r ≢ 0 → HasBlock
   block-named there =
       let inside = block-inside m.file m.header.fields r there in

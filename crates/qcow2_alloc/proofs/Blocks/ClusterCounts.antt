@@ -1,4 +1,4 @@
--- Clusters that aren't counted are counted, while blocks are written before tables.
+-- Incrementing refcounts from 0, while blocks are written before tables.
 use Rattle.std.proofs.Common.{◌≡◌, ◌≢◌, ℕ, ◌+◌, ◌/◌, ◌%◌, ◌^◌, ◌<◌, ◌≤◌, refl, arith, ap, sym, subst, ◌∙◌, List, length, Option, None, Some, Result, Ok, Err, inl, inr}
 use Rattle.std.specs.Prelude.{⊤, IsTrue, nat_eq, slice_index, MatchOption, OnOk, ◌==◌, if◌then◌else◌}
 use Rattle.std.specs.Map.{lookup}
@@ -55,16 +55,14 @@ use Rattle.qcow2_alloc.proofs.Memory.SafeLaws.{safe-reach}
 use Rattle.qcow2_alloc.proofs.Caching.SearchOutcomes.{all-at}
 use Rattle.qcow2_alloc.proofs.Caching.EntryUses.{block-used}
 
--- a call that succeeded
 abbrev pub succeeded : Result Unit Fault
 succeeded = Ok tt
 
--- how many of one cluster are counted once the answer is known
+-- The number of increments that were made: 1 on success, 0 on error.
 abbrev pub done_of : Result Unit Fault → ℕ
 done_of (Ok done) = 1
 done_of (Err fault) = 0
 
--- A run of one cluster has that cluster, and a run of none no cluster.
 pub one-run : (c d : ℕ) → covers d (run_of c 1) ≡ one_at c d
 one-run c d = covers-one d (run_of c 1) refl
 
@@ -75,7 +73,7 @@ module _ {S : Type 0} (state : S → StorageState) (table : TableValue) (pending
   abbrev given : Result Unit Fault → ℕ → ℕ
   given result d = covers d (run_of c (done_of result))
 
-  -- Once the block is found the counter is raised, or that is refused.
+  -- The block is cached. Its counter is incremented, or that fails.
   module _ (key : ℕ) (mid : MetadataCaches S) (after : ImageFile S) (named : referenced_block table (c / counters_of_block after.header.fields) ≡ Some key)
       (block : Block) (there : option_map (λ (s : Slot Block). s.value) (lookup (nat_eq key) (cached_in mid).blocks) ≡ Some block) where
     abbrev Was : Metadata
@@ -90,7 +88,6 @@ module _ {S : Type 0} (state : S → StorageState) (table : TableValue) (pending
     counter-is : IsSound Was → counted Was c ≡ slice_index block.counters index
     counter-is sound = cached-count Was.file Was.header Was.cached Was.order key c block sound.well_formed (caches-it sound)
 
-    -- In a sound image there is the counter.
     pub counter-inside : IsSound Was → index < length block.counters
     counter-inside sound =
         let found = slot-of (lookup (nat_eq key) (cached_in mid).blocks) block there in
@@ -101,7 +98,7 @@ module _ {S : Type 0} (state : S → StorageState) (table : TableValue) (pending
     abbrev With : Block → Metadata
     With block' = At (with_blocks mid (hit (nat_eq key) (cached_in mid).blocks block')) after
 
-    -- what is known of the image then
+    -- The image after the increment.
     abbrev Ends : Result Unit Fault → Block → Type 0
     Ends result block' = IsSound (With block') × GuestUnchanged (given result) (λ _. 0) Was (With block') × ((d : ℕ) → counted (With block') d ≡ counted Was d + given result d)
 
@@ -146,7 +143,7 @@ module _ {S : Type 0} (state : S → StorageState) (table : TableValue) (pending
         so : (r : Result Unit Fault) (b : Block) → result ≡ r → block' ≡ b → Ends r b → Ends result block'
         so r b is same known = subst (λ (q : Result Unit Fault). Ends q block') (sym is) (subst (λ (x : Block). Ends r x) (sym same) known)
 
-  -- It is found and raised, or that is refused.
+  -- The block is searched for, and its counter incremented. Either may fail.
   module _ (old : MetadataCaches S) (before : ImageFile S) (result : Result Unit Fault) (new : MetadataCaches S) (after : ImageFile S) where
     abbrev Old : Metadata
     Old = At old before
@@ -163,7 +160,7 @@ module _ {S : Type 0} (state : S → StorageState) (table : TableValue) (pending
     abbrev Keeps : Type 0
     Keeps = IsTrue (state before.image).shape.keeps
 
-    -- the cluster isn't counted, and could be
+    -- The refcount of the cluster is 0.
     abbrev Free : Type 0
     Free = (d : ℕ) → c ≤ d → d < c + 1 → counted Old d ≡ 0
 
@@ -176,7 +173,7 @@ module _ {S : Type 0} (state : S → StorageState) (table : TableValue) (pending
     abbrev Counts : Result Unit Fault → Type 0
     Counts q = FailsFor (counting_causes Holds (HasUnpinnedRoom table old) (state before.image).faults (state after.image).faults) q
 
-    -- The counts are what they were behind a search that wasn't cut off.
+    -- A search without a resource error doesn't change refcounts.
     found-counts : (key : ℕ) (answer : Result Unit Fault) (mid : MetadataCaches S) → BlockFound state key old before answer mid after → Keeps → IsSound Old → HadNoResourceError answer → (d : ℕ) → counted (At mid after) d ≡ counted Old d
     found-counts key answer mid found keeps sound whole d =
         let settled = found.writes_back_cached.holds keeps sound.well_formed tt (inl whole) in
@@ -200,13 +197,12 @@ module _ {S : Type 0} (state : S → StorageState) (table : TableValue) (pending
       limit = λ number. absurd;
     }
 
-    -- Where nothing is counted, that is quiet.
     none-given : (fault : Fault) (new' : MetadataCaches S) (after' : ImageFile S) → PreservesGuest (HadNoResourceError (failed fault)) (λ _. 0) (λ _. 0) (state before.image) Old (state after'.image) (At new' after')
         → PreservesGuest (HadNoResourceError (failed fault)) (given (Err fault)) (λ _. 0) (state before.image) Old (state after'.image) (At new' after')
     none-given fault new' after' guest_unchanged = quietly-otherwise (HadNoResourceError (failed fault)) (λ _. 0) (λ _. 0) (given (Err fault)) (λ _. 0) (state before.image) Old (state after'.image) (At new' after')
         (λ sound d. let zero = covers-none d (run_of c 0) refl in omega (arith, zero)) (λ sound d used none. none) guest_unchanged
 
-    -- A run of one cluster is counted, or none of it.
+    -- A run of one cluster is counted completely, or not at all.
     abbrev CountsOne : Result Unit Fault → MetadataCaches S → ImageFile S → Type 0
     CountsOne q m f = (run : CountsRun state c 1 (image_state table old before pending) q (image_state table m f pending)) × (run.part ≡ done_of q)
 

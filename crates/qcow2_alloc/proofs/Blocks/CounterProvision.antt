@@ -1,4 +1,4 @@
--- A cluster is given a counter: a word of the refcount table, and a block.
+-- Readying a counter for a cluster: an entry of the refcount table, and a block.
 use Rattle.std.proofs.Common.{true, false, ◌≡◌, ◌≢◌, ℕ, ◌+◌, ◌*◌, ◌/◌, ◌^◌, ◌<◌, ◌≤◌, ◌++◌, refl, arith, ap, sym, subst, ◌∙◌, inl, inr, length, Bool, Result, Ok, Err}
 use Rattle.std.specs.Prelude.{⊤, IsTrue, OnOk, OnErr, MatchResult}
 use Rattle.std.proofs.lemmas.Bool.{cases_eq}
@@ -37,15 +37,13 @@ use Rattle.qcow2_alloc.proofs.Blocks.RunProvision.{leaks-none}
 use Rattle.qcow2_alloc.proofs.Blocks.BlockRows.{so, refused}
 use Rattle.qcow2_alloc.proofs.Space.RoomConsumption.{covered-inside}
 
--- the answer of a call that readies a counter
 abbrev pub ready_so : Readiness → Result Readiness Fault
 ready_so answer = Ok answer
 
--- and of one that was refused
 abbrev pub not_ready : Fault → Result Readiness Fault
 not_ready fault = Err fault
 
--- What the lemmas below say of numbers and answers, over what they take alone: a search there would read all that is known of an image.
+-- Lemmas on numbers and results only. They are outside the modules below, so that a proof search doesn't visit all facts of an image.
 unchanged : (n : ℕ) → n ≤ n
 unchanged n = omega arith
 
@@ -93,11 +91,10 @@ of-cause : (P : Fault → Type 0) (before after : ℕ) (r : Result Unit Fault) �
 of-cause P before after (Ok done) is same = same
 of-cause P before after (Err fault) is same = absurd (cc is)
 
--- What isn't refused for want of a place is refused for another cause.
+-- An error other than `Fault::Limit` has the same cause under another `full`.
 pub never-limit : (sound : Type 0) (loose : Bool → Type 0) (full full' : ℕ → Type 0) (before after : ℕ) (fault : Fault) → ((number : ℕ) → fault ≢ Limit number) → HasCause (allocating_causes sound loose full before after) fault → HasCause (allocating_causes sound loose full' before after) fault
 never-limit sound loose full full' before after fault other why = cause-weaker (record { before = unchanged before; after = unchanged after; damaged = λ wrong. wrong; counter = λ wrong. wrong; full = λ none. none; limit = λ number told. absurd (other number told.0) }) fault (cause-told _ fault why)
 
--- A fault that tells of a limit has its number, and one that doesn't is no limit's.
 pub limit-told : (fault : Fault) → tells_limit fault ≡ true → (number : ℕ) × (fault ≡ Limit number)
 limit-told (Limit number) is = (number, refl)
 limit-told fault is = absurd (cc is)
@@ -109,7 +106,7 @@ module _ {S : Type 0} (state : S → StorageState) (cluster : ℕ) (s : Allocato
   abbrev k : ℕ
   k = counters_of_block s.file.header.fields
 
-  -- Nothing was to be done.
+  -- No step was needed.
   stands : (answer : Readiness) → AllocatesByAnswer state leaked_by s.image (ready_so answer) s.image
   stands answer = record {
     leaked = λ _. 0;
@@ -122,7 +119,7 @@ module _ {S : Type 0} (state : S → StorageState) (cluster : ℕ) (s : Allocato
   pub word-stands : cluster / k < length s.table.raw_entries → ReadiesRawEntry state cluster s (ready_so Ready) s
   word-stands inside = record { did = stands Ready; mark = refl; ready_covers_cluster = λ yes. inside; barred = λ order keeps sound no. absurd (ready-apart no); taken_up_to_cluster = λ order keeps sound c none more. absurd (not-more _ _ refl none more) }
 
-  -- The table has grown,
+  -- The table has no entry for the cluster, so it grows.
   module _ (past : length s.table.raw_entries ≤ cluster / k) (result : Result Unit Fault) (s' : AllocatorState S) (grows : GrowsTable state (cluster / k) s result s') where
     grown-list : (r : Result Unit Fault) → OnOk r (IsGrownLength (entries_of_cluster s.file.header.fields) k (cluster / k) (length s'.table.raw_entries)) → OnOk r (s'.pending ≡ s.pending ++ table_run s.file.header.fields) → OnErr r (s'.pending ≡ s.pending)
         → IsLengthenedByTable s.file.header.fields s.table s'.table s.pending s'.pending
@@ -154,7 +151,7 @@ module _ {S : Type 0} (state : S → StorageState) (cluster : ℕ) (s : Allocato
             let inside = covered-inside c grown.first grown.total (some-more _ _ _ (grown.counts c) none more) in
             (past, grown.first, grown.total, grown.clusters, grown.room, inside.0, inside.1)
 
-    -- or has no place,
+    -- If growing ends with `Fault::Limit`, the result is `NoPlace`.
     pub word-barred : (number : ℕ) → result ≡ Err (Limit number) → ReadiesRawEntry state cluster s (ready_so NoPlace) s'
     word-barred number limit = record {
       did = record {
@@ -175,7 +172,7 @@ module _ {S : Type 0} (state : S → StorageState) (cluster : ℕ) (s : Allocato
             (λ n. order_of s.caches ≡ L2DependsOnRb → IsTrue (state s.file.image).shape.keeps → IsSound (metadata state s.image) → NoPlaceToGrow (metadata state s.image) s.mark (cluster / k) n)
             (state s.file.image).faults (state s'.file.image).faults) r) limit grows.cause
 
-    -- or was refused.
+    -- Any other error is returned.
     pub word-refused : (fault : Fault) → result ≡ Err fault → ((number : ℕ) → fault ≢ Limit number) → ReadiesRawEntry state cluster s (not_ready fault) s'
     word-refused fault is other = record {
       did = record {
@@ -193,9 +190,8 @@ module _ {S : Type 0} (state : S → StorageState) (cluster : ℕ) (s : Allocato
       taken_up_to_cluster = λ order keeps sound. tt;
     }
 
-  -- There is a word for the cluster, and its block is made.
+  -- The table has an entry for the cluster, and its block is made.
   module _ (mid : AllocatorState S) where
-    -- There was no place for one,
     pub counter-barred : ReadiesRawEntry state cluster s (ready_so NoPlace) mid → ReadiesCounter state cluster s (ready_so NoPlace) mid
     counter-barred raw_entry = record { did = raw_entry.did; mark = raw_entry.mark; ready_covers_cluster = λ yes. absurd (ready-apart (sym yes)); barred = raw_entry.barred; taken_up_to_cluster = raw_entry.taken_up_to_cluster }
 
@@ -222,7 +218,6 @@ module _ {S : Type 0} (state : S → StorageState) (cluster : ℕ) (s : Allocato
       holds-still : IsGuarded state s.image → IsGuarded state mid.image
       holds-still holds = let guest_unchanged = raw_entry.did.step.guest_unchanged holds.1 in (keeps_on (state s.file.image) (state mid.file.image) guest_unchanged.shape holds.0, raw_entry.did.step.order ∙ holds.1, (guest_unchanged.holds holds.0 holds.2 tt).0)
 
-      -- or now there is a block,
       pub counter-made : (made : Provision) → MakesBlocks state (cluster / k) (cluster / k + 1) mid.image (so made) (image_state table' new after mid.pending)
           → (order_of mid.caches ≡ L2DependsOnRb → IsTrue (state mid.file.image).shape.keeps → IsSound (metadata state mid.image)
           → FillsFrom s.mark (cluster / k) (cluster / k + 1) (metadata state mid.image) (metadata_of state after new table' mid.pending))
@@ -248,7 +243,6 @@ module _ {S : Type 0} (state : S → StorageState) (cluster : ℕ) (s : Allocato
         ];
       }
 
-      -- or none could be made.
       pub counter-unmade : (fault : Fault) → MakesBlocks state (cluster / k) (cluster / k + 1) mid.image (refused fault) (image_state table' new after mid.pending) → ReadiesCounter state cluster s (not_ready fault) (with_first_free (image_state table' new after mid.pending) mark')
       counter-unmade fault blocks = record {
         did = record {
@@ -264,6 +258,6 @@ module _ {S : Type 0} (state : S → StorageState) (cluster : ℕ) (s : Allocato
         taken_up_to_cluster = λ order keeps sound. tt;
       }
 
--- Where the header moved its refcount table alone, a cluster has the block that it had.
+-- Moving the refcount table doesn't change the index of a cluster's block.
 pub index-moved : (H H' : Header) → MovedTable H H' → (cluster index : ℕ) → index ≡ cluster / counters_of_block H'.fields → index ≡ cluster / counters_of_block H.fields
 index-moved H H' (offset, clusters, is) cluster index at = subst (λ (x : Header). index ≡ cluster / counters_of_block x.fields) is at

@@ -1,4 +1,4 @@
--- The words of a grown refcount table come to name new blocks, one behind the other.
+-- A grown refcount table: its entries are made to reference the new blocks, in order.
 use Rattle.std.proofs.Common.{◌≡◌, ◌≢◌, ℕ, suc, ◌+◌, ◌-◌, ◌*◌, ◌/◌, ◌^◌, ◌<◌, ◌≤◌, refl, arith, ap, sym, subst, ◌∙◌, Bool, true, false, inl, inr, length, Some}
 use Rattle.std.specs.Prelude.{IsTrue, slice_index, ◌==◌, ◌&&◌, nat_le, nat_lt}
 use Rattle.std.proofs.lemmas.Bool.{cases_eq, cases_lt}
@@ -27,7 +27,7 @@ module _ (h : Fields) (was : TableValue) (run : Run) where
   abbrev pub lack : ℕ → Bool
   lack = lacks was (counters_of_block h) run.first run.len
 
-  -- The blocks before an index that are lacking are named.
+  -- All missing blocks before index `end` are linked.
   pub record NamesBefore (end : ℕ) (old new : TableValue) : Type 0 where
     pub layout : new.layout ≡ old.layout
     pub placed : new.cluster ≡ old.cluster
@@ -36,7 +36,6 @@ module _ (h : Fields) (was : TableValue) (run : Run) where
     pub olds : (i : ℕ) → lack i ≡ false → slice_index new.raw_entries i ≡ slice_index old.raw_entries i
     pub table : IsTable refcount_table_kind old → old.layout.cluster_bits ≡ h.cluster_bits → IsTable refcount_table_kind new
 
-  -- One that is lacking stands behind those before it.
   pub rank-before : (i end : ℕ) → i < end → lack i ≡ true → rank lack i + 1 ≤ rank lack end
   rank-before i end lt is =
       let new = rank-new lack i is in
@@ -88,7 +87,6 @@ module _ (h : Fields) (was : TableValue) (run : Run) where
         (omega (arith, reach));
   })
 
-  -- At the end all are.
   pub named-all : (end : ℕ) (old new : TableValue) → ((i : ℕ) → lack i ≡ true → i < end) → NamesBefore end old new → LinksNewBlocks h was run old new
   named-all end old new all before = record {
     layout = before.layout;
@@ -99,14 +97,13 @@ module _ (h : Fields) (was : TableValue) (run : Run) where
     table = before.table;
   }
 
--- An index is lacking that has no block and counts a cluster of the run,
 pub lack-here : (h : Fields) (was : TableValue) (run : Run) (i : ℕ) → block_offset (slice_index was.raw_entries i) ≡ 0 → run.first / counters_of_block h ≤ i → i * counters_of_block h < run.first + run.len → lack h was run i ≡ true
 lack-here h was run i none from to = is-lacking (block_offset (slice_index was.raw_entries i)) (run.first / counters_of_block h) i (i * counters_of_block h) (run.first + run.len) none from to
   where
     is-lacking : (w a j p e : ℕ) → w ≡ 0 → a ≤ j → p < e → ((w == 0) && (nat_le a j && nat_lt p e)) ≡ true
     is-lacking w a j p e none from to = grind (arith, nat_tests)
 
--- and has a cluster of it.
+-- The cluster of a missing block is inside the run.
 pub place-inside : (h : Fields) (was : TableValue) (run : Run) (i : ℕ) → 0 < counters_of_block h → lack h was run i ≡ true → lacking was (counters_of_block h) run.first run.len ≤ run.len → rank (lack h was run) i + 1 ≤ run.len
 place-inside h was run i some is room =
     let to = (lacks-inside was (counters_of_block h) run.first run.len i is).1 in
@@ -123,7 +120,6 @@ lack-inside h was run end i past is = elim (cases_lt i end) [
       absurd (omega (arith, le, to, past))
 ]
 
--- A word of the table is there for each block, and can name its place.
 pub word-inside : (index k raw_entries end : ℕ) → 0 < k → index * k < end → end ≤ raw_entries * k → index < raw_entries
 word-inside index k raw_entries end some lt le = elim (cases_lt index raw_entries) [
   | inl less ↦ less

@@ -1,4 +1,4 @@
--- Which cluster a block takes that is made where there was none.
+-- The cluster that a new block takes.
 use Rattle.std.proofs.Common.{◌≡◌, ◌≢◌, ℕ, ◌+◌, ◌*◌, ◌^◌, ◌<◌, ◌≤◌, refl, arith, ap, sym, subst, ◌∙◌, inl, inr, List, length, Option, None, Some, Result, Ok, Err}
 use Rattle.std.specs.Prelude.{IsTrue, OnOk, slice_index}
 use Rattle.std.proofs.lemmas.Bool.{cases_lt, ne_eqb}
@@ -35,7 +35,6 @@ use Rattle.qcow2_alloc.proofs.Blocks.BlockNames.{meets-one}
 use Rattle.qcow2_alloc.proofs.Memory.Patches.{place-there}
 use Rattle.qcow2_alloc.proofs.GuestView.QuietSequences.{structure-in-memory, contents-then}
 
--- A word that was written names the block's cluster.
 pub written-at : (table : TableValue) (i d bits : ℕ) (block : Block) (old new : StorageState) (table' : TableValue) → i < length table.raw_entries → 9 ≤ bits → IsAddressable bits d → block.cluster_bits ≡ bits → block.cluster ≡ Some d → LinksWritten table i block old (Ok tt) table' new
     → block_offset (slice_index table'.raw_entries i) ≡ d * 2 ^ bits
 written-at table i d bits block old new table' inside low reach is there written = by-done written.done refl
@@ -54,7 +53,7 @@ pub written-on-ok : (table : TableValue) (i d bits : ℕ) (block : Block) (old n
 written-on-ok table i d bits block old new table' (Ok done) inside low reach is there some written = (some, written-at table i d bits block old new table' inside low reach is there written)
 written-on-ok table i d bits block old new table' (Err fault) inside low reach is there some written = tt
 
--- Where one more block is named in cluster d, and nothing else is named otherwise, this cluster is counted once more.
+-- If linking a block at cluster `d` is the only change to references, only the refcount of `d` rises, by 1.
 module _ (m m' : Metadata) (i d : ℕ) (sound : IsSound m) (sound' : IsSound m') (header : m'.header ≡ m.header) (pending : m'.pending ≡ m.pending) (guest_unchanged : GuestUnchanged (λ _. 0) (λ _. 0) m m') (some : d ≢ 0)
     (inside : i < refcount_table_entries m.header.fields) (empty : block_offset (slice_index m.table.raw_entries i) ≡ 0) (named : block_offset (slice_index m'.table.raw_entries i) ≡ d * cluster_size m.header.fields)
     (others : (j : ℕ) → j ≢ i → slice_index m'.table.raw_entries j ≡ slice_index m.table.raw_entries j) where
@@ -101,7 +100,7 @@ module _ (m m' : Metadata) (i d : ℕ) (sound : IsSound m) (sound' : IsSound m')
       let waits : waiting m' c ≡ waiting m c = ap (λ (l : List FreeEntry). listed l c) pending in
       omega (arith, law, more, waits)
 
--- So the block is placed.
+-- The block of a successful call satisfies `IsBlockPlaced`.
 module _ {S : Type 0} (state : S → StorageState) (mark index : ℕ) (s : ImageState S) (table' : TableValue) (new : MetadataCaches S) (after : ImageFile S)
     (made : MakesBlock state index s (Ok tt) (image_state table' new after s.pending)) (inside : index < length s.table.raw_entries) (empty : block_offset (slice_index s.table.raw_entries index) ≡ 0)
     (order : order_of s.caches ≡ L2DependsOnRb) (keeps : IsTrue (state s.file.image).shape.keeps) (sound : IsSound (metadata state s)) where
@@ -119,7 +118,7 @@ module _ {S : Type 0} (state : S → StorageState) (mark index : ℕ) (s : Image
       let held = (made.step.guest_unchanged order).holds keeps sound tt in
       counted-more Old New index d sound held.0 made.header refl held.1 some (let long = sound.table.long in omega (arith, inside, long)) empty named made.others
 
-  -- in a free cluster that another block counts,
+  -- The block takes a free cluster that another block counts.
   pub placed-counted : (place : ℕ) (mid : MetadataCaches S) (between : ImageFile S) → LooksForFree state s.table mark (index * k) (cached_file s.caches s.file) (Ok (Some place)) (cached_file mid between) → place ≢ 0
       → block_offset (slice_index table'.raw_entries index) ≡ place * cluster_size s.file.header.fields → IsBlockPlaced mark index Old New
   placed-counted place mid between looks some named =
@@ -134,7 +133,7 @@ module _ {S : Type 0} (state : S → StorageState) (mark index : ℕ) (s : Image
         own = let lt = found.before in omega (arith, lt);
       }
 
-  -- or in the first one that it counts itself.
+  -- The block takes the first cluster that it counts itself.
   pub placed-own : (mid : MetadataCaches S) (between : ImageFile S) → LooksForFree state s.table mark (index * k) (cached_file s.caches s.file) (Ok None) (cached_file mid between) → index * k ≢ 0
       → block_offset (slice_index table'.raw_entries index) ≡ index * k * cluster_size s.file.header.fields → IsBlockPlaced mark index Old New
   placed-own mid between looks some named =
@@ -146,7 +145,7 @@ module _ {S : Type 0} (state : S → StorageState) (mark index : ℕ) (s : Image
         own = omega arith;
       }
 
--- The answer is not known yet.
+-- Both cases together, for any result of the search.
 module _ {S : Type 0} (state : S → StorageState) (mark index : ℕ) (s : ImageState S) (mid : MetadataCaches S) (between : ImageFile S) (found : Option ℕ)
     (looks : LooksForFree state s.table mark (index * counters_of_block s.file.header.fields) (cached_file s.caches s.file) (Ok found) (cached_file mid between)) (inside : index < length s.table.raw_entries) (empty : block_offset (slice_index s.table.raw_entries index) ≡ 0)
     (table' : TableValue) (new : MetadataCaches S) (after : ImageFile S) where

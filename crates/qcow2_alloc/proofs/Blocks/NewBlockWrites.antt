@@ -1,4 +1,4 @@
--- New blocks are written to clusters that nothing names, one behind the other.
+-- Writing new blocks to consecutive unreferenced clusters.
 use Rattle.std.proofs.Common.{◌≡◌, ℕ, suc, ◌+◌, ◌-◌, ◌*◌, ◌/◌, ◌%◌, ◌^◌, ◌<◌, ◌≤◌, Bool, refl, arith, ap, sym, subst, ◌∙◌, inl, inr, true, Result, Ok, Err, Some, List}
 use Rattle.std.specs.Prelude.{⊤, ◌&&◌, nat_le, nat_lt, if◌then◌else◌, IsTrue, MatchResult}
 use Rattle.std.proofs.lemmas.Bool.{cases_lt}
@@ -40,12 +40,11 @@ use Rattle.qcow2_alloc.proofs.GuestView.QuietSequences.{quietly-otherwise, quiet
 use Rattle.qcow2_alloc.proofs.Memory.FittingWords.{counters-same}
 use Rattle.qcow2_alloc.proofs.Memory.KeptWords.{structure-named}
 
--- What is known of the faults of a write.
 pub put-counts : (old new : StorageState) (at : ℕ) (bytes : List ℕ) (result : Result Unit Fault) → WriteOutcome old new at bytes result → MatchResult result (λ _. new.faults ≡ old.faults) (Cause old.faults new.faults)
 put-counts old new at bytes (Ok done) put = put.answer.faults
 put-counts old new at bytes (Err fault) put = put.answer.cause
 
--- A block is written to cluster d,
+-- One block is written to cluster `d`.
 module _ (h : Header) (index : ℕ) (run : Run) (d : ℕ) (block : Block) (own : CountsItsOwn h.fields index run block) (old new : StorageState) (result : Result Unit Fault) (put : BlockPut block (d * cluster_size h.fields) old new result) where
   module _ (m : Metadata) (taken : ℕ → ℕ) (may : MayWrite h d 1 taken old m) where
     abbrev f : Fields
@@ -99,7 +98,6 @@ module _ (h : Header) (index : ℕ) (run : Run) (d : ℕ) (block : Block) (own :
     counters = written-counters;
   }
 
--- once it has its place.
 pub placed-written : (h : Header) (index : ℕ) (run : Run) (d : ℕ) (block placed : Block) → CountsItsOwn h.fields index run block → placed ≡ record block { cluster = Some d; modified = true }
     → (old new : StorageState) (result : Result Unit Fault) → BlockPut placed (place_of placed.cluster_bits placed.cluster) old new result → WritesBlockTo h index run d old result new
 placed-written h index run d block placed own is old new result put =
@@ -109,7 +107,7 @@ placed-written h index run d block placed own is old new result put =
     there : Block
     there = record block { cluster = Some d; modified = true }
 
--- Of what is taken, what is in a run:
+-- `taken`, restricted to the `n` clusters from `s` on.
 abbrev within : ℕ → ℕ → (ℕ → ℕ) → ℕ → ℕ
 within s n taken c = if nat_le s c && nat_lt c (s + n) then taken c else 0
 
@@ -131,7 +129,6 @@ within-le s n c t = elim (cases_lt c s) [
   ]
 ]
 
--- No cluster is written by no call,
 pub clusters-none : (h : Header) (s n : ℕ) (a : StorageState) → WritesClusters h s n a (Ok tt) a
 clusters-none h s n a = record {
   shape = refl;
@@ -146,7 +143,6 @@ clusters-none h s n a = record {
   others = λ keeps done p off. refl;
 }
 
--- and what is written in a run is written in a longer one.
 may-fewer : (h : Header) (s n k : ℕ) (taken : ℕ → ℕ) (a : StorageState) (m : Metadata) → n ≤ k → MayWrite h s k taken a m → MayWrite h s n taken a m
 may-fewer h s n k taken a m le may = record { file = may.file; header = may.header; free = λ sound d from to. may.free sound d from (omega (arith, to, le)) }
 
@@ -165,7 +161,7 @@ clusters-more h s n k a result c le writes = record {
   ]);
 }
 
--- The cluster behind a run is written after it.
+-- A run of `n` clusters is written, then the next cluster.
 module _ (h : Header) (s n : ℕ) (a b : StorageState) (result : Result Unit Fault) (c : StorageState) (first : WritesClusters h s n a (Ok tt) b) (second : WritesClusters h (s + n) 1 b result c) where
   module _ (m : Metadata) (taken : ℕ → ℕ) (may : MayWrite h s (n + 1) taken a m) where
     may-first : MayWrite h s n (within s n taken) a m
@@ -244,7 +240,6 @@ module _ (h : Header) (s n : ℕ) (a b : StorageState) (result : Result Unit Fau
         ∙ first.others keeps refl p (elim off [ inl before ↦ inl before | inr behind ↦ inr (omega (arith, behind)) ]);
   }
 
--- A block counts what it did while its cluster keeps its bytes.
 pub own-still : (f g : Bytes) (h : Fields) (d i : ℕ) (run : Run) → 0 < counters_of_block h → Same f g (d * cluster_size h) (cluster_size h) → HasCountedOwn f h d i run → HasCountedOwn g h d i run
 own-still f g h d i run some same was c is =
     let less = mod_below c (counters_of_block h) some in
@@ -255,7 +250,7 @@ module _ (h : Header) (table : TableValue) (run : Run) where
   abbrev pub lack : ℕ → Bool
   lack = lacks table (counters_of_block h.fields) run.first run.len
 
-  -- The blocks before an index that are lacking are written.
+  -- All missing blocks before index `end` are written.
   pub record WritesBefore (end : ℕ) (old : StorageState) (result : Result Unit Fault) (new : StorageState) : Type 0 where
     pub writes : WritesClusters h run.first (rank lack end) old result new
     pub counters : (m : Metadata) (taken : ℕ → ℕ) → MayWrite h run.first (rank lack end) taken old m → IsTrue old.shape.keeps → IsSound m → result ≡ Ok tt
@@ -264,7 +259,6 @@ module _ (h : Header) (table : TableValue) (run : Run) where
   rank-next : (i : ℕ) → rank lack (i + 1) ≡ rank lack (suc i)
   rank-next i = ap (rank lack) (omega arith)
 
-  -- One that is lacking stands behind those before it.
   rank-before : (i end : ℕ) → i < end → lack i ≡ true → rank lack i + 1 ≤ rank lack end
   rank-before i end lt is =
       let new = rank-new lack i is in
@@ -272,14 +266,12 @@ module _ (h : Header) (table : TableValue) (run : Run) where
       let there : rank lack (suc i + (end - suc i)) ≡ rank lack end = ap (rank lack) (omega (arith, lt)) in
       omega (arith, new, more, there)
 
-  -- At first none are,
   pub before-none : (end : ℕ) (s : StorageState) → rank lack end ≡ 0 → WritesBefore end s (Ok tt) s
   before-none end s none = record {
     writes = clusters-none h run.first (rank lack end) s;
     counters = λ m taken may keeps sound done i lt is. let some = rank-before i end lt is in absurd (omega (arith, some, none));
   }
 
-  -- one that is there is passed,
   pub before-over : (index : ℕ) (a b : StorageState) → rank lack (suc index) ≡ rank lack index → WritesBefore index a (Ok tt) b → WritesBefore (index + 1) a (Ok tt) b
   before-over index a b same before = record {
     writes = subst (λ n. WritesClusters h run.first n a (Ok tt) b) (sym (rank-next index ∙ same)) before.writes;
@@ -294,7 +286,6 @@ module _ (h : Header) (table : TableValue) (run : Run) where
         ]) is;
   }
 
-  -- and one that is lacking is written.
   pub before-then : (index : ℕ) (a b : StorageState) (result : Result Unit Fault) (c : StorageState) → rank lack (suc index) ≡ rank lack index + 1 → WritesBefore index a (Ok tt) b → WritesBlockTo h index run (run.first + rank lack index) b result c → WritesBefore (index + 1) a result c
   before-then index a b result c more before next = record {
     writes = subst (λ n. WritesClusters h run.first n a result c) (sym (rank-next index ∙ more)) (clusters-then h run.first (rank lack index) a b result c before.writes next.writes);
@@ -321,13 +312,12 @@ module _ (h : Header) (table : TableValue) (run : Run) where
           some : 0 < counters_of_block h.fields
           some = subst (λ (H : Header). 0 < counters_of_block H.fields) may.header (some-counters m.header.fields (shaped-in m.file m.header sound.well_formed.consistent))
 
-  -- So it is by a call that was given its place.
+  -- Like `before-then`, with the header and the cluster given by equations.
   pub before-then-at : (index : ℕ) (a b : StorageState) (result : Result Unit Fault) (c : StorageState) (H : Header) (place : ℕ) → H ≡ h → place ≡ run.first + rank lack index → rank lack (suc index) ≡ rank lack index + 1
       → WritesBefore index a (Ok tt) b → WritesBlockTo H index run place b result c → WritesBefore (index + 1) a result c
   before-then-at index a b result c H place same at more before next =
       before-then index a b result c more before (subst (λ (H : Header). WritesBlockTo H index run (run.first + rank lack index) b result c) same (subst (λ p. WritesBlockTo H index run p b result c) at next))
 
-  -- At the end all are.
   pub before-all : (end : ℕ) (a : StorageState) (result : Result Unit Fault) (c : StorageState) → rank lack end ≤ run.len → (result ≡ Ok tt → (i : ℕ) → lack i ≡ true → i < end) → WritesBefore end a result c → WritesLacking h table run a result c
   before-all end a result c few all before = record {
     writes = clusters-more h run.first (rank lack end) run.len a result c few before.writes;
@@ -337,7 +327,7 @@ module _ (h : Header) (table : TableValue) (run : Run) where
   abbrev k : ℕ
   k = counters_of_block h.fields
 
-  -- There is room for those before an index that is near.
+  -- If `end` is at most one block past the run, the missing blocks before it fit in the run.
   pub before-few : (end : ℕ) → 0 < k → end * k < run.first + run.len + k → lacking table k run.first run.len ≤ run.len → rank lack end ≤ run.len
   before-few end some near room =
       let le = index-near end k (run.first + run.len) some near in
@@ -345,7 +335,7 @@ module _ (h : Header) (table : TableValue) (run : Run) where
       let there : rank lack (end + (run.first + run.len - end)) ≡ lacking table k run.first run.len = ap (rank lack) (omega (arith, le)) in
       omega (arith, more, there, room)
 
-  -- One that is lacking has a cluster of the run.
+  -- The next missing block fits in the run.
   pub room-for : (index written : ℕ) → 0 < k → lacking table k run.first run.len ≤ run.len → written ≡ rank lack index → rank lack (suc index) ≡ rank lack index + 1 → index * k < run.first + run.len → written + 1 ≤ run.len
   room-for index written some room is more inside =
       let next : (index + 1) * k ≡ index * k + k = omega arith in
@@ -353,7 +343,6 @@ module _ (h : Header) (table : TableValue) (run : Run) where
       let up = rank-next index in
       omega (arith, few, up, more, is)
 
-  -- Behind the run none is lacking.
   pub all-before : (end i : ℕ) → run.first + run.len ≤ end * k → lack i ≡ true → i < end
   all-before end i past is = elim (cases_lt i end) [
     | inl lt ↦ lt
@@ -363,7 +352,6 @@ module _ (h : Header) (table : TableValue) (run : Run) where
         absurd (omega (arith, le, to, past))
   ]
 
--- A run in reach has few clusters.
 pub run-fits : (bits first len : ℕ) → IsAddressable bits (first + (len - 1)) → first + len ≤ 2 ^ 56
 run-fits bits first len reach =
     let le : (first + (len - 1)) * 1 ≤ (first + (len - 1)) * 2 ^ bits = mul-le-mul (omega arith) (pow_pos bits) in

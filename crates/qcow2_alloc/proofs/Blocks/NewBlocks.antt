@@ -1,4 +1,4 @@
--- What a block that is to be named counts, and what is cached of it.
+-- The counters of a block that will be linked, and of its cached copy.
 use Rattle.std.proofs.Common.{◌≡◌, ◌≢◌, ℕ, ◌+◌, ◌*◌, ◌/◌, ◌%◌, ◌<◌, arith, ap, sym, subst, ◌∙◌, List, [], ◌∷◌, ◌++◌, length, inl, inr, false, Some, None}
 use Rattle.std.specs.Prelude.{nat_eq, slice_index, slice_set, replicate}
 use Rattle.std.specs.List.{AllByRecursion, IsDistinct}
@@ -20,7 +20,6 @@ use Rattle.qcow2_alloc.proofs.Memory.Patches.{all-append, all-weaker, others-bef
 use Rattle.qcow2_alloc.proofs.Caching.Places.{Place, place-of-key, away-of-all, slot-of}
 use Rattle.qcow2_alloc.proofs.GuestView.QuietCounters.{here-one, away-none}
 
--- A counter of the file by its list.
 pub counter-read : (f : Bytes) (h : Fields) (place : ℕ) (counters : List ℕ) → counters_in f h place ≡ counters → (j : ℕ) → j < counters_of_block h → counter f h place j ≡ slice_index counters j
 counter-read f h place counters is j lt = sym (get_or-map-range_with_len (counter f h place) 0 (counters_of_block h) j j 0 lt (omega arith)) ∙ ap (λ (l : List ℕ). slice_index l j) is
 
@@ -34,14 +33,14 @@ module _ (m : Metadata) (sound : IsSound m) (i d : ℕ) where
   zero-at : (j : ℕ) → j < counters_of_block m.header.fields → slice_index (replicate (counters_of_block m.header.fields) 0) j ≡ 0
   zero-at j lt = get_or-replicate (counters_of_block m.header.fields) j 0 0 lt
 
-  -- A block of zeroes counts none of its clusters,
+  -- A block of zeros counts none of its clusters.
   pub zeroes-count : d / k ≢ i → counters_in m.file m.header.fields (d * cluster_size m.header.fields) ≡ replicate (counters_of_block m.header.fields) 0
       → (c : ℕ) → c / k ≡ i → counter m.file m.header.fields (d * cluster_size m.header.fields) (c % k) ≡ one_at d c
   zeroes-count other is c own =
       counter-read m.file m.header.fields (d * cluster_size m.header.fields) (replicate (counters_of_block m.header.fields) 0) is (c % k) (mod_below c k some) ∙ zero-at (c % k) (mod_below c k some)
       ∙ sym (away-none d c (λ same. other (sym (ap (λ x. x / k) same) ∙ own)))
 
-  -- and one that counts itself no other.
+  -- A block that counts itself counts no other cluster.
   pub itself-counts : d / k ≡ i → counters_in m.file m.header.fields (d * cluster_size m.header.fields) ≡ slice_set (replicate (counters_of_block m.header.fields) 0) (d % k) 1
       → (c : ℕ) → c / k ≡ i → counter m.file m.header.fields (d * cluster_size m.header.fields) (c % k) ≡ one_at d c
   itself-counts itself is c own =
@@ -62,7 +61,6 @@ module _ (m : Metadata) (sound : IsSound m) (i d : ℕ) where
           let y = div-add-mod b k in
           sym x ∙ ap (λ q. k * q + a % k) rows ∙ ap (λ r. k * (b / k) + r) columns ∙ y
 
--- What is cached at a key is nothing where none is found,
 pub none-cached : (key : ℕ) (es : List (ℕ × Slot Block)) (counters : List ℕ) → lookup (nat_eq key) es ≡ None → AllByRecursion (λ e. e.0 ≡ key → e.1.value.counters ≡ counters) es
 none-cached key es counters none = over es (away-of-all key es none)
   where
@@ -70,7 +68,6 @@ none-cached key es counters none = over es (away-of-all key es none)
     over [] away = tt
     over (e ∷ es) away = ((λ same. absurd (eqb-false key e.0 away.0 (sym same))), over es away.1)
 
--- and the block that is found.
 pub one-cached : (key : ℕ) (es : List (ℕ × Slot Block)) (block : Block) → IsDistinct nat_eq (keys_of es) → option_map (λ s. s.value) (lookup (nat_eq key) es) ≡ Some block → AllByRecursion (λ e. e.0 ≡ key → e.1.value.counters ≡ block.counters) es
 one-cached key es block apart there =
     let found = slot-of (lookup (nat_eq key) es) block there in
@@ -81,7 +78,7 @@ one-cached key es block apart there =
     (all-weaker _ _ (λ e away same. absurd (away (sym same))) place.front (others-before key found.0 place.front place.back apart'))
     ((λ same. ap (λ (b : Block). b.counters) found.2), all-weaker _ _ (λ e away same. absurd (away (sym same))) place.back (others-behind key found.0 place.front place.back apart')))
 
--- A counter of a block of zeroes
+-- Counter `i` exists and is 0.
 pub record ClearedAt (counters : List ℕ) (i : ℕ) : Type 0 where
   pub inside : i < length counters
   pub zero : slice_index counters i ≡ 0

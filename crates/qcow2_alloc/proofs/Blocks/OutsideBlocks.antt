@@ -1,4 +1,4 @@
--- A refcount block is made in a cluster that another counts: that is counted and written before it is named.
+-- Making a refcount block in a cluster that another block counts. The cluster is counted and flushed before the new block is linked.
 use Rattle.std.proofs.Common.{◌≡◌, ◌≢◌, ℕ, ◌+◌, ◌*◌, ◌/◌, ◌<◌, ◌≤◌, refl, arith, ap, sym, subst, ◌∙◌, List, [], ◌∷◌, length, inl, inr, Ok, Err, None, Some, true, false, Result}
 use Rattle.std.specs.Prelude.{⊤, nat_eq, slice_index, replicate, IsTrue, map}
 use Rattle.std.specs.Map.{lookup}
@@ -53,7 +53,7 @@ use Rattle.qcow2_alloc.proofs.GuestView.QuietCounters.{here-one, away-none}
 use Rattle.qcow2_alloc.proofs.GuestView.QuietFlushes.{going-quietly, memory-quietly}
 use Rattle.qcow2_alloc.proofs.Memory.SafeLaws.{safe-reach}
 
--- Flushes leave the keys.
+-- Flushing doesn't add keys.
 none-written : {V : Type 0} (c : ℕ) (put : ℕ × Slot V → ℕ × Slot V) → ((e : ℕ × Slot V) → (put e).0 ≡ e.0) → (xs ys : List (ℕ × Slot V)) → map put xs ≡ map put ys → lookup (nat_eq c) ys ≡ None → lookup (nat_eq c) xs ≡ None
 none-written c put keys [] ys same none = refl
 none-written c put keys (x ∷ xs) [] same none = absurd (cc)
@@ -89,7 +89,7 @@ module _ {S : Type 0} (state : S → StorageState) (image : ImageState S) (i d :
   sound-then : order_of image.caches ≡ L2DependsOnRb → Keeps → IsSound m0 → IsSound mA
   sound-then order keeps sound = ((begun.guest_unchanged order).holds keeps sound tt).0
 
-  -- Nothing names the cluster, and what is cached of it is dropped.
+  -- Nothing references the cluster, and its cached block is dropped.
   unused : order_of image.caches ≡ L2DependsOnRb → Keeps → IsSound m0 → (referenced_at_all mA d ≡ 0) × (waiting mA d ≡ 0) × (IsUsed mA d → ⊥)
   unused order keeps sound = uncounted-free mA (sound-then order keeps sound) (begun.order ∙ order) d (free order keeps sound).uncounted
 
@@ -116,7 +116,7 @@ module _ {S : Type 0} (state : S → StorageState) (image : ImageState S) (i d :
   on : Keeps → IsTrue (state fA.image).shape.keeps
   on keeps = keeps_on (state image.file.image) (state fA.image) begun.shape keeps
 
-  -- The cluster is counted,
+  -- The cluster's refcount is incremented.
   module _ (result : Result Unit Fault) (C : MetadataCaches S) (fC : ImageFile S) (raises : IncrementsCluster state image.table d (cached_file C1 fA) result (cached_file C fC)) where
     abbrev run : CountsRun state d 1 (image_state image.table C1 fA image.pending) result (image_state image.table C fC image.pending)
     run = (one-counted state image.table image.pending d C1 fA result C fC raises).0
@@ -182,7 +182,7 @@ module _ {S : Type 0} (state : S → StorageState) (image : ImageState S) (i d :
     taken =
         begins-then state i image (λ _. 0) (more succeeded C fC raises) C1 fA C fC begin (one_at d) (λ c. let one = more-one succeeded C fC raises (part-is succeeded C fC raises) c in omega (arith, one)) (counting succeeded C fC raises)
 
-    -- and the block that counts it is written.
+    -- The block that counts the cluster is flushed.
     module _ (result : Result Unit Fault) (D : MetadataCaches S) (fD : ImageFile S) (going : WritesBackCached fC.header (order_of C) Always (result ≡ Ok tt) (state fC.image) (cached_in C) (state fD.image) (cached_in D)) (kept : written (cached_in D) ≡ written (cached_in C))
         (others : (D.order ≡ C.order) × (fD.header ≡ fC.header)) (room : HasRoomOf C D) (cause : FailsFor (writing_causes (AreTablesAddressable (cached_in C) × AreBlocksAddressable (cached_in C)) (state fC.image).faults (state fD.image).faults) result) where
       abbrev m3 : Metadata
@@ -199,7 +199,6 @@ module _ {S : Type 0} (state : S → StorageState) (image : ImageState S) (i d :
       done-so : IsSound m2 → HadNoResourceError result → result ≡ Ok tt
       done-so sound whole = written-whole _ _ _ result cause (safe-reach m2.file m2.header m2.cached m2.order sound.well_formed) whole
 
-      -- Each cluster is counted as it was, and named no more.
       same : Keeps → IsSound m2 → result ≡ Ok tt → (c : ℕ) → (counted m3 c ≡ counted m2 c) × (referenced_at_all m3 c ≤ referenced_at_all m2 c)
       same keeps sound done c =
           moved (λ m. (counted m c ≡ counted m2 c) × (referenced_at_all m c ≤ referenced_at_all m2 c))
@@ -229,7 +228,7 @@ module _ {S : Type 0} (state : S → StorageState) (image : ImageState S) (i d :
         (λ order keeps sound whole c. absurd (let no = done-so (failed fault) D fD going kept others room cause (sound2 (failed fault) D fD going kept others room cause order keeps sound) whole in cc no))
         (let same = taken.faults.0 in cause-weaker (writing-implies _ (omega (arith, same)) (omega arith) (λ far holds. let s = sound2 (failed fault) D fD going kept others room cause holds.1 holds.0 holds.2 in far (safe-reach m2.file m2.header m2.cached m2.order s.well_formed))) fault cause)
 
-    -- Then the new block is written and named.
+    -- The new block is written and linked.
     module _ (D : MetadataCaches S) (fD : ImageFile S) (going : WritesBackCached fC.header (order_of C) Always (succeeded ≡ Ok tt) (state fC.image) (cached_in C) (state fD.image) (cached_in D)) (kept : written (cached_in D) ≡ written (cached_in C))
         (others : (D.order ≡ C.order) × (fD.header ≡ fC.header)) (room : HasRoomOf C D) (faults : (state fD.image).faults ≡ (state fC.image).faults) (clean : AreBlocksClean (cached_in D)) where
       abbrev m4 : Metadata
@@ -287,7 +286,7 @@ module _ {S : Type 0} (state : S → StorageState) (image : ImageState S) (i d :
           ))
           result table' (state after.image) names)
 
-      -- The same of the block as it was made before.
+      -- Like `taken-made`, with the header from before the increment.
       pub taken-made-so : i < length image.table.raw_entries → block_offset (slice_index image.table.raw_entries i) ≡ 0 → 9 ≤ fA.header.fields.cluster_bits → d ≢ 0 → IsAddressable fA.header.fields.cluster_bits d → d < i * counters_of_block fA.header.fields
           → (block : Block) → block ≡ block_of fA.header.fields.cluster_bits fA.header.fields.refcount_order (replicate (counters_of_block fA.header.fields) 0) (Some d) true
           → (result : Result Unit Fault) (table' : TableValue) (after : ImageFile S) → after.header ≡ fD.header

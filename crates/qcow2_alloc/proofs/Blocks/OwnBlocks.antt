@@ -1,4 +1,4 @@
--- A refcount block is made in a cluster that it counts itself.
+-- Making a refcount block in a cluster that the block counts itself.
 use Rattle.std.proofs.Common.{◌≡◌, ◌≢◌, ℕ, ◌/◌, ◌%◌, ◌<◌, ◌≤◌, refl, arith, sym, subst, ◌∙◌, List, length, inl, None, Some, true, Result}
 use Rattle.std.specs.Prelude.{⊤, nat_eq, slice_index, slice_set, replicate, IsTrue}
 use Rattle.std.specs.Map.{lookup, remove_entry}
@@ -32,7 +32,6 @@ use Rattle.qcow2_alloc.proofs.GuestView.QuietFlushes.{memory-quietly}
 use Rattle.qcow2_alloc.proofs.GuestView.QuietPremises.{quietly-given}
 use Rattle.qcow2_alloc.proofs.Caching.Pins.{pins-removed}
 
--- Where the refcount table names no block the clusters of one aren't counted.
 pub own-uncounted : (m : Metadata) (i d : ℕ) → d / counters_of_block m.header.fields ≡ i → i < length m.table.raw_entries → block_offset (slice_index m.table.raw_entries i) ≡ 0 → IsSound m → counted m d ≡ 0
 own-uncounted m i d own inside empty sound =
     let lt : i < refcount_table_entries m.header.fields = (let long = sound.table.long in omega (arith, inside, long)) in
@@ -45,7 +44,7 @@ module _ {S : Type 0} (state : S → StorageState) (image : ImageState S) (d : �
   abbrev m : Metadata
   m = metadata state image
 
-  -- What is cached of the cluster is dropped, where nothing names it.
+  -- The cached block of an unreferenced cluster is dropped.
   pub forgets : (order_of image.caches ≡ L2DependsOnRb → IsTrue (state image.file.image).shape.keeps → IsSound m → referenced_at_all m d ≡ 0) → Begins state image (λ _. 0) (image_state image.table without image.file image.pending)
   forgets not_referenced = record {
     shape = refl;
@@ -77,7 +76,7 @@ module _ {S : Type 0} (state : S → StorageState) (image : ImageState S) (d : �
   long : length counters ≡ counters_of_block image.file.header.fields
   long = length-set (replicate (counters_of_block image.file.header.fields) 0) (d % counters_of_block image.file.header.fields) 1 ∙ length-replicate {A = ℕ} (counters_of_block image.file.header.fields) 0
 
-  -- The block is written and named.
+  -- The block is written and linked.
   pub own-made : (inside : d / counters_of_block image.file.header.fields < length image.table.raw_entries) → block_offset (slice_index image.table.raw_entries (d / counters_of_block image.file.header.fields)) ≡ 0 → 9 ≤ image.file.header.fields.cluster_bits → d ≢ 0 → IsAddressable image.file.header.fields.cluster_bits d
       → (result : Result Unit Fault) (table' : TableValue) (after : ImageFile S) → after.header ≡ image.file.header
       → LinksWritten image.table i (B state i d counters (image_state image.table without image.file image.pending)) (state image.file.image) result table' (state after.image) → MakesBlock state i image result (image_state table' without after image.pending)

@@ -1,4 +1,4 @@
--- Words of the refcount table that name blocks, and that don't.
+-- Entries of the refcount table, with and without a block.
 use Rattle.std.proofs.Common.{◌≡◌, ◌≢◌, ℕ, refl, sym, ◌∙◌, true, false, inl, inr}
 use Rattle.std.specs.Prelude.{slice_index}
 use Rattle.std.specs.Option.{is_some}

@@ -1,4 +1,4 @@
--- Clusters in a row are counted, one behind the other.
+-- Incrementing the refcounts of consecutive clusters, in order.
 use Rattle.std.proofs.Common.{◌≡◌, ◌≢◌, ℕ, ◌+◌, ◌/◌, ◌<◌, ◌≤◌, refl, arith, ap, sym, subst, ◌∙◌, List, Result, Ok, Err, Bool, true, false, inl, inr}
 use Rattle.std.specs.Prelude.{⊤, ◌==◌, if◌then◌else◌, IsTrue, slice_index, OnOk}
 use Rattle.std.proofs.lemmas.Bool.{cases_eq, ne_eqb}
@@ -31,14 +31,13 @@ use Rattle.qcow2_alloc.proofs.GuestView.QuietFlushes.{memory-quietly, quiet-none
 use Rattle.qcow2_alloc.proofs.GuestView.QuietPremises.{quietly-then-given}
 use Rattle.qcow2_alloc.proofs.GuestView.QuietSequences.{quietly-otherwise, quiet-otherwise}
 
--- A run goes on in the next one, and ends where that begins.
 pub covers-join : (c first n k : ℕ) → covers c (run_of first n) + covers c (run_of (first + n) k) ≡ covers c (run_of first (n + k))
 covers-join c first n k = grind (arith, nat_tests)
 
 pub covers-behind : (c first n : ℕ) → first + n ≤ c → covers c (run_of first n) ≡ 0
 covers-behind c first n le = grind (arith, nat_tests)
 
--- 1 where cluster c is one of so many of a run and isn't passed over, else 0
+-- 1 if cluster `c` is among the first `part` clusters from `first` on and isn't skipped, else 0.
 abbrev pub part_of : (ℕ → Bool) → ℕ → ℕ → ℕ → ℕ
 part_of passed first part c = if passed c then 0 else covers c (run_of first part)
 
@@ -54,7 +53,6 @@ part-behind : (b : Bool) (c first n : ℕ) → first + n ≤ c → (if b then 0 
 part-behind true c first n le = refl
 part-behind false c first n le = covers-behind c first n le
 
--- A run of at most one cluster has no other one, and that one unless it is passed over.
 part-away : (b : Bool) (c d n : ℕ) → n ≤ 1 → d ≢ c → (if b then 0 else covers d (run_of c n)) ≡ 0
 part-away true c d n le apart = refl
 part-away false c d n le apart = grind (arith, nat_tests)
@@ -65,7 +63,7 @@ unnamed-part w n none = rw none refl
 named-part : (w n : ℕ) → w ≢ 0 → n ≡ (if w == 0 then 0 else n)
 named-part w n some = rw (ne_eqb w 0 some) refl
 
--- Of a run where some clusters are passed over, and something more is known of each, are counted:
+-- Counting a run in which the clusters of `passed` are skipped. `ready` is a further fact about each counted cluster.
 module _ {S : Type 0} (state : S → StorageState) (table : TableValue) (pending : List FreeEntry) (passed : ℕ → Bool) (ready : ℕ → Type 0) (first : ℕ) where
   abbrev At : MetadataCaches S → ImageFile S → Metadata
   At caches file = metadata_of state file caches table pending
@@ -73,20 +71,19 @@ module _ {S : Type 0} (state : S → StorageState) (table : TableValue) (pending
   abbrev Keeps : ImageFile S → Type 0
   Keeps file = IsTrue (state file.image).shape.keeps
 
-  -- so many clusters of the run aren't counted
+  -- The first `n` clusters of the run have refcount 0.
   abbrev Free : MetadataCaches S → ImageFile S → ℕ → Type 0
   Free caches file n = (d : ℕ) → first ≤ d → d < first + n → counted (At caches file) d ≡ 0
 
-  -- they aren't counted in a sound image, and could be
+  -- `IsSound` holds, and the `k` clusters from `from` on have refcount 0 and are ready.
   abbrev Holds : ℕ → ℕ → MetadataCaches S → ImageFile S → Type 0
   Holds from k caches file = Keeps file × (order_of caches ≡ L2DependsOnRb) × IsSound (At caches file)
       × ((d : ℕ) → from ≤ d → d < from + k → (counted (At caches file) d ≡ 0) × ready d)
 
-  -- so many clusters from one on are counted
+  -- Counting the `n` clusters from `from` on.
   abbrev Counts : ℕ → ℕ → MetadataCaches S → ImageFile S → Result Unit Fault → MetadataCaches S → ImageFile S → Type 0
   Counts from n old before result new after = CountsPart state (part_of passed from) ready from n (image_state table old before pending) result (image_state table new after pending)
 
-  -- nothing, where nothing is handed out,
   parts-still : (n part : ℕ) → part ≤ n → part ≡ n → ((d : ℕ) → part_of passed first part d ≡ 0) → (old : MetadataCaches S) (before : ImageFile S) → Counts first n old before succeeded old before
   parts-still n part inside whole none old before = record {
     part = part;
@@ -107,11 +104,9 @@ module _ {S : Type 0} (state : S → StorageState) (table : TableValue) (pending
     cause = refl;
   }
 
-  -- as in a run of no clusters,
   parts-none : (old : MetadataCaches S) (before : ImageFile S) → Counts first 0 old before succeeded old before
   parts-none old before = parts-still 0 0 (omega arith) refl (λ d. part-none (passed d) d first) old before
 
-  -- one more,
   parts-then : (n : ℕ) (A : MetadataCaches S) (fA : ImageFile S) (B : MetadataCaches S) (fB : ImageFile S) (result : Result Unit Fault) (C : MetadataCaches S) (fC : ImageFile S)
       → Counts first n A fA succeeded B fB → Counts (first + n) 1 B fB result C fC → Counts first (n + 1) A fA result C fC
   parts-then n A fA B fB result C fC one two =
@@ -173,7 +168,7 @@ module _ {S : Type 0} (state : S → StorageState) (table : TableValue) (pending
                 ),
           )
 
-  -- and as part of a longer run, where that was refused.
+  -- A failure within a prefix is a failure of the longer run.
   parts-within : (n N : ℕ) → n ≤ N → (A : MetadataCaches S) (fA : ImageFile S) (fault : Fault) (B : MetadataCaches S) (fB : ImageFile S) → Counts first n A fA (failed fault) B fB → Counts first N A fA (failed fault) B fB
   parts-within n N le A fA fault B fB part =
       let few = part.inside in
@@ -194,7 +189,7 @@ module _ {S : Type 0} (state : S → StorageState) (table : TableValue) (pending
         cause = cause-weaker (counting-weaker (λ holds. (holds.0, holds.1, holds.2, λ d above below. holds.3 d above (omega (arith, below, le)))) (λ any loose. loose) refl) fault part.cause;
       }
 
--- Where all are counted,
+-- No cluster is skipped.
 module _ {S : Type 0} (state : S → StorageState) (table : TableValue) (pending : List FreeEntry) (first : ℕ) where
   abbrev named_in : Header → ℕ → Type 0
   named_in h c = block_offset (slice_index table.raw_entries (c / counters_of_block h.fields)) ≢ 0
@@ -211,7 +206,7 @@ module _ {S : Type 0} (state : S → StorageState) (table : TableValue) (pending
   pub run-within : (n N : ℕ) → n ≤ N → (A : MetadataCaches S) (fA : ImageFile S) (fault : Fault) (B : MetadataCaches S) (fB : ImageFile S) → CountsRun state first n (image_state table A fA pending) (failed fault) (image_state table B fB pending) → CountsRun state first N (image_state table A fA pending) (failed fault) (image_state table B fB pending)
   run-within n N le A fA = parts-within state table pending (λ c. false) (named_in fA.header) first n N le A fA
 
--- and where those are passed over whose block isn't named.
+-- Clusters without a block are skipped.
 module _ {S : Type 0} (state : S → StorageState) (table : TableValue) (pending : List FreeEntry) where
   abbrev unnamed_in : Header → ℕ → Bool
   unnamed_in h c = block_offset (slice_index table.raw_entries (c / counters_of_block h.fields)) == 0
@@ -228,7 +223,6 @@ module _ {S : Type 0} (state : S → StorageState) (table : TableValue) (pending
   pub named-run-within : (first n N : ℕ) → n ≤ N → (A : MetadataCaches S) (fA : ImageFile S) (fault : Fault) (B : MetadataCaches S) (fB : ImageFile S) → CountsReferenced state first n (image_state table A fA pending) (failed fault) (image_state table B fB pending) → CountsReferenced state first N (image_state table A fA pending) (failed fault) (image_state table B fB pending)
   named-run-within first n N le A fA = parts-within state table pending (unnamed_in fA.header) (λ c. ⊤) first n N le A fA
 
-  -- A cluster is passed over,
   pub passed-over : (c : ℕ) (old : MetadataCaches S) (before : ImageFile S) → block_offset (slice_index table.raw_entries (c / counters_of_block before.header.fields)) ≡ 0 → CountsReferenced state c 1 (image_state table old before pending) succeeded (image_state table old before pending)
   passed-over c old before none =
       let nothing : (d : ℕ) → named_part table (counters_of_block before.header.fields) c 1 d ≡ 0 = λ d. elim (cases_eq d c) [
@@ -237,7 +231,7 @@ module _ {S : Type 0} (state : S → StorageState) (table : TableValue) (pending
       ] in
       parts-still state table pending (unnamed_in before.header) (λ e. ⊤) c 1 1 (omega arith) refl nothing old before
 
-  -- or counted where its block is named.
+  -- A cluster with a block is counted.
   module _ (c : ℕ) (old : MetadataCaches S) (before : ImageFile S) where
     abbrev Named : ℕ → Type 0
     Named d = block_offset (slice_index table.raw_entries (d / counters_of_block before.header.fields)) ≢ 0

@@ -1,4 +1,4 @@
--- What a run of clusters needs is made, or the refcount table grows.
+-- Readying the blocks of a run of clusters. If the refcount table is too short, it grows.
 use Rattle.std.proofs.Common.{◌≡◌, ◌≢◌, ℕ, ◌+◌, ◌<◌, ◌≤◌, refl, arith, ap, sym, subst, length, Bool, true, Result, Ok, Err, inl, inr}
 use Rattle.std.specs.Prelude.{IsTrue, IfOk, OnOk, slice_index, ◌*◌, ◌^◌}
 use Rattle.std.proofs.Math.Nat.{mul-le-mul_right}
@@ -27,22 +27,19 @@ use Rattle.qcow2_alloc.proofs.Causes.{cause-weaker, fails-weaker}
 use Rattle.qcow2_alloc.proofs.Blocks.BlockCreationCalls.{allocating-weaker}
 use Rattle.qcow2_alloc.proofs.Blocks.BlockRows.{refused, so}
 
--- An answer that refuses with a number is that of its fault.
 limit-of : (fault : Fault) (number : ℕ) → refused fault ≡ Err (Limit number) → fault ≡ Limit number
 limit-of fault number is = let e = is in cc
 
--- Nothing leaks,
 pub leaks-none : {T : Type 0} (sound : Type 0) (loose : Bool → Type 0) (result : Result T Fault) → Leaks sound loose result (λ _. 0)
 leaks-none sound loose result = record { none = λ other c. refl; pinned = λ holds all c. refl }
 
--- or what did, where the fault is handed on,
+-- A fault that is passed on leaks the same clusters.
 pub leaks-on : {T U : Type 0} (sound sound' : Type 0) (loose loose' : Bool → Type 0) (fault : Fault) (leaked : ℕ → ℕ) → (sound' → sound) → ((any : Bool) → loose' any → loose any) → Leaks {T = T} sound loose (Err fault) leaked → Leaks {T = U} sound' loose' (Err fault) leaked
 leaks-on sound sound' loose loose' fault leaked from from' leaks = record {
   none = λ other c. leaks.none (λ is. other (ap (λ f. Err f) (let e = is in let same : fault ≡ CacheFull = cc in same))) c;
   pinned = λ holds all c. leaks.pinned (from holds) (from' true all) c;
 }
 
--- and a call that succeeded leaked nothing.
 pub leaks-ok : {T : Type 0} (sound : Type 0) (loose : Bool → Type 0) (v : T) (leaked : ℕ → ℕ) → Leaks sound loose (Ok v) leaked → (c : ℕ) → leaked c ≡ 0
 leaks-ok sound loose v leaked leaks c = leaks.none (λ is. absurd (cc)) c
 
@@ -53,7 +50,7 @@ module _ {S : Type 0} (state : S → StorageState) (at first last : ℕ) (s : Al
   abbrev Knows : Type 0 → Type 0
   Knows P = order_of s.caches ≡ L2DependsOnRb → IsTrue (state s.file.image).shape.keeps → IsSound Start → P
 
-  -- The table has words for all: blocks are made.
+  -- The table is long enough: blocks are made.
   pub blocks-ready : last < length s.table.raw_entries → (result : Result Provision Fault) (table' : TableValue) (new : MetadataCaches S) (after : ImageFile S) (mark' : ℕ) → mark' ≡ s.mark → MakesBlocks state first (last + 1) s.image result (image_state table' new after s.pending)
       → Knows (OnOk result (FillsFrom s.mark first (last + 1) Start (metadata_of state after new table' s.pending))) → ReadiesBlocks state at first last s result (with_first_free (image_state table' new after s.pending) mark')
   blocks-ready inside result table' new after mark' has_no_dirty_data makes fills = record {
@@ -91,7 +88,7 @@ module _ {S : Type 0} (state : S → StorageState) (at first last : ℕ) (s : Al
           far (omega (arith, near, more)))
 
   module _ (past : length s.table.raw_entries ≤ last) (s' : AllocatorState S) where
-    -- It hasn't: it grows,
+    -- The table is too short: it grows.
     pub table-ready : last ≤ at → GrowsTable state at s (Ok tt) s' → ReadiesBlocks state at first last s (so Extended) s'
     table-ready behind grows = record {
       leaked = grows.leaked;
@@ -109,7 +106,7 @@ module _ {S : Type 0} (state : S → StorageState) (at first last : ℕ) (s : Al
       cause = grows.cause;
     }
 
-    -- or that is refused.
+    -- Growing the table fails.
     pub table-not-ready : (fault : Fault) → GrowsTable state at s (Err fault) s' → ReadiesBlocks state at first last s (Err fault) s'
     table-not-ready fault grows = record {
       leaked = grows.leaked;

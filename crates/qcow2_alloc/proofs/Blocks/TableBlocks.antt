@@ -1,4 +1,4 @@
--- The blocks that the refcount table in memory names.
+-- The blocks that the refcount table in memory references.
 use Rattle.std.proofs.Common.{◌≡◌, ◌≢◌, ℕ, ◌*◌, ◌/◌, ◌^◌, ◌≤◌, refl, arith, ap, sym, subst, ◌∙◌, None, Some, inl, inr}
 use Rattle.std.specs.Prelude.{slice_index, nat_lt, false}
 use Rattle.std.proofs.lemmas.List.{get_or_past}
@@ -16,14 +16,14 @@ use Rattle.qcow2_metadata.specs.Tables.{TableValue}
 use Rattle.qcow2_alloc.specs.Allocators.{referenced_block}
 use Rattle.qcow2_alloc.specs.GuestView.{IsTableOf}
 
--- where a block stands that a word of the refcount table names
+-- Entry `i` of the file's refcount table references the block at cluster `key`.
 pub record IsNamed (f : Bytes) (H : Header) (i key : ℕ) : Type 0 where
   pub place : block_at f H.fields i ≡ key * cluster_size H.fields
   pub some : key ≢ 0
   pub reach : IsAddressable H.fields.cluster_bits key
 
 module _ (f : Bytes) (H : Header) (table : TableValue) (i : ℕ) (is : IsTableOf f H.fields table) where
-  -- The block that the table in memory names stands where the file's does;
+  -- The tables in memory and in the file reference the same blocks.
   pub named-block : (key : ℕ) → IsConsistent f H → referenced_block table i ≡ Some key → IsNamed f H i key
   named-block key was named = elim (cases_lt i (refcount_table_entries H.fields)) [
     | inl lt ↦
@@ -47,7 +47,6 @@ module _ (f : Bytes) (H : Header) (table : TableValue) (i : ℕ) (is : IsTableOf
         absurd (let raw_entry : slice_index table.raw_entries i ≡ 0 = get_or_past table.raw_entries i 0 (omega (arith, long, past)) in let no : None ≡ Some key = sym (rw raw_entry refl) ∙ named in cc)
   ]
 
-  -- and where it names none, the file doesn't either.
   pub unnamed-block : referenced_block table i ≡ None → block_at f H.fields i ≡ 0
   unnamed-block none = elim (cases_lt i (refcount_table_entries H.fields)) [
     | inr past ↦ let far : nat_lt i (refcount_table_entries H.fields) ≡ false = le-ltb _ _ past in rw far refl

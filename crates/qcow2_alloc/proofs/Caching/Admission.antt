@@ -1,4 +1,4 @@
--- What a search asks of the file: in a full cache, and where nothing is modified.
+-- The requests that a search makes, in a full cache and in a cache without dirty entries.
 use Rattle.std.proofs.Common.{◌≡◌, ℕ, ◌≤◌, refl, ap, sym, subst, ◌∙◌, List, [], ◌∷◌, length, Option, None, Result, Ok, Err, Bool, true, false, inl, inr}
 use Rattle.std.specs.Prelude.{◌⊎◌, nat_eq, MatchResult}
 use Rattle.std.specs.List.{AllByRecursion}
@@ -23,7 +23,7 @@ use Rattle.qcow2_alloc.proofs.Caching.EntryLoads.{is-there}
 use Rattle.qcow2_alloc.proofs.Caching.Rooms.{room-way}
 use Rattle.qcow2_alloc.proofs.Caching.SearchOutcomes.{done_of, all-at, all-removed}
 
--- Flushes of what isn't modified ask nothing of the file.
+-- Flushing clean entries makes no request.
 module _ {V : Type 0} (flushes : StorageState → ℕ → V → Result Unit Fault → StorageState → V → Type 0) (modified : V → Bool)
     (clean : (a b : StorageState) (key : ℕ) (v v' : V) (r : Result Unit Fault) → flushes a key v r b v' → modified v ≡ false → (r ≡ Ok tt) × (b ≡ a) × (v' ≡ v)) where
   flushed-none : (es : List (ℕ × Slot V)) (a b : StorageState) (outcome : Option Fault) (es' : List (ℕ × Slot V)) → FlushedEach flushes a es outcome b es' → AllByRecursion (λ e. modified e.1.value ≡ false) es → (outcome ≡ None) × (b ≡ a) × (es' ≡ es)
@@ -58,12 +58,11 @@ blocks-none a b c c' result did all =
 
 module _ {V D : Type 0} (state : D → StorageState) (loads : D → ℕ → Result V Fault → D → Type 0) (flushes : D → ℕ → V → Result Unit Fault → D → V → Type 0)
     (loading : (old new : D) (key : ℕ) (answer : Result V Fault) → loads old key answer new → UnchangedButFaults (state old) (state new)) where
-  -- A load only reads.
   loaded-kept : (key : ℕ) (mid : D) (entries : List (ℕ × Slot V)) (result : Result Admission Fault) (after : D) (es' : List (ℕ × Slot V)) → Loaded loads key mid entries result after es' → UnchangedButFaults (state mid) (state after)
   loaded-kept key mid entries (Ok made) after es' (is, value, load, list) = loading mid after key (Ok value) load
   loaded-kept key mid entries (Err fault) after es' (same, why) = elim why [ inl load ↦ loading mid after key (Err fault) load | inr short ↦ loading mid after key (Ok short.1) short.2 ]
 
-  -- Without leave to flush nothing is loaded into a full cache.
+  -- Without permission to flush, nothing is loaded into a full cache.
   pub never-now : (cap key : ℕ) (before : D) (es : List (ℕ × Slot V)) (result : Result Admission Fault) (after : D) (es' : List (ℕ × Slot V)) → lookup (nat_eq key) es ≡ None → cap ≤ length es
       → Readied (cache_kind nat_eq loads flushes cap) false key before es result after es' → result ≡ Ok Denied
   never-now cap key before es result after es' none full r =
@@ -71,7 +70,7 @@ module _ {V D : Type 0} (state : D → StorageState) (loads : D → ℕ → Resu
       let later : (result ≡ Ok Denied) × (after ≡ m.mid) × (es' ≡ m.entries) = subst (λ (q : Result Admission Fault). LoadedAfter loads key m.mid m.entries q result after es') (m.made.full full refl).0 m.loaded in
       later.0
 
-  -- With leave, the entry that goes is flushed in place.
+  -- With permission, the evicted entry is flushed before it is removed.
   module _ (asks : StorageState → ℕ → V → Result Unit Fault → StorageState → V → Type 0)
       (asked : (old new : D) (key : ℕ) (value value' : V) (answer : Result Unit Fault) → flushes old key value answer new value' → asks (state old) key value answer (state new) value') where
     flushed-so : (key : ℕ) (before : D) (es : List (ℕ × Slot V)) (answer : Result Unit Fault) (after : D) (es' : List (ℕ × Slot V)) → FlushedAt nat_eq flushes key before es answer after es'
@@ -99,7 +98,7 @@ module _ {V D : Type 0} (state : D → StorageState) (loads : D → ℕ → Resu
         by-room k (Ok Denied) mid entries (is, flushed, at, removed) later = absurd (cc)
         by-room k (Err fault) mid entries at later = (state mid, Err fault, entries, flushed-so k before es (Err fault) mid entries at, (ap done_of later.0, ap state later.1, later.2))
 
-  -- Where flushes ask for nothing, nothing is written, and so it stays.
+  -- If flushes make no request, nothing is written, and the entries stay clean.
   module _ (Clean : V → Type 0) (comes : (old new : D) (key : ℕ) (value : V) → loads old key (Ok value) new → Clean value)
       (flushing : (old new : D) (key : ℕ) (value value' : V) (answer : Result Unit Fault) → Clean value → flushes old key value answer new value' → (answer ≡ Ok tt) × (state new ≡ state old) × (value' ≡ value)) where
     abbrev AreClean : List (ℕ × Slot V) → Type 0
@@ -143,7 +142,7 @@ module _ {V D : Type 0} (state : D → StorageState) (loads : D → ℕ → Resu
         by-room (Ok Denied) mid entries same clean later = asked-none mid entries same clean later.1 later.2
         by-room (Err fault) mid entries same clean later = asked-none mid entries same clean later.1 later.2
 
--- What was written before a table was, and before a block: nothing where nothing of it is modified.
+-- If the cache that must be written first is clean, that write does nothing.
 module _ (order : CacheDependency) (a b : StorageState) (c c' : Cached) (answer : Result Unit Fault) where
   abbrev NothingDone : Type 0
   NothingDone = (answer ≡ Ok tt) × (b ≡ a) × (c' ≡ c)
@@ -158,7 +157,7 @@ module _ (order : CacheDependency) (a b : StorageState) (c c' : Cached) (answer 
   tables-still idle did tables blocks = let none = tables-idle idle did tables in
       (subst (λ (s : StorageState). UnchangedButFaults a s) (sym none.1) (kept-same a), subst AreTablesClean (sym none.2) tables, subst AreBlocksClean (sym none.2) blocks)
 
--- Something is done behind what comes first, once that is;
+-- The first step succeeds, and the second is done.
 pub behind-done : (comes_first : Type 0) (First Done : CachedStep) (a b d : StorageState) (c e c' : Cached) (result : Result Unit Fault)
     → ((comes_first → ⊥) → (b ≡ a) × (e ≡ c)) → (comes_first → First a c (Ok tt) b e) → Done b e result d c' → Behind comes_first First Done a c result d c'
 behind-done comes_first First Done a b d c e c' result idle did done = record {
@@ -166,7 +165,7 @@ behind-done comes_first First Done a b d c e c' result idle did done = record {
   in_turn = λ is. record { mid = b; between = e; answer = Ok tt; first = did is; halted = λ no. absurd (cc); second = λ ok. done };
 }
 
--- and not where that is refused.
+-- The first step fails.
 pub behind-refused : (comes_first : Type 0) (First Done : CachedStep) (a b : StorageState) (c e : Cached) (fault : Fault)
     → ((comes_first → ⊥) → ⊥) → (comes_first → First a c (Err fault) b e) → Behind comes_first First Done a c (Err fault) b e
 behind-refused comes_first First Done a b c e fault never did = record {

@@ -1,4 +1,4 @@
--- A block that nothing names is dropped of its cache.
+-- Dropping the cached block of an unreferenced cluster.
 use Rattle.std.proofs.Common.{◌≡◌, ◌≢◌, refl, ℕ, ◌*◌, ◌<◌, arith, ap, sym, subst, ◌∙◌, List, [], ◌∷◌, ◌++◌, false, inl, inr, None, Some, Option}
 use Rattle.std.specs.Prelude.{nat_eq}
 use Rattle.std.specs.List.{AllByRecursion, IsDistinct, filter_map}
@@ -30,7 +30,6 @@ use Rattle.qcow2_alloc.proofs.Memory.KeptWords.{structure-named}
 use Rattle.std.proofs.lemmas.Nat.{pow_pos}
 
 module _ {V : Type 0} (key : ℕ) where
-  -- A key that is none of those isn't found,
   pub none-found : (es : List (ℕ × V)) → AllByRecursion (λ y. nat_eq key y ≡ false) (keys_of es) → lookup (nat_eq key) es ≡ None
   none-found [] away = refl
   none-found (e ∷ es) away = rw away.0 (none-found es away.1)
@@ -42,7 +41,6 @@ module _ {V : Type 0} (key : ℕ) where
     | inr t ↦ rw t (ap (λ l. e ∷ l) (same-without es (rw t at none)))
   ]
 
-  -- as one that was removed where keys stand apart. They do then too.
   pub removed-apart : (es : List (ℕ × V)) → IsDistinct nat_eq (keys_of es) → (lookup (nat_eq key) (remove_entry (nat_eq key) es) ≡ None) × IsDistinct nat_eq (keys_of (remove_entry (nat_eq key) es))
   removed-apart es apart = by-found (lookup (nat_eq key) es) refl
     where
@@ -54,7 +52,7 @@ module _ {V : Type 0} (key : ℕ) where
           subst (λ (l : List (ℕ × V)). (lookup (nat_eq key) l ≡ None) × IsDistinct nat_eq (keys_of l)) (sym p.removed)
           (none-found (p.front ++ p.back) (away-of p.front key v p.back there), distinct-without p.front key v p.back there)
 
--- What isn't modified there is no patch.
+-- A clean block is no patch, so removing it removes none.
 patches-removed : (size key : ℕ) (es : List (ℕ × Slot Block)) → AllByRecursion (λ e. e.0 ≡ key → e.1.value.modified ≡ false) es → filter_map (block_patch size) (remove_entry (nat_eq key) es) ≡ filter_map (block_patch size) es
 patches-removed size key [] clean = refl
 patches-removed size key (e ∷ es) clean = elim (cases_Bool (nat_eq key e.0)) [
@@ -65,7 +63,6 @@ patches-removed size key (e ∷ es) clean = elim (cases_Bool (nat_eq key e.0)) [
   ])
 ]
 
--- A word of the refcount table names its block.
 pub block-names : (m : Metadata) (i key : ℕ) → i < refcount_table_entries m.header.fields → block_at m.file m.header.fields i ≡ key * cluster_size m.header.fields → key ≢ 0 → 0 < referenced_at_all m key
 block-names m i key inside place some =
     let part = block-part m.file m.header.fields (meets m.header.fields key) i inside (λ none. place-there (cluster_size m.header.fields) key (pow_pos m.header.fields.cluster_bits) some (sym place ∙ none)) in
@@ -73,7 +70,6 @@ block-names m i key inside place some =
     let all = structure-named m.file (in_memory m) m.header.fields key in
     omega (arith, part, one, all)
 
--- So does one of the table in memory.
 pub never-unnamed : (m : Metadata) → IsSound m → (key : ℕ) → referenced_at_all m key ≡ 0 → ReferencesBlock m.table key → ⊥
 never-unnamed m sound key none (i, named) =
     let n = named-block m.file m.header m.table i sound.table key sound.well_formed.consistent named in
@@ -82,7 +78,6 @@ never-unnamed m sound key none (i, named) =
     omega (arith, none, some)
 
 module _ (m : Metadata) (key : ℕ) (sound : IsSound m) (not_referenced : referenced_at_all m key ≡ 0) where
-  -- A block that no word names waits for no write.
   pub unnamed-clean : AllByRecursion (λ e. e.0 ≡ key → e.1.value.modified ≡ false) m.cached.blocks
   unnamed-clean = all-weaker _ _ (λ e is here. elim (cases_Bool e.1.value.modified) [
     | inr off ↦ off
@@ -106,7 +101,7 @@ module _ (m : Metadata) (key : ℕ) (sound : IsSound m) (not_referenced : refere
         memory_same = same;
       }
 
-  -- It may be dropped, and isn't cached then.
+  -- Dropping the block leaves the guest unchanged.
   pub forgotten-quiet : IsSound (record m { cached = forgotten }) × GuestUnchanged (λ _. 0) (λ _. 0) m (record m { cached = forgotten })
   forgotten-quiet = used-quiet m forgotten sound forgotten-stays
 

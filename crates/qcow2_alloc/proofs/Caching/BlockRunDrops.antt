@@ -1,4 +1,4 @@
--- The blocks in a run of clusters that nothing names are dropped of their cache, one behind the other.
+-- Dropping the cached blocks of a run of unreferenced clusters, in order.
 use Rattle.std.proofs.Common.{◌≡◌, ℕ, ◌+◌, ◌<◌, refl, arith, ap, sym, subst, ◌∙◌, Ok, None, inl, inr}
 use Rattle.std.specs.Prelude.{nat_eq, IsSomeAnd}
 use Rattle.std.specs.Map.{lookup, remove_entry}
@@ -19,14 +19,12 @@ use Rattle.qcow2_alloc.proofs.GuestView.QuietFlushes.{quiet-none}
 use Rattle.qcow2_alloc.proofs.Caching.Pins.{pinned-there, pins-removed}
 use Rattle.qcow2_alloc.proofs.GuestView.QuietSequences.{quiet-then, quiet-otherwise}
 
--- What stays in memory is counted and named as it was.
 pub memory-counts : (m : Metadata) (cached' : Cached) → StaysInMemory m (with_cached m cached') → (c : ℕ) → counted (with_cached m cached') c ≡ counted m c
 memory-counts m cached' stays c = ap (λ (g : Bytes). count g m.header.fields c) stays.memory_same
 
 pub memory-names : (m : Metadata) (cached' : Cached) → StaysInMemory m (with_cached m cached') → (c : ℕ) → referenced_at_all (with_cached m cached') c ≡ referenced_at_all m c
 memory-names m cached' stays c = ap (λ (g : Bytes). references_in_either m.file g m.header.fields c) stays.memory_same
 
--- It may do so again.
 stays-then : (m m1 m2 : Metadata) → IsSound m → StaysInMemory m m1 → StaysInMemory m1 m2 → StaysInMemory m m2
 stays-then m m1 m2 sound one two = record {
   sound = two.sound;
@@ -35,13 +33,11 @@ stays-then m m1 m2 sound one two = record {
   memory_same = two.memory_same ∙ one.memory_same;
 }
 
--- Nothing is forgotten of no clusters,
 pub forgets-none : (first : ℕ) (cached : Cached) → ForgetsRun first 0 cached (Ok tt) cached
 forgets-none first cached = record {
   stays = λ m sound free. (record { sound = sound; guest_unchanged = quiet-none (with_cached m cached) sound; memory_same = refl }, λ d from to. absurd (omega (arith, from, to)));
 }
 
--- then of one more.
 pub forgets-then : (first n : ℕ) (old mid new : Cached) → new ≡ record mid { blocks = remove_entry (nat_eq (first + n)) mid.blocks } → ForgetsRun first n old (Ok tt) mid → ForgetsRun first (n + 1) old (Ok tt) new
 forgets-then first n old mid new is one = subst (λ (c : Cached). ForgetsRun first (n + 1) old (Ok tt) c) (sym is) (record {
   stays = λ m sound free.
@@ -58,7 +54,7 @@ forgets-then first n old mid new is one = subst (λ (c : Cached). ForgetsRun fir
       );
 })
 
--- What the drop of a block leaves of the caches.
+-- Dropping a block keeps the write order and the L2 tables, and pins nothing.
 pub forgotten-leaves : {S : Type 0} (mid new : MetadataCaches S) (key : ℕ) → new ≡ with_blocks mid (remove_entry (nat_eq key) (cached_in mid).blocks) → (new.order ≡ mid.order) × PinsNothing (cached_in mid).blocks (cached_in new).blocks × KeepsTables mid new
 forgotten-leaves {S} mid new key is = subst (λ (c : MetadataCaches S). (c.order ≡ mid.order) × PinsNothing (cached_in mid).blocks (cached_in c).blocks × KeepsTables mid c) (sym is) (
   refl,
@@ -66,7 +62,7 @@ forgotten-leaves {S} mid new key is = subst (λ (c : MetadataCaches S). (c.order
   record { tables = refl; blocks = refl; entries = refl },
 )
 
--- Where that is refused a block of the run is pinned.
+-- If dropping fails, a block of the run is pinned.
 pub pinned-within : {S : Type 0} (old mid : MetadataCaches S) (first n index : ℕ) → index < n → PinsNothing (cached_in old).blocks (cached_in mid).blocks → IsSomeAnd (lookup (nat_eq (first + index)) (cached_in mid).blocks) (λ s. 0 < s.pins) → IsPinnedWithin first n old
 pinned-within old mid first n index inside pins pinned = (
   first + index,

@@ -1,4 +1,4 @@
--- The cache of refcount blocks, beside that of L2 tables.
+-- The cache of refcount blocks as a side, next to the cache of L2 tables.
 use Rattle.std.proofs.Common.{◌≡◌, ℕ, ◌*◌, ◌^◌, ◌≤◌, refl, arith, ap, sym, subst, ◌∙◌, inl, inr, length, Result, Ok, Err}
 use Rattle.std.proofs.lemmas.Bool.{cases_lt}
 use Rattle.std.proofs.lemmas.List.FromFn.{length-map-range_with_len}
@@ -36,7 +36,6 @@ use Rattle.qcow2_alloc.proofs.Flushing.EntriesAfterWrites.{block-kept}
 use Rattle.qcow2_alloc.proofs.Memory.EntryKinds.{block_kind}
 use Rattle.qcow2_alloc.proofs.Memory.SafeLaws.{safe-reach}
 
--- A load that wasn't cut off leaves the count of faults as it was.
 block-load-counted : (h : Fields) (key : ℕ) (old : StorageState) (result : Result Block Fault) (new : StorageState) → BlockLoaded h key old result new → HadNoResourceError result → new.faults ≡ old.faults
 block-load-counted h key old (Ok block) new loaded whole = loaded.faults
 block-load-counted h key old (Err fault) new loaded not_resource_error = elim (cases_lt max_offset (key * 2 ^ h.cluster_bits)) [
@@ -44,7 +43,7 @@ block-load-counted h key old (Err fault) new loaded not_resource_error = elim (c
   | inr reach ↦ absurd (never-mild old.faults new.faults fault (loaded.err reach) not_resource_error)
 ]
 
--- what is known of a load's answer
+-- The fault counts and causes of a load.
 block-loading : (h : Fields) (key : ℕ) (old : StorageState) (answer : Result Block Fault) (new : StorageState) → BlockLoaded h key old answer new
     → (old.faults ≤ new.faults) × FailsFor (search_causes (IsAddressable h.cluster_bits key) ⊥ old.faults new.faults) answer
 block-loading h key old (Ok block) new loaded = (loaded.counts_not_fallen, loaded.faults)
@@ -59,7 +58,6 @@ block-loading h key old (Err fault) new loaded = (
   ],
 )
 
--- A block of the file fits.
 loaded-fits : (h : Fields) (key : ℕ) (old : StorageState) (value : Block) (new : StorageState) → BlockLoaded h key old (Ok value) new → IsCachedBlock (bytes_of old.bytes) h key value
 loaded-fits h key old value new loaded = record {
   placed = ap (λ (b : Block). b.cluster) loaded.ok.1;
@@ -94,7 +92,7 @@ module _ {S : Type 0} (state : S → StorageState) where
   }
 
   module _ (old : MetadataCaches S) (before : ImageFile S) (answer : Result Unit Fault) (mid : MetadataCaches S) (between : ImageFile S) where
-    -- what tables are written for
+    -- Tables are flushed first, if the write order demands it.
     pub tables-first : WritesBackCached before.header (order_of old) Always (answer ≡ Ok tt) (state before.image) (cached_in old) (state between.image) (cached_in mid) → written (cached_in mid) ≡ written (cached_in old)
         → OnOk answer (ReadyBlocks (order_of mid) (cached_in mid)) → ((order_of old ≡ RbDependsOnL2 → ⊥) → (answer ≡ Ok tt) × (mid ≡ old) × (between ≡ before))
         → (mid.rb ≡ old.rb) × (mid.order ≡ old.order) × (between.header ≡ before.header) → HasRoomOf old mid

@@ -1,4 +1,4 @@
--- All entries of one of the two caches are flushed.
+-- Flushing all entries of one of the two caches.
 use Rattle.std.proofs.Common.{◌≡◌, ℕ, refl, ap, sym, subst, ◌∙◌, List, ◌∷◌, ◌++◌, Result, Ok, None, false}
 use Rattle.std.specs.Prelude.{map, OnOk}
 use Rattle.imago_storage.specs.State.{StorageState}
@@ -17,7 +17,7 @@ use Rattle.qcow2_alloc.proofs.Flushing.WriteSequences.{going-weaker, each-flushe
 use Rattle.qcow2_alloc.proofs.Flushing.Turns.{each-related, each-made, each-kept, each-told}
 use Rattle.qcow2_alloc.proofs.Freeing.Lists.{on_ok_from}
 
--- What that does.
+-- The outcome of flushing the entries of one side.
 pub record AllFlushed {S V W A B : Type 0} (side : CachedKind S V W) (old : Beside S V W A B) (before : ImageFile S) (result : Result Unit Fault) (after : ImageFile S) (es' : List (ℕ × Slot V)) : Type 0 where
   pub writes_back_cached : WritesBackCached before.header old.order (Ready side old.order) (result ≡ Ok tt) (side.state before.image) (cached_of side old) (side.state after.image) (side.cached old.other.slots.entries es')
   pub clean : OnOk result (AreClean side.writes es')

@@ -1,4 +1,4 @@
--- Caches that hold nothing are safe over each consistent image.
+-- Empty caches are well-formed over every consistent image.
 use Rattle.std.proofs.Common.{◌≡◌, ◌≢◌, ℕ, ◌≤◌, refl, arith, sym, ◌∙◌, [], inl, inr}
 use Rattle.std.proofs.lemmas.Bool.{cases_eq}
 use Rattle.std.proofs.lemmas.Bool.Decides.{nat_tests}
@@ -15,7 +15,7 @@ use Rattle.qcow2_alloc.specs.declared.cache.CacheDependency.TheVariants.{Unset}
 use Rattle.std.specs.List.{IsDistinct}
 use Rattle.qcow2_alloc.specs.WellFormedness.{WellFormed}
 
--- what is consistent by itself
+-- Facts that follow from the consistency of the file.
 module _ (f : Bytes) (H : Header) (was : IsConsistent f H) where
   named-once : (c : ℕ) → references_in_either f f H.fields c ≡ refs f H.fields c
   named-once c = named-clean f f H.fields c (λ i j live. refl)

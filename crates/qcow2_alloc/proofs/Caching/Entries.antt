@@ -1,4 +1,4 @@
--- Look-ups in the list of entries.
+-- Lookups in the list of cached entries.
 use Rattle.std.proofs.Common.{◌≡◌, ℕ, Bool, true, false, cond, List, [], ◌∷◌, Some, None, Option, IsSome, ◌⊎◌, ◌==◌, ◌+◌, length, arith, zero, suc, ◌++◌, refl, ap, ◌∙◌}
 use Rattle.std.proofs.Common.{inl, inr}
 use Rattle.std.proofs.lemmas.Bool.{cases_Bool, ne_eqb}
@@ -37,7 +37,6 @@ module _ {K X : Type 0} (test : K → Bool) where
   ]
 
 module _ {K V : Type 0} (test : K → Bool) where
-  -- writing to the entry that was promoted
   pub promoted_hit : (es : List (K × Slot V)) (s : Slot V) → lookup test es ≡ Some s → (w : V) → set_value test (promoted test es) (record s { value = w }) ≡ hit test es w
   promoted_hit es s h w = let f = found test es s h in rw (f.entry, f.passes) refl
 
@@ -60,7 +59,7 @@ module _ {K V : Type 0} where
   victim_last : (es : List (K × Slot V)) (e : K × Slot V) → victim (es ++ e ∷ []) ≡ cond (e.1.pins == 0) (Some e.0) (victim es)
   victim_last = victim_from_last None
 
-  -- the last entry, where it is not pinned, and else that of the others
+  -- The victim is the last entry if it is unpinned, otherwise that of the entries before it.
   pub victim_free : (es : List (K × Slot V)) (e : K × Slot V) → e.1.pins ≡ 0 → victim (es ++ e ∷ []) ≡ Some e.0
   victim_free es e free = victim_last es e ∙ ap (λ (n : ℕ). cond (n == 0) (Some e.0) (victim es)) free
 
@@ -99,7 +98,7 @@ module _ {K V : Type 0} (eq : K → K → Bool) (same : (k : K) → eq k k ≡ t
     | inr there ↦ there
   ]
 
--- removing an entry
+-- Removing an entry.
 module _ {K X : Type 0} (test : K → Bool) where
   pub remove_shorter : (es : List (K × X)) → IsSome (lookup test es) → length (remove_entry test es) + 1 ≡ length es
   remove_shorter [] h = absurd (cc)
@@ -118,7 +117,7 @@ module _ {K X : Type 0} (test : K → Bool) where
     ]
   ]
 
--- the last entry
+-- A list, split into its front and its last element.
 pub record Split {X : Type 0} (es : List X) (e : X) : Type 0 where
   pub front : List X
   pub split : es ≡ front ++ e ∷ []
@@ -143,7 +142,6 @@ module _ {K X : Type 0} (eq : K → K → Bool) (laws : IsEquivalence eq) where
   last_alone e [] h = (rw (laws.refl e.0) refl, rw (laws.refl e.0) refl)
   last_alone e (x ∷ front) h = let rest = last_alone e front h.1 in let no = differs e x.0 front h.0 in (rw no rest.0, rw no (ap (λ l. x ∷ l) rest.1))
 
--- a key that is there stays there with another value
 pub lookup_written : {K X : Type 0} (test : K → Bool) (es : List (K × X)) (w : X) → IsSome (lookup test es) → IsSome (lookup test (set_value test es w))
 lookup_written test [] w there = absurd (cc)
 lookup_written test (e ∷ es) w there = elim (cases_Bool (test e.0)) [

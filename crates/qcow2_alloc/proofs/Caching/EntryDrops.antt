@@ -1,4 +1,4 @@
--- What isn't pinned is dropped.
+-- Dropping all unpinned entries.
 use Rattle.std.proofs.Common.{◌≡◌, ℕ, ap, sym, ◌∙◌, List, [], ◌∷◌, ◌++◌, false, inl, inr}
 use Rattle.std.specs.Prelude.{nat_eq, nat_lt}
 use Rattle.std.specs.List.{AllByRecursion, IsDistinct}
@@ -15,7 +15,6 @@ use Rattle.qcow2_alloc.proofs.Caching.SingleEntries.{EntryLaws, safe-with}
 use Rattle.qcow2_alloc.proofs.Memory.EntryKinds.{EntryKind, no-patches}
 
 module _ {V : Type 0} where
-  -- what holds of all holds of those that stay
   all-kept : (P : ℕ × Slot V → Type 0) (es : List (ℕ × Slot V)) → AllByRecursion P es → AllByRecursion P (kept_pinned es)
   all-kept P [] all = tt
   all-kept P (e ∷ es) all = elim (cases_Bool (nat_lt 0 e.1.pins)) [
@@ -38,7 +37,7 @@ module _ {V : Type 0} where
     | inr t ↦ rw t (distinct-kept es apart.1)
   ]
 
--- All that isn't pinned is, where nothing of it is to be written.
+-- Dropping clean unpinned entries keeps the caches well-formed.
 pub entries-dropped : {V W : Type 0} (kind : EntryKind V W) (laws : EntryLaws kind) (rest : List (ℕ × Slot W)) (es : List (ℕ × Slot V)) (order : CacheDependency)
     → AllByRecursion (λ e. kind.writes.modified e.1.value ≡ false) es → StaysWellFormed (kind.put rest es) (kind.put rest (kept_pinned es)) order
 entries-dropped kind laws rest es order clean = record {

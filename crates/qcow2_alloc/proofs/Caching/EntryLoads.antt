@@ -1,4 +1,4 @@
--- An entry of a cache is found or loaded.
+-- Finding or loading an entry of a cache.
 use Rattle.std.proofs.Common.{◌≡◌, ℕ, refl, ap, sym, subst, ◌∙◌, List, ◌∷◌, ◌++◌, length, Option, Some, None, Result, Ok, Err, Bool, true, false, inl, inr}
 use Rattle.std.specs.Prelude.{◌⊎◌, nat_eq, ⊤, IsSome}
 use Rattle.std.specs.Map.{lookup}
@@ -24,13 +24,12 @@ pub is-there : {X : Type 0} (o : Option X) → (IsSome o) ⊎ (o ≡ None)
 is-there (Some x) = inl refl
 is-there None = inr refl
 
--- Nothing is asked, or the entry is loaded.
+-- Either no request is made, or the entry is loaded.
 module _ {S V W : Type 0} (side : CachedKind S V W) (laws : SideLaws side) (H : Header) (order : CacheDependency) (rest : List (ℕ × Slot W)) (Ready : Cached → Type 0) (ready : (A B : List (ℕ × Slot V)) → Ready (side.cached rest A) → Ready (side.cached rest B)) where
-  -- The image goes on so, with those entries and then with these.
+  -- `WritesBackCached` from the entries `es` to the entries `es'`.
   abbrev pub Goes : Type 0 → ImageFile S → List (ℕ × Slot V) → ImageFile S → List (ℕ × Slot V) → Type 0
   Goes ok before es after es' = WritesBackCached H order Ready ok (side.state before.image) (side.cached rest es) (side.state after.image) (side.cached rest es')
 
-  -- one call behind another
   pub goes-then : (ok ok' : Type 0) (before mid after : ImageFile S) (es list es' : List (ℕ × Slot V)) → Goes ok before es mid list → Goes ok' mid list after es' → Goes (ok × ok') before es after es'
   goes-then ok ok' before mid after es list es' = going-both H order Ready ok ok' (side.state before.image) (side.state mid.image) (side.state after.image) (side.cached rest es) (side.cached rest list) (side.cached rest es')
 
@@ -45,7 +44,6 @@ module _ {S V W : Type 0} (side : CachedKind S V W) (laws : SideLaws side) (H : 
   from-header : (key : ℕ) (before : ImageFile S) (answer : Result V Fault) (after : ImageFile S) → before.header ≡ H → loads_of side before key answer after → side.Loads H.fields key (side.state before.image) answer (side.state after.image)
   from-header key before answer after same load = subst (λ (h : Header). side.Loads h.fields key (side.state before.image) answer (side.state after.image)) same load.1
 
-  -- The entry is loaded.
   loaded : (key : ℕ) (before : ImageFile S) (es : List (ℕ × Slot V)) (result : Result Admission Fault) (after : ImageFile S) (es' : List (ℕ × Slot V)) → lookup (nat_eq key) es ≡ None → before.header ≡ H → Loaded (loads_of side) key before es result after es'
       → Goes (HadNoResourceError result) before es after es'
   loaded key before es (Ok made) after es' none f (is, value, load, entries) =
@@ -57,7 +55,7 @@ module _ {S V W : Type 0} (side : CachedKind S V W) (laws : SideLaws side) (H : 
         | inr full ↦ goes-weaker ⊤ (IsNotResourceError fault) before after es es (λ w. tt) (asked-quietly side laws H order rest Ready ready key (Ok full.1) es (side.state before.image) (side.state after.image) (from-header key before (Ok full.1) after f full.2))
       ])
 
-  -- Without leave to flush nothing is written.
+  -- Without permission to flush, nothing is written.
   pub readied-quietly : (cap : ℕ) (key : ℕ) (before : ImageFile S) (es : List (ℕ × Slot V)) (result : Result Admission Fault) (after : ImageFile S) (es' : List (ℕ × Slot V)) → before.header ≡ H → Readied (cache_kind nat_eq (loads_of side) (flushes_of side) cap) false key before es result after es'
       → Goes (HadNoResourceError result) before es after es'
   readied-quietly cap key before es result after es' f r = elim (is-there (lookup (nat_eq key) es)) [
@@ -83,12 +81,11 @@ module _ {S V W : Type 0} (side : CachedKind S V W) (laws : SideLaws side) (H : 
           let full : (result ≡ Ok Denied) × (after ≡ mid) × (es' ≡ entries) = subst (λ (q : Result Admission Fault). LoadedAfter (loads_of side) key mid entries q result after es') is later in
           stays (HadNoResourceError result) before es after es' (full.1 ∙ same) (full.2 ∙ same')
 
--- No key comes where room is made: not where one goes,
+-- Evictions add no key.
 module _ {V D : Type 0} (loads : D → ℕ → Result V Fault → D → Type 0) (flushes : D → ℕ → V → Result Unit Fault → D → V → Type 0) where
   evicted-absent : (key other : ℕ) (before : D) (es : List (ℕ × Slot V)) (after : D) (es' : List (ℕ × Slot V)) (made : Admission) → Evicted nat_eq flushes key before es (Ok made) after es' → lookup (nat_eq other) es ≡ None → lookup (nat_eq other) es' ≡ None
   evicted-absent key other before es after es' made (is, mid, at, removed) none = ap (λ l. lookup (nat_eq other) l) removed ∙ remove_absent (nat_eq key) (nat_eq other) es none
 
-  -- nor else.
   pub room-absent : (cap : ℕ) (may_flush : Bool) (key : ℕ) (before : D) (es : List (ℕ × Slot V)) (result : Result Admission Fault) (after : D) (es' : List (ℕ × Slot V)) → MadeRoom (cache_kind nat_eq loads flushes cap) may_flush before es result after es'
       → result ≡ Ok Granted → lookup (nat_eq key) es ≡ None → lookup (nat_eq key) es' ≡ None
   room-absent cap may_flush key before es result after es' made done none = elim (room-way (cache_kind nat_eq loads flushes cap) may_flush before es result after es' made) [
@@ -96,12 +93,12 @@ module _ {V D : Type 0} (loads : D → ℕ → Result V Fault → D → Type 0) 
     | inr gone ↦ evicted-absent gone.key key before es after es' Granted (subst (λ (r : Result Admission Fault). Evicted nat_eq flushes gone.key before es r after es') done gone.evicted) none
   ]
 
--- Room is made, and one is found or loaded into it.
+-- With evictions: an entry is evicted, then another one is found or loaded.
 module _ {S V W : Type 0} (side : CachedKind S V W) (laws : SideLaws side) (H : Header) (order : CacheDependency) (rest : List (ℕ × Slot W)) where
   abbrev Here : Type 0 → ImageFile S → List (ℕ × Slot V) → ImageFile S → List (ℕ × Slot V) → Type 0
   Here = Goes side laws H order rest (Ready side order) (ready-same side laws H order rest)
 
-  -- one is flushed, and removed where that succeeded
+  -- An entry is flushed, and removed if that succeeds.
   evicted : (key : ℕ) (before : ImageFile S) (es : List (ℕ × Slot V)) (result : Result Admission Fault) (after : ImageFile S) (es' : List (ℕ × Slot V)) → Evicted nat_eq (flushes_of side) key before es result after es'
       → Here (HadNoResourceError result) before es after es'
   evicted key before es (Ok made) after es' (is, mid, at, removed) =
@@ -119,7 +116,6 @@ module _ {S V W : Type 0} (side : CachedKind S V W) (laws : SideLaws side) (H : 
       (subst (λ (l : List (ℕ × Slot V)). Here (IsNotResourceError fault) before l after (p.front ++ (key, record at.slot { value = at.value }) ∷ p.back)) (sym p.is)
       (laws.flushed H order rest p.front key at.slot p.back (side.state before.image) (side.state after.image) (Err fault) at.value at.flush.1))
 
-  -- Room is made.
   pub room-made : (cap : ℕ) (may_flush : Bool) (before : ImageFile S) (es : List (ℕ × Slot V)) (result : Result Admission Fault) (after : ImageFile S) (es' : List (ℕ × Slot V)) → MadeRoom (cache_kind nat_eq (loads_of side) (flushes_of side) cap) may_flush before es result after es'
       → Here (HadNoResourceError result) before es after es'
   room-made cap may_flush before es result after es' made = elim (room-way (cache_kind nat_eq (loads_of side) (flushes_of side) cap) may_flush before es result after es' made) [
@@ -131,7 +127,6 @@ module _ {S V W : Type 0} (side : CachedKind S V W) (laws : SideLaws side) (H : 
   room-fits cap may_flush before es result after es' = room-related (cache_kind nat_eq (loads_of side) (flushes_of side) cap) (λ a b. a.header ≡ H → b.header ≡ H) (λ a f. f)
       (λ old new key v v' answer flush same. flush.0 ∙ same) may_flush before es result after es'
 
-  -- It is found or loaded.
   pub readied : (cap : ℕ) (may_flush : Bool) (key : ℕ) (before : ImageFile S) (es : List (ℕ × Slot V)) (result : Result Admission Fault) (after : ImageFile S) (es' : List (ℕ × Slot V)) → before.header ≡ H → Readied (cache_kind nat_eq (loads_of side) (flushes_of side) cap) may_flush key before es result after es'
       → Here (HadNoResourceError result) before es after es'
   readied cap may_flush key before es result after es' f r = elim (is-there (lookup (nat_eq key) es)) [
@@ -155,7 +150,6 @@ module _ {S V W : Type 0} (side : CachedKind S V W) (laws : SideLaws side) (H : 
           (subst (λ (l : List (ℕ × Slot V)). Here (IsNotResourceError fault) before es mid l) (sym later.2)
           (room-made cap may_flush before es (Err fault) mid entries made)))
 
--- With leave to flush it never says that there is no room.
 pub never-full : {V D : Type 0} (loads : D → ℕ → Result V Fault → D → Type 0) (flushes : D → ℕ → V → Result Unit Fault → D → V → Type 0) (cap : ℕ) (key : ℕ) (before : D) (es : List (ℕ × Slot V)) (after : D) (es' : List (ℕ × Slot V))
     → Readied (cache_kind nat_eq loads flushes cap) true key before es (Ok Denied) after es' → ⊥
 never-full loads flushes cap key before es after es' r = elim (is-there (lookup (nat_eq key) es)) [

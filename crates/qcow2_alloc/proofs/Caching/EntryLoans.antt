@@ -1,4 +1,4 @@
--- A table or a block that is found is lent, and used.
+-- Using a table or block that was found in its cache.
 use Rattle.std.proofs.Common.{◌≡◌, ℕ, refl, subst, Some, Result, Ok, inr}
 use Rattle.std.specs.Prelude.{IsOk, IfOk, nat_eq}
 use Rattle.std.specs.Option.{option_map}

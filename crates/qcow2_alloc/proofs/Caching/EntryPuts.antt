@@ -1,4 +1,4 @@
--- An entry is put into one of the two caches.
+-- Putting an entry into one of the two caches.
 use Rattle.std.proofs.Common.{◌≡◌, ℕ, ◌<◌, ◌≤◌, refl, arith, ap, sym, subst, ◌∙◌, List, length, Option, None, Some, Result, Ok, Err, Bool, true, false, inl}
 use Rattle.std.specs.Prelude.{nat_eq, map}
 use Rattle.std.specs.Map.{lookup}
@@ -42,13 +42,13 @@ module _ {S V W A B : Type 0} (side : CachedKind S V W) (laws : SideLaws side) (
       (inserted-counted (λ (d : ImageFile S). side.state d.image) (loads_of side) (flushes_of side) (Reach side)
       (λ a key v answer b v' flush. laws.counted key v (side.state a.image) (side.state b.image) answer v' flush.1) old.own.slots.cap may_flush cluster value between old.own.slots.entries after es' result i)
 
-  -- What is new fits behind calls that keep the image.
+  -- A new entry still fits after calls that preserve the image.
   fresh-stays : WellFormed (bytes_of (side.state before.image).bytes) before.header (cached_of side old) old.order → IsNew side cluster value old before → (b : StorageState)
       → IsCrashImage (bytes_of (side.state before.image).bytes) (memory (bytes_of (side.state before.image).bytes) before.header.fields (cached_of side old)) before.header (bytes_of b.bytes) → FitsIn side before.header cluster value b
   fresh-stays well_formed fresh b left =
       (fresh.clean, laws.stays (bytes_of (side.state before.image).bytes) before.header old.order old.other.slots.entries old.own.slots.entries well_formed (bytes_of b.bytes) left cluster value fresh.free fresh.fits)
 
-  -- What is put without leave to flush
+  -- A put without permission to flush.
   module _ (new : Beside S V W A B) (after : ImageFile S) (same : new ≡ record old { own = with_entries old.own new.own.slots.entries }) where
     put-quiet : (result : Result (Option V) (Fault × V)) → (IsBarred result → ⊥) → (es' : List (ℕ × Slot V)) → Puts false before result after es'
         → EntryInserted side cluster value old before (put_of result) (record old { own = with_entries old.own es' }) after
@@ -77,7 +77,7 @@ module _ {S V W A B : Type 0} (side : CachedKind S V W) (laws : SideLaws side) (
     pub put-now : (result : Result (Option V) (Fault × V)) → (IsBarred result → ⊥) → Puts false before result after new.own.slots.entries → EntryInserted side cluster value old before (put_of result) new after
     put-now result not i = subst (λ (c : Beside S V W A B). EntryInserted side cluster value old before (put_of result) c after) (sym same) (put-quiet result not new.own.slots.entries i)
 
-    -- or comes back changes nothing.
+    -- The value is returned, and nothing changes.
     pub record IsUnchanged (back : V) : Type 0 where
       pub caches : new ≡ old
       pub file : after ≡ before
@@ -95,7 +95,7 @@ module _ {S V W A B : Type 0} (side : CachedKind S V W) (laws : SideLaws side) (
           given = b.same;
         }
 
-  -- What is put with it, once the other one is written.
+  -- With permission: the other cache is written first.
   module _ (full : lookup (nat_eq cluster) old.own.slots.entries ≡ None → old.own.slots.cap ≤ length old.own.slots.entries) (between : ImageFile S) where
     not-roomy : {X : Type 0} → lookup (nat_eq cluster) old.own.slots.entries ≡ None → length old.own.slots.entries < old.own.slots.cap → X
     not-roomy none roomy = let le = full none in absurd (omega (arith, roomy, le))

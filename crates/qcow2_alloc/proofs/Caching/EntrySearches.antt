@@ -1,4 +1,4 @@
--- The search of an entry, in one of the two caches.
+-- Searching for an entry in one of the two caches.
 use Rattle.std.proofs.Common.{◌≡◌, ℕ, ◌≤◌, refl, arith, ap, sym, subst, ◌∙◌, List, length, Option, None, Result, Ok, Err, Bool, true, false, inl}
 use Rattle.std.specs.Prelude.{nat_eq, map, IsSome}
 use Rattle.std.specs.Map.{lookup}
@@ -58,7 +58,7 @@ module _ {S V W : Type 0} (side : CachedKind S V W) (laws : SideLaws side) (clus
           (laws.counts old.header.fields key (side.state old.image) answer (side.state new.image) load.1))
           cap may_flush cluster before es result after es' r).1
 
-    -- what it asks for where nothing is modified
+    -- If all entries are clean, a search only reads.
     side-still : AreClean side.writes es → UnchangedButFaults (side.state before.image) (side.state after.image) × AreClean side.writes es'
     side-still =
         readied-still (λ (d : ImageFile S). side.state d.image) (loads_of side) (flushes_of side) (λ a b key answer load. laws.kept a.header.fields key (side.state a.image) answer (side.state b.image) load.1)
@@ -69,7 +69,7 @@ module _ {S V W : Type 0} (side : CachedKind S V W) (laws : SideLaws side) (clus
     abbrev Ready : Bool → ImageFile S → Result Admission Fault → ImageFile S → List (ℕ × Slot V) → Type 0
     Ready may_flush between result after es' = Readied (cache_kind nat_eq (loads_of side) (flushes_of side) old.own.slots.cap) may_flush cluster between old.own.slots.entries result after es'
 
-    -- One that is found, or loaded into room that there is.
+    -- The entry is found, or loaded without an eviction.
     found-quietly : (result : Result Admission Fault) (after : ImageFile S) (es' : List (ℕ × Slot V)) → (result ≡ Ok Denied → ⊥)
         → Ready false before result after es' → EntryFound side cluster old before (done_of result) (record old { own = with_entries old.own es' }) after
     found-quietly result after es' not r =
@@ -97,12 +97,12 @@ module _ {S V W : Type 0} (side : CachedKind S V W) (laws : SideLaws side) (clus
           cause = side-counts false cap before es result after es' r before.header header (side.state before.image).faults refl (AreInReach side.other_writes old.other.slots.entries);
         }
 
-    -- Without leave to flush
+    -- A search without permission to flush.
     module _ (new : Beside S V W A B) (after : ImageFile S) (same : new ≡ record old { own = with_entries old.own new.own.slots.entries }) where
       pub found-now : (result : Result Admission Fault) → (result ≡ Ok Denied → ⊥) → Ready false before result after new.own.slots.entries → EntryFound side cluster old before (done_of result) new after
       found-now result not r = subst (λ (c : Beside S V W A B). EntryFound side cluster old before (done_of result) c after) (sym same) (found-quietly result after new.own.slots.entries not r)
 
-      -- a full cache stays as it is.
+      -- The cache is full and unchanged, and the entry is absent.
       pub record IsStuck : Type 0 where
         pub absent : lookup (nat_eq cluster) new.own.slots.entries ≡ None
         pub full : new.own.slots.cap ≤ length new.own.slots.entries
@@ -120,7 +120,7 @@ module _ {S V W : Type 0} (side : CachedKind S V W) (laws : SideLaws side) (clus
             file = f.device;
           }
 
-    -- One that is loaded into a full cache, once the other is written.
+    -- The entry is loaded into a full cache, after the other cache is written.
     module _ (absent : lookup (nat_eq cluster) old.own.slots.entries ≡ None) (full : old.own.slots.cap ≤ length old.own.slots.entries) (between : ImageFile S) where
       not-there : {X : Type 0} → IsSome (lookup (nat_eq cluster) old.own.slots.entries) → X
       not-there there = absurd (let no = subst (λ (o : Option (Slot V)). IsSome o) absent there in cc)

@@ -1,4 +1,4 @@
--- Tables and blocks come into the caches, leave them, and are used again: what is cached stays safe, and memory what it was.
+-- Entries enter and leave the caches, and are used. The caches stay well-formed, and memory doesn't change.
 use Rattle.std.proofs.Common.{◌≡◌, ℕ, refl, ap, sym, ◌∙◌, List, [], ◌∷◌, ◌++◌, false, inl, inr}
 use Rattle.std.specs.Prelude.{nat_eq}
 use Rattle.std.specs.List.{AllByRecursion, IsDistinct}
@@ -14,7 +14,7 @@ use Rattle.qcow2_alloc.proofs.Caching.SingleEntries.{EntryLaws, are-safe, entry-
 use Rattle.qcow2_alloc.proofs.Memory.EntryKinds.{EntryKind, AreEntries}
 use Rattle.qcow2_alloc.proofs.Memory.Patches.{all-append, all-front, all-back}
 
--- keys stay apart
+-- Keys stay distinct.
 module _ {V : Type 0} where
   all-without : (P : ℕ → Type 0) (front : List (ℕ × V)) (key : ℕ) (v : V) (back : List (ℕ × V)) → AllByRecursion P (keys_of (front ++ (key, v) ∷ back)) → AllByRecursion P (keys_of (front ++ back))
   all-without P [] key v back all = all.1
@@ -39,12 +39,11 @@ module _ {V : Type 0} where
   unfolding IsDistinct
   distinct-first front key v back apart = (away-of front key v back apart, distinct-without front key v back apart)
 
--- keys are the same with another value
 pub keys-with : {V : Type 0} (front : List (ℕ × V)) (key : ℕ) (v w : V) (back : List (ℕ × V)) → keys_of (front ++ (key, v) ∷ back) ≡ keys_of (front ++ (key, w) ∷ back)
 keys-with [] key v w back = refl
 keys-with (e ∷ front) key v w back = ap (λ l. e.0 ∷ l) (keys-with front key v w back)
 
--- Entries without one among them, and with one as the first.
+-- An entry is removed, or moved to the front.
 module _ {V : Type 0} (Fits : ℕ → V → Type 0) (front : List (ℕ × Slot V)) (key : ℕ) (slot : Slot V) (back : List (ℕ × Slot V))
     (are : AreEntries Fits (front ++ (key, slot) ∷ back)) where
   pub entries-left : AreEntries Fits (front ++ back)
@@ -58,14 +57,14 @@ module _ {V : Type 0} (Fits : ℕ → V → Type 0) (front : List (ℕ × Slot V
 
 module _ {V W : Type 0} (kind : EntryKind V W) (laws : EntryLaws kind) (f : Bytes) (H : Header) (order : CacheDependency)
     (rest : List (ℕ × Slot W)) (front : List (ℕ × Slot V)) (key : ℕ) (slot : Slot V) (back : List (ℕ × Slot V)) where
-  -- One that isn't modified leaves,
+  -- A clean entry is removed.
   pub leaves-safe : kind.writes.modified slot.value ≡ false → WellFormed f H (kind.put rest (front ++ (key, slot) ∷ back)) order
       → WellFormed f H (kind.put rest (front ++ back)) order
   leaves-safe clean well_formed = safe-with kind laws f H order rest (front ++ (key, slot) ∷ back) (front ++ back) well_formed
       (entry-leaves kind laws f H rest front key slot back clean)
       (entries-left (kind.Fits f H.fields) front key slot back (are-safe kind laws f H rest front key slot back order well_formed))
 
-  -- or comes,
+  -- A clean entry is added.
   pub comes-safe : (es : List (ℕ × Slot V)) → kind.writes.modified slot.value ≡ false → AllByRecursion (λ y. nat_eq key y ≡ false) (keys_of es)
       → kind.Fits f H.fields key slot.value → WellFormed f H (kind.put rest es) order → WellFormed f H (kind.put rest ((key, slot) ∷ es)) order
   unfolding IsDistinct
@@ -74,7 +73,7 @@ module _ {V W : Type 0} (kind : EntryKind V W) (laws : EntryLaws kind) (f : Byte
       safe-with kind laws f H order rest es ((key, slot) ∷ es) well_formed (sym (entry-leaves kind laws f H rest [] key slot es clean))
       (record { apart = (away, are.apart); fit = (fits, are.fit) })
 
-  -- and any is used again.
+  -- Any entry is moved to the front.
   module _ (well_formed : WellFormed f H (kind.put rest (front ++ (key, slot) ∷ back)) order) where
     pub entry-first : memory f H.fields (kind.put rest ((key, slot) ∷ front ++ back)) ≡ memory f H.fields (kind.put rest (front ++ (key, slot) ∷ back))
     entry-first = elim (cases_Bool (kind.writes.modified slot.value)) [

@@ -1,4 +1,4 @@
--- A table or block that is cached is used, and stays as it is: its entry goes first.
+-- Using a cached table or block moves its entry to the front, and changes nothing else.
 use Rattle.std.proofs.Common.{◌≡◌, ℕ, ap, sym, subst, ◌∙◌, List, [], ◌∷◌, ◌++◌, Some}
 use Rattle.std.specs.Prelude.{nat_eq}
 use Rattle.std.specs.Option.{option_map}
@@ -19,7 +19,6 @@ use Rattle.qcow2_alloc.proofs.Caching.EntryTraffic.{entry-first, first-safe}
 use Rattle.qcow2_alloc.proofs.Caching.Places.{Place, place-of-key, place-hit, slot-of}
 use Rattle.qcow2_alloc.proofs.Memory.EntryKinds.{EntryKind, table_kind, block_kind}
 
--- the entry goes first
 module _ {V : Type 0} (key : ℕ) (es : List (ℕ × Slot V)) (value : V) (there : option_map (λ s. s.value) (lookup (nat_eq key) es) ≡ Some value) where
   pub found : (s : Slot V) × (lookup (nat_eq key) es ≡ Some s) × (s.value ≡ value)
   found = slot-of (lookup (nat_eq key) es) value there
@@ -42,7 +41,6 @@ module _ {V W : Type 0} (kind : EntryKind V W) (laws : EntryLaws kind) (f : Byte
         memory_same = entry-first kind laws f H order rest p.front key s p.back safe' ∙ ap (λ (l : List (ℕ × Slot V)). memory f H.fields (kind.put rest l)) (sym p.is);
       })
 
--- What holds of each value holds of each then.
 all-there : {X : Type 0} (Q : X → Type 0) (front : List X) (e : X) (back : List X) → AllByRecursion Q (front ++ e ∷ back) → Q e × AllByRecursion Q (front ++ back)
 all-there Q [] e back all = all
 all-there Q (x ∷ front) e back all = let rest = all-there Q front e back all.1 in (rest.0, (all.0, rest.1))

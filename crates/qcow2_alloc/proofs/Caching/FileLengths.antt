@@ -1,4 +1,4 @@
--- The file gets no shorter by what is written of the caches.
+-- Writing cached entries never makes the file shorter.
 use Rattle.std.proofs.Common.{◌≡◌, ℕ, ◌*◌, ◌^◌, refl, arith, ap, List, length, Option, Some, None, Result, Ok, Err, inl, inr}
 use Rattle.std.specs.Prelude.{◌⊎◌, IsErr, MatchOption, MatchResult, nat_eq}
 use Rattle.std.specs.Map.{lookup}
@@ -29,19 +29,17 @@ use Rattle.qcow2_alloc.proofs.Caching.Admission.{is-order}
 use Rattle.qcow2_alloc.proofs.Caching.EntryLoads.{is-there}
 use Rattle.qcow2_alloc.proofs.Flushing.Turns.{each-related}
 
--- A file that stays isn't shorter,
 pub same-long : (old new : StorageState) → new ≡ old → IsNoShorter old new
 same-long old new same = let stays = ap (λ (s : StorageState). length s.bytes) same in omega (arith, stays)
 
 pub kept-long : (old new : StorageState) → UnchangedButFaults old new → IsNoShorter old new
 kept-long old new kept = let stays = ap (λ (l : List ℕ). length l) kept.bytes in omega (arith, stays)
 
--- nor one that is written.
 pub put-long : (old new : StorageState) (at : ℕ) (bytes : List ℕ) (result : Result Unit Fault) → WriteOutcome old new at bytes result → IsNoShorter old new
 put-long old new at bytes (Ok done) put = through_longer (unit_of old.shape) old new at bytes put.answer
 put-long old new at bytes (Err fault) put = put.answer.no_shorter
 
--- So is it where an entry is flushed,
+-- One entry is flushed.
 module _ {V : Type 0} (kind : WrittenKind V)
     (puts : (v : V) (place : ℕ) (old new : StorageState) (result : Result Unit Fault) → kind.Puts v place old new result → IsNoShorter old new) where
   entry-long : (old : StorageState) (key : ℕ) (v : V) (result : Result Unit Fault) (new : StorageState) (v' : V)
@@ -62,7 +60,7 @@ block-long : (old : StorageState) (key : ℕ) (block : Block) (result : Result U
     → BlockFlushed old key block result new block' → IsNoShorter old new
 block-long = entry-long written_blocks (λ b place old new result put. put-long old new place put.bytes result put.put.put)
 
--- where all are,
+-- All entries are flushed.
 abbrev IsLong : CachedStep → Type 0
 IsLong Does = (old : StorageState) (cached : Cached) (result : Result Unit Fault) (new : StorageState) (cached' : Cached)
     → Does old cached result new cached' → IsNoShorter old new
@@ -77,7 +75,6 @@ blocks-long old cached result new cached' writes =
     each-related BlockFlushed IsNoShorter (λ s. omega arith) (λ a b c first second. omega (arith, first, second)) block-long
     old cached.blocks (fault_of result) new cached'.blocks writes.1
 
--- and where one step is done behind another.
 in-turn-long : (First Second : CachedStep) → IsLong First → IsLong Second → IsLong (InTurn First Second)
 in-turn-long First Second one two old cached result new cached' turn =
     let first = one old cached turn.answer turn.mid turn.between turn.first in
@@ -96,7 +93,7 @@ behind-long comes_first way First Done one two old cached result new cached' beh
   | inr apart ↦ two old cached result new cached' (behind.alone apart)
 ]
 
--- Both are written, in the announced order.
+-- Both caches are flushed, in the set order.
 pub all-long : (order : CacheDependency) (old : StorageState) (cached : Cached) (result : Result Unit Fault) (new : StorageState)
     (cached' : Cached) → (order ≡ L2DependsOnRb → InTurn WritesBlocks WritesTables old cached result new cached')
     → ((order ≡ L2DependsOnRb → ⊥) → InTurn WritesTables WritesBlocks old cached result new cached') → IsNoShorter old new
@@ -105,7 +102,7 @@ all-long order old cached result new cached' blocks_first tables_first = elim (i
   | inr apart ↦ in-turn-long WritesTables WritesBlocks tables-long blocks-long old cached result new cached' (tables_first apart)
 ]
 
--- The blocks are, where they came before tables.
+-- Blocks are flushed, if the order demands that they come first.
 pub announced-long : (order : CacheDependency) (old : StorageState) (cached : Cached) (result : Result Unit Fault) (new : StorageState)
     (cached' : Cached) → ((order ≡ L2DependsOnRb → ⊥) → new ≡ old)
     → (order ≡ L2DependsOnRb → WritesBlocks old cached result new cached') → IsNoShorter old new
@@ -116,7 +113,7 @@ announced-long order old cached result new cached' idle written = elim (is-order
 
 -- A block is let into a full cache.
 module _ (old : StorageState) (es : List (ℕ × Slot Block)) (result : Result Unit Fault) (new : StorageState) (es' : List (ℕ × Slot Block)) where
-  -- what is done once the one that goes is flushed
+  -- The outcome after the flush of the evicted entry.
   abbrev IsDone : StorageState → Result Unit Fault → List (ℕ × Slot Block) → Type 0
   IsDone mid answer flushed = MatchResult answer (λ _. UnchangedButFaults mid new) (λ fault. (result ≡ Err fault) × (new ≡ mid) × (es' ≡ flushed))
 
@@ -142,7 +139,6 @@ module _ {S : Type 0} (state : S → StorageState) where
   block-let-in : IsLong (LetsEntryIn (block_entries state))
   block-let-in old cached result new cached' (same, lets) = let-in old cached.blocks result new cached'.blocks lets
 
-  -- A block is found or loaded,
   pub found-long : (key : ℕ) (old : MetadataCaches S) (before : ImageFile S) (result : Result Unit Fault) (new : MetadataCaches S)
       (after : ImageFile S) → BlockFound state key old before result new after → IsNoShorter (state before.image) (state after.image)
   found-long key old before result new after found = elim (is-there (lookup (nat_eq key) (cached_in old).blocks)) [
@@ -154,7 +150,7 @@ module _ {S : Type 0} (state : S → StorageState) where
     ]
   ]
 
-  -- and used, if a word names it.
+  -- A block is used, if the refcount table references one.
   module _ (does : Block → Result Unit Fault → Block → Type 0) (old : MetadataCaches S) (before : ImageFile S) (result : Result Unit Fault)
       (new : MetadataCaches S) (after : ImageFile S) where
     pub named-long : (o : Option ℕ) (Refused : Type 0)

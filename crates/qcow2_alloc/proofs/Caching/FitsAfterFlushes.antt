@@ -1,4 +1,4 @@
--- A table or block that fits the file fits each file that flushes of others leave.
+-- A table or block that fits the file still fits after flushes of other entries.
 use Rattle.std.proofs.Common.{◌≡◌, ◌≢◌, ℕ, ◌+◌, ◌*◌, sym, ◌∙◌, List, Bool, true, false, inl, inr}
 use Rattle.std.specs.List.{AllByRecursion}
 use Rattle.std.proofs.lemmas.Bool.{cases_eq}
@@ -21,11 +21,11 @@ use Rattle.qcow2_alloc.proofs.Memory.MemoryWords.{table-same, block-same}
 use Rattle.qcow2_alloc.proofs.Memory.Patches.{all-weaker, places-differ}
 
 module _ (f : Bytes) (H : Header) (order : CacheDependency) (cached : Cached) (well_formed : WellFormed f H cached order) (x : Bytes) (left : IsCrashImage f (memory f H.fields cached) H x) where
-  -- what memory has of the file is also left of it
+  -- Each crash image has the bytes of the file wherever memory has them.
   same-left : (place : ℕ) → Same f (memory f H.fields cached) place (cluster_size H.fields) → Same f x place (cluster_size H.fields)
   same-left place same k lt = elim (left.bytes (place + k)) [ inl was ↦ was | inr now ↦ now ∙ same k lt ]
 
-  -- an entry of which nothing is to be written stands apart from all that is
+  -- The cluster of a clean entry differs from those of all dirty entries.
   apart-from : {V : Type 0} (modified : V → Bool) (key place : ℕ) (es : List (ℕ × V)) → place ≡ key * cluster_size H.fields → AllByRecursion (λ e. e.0 ≡ key → modified e.1 ≡ false) es
       → AllByRecursion (λ e. modified e.1 ≡ true → e.0 * cluster_size H.fields ≢ place) es
   apart-from modified key place es at free = all-weaker _ _ (λ e off on same. elim (cases_eq e.0 key) [

@@ -1,4 +1,4 @@
--- How many entries of a cache are pinned, and that calls pin nothing.
+-- Counting the pinned entries of a cache. Calls don't pin more entries.
 use Rattle.std.proofs.Common.{◌≡◌, ℕ, ◌+◌, ◌<◌, ◌≤◌, refl, arith, ap, sym, subst, ◌∙◌, List, [], ◌∷◌, ◌++◌, length, Bool, true, false, cond, Option, Some, None, inl, inr, eq-eqb}
 use Rattle.std.specs.Prelude.{map, nat_eq, nat_lt, ◌&&◌, IsSomeAnd}
 use Rattle.std.specs.List.{AllByRecursion}
@@ -11,11 +11,10 @@ use Rattle.qcow2_alloc.specs.Finding.{IsPinnedFull, PinsNothing, pinned_among, p
 use Rattle.qcow2_alloc.proofs.Caching.Entries.{hit_missed}
 use Rattle.qcow2_alloc.proofs.Caching.Places.{place-of-key, place-hit}
 
--- As many are no more.
 no-more : {a b : ℕ} → a ≡ b → a ≤ b
 no-more same = omega (arith, same)
 
--- 1 where a key is one of those that are asked for, and there are pins
+-- 1 if the key is selected and the entry is pinned, else 0.
 abbrev one_where : Bool → ℕ → ℕ
 one_where asked pins = cond (asked && nat_lt 0 pins) 1 0
 
@@ -40,7 +39,7 @@ module _ {V : Type 0} (keys : ℕ → Bool) where
   pinned-parts : (front : List (ℕ × Slot V)) (e : ℕ × Slot V) (back : List (ℕ × Slot V)) → pinned_among keys (front ++ e ∷ back) ≡ pinned_among keys front + (one_of e + pinned_among keys back)
   pinned-parts front e back = sum_by-append one_of front (e ∷ back) ∙ ap (λ n. pinned_among keys front + n) (pinned-cons e back)
 
-  -- No more are pinned where one is removed,
+  -- The pinned count after each change of the list.
   pinned-removed : (test : ℕ → Bool) (es : List (ℕ × Slot V)) → pinned_among keys (remove_entry test es) ≤ pinned_among keys es
   pinned-removed test [] = omega arith
   pinned-removed test (e ∷ es) =
@@ -53,7 +52,6 @@ module _ {V : Type 0} (keys : ℕ → Bool) where
             rw t (subst (λ n. pinned_among keys (e ∷ remove_entry test es) ≤ n) (sym own) (subst (λ n. n ≤ one_of e + pinned_among keys es) (sym more) (omega (arith, rest))))
       ]
 
-  -- as many where entries keep their keys and pins,
   pinned-same : {Y : Type 0} (f : ℕ × Slot V → Y) (key pins : Y → ℕ) → ((e : ℕ × Slot V) → (key (f e) ≡ e.0) × (pins (f e) ≡ e.1.pins)) → (xs ys : List (ℕ × Slot V)) → map f xs ≡ map f ys → pinned_among keys xs ≡ pinned_among keys ys
   pinned-same f key pins is [] [] same = refl
   pinned-same f key pins is [] (y ∷ ys) same = absurd (cc)
@@ -66,14 +64,12 @@ module _ {V : Type 0} (keys : ℕ → Bool) where
       let own : one_of x ≡ one_of y = ap (λ k. one_where (keys k) x.1.pins) at ∙ ap (λ n. one_where (keys y.0) n) held in
       pinned-cons x xs ∙ ap (λ n. n + pinned_among keys xs) own ∙ ap (λ n. one_of y + n) (pinned-same f key pins is xs ys tail) ∙ sym (pinned-cons y ys)
 
-  -- where one takes over the pins of another,
   pinned-set : (key : ℕ) (es : List (ℕ × Slot V)) (slot w : Slot V) → lookup (nat_eq key) es ≡ Some slot → w.pins ≡ slot.pins → pinned_among keys (set_value (nat_eq key) es w) ≡ pinned_among keys es
   pinned-set key es slot w there same =
       let p = place-of-key key es slot there in
       let own : one_of (key, w) ≡ one_of (key, slot) = ap (λ n. one_where (keys key) n) same in
       ap (λ l. pinned_among keys l) (p.set w) ∙ pinned-parts p.front (key, w) p.back ∙ ap (λ n. pinned_among keys p.front + (n + pinned_among keys p.back)) own ∙ sym (pinned-parts p.front (key, slot) p.back) ∙ ap (λ l. pinned_among keys l) (sym p.is)
 
-  -- and where one is used.
   pinned-hit : (key : ℕ) (es : List (ℕ × Slot V)) (value : V) → pinned_among keys (hit (nat_eq key) es value) ≡ pinned_among keys es
   pinned-hit key es value = by-slot (lookup (nat_eq key) es) refl
     where
@@ -87,7 +83,6 @@ module _ {V : Type 0} (keys : ℕ → Bool) where
           let was : pinned_among keys es ≡ pinned_among keys p.front + (one_of (key, slot) + pinned_among keys p.back) = ap (λ l. pinned_among keys l) p.is ∙ pinned-parts p.front (key, slot) p.back in
           now ∙ ap (λ n. one_of first + n) both ∙ omega arith ∙ sym was
 
-  -- A new entry isn't pinned.
   pinned-new : (key : ℕ) (value : V) (es : List (ℕ × Slot V)) → pinned_among keys ((key, record { value = value; pins = 0 }) ∷ es) ≡ pinned_among keys es
   pinned-new key value es = pinned-cons (key, record { value = value; pins = 0 }) es ∙ ap (λ n. n + pinned_among keys es) (none-where (keys key)) ∙ omega arith
 
@@ -100,7 +95,6 @@ module _ {V : Type 0} where
       let rest = all-pinned es all.1 in
       subst (λ n. length (e ∷ es) ≤ n) (sym more) (omega (arith, own, rest))
 
-  -- Among some keys no more are pinned than in all.
   pub pinned-less : (keys : ℕ → Bool) (es : List (ℕ × Slot V)) → pinned_among keys es ≤ pinned_in es
   pinned-less keys [] = omega arith
   pinned-less keys (e ∷ es) =
@@ -110,11 +104,9 @@ module _ {V : Type 0} where
       let one = one-less (keys e.0) e.1.pins in
       subst (λ n. n ≤ pinned_in (e ∷ es)) (sym own) (subst (λ n. one_where (keys e.0) e.1.pins + pinned_among keys es ≤ n) (sym all) (omega (arith, rest, one)))
 
-  -- Where no room can be made as many are pinned as there is room for.
   pub full-pinned : {cap : ℕ} (es : List (ℕ × Slot V)) → IsPinnedFull cap es → cap ≤ pinned_in es
   full-pinned es full = let le = full.full in let all = all-pinned es full.pinned in omega (arith, le, all)
 
-  -- An entry that is pinned is found among those of its key.
   pub pinned-there : (key : ℕ) (es : List (ℕ × Slot V)) → IsSomeAnd (lookup (nat_eq key) es) (λ s. 0 < s.pins) → 0 < pinned_among (nat_eq key) es
   pinned-there key es pinned = by-slot (lookup (nat_eq key) es) refl pinned
     where
@@ -127,30 +119,24 @@ module _ {V : Type 0} where
           let one = one-where (nat_eq key key) slot.pins (eq-eqb key key refl) pinned in
           omega (arith, was, one)
 
-  -- Nothing is pinned where entries stay,
+  -- `PinsNothing` for each change of the list.
   pub pins-none : (es es' : List (ℕ × Slot V)) → es' ≡ es → PinsNothing es es'
   pins-none es es' same = record { among = λ keys. no-more (ap (λ l. pinned_among keys l) same) }
 
-  -- by one call behind another,
   pub pins-then : (es es' es'' : List (ℕ × Slot V)) → PinsNothing es es' → PinsNothing es' es'' → PinsNothing es es''
   pins-then es es' es'' one two = record { among = λ keys. let a = one.among keys in let b = two.among keys in omega (arith, a, b) }
 
-  -- where one is removed,
   pub pins-removed : (test : ℕ → Bool) (es : List (ℕ × Slot V)) → PinsNothing es (remove_entry test es)
   pins-removed test es = record { among = λ keys. pinned-removed keys test es }
 
-  -- where they are flushed,
   pub pins-written : {Y : Type 0} (f : ℕ × Slot V → Y) (key pins : Y → ℕ) → ((e : ℕ × Slot V) → (key (f e) ≡ e.0) × (pins (f e) ≡ e.1.pins)) → (es es' : List (ℕ × Slot V)) → map f es' ≡ map f es → PinsNothing es es'
   pins-written f key pins is es es' same = record { among = λ keys. no-more (pinned-same keys f key pins is es' es same) }
 
-  -- where one takes over the pins of another,
   pub pins-set : (key : ℕ) (es : List (ℕ × Slot V)) (slot w : Slot V) → lookup (nat_eq key) es ≡ Some slot → w.pins ≡ slot.pins → PinsNothing es (set_value (nat_eq key) es w)
   pins-set key es slot w there same = record { among = λ keys. no-more (pinned-set keys key es slot w there same) }
 
-  -- where one is used,
   pub pins-hit : (key : ℕ) (es : List (ℕ × Slot V)) (value : V) → PinsNothing es (hit (nat_eq key) es value)
   pins-hit key es value = record { among = λ keys. no-more (pinned-hit keys key es value) }
 
-  -- or where one is new.
   pub pins-new : (key : ℕ) (value : V) (es : List (ℕ × Slot V)) → PinsNothing es ((key, record { value = value; pins = 0 }) ∷ es)
   pins-new key value es = record { among = λ keys. no-more (pinned-new keys key value es) }

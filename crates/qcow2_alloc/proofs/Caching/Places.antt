@@ -1,4 +1,4 @@
--- Entries by their keys, which are numbers.
+-- Lookups of entries by their cluster numbers.
 use Rattle.std.proofs.Common.{◌≡◌, ℕ, refl, ap, sym, ◌∙◌, List, [], ◌∷◌, ◌++◌, true, false, Option, Some, None, inl, inr}
 use Rattle.std.specs.Prelude.{nat_eq}
 use Rattle.std.specs.List.{AllByRecursion}
@@ -8,7 +8,7 @@ use Rattle.std.proofs.lemmas.Bool.{cases_Bool, eqb-true}
 use Rattle.qcow2_alloc.specs.declared.async_lru_cache.Slot.{Slot}
 use Rattle.qcow2_alloc.specs.Cache.{hit}
 
--- where an entry stands
+-- The position of the entry with this key.
 pub record Place {X : Type 0} (key : ℕ) (es : List (ℕ × X)) (x : X) : Type 0 where
   pub front : List (ℕ × X)
   pub back : List (ℕ × X)
@@ -48,11 +48,10 @@ place-of-key key (e ∷ es) x there = elim (cases_Bool (nat_eq key e.0)) [
   | inr t ↦ place-later key e es x t (place-of-key key es x (rw t at there))
 ]
 
--- an entry that is used goes first
+-- Using an entry moves it to the front.
 pub place-hit : {V : Type 0} (key : ℕ) (es : List (ℕ × Slot V)) (slot : Slot V) (p : Place key es slot) (w : V) → hit (nat_eq key) es w ≡ (key, record slot { value = w }) ∷ p.front ++ p.back
 place-hit key es slot p w = rw p.entry (ap (λ l. (key, record slot { value = w }) ∷ l) p.removed)
 
--- a key that isn't there is none of those
 pub away-of-all : {X : Type 0} (key : ℕ) (es : List (ℕ × X)) → lookup (nat_eq key) es ≡ None → AllByRecursion (λ y. nat_eq key y ≡ false) (keys_of es)
 away-of-all key [] none = tt
 away-of-all key (e ∷ es) none = elim (cases_Bool (nat_eq key e.0)) [
@@ -60,7 +59,6 @@ away-of-all key (e ∷ es) none = elim (cases_Bool (nat_eq key e.0)) [
   | inr t ↦ (t, away-of-all key es (rw t at none))
 ]
 
--- a value that is found is that of an entry
 pub slot-of : {V : Type 0} (found : Option (Slot V)) (v : V) → option_map (λ s. s.value) found ≡ Some v → (s : Slot V) × (found ≡ Some s) × (s.value ≡ v)
 slot-of None v there = absurd (cc)
 slot-of (Some s) v there = (s, refl, cc)

@@ -1,4 +1,4 @@
--- What a put leaves of a cache, and why it is refused.
+-- The cache after a put, and the causes of a failed put.
 use Rattle.std.proofs.Common.{◌≡◌, ℕ, ◌≤◌, refl, ap, sym, subst, ◌∙◌, List, [], ◌∷◌, ◌++◌, length, Option, Some, None, Result, Ok, Err, Bool, true, false, inl, inr, arith}
 use Rattle.std.specs.Prelude.{◌⊎◌, map, nat_eq, ⊤, IsSome, OnOk, MatchResult}
 use Rattle.std.specs.List.{AllByRecursion}
@@ -25,12 +25,12 @@ use Rattle.qcow2_alloc.proofs.Caching.EntryLoads.{is-there}
 use Rattle.qcow2_alloc.proofs.Caching.Rooms.{room-related, never-denied}
 use Rattle.qcow2_alloc.proofs.Caching.SearchOutcomes.{all-at, mapped-same, pins-room, room-counted, room-list, room-refused, done_of}
 
--- the answer of a put that had leave to flush
+-- The result of a put with permission to flush.
 abbrev pub put_of : {V : Type 0} → Result (Option V) (Fault × V) → Result Unit (Fault × V)
 put_of (Ok back) = Ok tt
 put_of (Err refused) = Err refused
 
--- a put that gave the value back, as it must not flush
+-- A put without permission to flush returned the value.
 abbrev pub IsBarred : {V : Type 0} → Result (Option V) (Fault × V) → Type 0
 IsBarred (Ok None) = ⊥
 IsBarred (Ok (Some back)) = ⊤
@@ -43,7 +43,7 @@ lookup-set key (e ∷ es) x w there = elim (cases_Bool (nat_eq key e.0)) [
   | inr t ↦ rw t (rw t (lookup-set key es x w (rw t at there)))
 ]
 
--- a value that is put over another that was flushed
+-- A value replaces one that was flushed.
 pub hit-written : {V : Type 0} (key : ℕ) (es : List (ℕ × Slot V)) (slot w : Slot V) (p : Place key es slot) (v : V) → lookup (nat_eq key) es ≡ Some slot
     → hit (nat_eq key) (set_value (nat_eq key) es w) v ≡ (key, record w { value = v }) ∷ p.front ++ p.back
 hit-written key es slot w p v there =
@@ -59,7 +59,7 @@ module _ {V D : Type 0} (loads : D → ℕ → Result V Fault → D → Type 0) 
       let p = place-of-key key es slot there in
       list ∙ ap (λ (l : List (ℕ × Slot V)). hit (nat_eq key) l value) is ∙ hit-written key es slot (record slot { value = w }) p value there ∙ sym (place-hit key es slot p value)
 
-  -- What the put leaves,
+  -- The cache after the put.
   over-put : IsSome (lookup (nat_eq key) es) → (result : Result (Option V) (Fault × V)) → Overwritten nat_eq flushes (key, value) before es result after es' → PutInto written cap key value es (put_of result) es'
   over-put there (Ok back) (none, mid, at, list) =
       let is = over-list at.slot at.slot_found mid at.value at.entries list in
@@ -120,7 +120,7 @@ module _ {V D : Type 0} (loads : D → ℕ → Result V Fault → D → Type 0) 
     ]
   ]
 
--- and why it is refused.
+-- The causes of a failure.
 module _ {V D : Type 0} (state : D → StorageState) (loads : D → ℕ → Result V Fault → D → Type 0) (flushes : D → ℕ → V → Result Unit Fault → D → V → Type 0) (Reach : ℕ → V → Type 0)
     (step : (old : D) (key : ℕ) (value : V) (result : Result Unit Fault) (new : D) (value' : V) → flushes old key value result new value' → Counted (Reach key value) (state old) (state new) result)
     (cap : ℕ) (may_flush : Bool) (key : ℕ) (value : V) (before : D) (es : List (ℕ × Slot V)) (after : D) (es' : List (ℕ × Slot V)) where
@@ -150,7 +150,7 @@ module _ {V D : Type 0} (state : D → StorageState) (loads : D → ℕ → Resu
     ]
   ]
 
--- With leave to flush it is never given back without a fault.
+-- With permission to flush, the value is only returned with a fault.
 module _ {V D : Type 0} (loads : D → ℕ → Result V Fault → D → Type 0) (flushes : D → ℕ → V → Result Unit Fault → D → V → Type 0) (cap key : ℕ) (value : V) (before : D) (es : List (ℕ × Slot V)) (after : D) (es' : List (ℕ × Slot V)) where
   put-not-barred : (room : Result Admission Fault) (entries : List (ℕ × Slot V)) → MadeRoom (cache_kind nat_eq loads flushes cap) true before es room after entries → (result : Result (Option V) (Fault × V)) → PutAfter (key, value) entries room result es' → IsBarred result → ⊥
   put-not-barred (Ok Granted) entries made result (inl now) barred = subst (λ (q : Result (Option V) (Fault × V)). IsBarred q) now.0 barred
@@ -169,7 +169,7 @@ module _ {V D : Type 0} (loads : D → ℕ → Result V Fault → D → Type 0) 
     | inl there ↦ over-not-barred result (i.over there refl) barred
   ]
 
--- What each flush keeps is kept.
+-- A relation that each flush keeps is kept by the put.
 module _ {V D : Type 0} (loads : D → ℕ → Result V Fault → D → Type 0) (flushes : D → ℕ → V → Result Unit Fault → D → V → Type 0) (R : D → D → Type 0) (R-refl : (a : D) → R a a)
     (flushing : (old new : D) (key : ℕ) (value value' : V) (answer : Result Unit Fault) → flushes old key value answer new value' → R old new)
     (cap : ℕ) (may_flush : Bool) (key : ℕ) (value : V) (before : D) (es : List (ℕ × Slot V)) (after : D) (es' : List (ℕ × Slot V)) where
@@ -189,7 +189,7 @@ module _ {V D : Type 0} (loads : D → ℕ → Result V Fault → D → Type 0) 
     ]
   ]
 
--- What makes way for a value was flushed;
+-- The evicted entry was flushed.
 module _ {V D : Type 0} (loads : D → ℕ → Result V Fault → D → Type 0) (flushes : D → ℕ → V → Result Unit Fault → D → V → Type 0) (cap key : ℕ) (value : V) (before : D) (es : List (ℕ × Slot V)) (after : D) (es' : List (ℕ × Slot V)) where
   abbrev pub Flushes : ℕ → Slot V → Type 0
   Flushes k slot = (left : V) × flushes before k slot.value (Ok tt) after left
@@ -220,7 +220,7 @@ module _ {V D : Type 0} (loads : D → ℕ → Result V Fault → D → Type 0) 
       subst (λ (n : ℕ). OnOk (put_of result) (Flushes n slot)) (sym same) (over-flushed slot here result (i.over (subst (λ (o : Option (Slot V)). IsSome o) (sym here) refl) refl))
   way-flushed result i k slot (inr (none, full, is)) there = let a = i.fresh none in room-flushed k slot there full is a.room a.entries a.made result a.put
 
-  -- without leave to flush nothing makes way.
+  -- Without permission to flush, nothing is evicted.
   pub way-barred : (result : Result (Option V) (Fault × V)) → (IsBarred result → ⊥) → Inserted (cache_kind nat_eq loads flushes cap) false (key, value) before es result after es' → (k : ℕ) (slot : Slot V) → MakesWay cap key es k → lookup (nat_eq k) es ≡ Some slot → ⊥
   way-barred result not i k slot (inl same) there =
       let here = subst (λ (n : ℕ). lookup (nat_eq n) es ≡ Some slot) same there in
@@ -234,7 +234,7 @@ pub put-then : {V X Y : Type 0} (result : Result (Option V) (Fault × V)) → (X
 put-then (Ok back) f x = f x
 put-then (Err refused) f x = tt
 
--- Into a full cache it comes where the entry that goes was flushed;
+-- A value enters a full cache after the evicted entry is flushed.
 module _ {V D : Type 0} (state : D → StorageState) (loads : D → ℕ → Result V Fault → D → Type 0) (flushes : D → ℕ → V → Result Unit Fault → D → V → Type 0) (asks : StorageState → ℕ → V → Result Unit Fault → StorageState → V → Type 0)
     (asked : (old new : D) (key : ℕ) (value value' : V) (answer : Result Unit Fault) → flushes old key value answer new value' → asks (state old) key value answer (state new) value')
     (cap key : ℕ) (value : V) (before : D) (es : List (ℕ × Slot V)) (after : D) (es' : List (ℕ × Slot V)) (none : lookup (nat_eq key) es ≡ None) (full : cap ≤ length es) where
@@ -264,16 +264,16 @@ module _ {V D : Type 0} (state : D → StorageState) (loads : D → ℕ → Resu
   pub inserted-lets-in : (result : Result (Option V) (Fault × V)) → Inserted (cache_kind nat_eq loads flushes cap) true (key, value) before es result after es' → LetsIn asks (state before) es (Refused result) (state after) es'
   inserted-lets-in result i = let a = i.fresh none in room-lets-in a.room a.entries a.made result a.put
 
-  -- without leave to flush it comes back.
+  -- Without permission to flush, the value is returned.
   pub inserted-barred : (result : Result (Option V) (Fault × V)) → (IsBarred result → ⊥) → Inserted (cache_kind nat_eq loads flushes cap) false (key, value) before es result after es' → ⊥
   inserted-barred result not i =
       let a = i.fresh none in
       let barred : (result ≡ Ok (Some value)) × (es' ≡ a.entries) = subst (λ (q : Result Admission Fault). PutAfter (key, value) a.entries q result es') (a.made.full full refl).0 a.put in
       not (subst (λ (q : Result (Option V) (Fault × V)). IsBarred q) (sym barred.0) tt)
 
--- It is put where nothing has to be written before.
+-- A put that flushes nothing.
 module _ {V D : Type 0} (loads : D → ℕ → Result V Fault → D → Type 0) (flushes : D → ℕ → V → Result Unit Fault → D → V → Type 0) (cap key : ℕ) (value : V) (before : D) (es : List (ℕ × Slot V)) (after : D) (es' : List (ℕ × Slot V)) where
-  -- what a put without leave to flush does
+  -- The outcome of a put without permission to flush, if the value isn't returned.
   pub record GuestUnchanged (result : Result (Option V) (Fault × V)) : Type 0 where
     pub file : after ≡ before
     pub absent : lookup (nat_eq key) es ≡ None
@@ -300,7 +300,7 @@ module _ {V D : Type 0} (loads : D → ℕ → Result V Fault → D → Type 0) 
     | inl there ↦ absurd (not (subst (λ (q : Result (Option V) (Fault × V)). IsBarred q) (sym (i.barred there refl).0) tt))
   ]
 
-  -- Or it comes back, and changes nothing.
+  -- The value is returned, and nothing changes.
   pub record IsBack (back : V) : Type 0 where
     pub same : back ≡ value
     pub file : after ≡ before

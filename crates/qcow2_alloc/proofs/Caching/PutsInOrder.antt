@@ -1,4 +1,4 @@
--- An entry is put into its cache, once what has to be written before is.
+-- Putting an entry into its cache, after the writes that must come first.
 use Rattle.std.proofs.Common.{◌≡◌, ℕ, refl, ap, sym, subst, ◌∙◌, List, ◌∷◌, ◌++◌, Option, None, Result, Ok, Err, true, inl, inr}
 use Rattle.std.specs.Prelude.{◌⊎◌, nat_eq, ⊤}
 use Rattle.std.specs.Map.{lookup}
@@ -23,7 +23,7 @@ use Rattle.qcow2_alloc.proofs.Caching.EntryLoads.{is-there, room-made, room-abse
 use Rattle.qcow2_alloc.proofs.Caching.Sides.{SideLaws, Ready, FitsIn, new-comes, new-replaces}
 use Rattle.qcow2_alloc.proofs.Flushing.WriteSequences.{going-weaker, going-ready, going-under, going-both-from}
 
--- The entry itself comes, or goes over another.
+-- The entry is added, or replaces another.
 module _ {S V W : Type 0} (side : CachedKind S V W) (laws : SideLaws side) (H : Header) (order : CacheDependency) (rest : List (ℕ × Slot W)) (key : ℕ) (value : V) (a : StorageState) (A : Cached) (P : Type 0)
     (from : WellFormed (bytes_of a.bytes) H A order → P → (b : StorageState) → IsCrashImage (bytes_of a.bytes) (memory (bytes_of a.bytes) H.fields A) H (bytes_of b.bytes) → FitsIn side H key value b) where
   abbrev put : List (ℕ × Slot V) → Cached
@@ -32,11 +32,11 @@ module _ {S V W : Type 0} (side : CachedKind S V W) (laws : SideLaws side) (H : 
   abbrev state : ImageFile S → StorageState
   state d = side.state d.image
 
-  -- the image goes on from where nothing was asked yet
+  -- `WritesBackCached` from the start of the call.
   abbrev From : (Cached → Type 0) → Type 0 → StorageState → List (ℕ × Slot V) → Type 0
   From Ready ok b es = WritesBackCached H order Ready ok a A b (put es)
 
-  -- It is so behind calls that keep the image.
+  -- A final change of the entries, after calls that preserve the image.
   last : (b : StorageState) (es es' : List (ℕ × Slot V)) (ok ok' : Type 0) → (ok' → ok) → From Always ok b es
       → WritesBackCached H order (λ _. FitsIn side H key value b) ⊤ b (put es) b (put es') → From (λ _. P) ok' b es'
   last b es es' ok ok' was first second =
@@ -49,7 +49,7 @@ module _ {S V W : Type 0} (side : CachedKind S V W) (laws : SideLaws side) (H : 
       subst (λ (l : List (ℕ × Slot V)). From (λ _. P) ok' b l) (sym same)
       (going-under H order P ok' a b A (put es) (going-weaker H order Always ok ok' a b A (put es) was first))
 
-  -- It comes, or nothing changes, where nothing has to be written;
+  -- Without a flush: the entry is added, or nothing changes.
   pub put-quietly : (ok : Type 0) (b : StorageState) (es es' : List (ℕ × Slot V)) (X : Type 0) → From Always ok b es → lookup (nat_eq key) es ≡ None
       → (es' ≡ es) ⊎ ((es' ≡ (key, record { value = value; pins = 0 }) ∷ es) × X) → From (λ _. P) ok b es'
   put-quietly ok b es es' X first absent (inl same) = halted b es es' ok ok (λ o. o) same first
@@ -100,7 +100,7 @@ module _ {S V W : Type 0} (side : CachedKind S V W) (laws : SideLaws side) (H : 
         (subst (λ (l : List (ℕ × Slot V)). WritesBackCached H order (Ready side order) (IsNotResourceError refused.0) (state before) (put l) (state after) (put (p.front ++ (key, w) ∷ p.back))) (sym p.is) flushed) in
         halted (state after) (p.front ++ (key, w) ∷ p.back) es' (IsNotResourceError refused.0) (IsNotResourceError refused.0) (λ w. w) (at.entries ∙ p.set w) second
 
-    -- or it is put once what has to be is.
+    -- With a flush of the evicted entry.
     pub put-going : (result : Result (Option V) (Fault × V)) → Inserted (cache_kind nat_eq (loads_of side) (flushes_of side) cap) true (key, value) before es result after es' → Put result
     put-going result i = elim (is-there (lookup (nat_eq key) es)) [
       | inr none ↦ let added = i.fresh none in by-put none added.room added.entries added.made result added.put

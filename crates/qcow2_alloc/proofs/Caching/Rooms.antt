@@ -1,4 +1,4 @@
--- How room is made for one entry more: by none, or by one that goes.
+-- Making space for one more entry, by evicting one if the cache is full.
 use Rattle.std.proofs.Common.{◌≡◌, ℕ, ◌<◌, ◌≤◌, refl, arith, subst, sym, List, [], ◌∷◌, length, Option, Some, None, Result, Ok, Err, Bool, true, false, inl, inr, zero, suc}
 use Rattle.std.specs.Prelude.{◌⊎◌, ◌==◌}
 use Rattle.std.specs.List.{AllByRecursion}
@@ -11,7 +11,7 @@ use Rattle.qcow2_alloc.specs.declared.async_lru_cache.Slot.{Slot}
 use Rattle.qcow2_alloc.specs.Cache.{CacheKind, Evicted, MadeRoom, victim, victim_from}
 use Rattle.qcow2_alloc.specs.Finding.{IsPinnedFull}
 
--- Where there is no victim each entry is pinned.
+-- Without a victim, every entry is pinned.
 pub victim-none : {V : Type 0} (es : List (ℕ × Slot V)) (found : Option ℕ) → victim_from found es ≡ None → (found ≡ None) × AllByRecursion (λ (e : ℕ × Slot V). 0 < e.1.pins) es
 victim-none [] found none = (none, tt)
 victim-none (e ∷ es) found none = elim (cases_Bool (e.1.pins == 0)) [
@@ -24,7 +24,7 @@ victim-none (e ∷ es) found none = elim (cases_Bool (e.1.pins == 0)) [
     pins-some (suc n) t = omega arith
 
 module _ {V D : Type 0} (kind : CacheKind ℕ V D) (may_flush : Bool) (before : D) (es : List (ℕ × Slot V)) (result : Result Admission Fault) (after : D) (es' : List (ℕ × Slot V)) where
-  -- Nothing was asked for: there is room, or leave was not given; or each entry is pinned.
+  -- No request was made: the cache has space, flushing isn't permitted, or all entries are pinned.
   pub record IsUnasked : Type 0 where
     pub device : after ≡ before
     pub entries : es' ≡ es
@@ -48,7 +48,6 @@ module _ {V D : Type 0} (kind : CacheKind ℕ V D) (may_flush : Bool) (before : 
           let r = made.pinned full may is in inl (record { device = r.1; entries = r.2; answer = inr (r.0, record { full = full; pinned = (victim-none es None is).1 }) })
       by-victim (Some key) is full may = inr (record { key = key; evicted = made.evicted full may key is })
 
--- With leave to flush it is never said that there is none.
 pub never-denied : {V D : Type 0} (kind : CacheKind ℕ V D) (before : D) (es : List (ℕ × Slot V)) (after : D) (es' : List (ℕ × Slot V)) → MadeRoom kind true before es (Ok Denied) after es' → ⊥
 never-denied kind before es after es' made = elim (cases_lt (length es) kind.cap) [
   | inl roomy ↦ let is = (made.roomy roomy).0 in cc
@@ -59,7 +58,7 @@ never-denied kind before es after es' made = elim (cases_lt (length es) kind.cap
     by-victim None is full = let no = (made.pinned full refl is).0 in cc
     by-victim (Some k) is full = let no = (made.evicted full refl k is).0 in cc
 
--- What each flush keeps is kept.
+-- A relation that each flush keeps is kept.
 module _ {V D : Type 0} (kind : CacheKind ℕ V D) (R : D → D → Type 0) (R-refl : (a : D) → R a a)
     (flushing : (old new : D) (key : ℕ) (value value' : V) (answer : Result Unit Fault) → kind.flushes old key value answer new value' → R old new) where
   evicted-related : (key : ℕ) (before : D) (es : List (ℕ × Slot V)) (result : Result Admission Fault) (after : D) (es' : List (ℕ × Slot V)) → Evicted kind.eq kind.flushes key before es result after es' → R before after

@@ -1,4 +1,4 @@
--- What the search of an entry leaves of a cache, and why it is refused.
+-- The cache after a search, and the causes of a failed search.
 use Rattle.std.proofs.Common.{◌≡◌, ℕ, ◌<◌, ◌≤◌, refl, arith, ap, sym, subst, ◌∙◌, List, [], ◌∷◌, ◌++◌, length, Option, Some, None, Result, Ok, Err, Bool, true, false, inl, inr}
 use Rattle.std.specs.Prelude.{◌⊎◌, map, nat_eq, OnOk, OnErr}
 use Rattle.std.specs.Option.{option_map_or}
@@ -23,12 +23,11 @@ use Rattle.qcow2_alloc.proofs.Caching.Places.{place-of-key}
 use Rattle.qcow2_alloc.proofs.Caching.EntryLoads.{is-there}
 use Rattle.qcow2_alloc.proofs.Caching.Rooms.{room-way, room-related}
 
--- the answer of a search that had leave to flush
+-- The result of a search with permission to flush.
 abbrev pub done_of : Result Admission Fault → Result Unit Fault
 done_of (Ok found) = Ok tt
 done_of (Err fault) = Err fault
 
--- what holds of the one holds of the other
 pub whole-done : (r : Result Admission Fault) → HadNoResourceError (done_of r) → HadNoResourceError r
 whole-done (Ok found) w = tt
 whole-done (Err fault) w = w
@@ -38,9 +37,8 @@ found-there (Ok Granted) P not there = there refl
 found-there (Ok Denied) P not there = absurd (not refl)
 found-there (Err fault) P not there = tt
 
--- What holds of all entries
+-- A fact about all entries.
 module _ {X : Type 0} (P : ℕ × X → Type 0) where
-  -- holds of each of them,
   pub all-at : (key : ℕ) (es : List (ℕ × X)) (x : X) → lookup (nat_eq key) es ≡ Some x → AllByRecursion P es → P (key, x)
   all-at key [] x there all = absurd (cc)
   all-at key (e ∷ es) x there all = elim (cases_Bool (nat_eq key e.0)) [
@@ -52,7 +50,6 @@ module _ {X : Type 0} (P : ℕ × X → Type 0) where
     | inr t ↦ all-at key es x (rw t at there) all.1
   ]
 
-  -- and of the others where one is removed.
   pub all-removed : (test : ℕ → Bool) (es : List (ℕ × X)) → AllByRecursion P es → AllByRecursion P (remove_entry test es)
   all-removed test [] all = tt
   all-removed test (e ∷ es) all = elim (cases_Bool (test e.0)) [
@@ -60,21 +57,19 @@ module _ {X : Type 0} (P : ℕ × X → Type 0) where
     | inr t ↦ rw t (all.0, all-removed test es all.1)
   ]
 
--- A list in which one is replaced by another that is the same under a map.
 pub mapped-same : {X Y : Type 0} (f : X → Y) (front : List X) (a b : X) (back : List X) → f a ≡ f b → map f (front ++ a ∷ back) ≡ map f (front ++ b ∷ back)
 mapped-same f [] a b back same = ap (λ y. y ∷ map f back) same
 mapped-same f (x ∷ front) a b back same = ap (λ l. f x ∷ l) (mapped-same f front a b back same)
 
--- A search is refused for what refused a part of it.
+-- Causes of a step are causes of the search.
 pub search-wider : {fine fine' full full' : Type 0} {a b c d : ℕ} → (fine' → fine) → (full → full') → a ≤ b → c ≤ d → Implies (search_causes fine full b c) (search_causes fine' full' a d)
 search-wider from to le le' = record { before = le; after = le'; damaged = λ wrong fine. wrong (from fine); counter = absurd; full = to; limit = λ number. absurd }
 
--- So it is with the whole answer, also where less is known to be fine.
 pub counts-wider : (fine fine' full : Type 0) (a b c : ℕ) (result : Result Unit Fault) → (fine' → fine) → a ≡ b → FailsFor (search_causes fine full a c) result → FailsFor (search_causes fine' full b c) result
 counts-wider fine fine' full a b c result from is why = fails-weaker _ _ (search-wider from (λ f. f) (omega (arith, is)) (omega arith)) (λ same. same ∙ is) result why
 
 module _ {V D : Type 0} (loads : D → ℕ → Result V Fault → D → Type 0) (flushes : D → ℕ → V → Result Unit Fault → D → V → Type 0) where
-  -- Without leave to flush, what says that there is no room has changed nothing.
+  -- The search returned `Denied`: the cache is full, and nothing changed.
   pub record IsFullNow (cap key : ℕ) (before : D) (es : List (ℕ × Slot V)) (after : D) (es' : List (ℕ × Slot V)) : Type 0 where
     pub absent : lookup (nat_eq key) es ≡ None
     pub full : cap ≤ length es
@@ -96,7 +91,7 @@ module _ {V D : Type 0} (loads : D → ℕ → Result V Fault → D → Type 0) 
       loaded-not : (room : Result Admission Fault) (mid : D) (entries : List (ℕ × Slot V)) → room ≡ Ok Granted → LoadedAfter loads key mid entries room (Ok Denied) after es' → ⊥
       loaded-not room mid entries is later = let load = subst (λ (q : Result Admission Fault). LoadedAfter loads key mid entries q (Ok Denied) after es') is later in let no = load.0 in cc
 
-  -- the list once room was made
+  -- The entries, if making space succeeded.
   pub room-list : (cap : ℕ) (may_flush : Bool) (before : D) (es : List (ℕ × Slot V)) (after : D) (es' : List (ℕ × Slot V)) → MadeRoom (cache_kind nat_eq loads flushes cap) may_flush before es (Ok Granted) after es' → es' ≡ with_room cap es
   room-list cap may_flush before es after es' made = elim (cases_lt (length es) cap) [
     | inl roomy ↦ rw (lt-ltb (length es) cap roomy) (made.roomy roomy).2
@@ -110,7 +105,7 @@ module _ {V D : Type 0} (loads : D → ℕ → Result V Fault → D → Type 0) 
       by-victim None is full may = absurd (let r = (made.pinned full may is).0 in cc)
       by-victim (Some k) is full may = let e = made.evicted full may k is in rw (le-ltb (length es) cap full, is) e.3
 
-  -- and where none could be
+  -- The entries, if making space failed.
   pub room-refused : (written : ℕ × Slot V → ℕ × Slot V)
       (kept : (key : ℕ) (slot : Slot V) (old new : D) (result : Result Unit Fault) (value : V) → flushes old key slot.value result new value → written (key, record slot { value = value }) ≡ written (key, slot))
       (cap : ℕ) (may_flush : Bool) (before : D) (es : List (ℕ × Slot V)) (fault : Fault) (after : D) (es' : List (ℕ × Slot V)) → MadeRoom (cache_kind nat_eq loads flushes cap) may_flush before es (Err fault) after es'
@@ -137,7 +132,7 @@ module _ {V D : Type 0} (loads : D → ℕ → Result V Fault → D → Type 0) 
       by-victim None is = pins-none es es refl
       by-victim (Some k) is = pins-removed (nat_eq k) es
 
-  -- What the search leaves.
+  -- The entries after the search.
   pub sought : (written : ℕ × Slot V → ℕ × Slot V)
       (kept : (key : ℕ) (slot : Slot V) (old new : D) (result : Result Unit Fault) (value : V) → flushes old key slot.value result new value → written (key, record slot { value = value }) ≡ written (key, slot))
       (read : V) (cap : ℕ) (may_flush : Bool) (key : ℕ) (before : D) (es : List (ℕ × Slot V)) (result : Result Admission Fault) (after : D) (es' : List (ℕ × Slot V))
@@ -183,7 +178,7 @@ module _ {V D : Type 0} (loads : D → ℕ → Result V Fault → D → Type 0) 
         | inr none ↦ let m = r.missed none in by-refused m.room m.mid m.entries fault m.made m.loaded
       ]
 
-  -- What each load and each flush keeps is kept.
+  -- A relation that each load and each flush keeps is kept by the search.
   pub readied-related : (R : D → D → Type 0) (R-refl : (a : D) → R a a) (R-trans : (a b c : D) → R a b → R b c → R a c)
       → ((old new : D) (key : ℕ) (answer : Result V Fault) → loads old key answer new → R old new)
       → ((old new : D) (key : ℕ) (value value' : V) (answer : Result Unit Fault) → flushes old key value answer new value' → R old new)
@@ -205,7 +200,7 @@ module _ {V D : Type 0} (loads : D → ℕ → Result V Fault → D → Type 0) 
       by-room (Ok Denied) mid entries later = same mid after later.1
       by-room (Err fault) mid entries later = same mid after later.1
 
-  -- Where there is room nothing is written.
+  -- If the cache has space, nothing is written.
   pub roomy-kept : (state : D → StorageState) (cap : ℕ) (may_flush : Bool) (key : ℕ) (before : D) (es : List (ℕ × Slot V)) (result : Result Admission Fault) (after : D) (es' : List (ℕ × Slot V))
       → ((old new : D) (answer : Result V Fault) → loads old key answer new → UnchangedButFaults (state old) (state new)) → UnchangedButFaults (state before) (state before)
       → length es < cap → Readied (cache_kind nat_eq loads flushes cap) may_flush key before es result after es' → UnchangedButFaults (state before) (state after)
@@ -222,7 +217,7 @@ module _ {V D : Type 0} (loads : D → ℕ → Result V Fault → D → Type 0) 
       by-room room mid entries is same later =
           subst (λ (d : D). UnchangedButFaults (state d) (state after)) same (by-answer result mid entries (subst (λ (q : Result Admission Fault). LoadedAfter loads key mid entries q result after es') is later))
 
--- Why it is refused.
+-- The causes of a failed search.
 module _ {V D : Type 0} (state : D → StorageState) (loads : D → ℕ → Result V Fault → D → Type 0) (flushes : D → ℕ → V → Result Unit Fault → D → V → Type 0) (Reach : ℕ → V → Type 0)
     (step : (old : D) (key : ℕ) (value : V) (result : Result Unit Fault) (new : D) (value' : V) → flushes old key value result new value' → Counted (Reach key value) (state old) (state new) result) where
   abbrev RoomCounts : ℕ → D → List (ℕ × Slot V) → D → Result Admission Fault → Type 0
@@ -247,7 +242,7 @@ module _ {V D : Type 0} (state : D → StorageState) (loads : D → ℕ → Resu
             cause-weaker (writing-implies _ (omega arith) (omega arith) (λ far all. far (all-at (λ (e : ℕ × Slot V). Reach e.0 e.1.value) key es at.slot at.slot_found all))) fault c.counts,
           )
 
-  -- how the load of the key counts
+  -- The fault counts and causes of the load.
   module _ (fine : D → ℕ → Type 0)
       (loading : (old : D) (key : ℕ) (answer : Result V Fault) (new : D) → loads old key answer new → ((state old).faults ≤ (state new).faults) × FailsFor (search_causes (fine new key) ⊥ (state old).faults (state new).faults) answer) where
     load-counted : (full : Type 0) (key : ℕ) (before : D) (es : List (ℕ × Slot V)) (result : Result Admission Fault) (after : D) (es' : List (ℕ × Slot V)) → Loaded loads key before es result after es'

@@ -1,4 +1,4 @@
--- One of the two caches beside the other: what is proved of the search and the put of an entry is said once, of L2 tables and refcount blocks alike.
+-- The two caches as sides. Lemmas on searches and puts are stated once, for L2 tables and refcount blocks.
 use Rattle.std.proofs.Common.{◌≡◌, ℕ, ◌≤◌, refl, arith, ap, sym, subst, ◌∙◌, List, [], ◌∷◌, ◌++◌, None, Result, Ok, Err, false, true}
 use Rattle.std.specs.Prelude.{nat_eq, map, ⊤, OnOk}
 use Rattle.std.specs.List.{AllByRecursion}
@@ -27,14 +27,14 @@ use Rattle.qcow2_alloc.proofs.Flushing.WriteSequences.{kept-same, going-quiet}
 use Rattle.qcow2_alloc.proofs.Memory.EntryKinds.{EntryKind}
 use Rattle.qcow2_alloc.proofs.Memory.Patches.{shaped-in}
 
--- What is to be known of a kind of entries beside what contracts cite of it, to see them in memory.
+-- The parts of an entry kind that proofs need in addition to what contracts cite.
 pub record EntryParts (V W : Type 0) : Type 1 where
   pub bytes : V → List ℕ
   pub OtherFits : Bytes → Fields → ℕ → W → Type 0
   pub ahead : ℕ → List (ℕ × Slot W) → List Patch
   pub behind : ℕ → List (ℕ × Slot W) → List Patch
 
--- the kind, so seen
+-- The entry kind with these parts.
 abbrev pub entries_of : {S V W : Type 0} → CachedKind S V W → EntryParts V W → EntryKind V W
 entries_of side parts = record {
   writes = side.writes;
@@ -47,18 +47,18 @@ entries_of side parts = record {
 }
 
 module _ {S V W : Type 0} (side : CachedKind S V W) where
-  -- words can name each that is to be written, or nothing is
+  -- If the entry is dirty, its cluster is addressable.
   abbrev pub Reach : ℕ → V → Type 0
   Reach key value = side.writes.modified value ≡ true → IsAddressable (side.writes.cluster_bits value) key
 
-  -- what has to be written before one is
+  -- Under the order in which the other side comes first, the other side is clean.
   abbrev pub Ready : CacheDependency → Cached → Type 0
   Ready order cached = order ≡ side.first → AreClean side.other_writes (side.others cached)
 
   abbrev pub FitsIn : Header → ℕ → V → StorageState → Type 0
   FitsIn H key value s = (side.writes.modified value ≡ false) × side.Fits (bytes_of s.bytes) H.fields key value
 
-  -- What is known of them.
+  -- The laws of a side.
   pub record SideLaws : Type 1 where
     pub parts : EntryParts V W
     pub entries : EntryLaws (entries_of side parts)
@@ -76,11 +76,11 @@ module _ {S V W : Type 0} (side : CachedKind S V W) where
     pub flushed : (H : Header) (order : CacheDependency) (rest : List (ℕ × Slot W)) (front : List (ℕ × Slot V)) (key : ℕ) (slot : Slot V) (back : List (ℕ × Slot V)) (a b : StorageState) (answer : Result Unit Fault) (value : V)
         → Flushed side.writes a key slot.value answer b value
         → WritesBackCached H order (Ready order) (HadNoResourceError answer) a (side.cached rest (front ++ (key, slot) ∷ back)) b (side.cached rest (front ++ (key, record slot { value = value }) ∷ back))
-    -- one is as it was in each file that writes of others leave
+    -- An entry still fits in each file that writes of other entries leave.
     pub stays : (f : Bytes) (H : Header) (order : CacheDependency) (rest : List (ℕ × Slot W)) (es : List (ℕ × Slot V)) → WellFormed f H (side.cached rest es) order
         → (x : Bytes) → IsCrashImage f (memory f H.fields (side.cached rest es)) H x → (key : ℕ) (value : V) → AllByRecursion (λ e. e.0 ≡ key → side.writes.modified e.1.value ≡ false) es
         → side.Fits f H.fields key value → side.Fits x H.fields key value
-    -- the other one's entries are those that were put there, whatever this one has
+    -- The entries of the other side are independent of those of this side.
     pub rest_is : (rest : List (ℕ × Slot W)) (es : List (ℕ × Slot V)) → side.others (side.cached rest es) ≡ rest
     pub near : (f : Bytes) (H : Header) (order : CacheDependency) (rest : List (ℕ × Slot W)) (es : List (ℕ × Slot V)) → WellFormed f H (side.cached rest es) order → AreInReach side.other_writes rest
     pub lets : (rest : List (ℕ × Slot W)) (es es' : List (ℕ × Slot V)) (a b : StorageState) (result : Result Unit Fault)
@@ -92,7 +92,7 @@ module _ {S V W : Type 0} (side : CachedKind S V W) where
     abbrev put : List (ℕ × Slot V) → Cached
     put = side.cached rest
 
-    -- one that isn't modified comes
+    -- A clean entry is added.
     comes-same : (f : Bytes) (key : ℕ) (slot : Slot V) (es : List (ℕ × Slot V)) → side.writes.modified slot.value ≡ false → memory f H.fields (put ((key, slot) ∷ es)) ≡ memory f H.fields (put es)
     comes-same f key slot es clean = sym (entry-leaves (entries_of side laws.parts) laws.entries f H rest [] key slot es clean)
 
@@ -125,7 +125,7 @@ module _ {S V W : Type 0} (side : CachedKind S V W) where
     pub ready-same : (A B : List (ℕ × Slot V)) → Ready order (put A) → Ready order (put B)
     ready-same A B r is = subst (λ (l : List (ℕ × Slot W)). AreClean side.other_writes l) (laws.rest_is rest A ∙ sym (laws.rest_is rest B)) (r is)
 
-    -- A new one comes, or goes over another.
+    -- A new entry is added, or replaces another.
     module _ (key : ℕ) (value : V) where
       pub new-comes : (s : StorageState) (es : List (ℕ × Slot V)) → lookup (nat_eq key) es ≡ None → WritesBackCached H order (λ _. FitsIn H key value s) ⊤ s (put es) s (put ((key, record { value = value; pins = 0 }) ∷ es))
       new-comes s es none =
@@ -143,7 +143,7 @@ module _ {S V W : Type 0} (side : CachedKind S V W) where
           (leaves-safe (entries_of side laws.parts) laws.entries f H order rest front key slot back off well_formed))
           (λ fits. comes-same f key (record slot { value = value }) (front ++ back) fits.0 ∙ entry-leaves (entries_of side laws.parts) laws.entries f H rest front key slot back off)
 
--- The other one was written where it comes first, and that was answered so.
+-- The other side was written, if it comes first. `answer` is the result.
 pub record WrittenFirst {S V W A B : Type 0} (side : CachedKind S V W) (old : Beside S V W A B) (before : ImageFile S) (answer : Result Unit Fault) (mid : Beside S V W A B) (between : ImageFile S) : Type 0 where
   pub writes_back_cached : WritesBackCached before.header old.order Always (answer ≡ Ok tt) (side.state before.image) (cached_of side old) (side.state between.image) (cached_of side mid)
   pub kept : map (as_written side.other_writes) mid.other.slots.entries ≡ map (as_written side.other_writes) old.other.slots.entries
@@ -157,7 +157,7 @@ pub record WrittenFirst {S V W A B : Type 0} (side : CachedKind S V W) (old : Be
   pub did : old.order ≡ side.first → (WritesOther side) (side.state before.image) (cached_of side old) answer (side.state between.image) (cached_of side mid)
 
 module _ {S V W A B : Type 0} (side : CachedKind S V W) (laws : SideLaws side) (old : Beside S V W A B) (before : ImageFile S) (mid : Beside S V W A B) (between : ImageFile S) where
-  -- Where that is nothing modified, nothing was done,
+  -- If the other side is clean, nothing was done.
   pub first-idle : (answer : Result Unit Fault) → WrittenFirst side old before answer mid between → AreClean side.other_writes old.other.slots.entries
       → (answer ≡ Ok tt) × (side.state between.image ≡ side.state before.image) × (mid.other.slots.entries ≡ old.other.slots.entries)
   first-idle answer w clean =
@@ -166,6 +166,6 @@ module _ {S V W A B : Type 0} (side : CachedKind S V W) (laws : SideLaws side) (
       (subst (λ (l : List (ℕ × Slot W)). AreClean side.other_writes l) (sym (laws.rest_is old.other.slots.entries old.own.slots.entries)) clean) in
       (none.0, none.1, sym (laws.rest_is mid.other.slots.entries mid.own.slots.entries) ∙ ap side.others none.2 ∙ laws.rest_is old.other.slots.entries old.own.slots.entries)
 
-  -- and a refusal comes only where it comes first.
+  -- A failure means that the other side comes first.
   pub first-some : (fault : Fault) → WrittenFirst side old before (Err fault) mid between → ((old.order ≡ side.first → ⊥) → ⊥)
   first-some fault w away = let ok = (w.idle away).0 in cc

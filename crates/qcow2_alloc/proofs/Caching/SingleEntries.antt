@@ -1,4 +1,4 @@
--- One entry among those that are cached: what it is in memory, and what is left to be written without it.
+-- A single cached entry: its bytes in memory, and the patches without it.
 use Rattle.std.proofs.Common.{◌≡◌, ◌≢◌, ℕ, ◌+◌, ◌*◌, ◌<◌, refl, ap, sym, subst, ◌∙◌, append-nil, List, [], ◌∷◌, ◌++◌, length, true, false}
 use Rattle.std.specs.Prelude.{slice_index}
 use Rattle.std.specs.List.{AllByRecursion, filter_map}
@@ -17,7 +17,7 @@ use Rattle.qcow2_alloc.specs.WellFormedness.{WellFormed}
 use Rattle.qcow2_alloc.proofs.Memory.EntryKinds.{EntryKind, AreEntries, IsSafeMemory, table_kind, block_kind, patch_of, patches-all, safe-in-memory, safe-of}
 use Rattle.qcow2_alloc.proofs.Memory.Patches.{all-append, all-front, all-back, all-weaker, all-both, others-before, others-behind, places-differ, table-is-patch, block-is-patch, table-clear-of-block, block-clear-of-table}
 
--- What is known of a kind: what is to be written, that it touches no byte of the other kind, and what is safe.
+-- The laws of an entry kind: its patches, their distance from the other kind's bytes, and well-formedness.
 pub record EntryLaws {V W : Type 0} (kind : EntryKind V W) : Type 0 where
   pub written : (h : Fields) (rest : List (ℕ × Slot W)) (es : List (ℕ × Slot V)) → patches h (kind.put rest es)
       ≡ kind.ahead (cluster_size h) rest ++ (filter_map (patch_of kind (cluster_size h)) es ++ kind.behind (cluster_size h) rest)
@@ -81,7 +81,7 @@ module _ {V W : Type 0} (kind : EntryKind V W) (laws : EntryLaws kind) where
     abbrev g : Bytes
     g = memory f H.fields (kind.put rest (front ++ (key, slot) ∷ back))
 
-    -- what is to be written, with this between what is of the entries around it:
+    -- The patches, with those of this entry between those of the entries around it.
     around : (es : List (ℕ × Slot V)) (middle : List Patch) → patched es ≡ patched front ++ (middle ++ patched back)
         → patches H.fields (kind.put rest es) ≡ before ++ (middle ++ after)
     around es middle is =
@@ -97,26 +97,24 @@ module _ {V W : Type 0} (kind : EntryKind V W) (laws : EntryLaws kind) where
     with-it s middle here = around (front ++ (key, s) ∷ back) middle
         (filter_map-append (patch_of kind (cluster_size H.fields)) front ((key, s) ∷ back) ∙ ap (λ (l : List Patch). patched front ++ l) here)
 
-    -- where it is modified,
+    -- A dirty entry has one patch.
     patches-with : kind.writes.modified slot.value ≡ true → patches H.fields (kind.put rest (front ++ (key, slot) ∷ back)) ≡ before ++ (own ∷ after)
     patches-with modified = with-it slot (own ∷ []) (rw modified refl)
 
-    -- where it is not,
+    -- A clean entry has none.
     patches-without : (s : Slot V) → kind.writes.modified s.value ≡ false → patches H.fields (kind.put rest (front ++ (key, s) ∷ back)) ≡ before ++ after
     patches-without s clean = with-it s [] (rw clean refl)
 
-    -- and once it has left
     patches-left : patches H.fields (kind.put rest (front ++ back)) ≡ before ++ after
     patches-left = around (front ++ back) [] (filter_map-append (patch_of kind (cluster_size H.fields)) front back)
 
-    -- One that isn't modified leaves memory as it was.
     pub entry-leaves : kind.writes.modified slot.value ≡ false → memory f H.fields (kind.put rest (front ++ back)) ≡ g
     entry-leaves clean = ap (λ (ps : List Patch). over f ps) (patches-left ∙ sym (patches-without slot clean))
 
     abbrev IsAway : Patch → Type 0
     IsAway = IsClear (key * cluster_size H.fields) (length (kind.bytes slot.value))
 
-    -- One that is modified:
+    -- A dirty entry.
     module _ (was : IsConsistent f H) (fits : kind.Fits f H.fields key slot.value) (modified : kind.writes.modified slot.value ≡ true)
         (others : AllByRecursion (λ (e : ℕ × Slot W). kind.OtherFits f H.fields e.0 e.1.value) rest) where
       clear-own : (es : List (ℕ × Slot V)) → AllByRecursion (λ e. key ≢ e.0) es
@@ -130,18 +128,17 @@ module _ {V W : Type 0} (kind : EntryKind V W) (laws : EntryLaws kind) where
         clear-before : AllByRecursion IsAway before
         clear-before = all-append _ _ _ (laws.clear f H was key slot.value fits modified rest others).0 (clear-own front apart are)
 
-        -- memory has its bytes at its cluster,
         shows : (k : ℕ) → k < length (kind.bytes slot.value) → g (key * cluster_size H.fields + k) ≡ slice_index (kind.bytes slot.value) k
         shows k lt = ap (λ (ps : List Patch). over f ps (key * cluster_size H.fields + k)) (patches-with modified) ∙ over-shows f before own after clear-before k lt
 
-        -- over what is there without it.
+        -- Memory is that of the other entries, with this entry spliced in.
         pub entry-over : g ≡ splice (memory f H.fields (kind.put rest (front ++ back))) (key * cluster_size H.fields) (kind.bytes slot.value)
         unfolding over
         entry-over =
             ap (λ (ps : List Patch). over f ps) (patches-with modified) ∙ over-first f before own after clear-before
             ∙ ap (λ (ps : List Patch). splice (over f ps) (key * cluster_size H.fields) (kind.bytes slot.value)) (sym patches-left)
 
-    -- The same where all is safe.
+    -- The same facts, from `WellFormed`.
     module _ (order : CacheDependency) (well_formed : WellFormed f H (kind.put rest (front ++ (key, slot) ∷ back)) order) where
       pub are-safe : AreEntries (kind.Fits f H.fields) (front ++ (key, slot) ∷ back)
       are-safe = laws.own f H order rest (front ++ (key, slot) ∷ back) well_formed
@@ -170,14 +167,14 @@ module _ {V W : Type 0} (kind : EntryKind V W) (laws : EntryLaws kind) where
             (clear-own well_formed.consistent entry-fits modified others-safe.fit back (others-behind key slot front back are-safe.apart) back-fit.1)
             (laws.clear f H well_formed.consistent key slot.value entry-fits modified rest others-safe.fit).1
 
-        -- Once it is written, and not modified, memory is what it was.
+        -- Writing the entry and making it clean doesn't change memory.
         pub entry-settled : (settled : Slot V) → kind.writes.modified settled.value ≡ false
             → memory (splice f (key * cluster_size H.fields) (kind.bytes slot.value)) H.fields (kind.put rest (front ++ (key, settled) ∷ back)) ≡ g
         entry-settled settled clean =
             ap (λ (ps : List Patch). over (splice f (key * cluster_size H.fields) (kind.bytes slot.value)) ps) (patches-without settled clean)
             ∙ over-settled f before own after clear-after ∙ ap (λ (ps : List Patch). over f ps) (sym (patches-with modified))
 
-  -- What is safe stays so with other entries, where memory is the same.
+  -- Replacing entries keeps `WellFormed` if memory doesn't change.
   pub safe-with : (f : Bytes) (H : Header) (order : CacheDependency) (rest : List (ℕ × Slot W)) (old new : List (ℕ × Slot V)) → WellFormed f H (kind.put rest old) order
       → memory f H.fields (kind.put rest new) ≡ memory f H.fields (kind.put rest old) → AreEntries (kind.Fits f H.fields) new → WellFormed f H (kind.put rest new) order
   safe-with f H order rest old new well_formed same are = laws.well_formed f H order rest new well_formed.consistent are (laws.others f H order rest old well_formed)

@@ -1,4 +1,4 @@
--- The cache of L2 tables, beside that of blocks.
+-- The cache of L2 tables as a side, next to the cache of refcount blocks.
 use Rattle.std.proofs.Common.{◌≡◌, ℕ, ◌*◌, ◌^◌, ◌≤◌, refl, arith, ap, sym, subst, ◌∙◌, List, inl, inr, length, Some, None, Result, Ok, Err}
 use Rattle.std.proofs.lemmas.Bool.{cases_lt}
 use Rattle.std.proofs.lemmas.Bool.Decides.{nat_tests}
@@ -35,7 +35,6 @@ use Rattle.qcow2_alloc.proofs.Flushing.EntriesAfterWrites.{table-kept}
 use Rattle.qcow2_alloc.proofs.Memory.EntryKinds.{table_kind}
 use Rattle.qcow2_alloc.proofs.Memory.SafeLaws.{safe-reach}
 
--- A load that wasn't cut off leaves the count of faults as it was.
 pub load-counted : (kind : Kind) (layout : Layout) (raw_entries : List ℕ) (old new : ℕ) (fault : Fault) → WhyNotLoaded kind layout raw_entries old new fault → IsNotResourceError fault → new ≡ old
 load-counted kind layout raw_entries old new (Limit n) why not_resource_error = why.2
 load-counted kind layout raw_entries old new DamagedTable why not_resource_error = why.1
@@ -50,7 +49,7 @@ table-load-counted h key old (Err fault) new loaded not_resource_error = elim (c
   | inr reach ↦ load-counted l2_table_kind (layout_of h) (l2_words_in old h key) old.faults new.faults fault (loaded.err reach) not_resource_error
 ]
 
--- what is known of a load's answer
+-- The fault counts and causes of a load.
 table-loading : (h : Fields) (key : ℕ) (old : StorageState) (answer : Result TableValue Fault) (new : StorageState) → TableLoaded h key old answer new
     → (old.faults ≤ new.faults) × FailsFor (search_causes (IsTableFine (bytes_of new.bytes) h key) ⊥ old.faults new.faults) answer
 table-loading h key old (Ok table) new loaded = (loaded.counts_not_fallen, loaded.faults)
@@ -78,7 +77,6 @@ table-loading h key old (Err fault) new loaded = (
         omega (arith, long, small, is, more)
     by-fault other why = absurd why
 
--- A table of the file fits.
 loaded-fits : (h : Fields) (key : ℕ) (old : StorageState) (value : TableValue) (new : StorageState) → TableLoaded h key old (Ok value) new → Shaped h → IsCachedTable (bytes_of old.bytes) h key value
 loaded-fits h key old value new loaded shaped = record {
   fits = loaded.ok.2;
@@ -117,7 +115,7 @@ module _ {S : Type 0} (state : S → StorageState) where
   }
 
   module _ (old : MetadataCaches S) (before : ImageFile S) (answer : Result Unit Fault) (mid : MetadataCaches S) (between : ImageFile S) where
-    -- what blocks are written for
+    -- Blocks are flushed first, if the write order demands it.
     pub blocks-first : WritesBackCached before.header (order_of old) Always (answer ≡ Ok tt) (state before.image) (cached_in old) (state between.image) (cached_in mid) → written (cached_in mid) ≡ written (cached_in old)
         → OnOk answer (ReadyTables (order_of mid) (cached_in mid)) → ((order_of old ≡ L2DependsOnRb → ⊥) → (answer ≡ Ok tt) × (mid ≡ old) × (between ≡ before))
         → (mid.l2 ≡ old.l2) × (mid.order ≡ old.order) × (between.header ≡ before.header) → HasRoomOf old mid

@@ -1,4 +1,4 @@
--- A cached block is flushed.
+-- Flushing a cached refcount block.
 use Rattle.std.proofs.Common.{◌≡◌, ℕ, ◌*◌, ◌^◌, ◌<◌, refl, ap, sym, subst, ◌∙◌, List, true, false, length, Result, Option, Some, Bool}
 use Rattle.std.specs.Prelude.{slice_index}
 use Rattle.imago_storage.specs.State.{StorageState}
@@ -20,11 +20,11 @@ use Rattle.qcow2_alloc.proofs.Flushing.EntryFlushes.{done_so, entry-clean, kind-
 use Rattle.qcow2_alloc.proofs.Flushing.BlockWriteBacks.{cached-block-written}
 use Rattle.qcow2_alloc.proofs.Memory.EntryKinds.{block_kind, blocks_with}
 
--- a refusal changes nothing of a block that was modified
+-- A failed write leaves a dirty block unchanged.
 noted : (b : Block) (key : ℕ) → b.cluster ≡ Some key → b.modified ≡ true → record b { cluster = Some key; modified = true } ≡ b
 noted b key placed modified = ap (λ (c : Option ℕ). record b { cluster = c; modified = true }) (sym placed) ∙ ap (λ (m : Bool). record b { modified = m }) (sym modified)
 
--- Whatever it is, where it wasn't cut off.
+-- The flush of any block, dirty or clean.
 pub block-flushed : (H : Header) (order : CacheDependency) (tables : List (ℕ × Slot TableValue)) (front : List (ℕ × Slot Block)) (key : ℕ) (here : Slot Block) (back : List (ℕ × Slot Block)) (old new : StorageState)
     → (result : Result Unit Fault) (value : Block) → BlockFlushed old key here.value result new value
     → WritesBackCached H order (ReadyBlocks order) (HadNoResourceError result) old (blocks_with tables front key here back) new (blocks_with tables front key (record here { value = value }) back)
@@ -39,6 +39,5 @@ block-flushed H order tables front key here back old new =
     is-bytes : (result : Result Unit Fault) (done : BlockPut here.value (key * 2 ^ here.value.cluster_bits) old new result) → done.bytes ≡ block_bytes here.value.order here.value.counters
     is-bytes result done = bytes-only here.value.order here.value.counters done.bytes done.packs
 
--- One that is flushed isn't modified then.
 pub flushed-clean : (key : ℕ) (b : Block) (old new : StorageState) (b' : Block) → BlockFlushed old key b done_so new b' → b'.modified ≡ false
 flushed-clean = entry-clean written_blocks (λ b key. refl)

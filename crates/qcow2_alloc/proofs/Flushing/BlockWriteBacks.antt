@@ -1,4 +1,4 @@
--- A modified block is written to its cluster: the file stays consistent, and what is cached stays safe.
+-- Writing a dirty block to its cluster keeps the file consistent and the caches well-formed.
 use Rattle.std.proofs.Common.{◌≡◌, ◌≢◌, ℕ, ◌+◌, ◌*◌, ◌/◌, ◌^◌, ◌<◌, ◌≤◌, refl, arith, ap, sym, subst, ◌∙◌, List, length, true, false, inl, inr}
 use Rattle.std.specs.Prelude.{Some, ◌⊎◌, slice_index}
 use Rattle.std.proofs.lemmas.Bool.{cases_eq}
@@ -82,7 +82,7 @@ module _ (f : Bytes) (H : Header) (tables : List (ℕ × Slot TableValue)) (fron
   keeps = let some : 0 < cluster_size H.fields = pow_pos H.fields.cluster_bits in
       block-kept f H well_formed.consistent r there x (block_at f H.fields r) (length bytes) (omega (arith, some, all)) outside (omega arith) (omega (arith, all))
 
-  -- what its clusters are counted is what memory says
+  -- In the file, the clusters of this block now have the refcounts that they have in memory.
   counts-here : (c : ℕ) → c / counters_of_block H.fields ≡ r → (block_at x H.fields r ≡ block_at f H.fields r) → count x H.fields c ≡ count g H.fields c
   counts-here c own kept_place = sym (count-same x g H.fields c fits
       (subst (λ b. block_at g H.fields b ≡ block_at x H.fields b) (sym own) (places.blocks r ∙ sym kept_place))
@@ -92,7 +92,7 @@ module _ (f : Bytes) (H : Header) (tables : List (ℕ × Slot TableValue)) (fron
   same_place : block_at x H.fields r ≡ block_at f H.fields r
   same_place = block_at-kept f x H.fields (block r) keeps r (λ e. cc)
 
-  -- while no table is modified, words mean in memory what they do in the file
+  -- If all tables are clean, L2 entries mean the same in memory and in the file.
   words-kept : AreTablesClean (blocks_with tables front key here back) → KeepsSlots f g H.fields
   words-kept clean = record {
     places = places;
@@ -123,7 +123,7 @@ module _ (f : Bytes) (H : Header) (tables : List (ℕ × Slot TableValue)) (fron
   between : IsBetween f x g H.fields
   between = between-kept f x g H.fields written.keeps
 
-  -- cached tables, and blocks at other places, fit the file as before
+  -- Cached tables, and blocks at other clusters, fit the file as before.
   table-kept : (cluster : ℕ) (other : TableValue) → IsCachedTable f H.fields cluster other → IsCachedTable x H.fields cluster other
   table-kept cluster other = table-still f x H.fields between.places cluster (λ k j at live. keeps.raw_entries k j live (λ e. cc)) other
 
@@ -155,7 +155,6 @@ module _ (f : Bytes) (H : Header) (tables : List (ℕ × Slot TableValue)) (fron
       clean = λ m live. counters_same ∙ sym (subst (λ t. counters_in x H.fields t ≡ here.value.counters) place counters-read);
     }
 
-    -- What is cached stays safe.
     pub cached-block-written : EntryWritten f (splice f (key * cluster_size H.fields) (block_bytes here.value.order here.value.counters)) H order (blocks_with tables front key here back) (blocks_with tables front key settled back)
     cached-block-written = entry-written block_kind block-kind-laws f H order tables front key here back well_formed modified (block_at f H.fields r) place
         written.consistent between (ordered-by order refl well_formed.ordered) block-kept-at table-kept settled clean settled-is

@@ -1,4 +1,4 @@
--- What writes leave of cached tables and blocks.
+-- Cached tables and blocks after a flush.
 use Rattle.std.proofs.Common.{◌≡◌, ℕ, refl, ap, ◌∙◌, Bool, true, false, ◌*◌, ◌^◌, arith, Result, Ok, Err, inl, inr}
 use Rattle.std.proofs.lemmas.Bool.{cases_Bool, cases_lt}
 use Rattle.imago_storage.specs.State.{StorageState}
@@ -11,7 +11,7 @@ use Rattle.qcow2_alloc.specs.declared.async_lru_cache.Slot.{Slot}
 use Rattle.qcow2_alloc.specs.Backends.{Flushed, WrittenKind, TableFlushed, BlockFlushed, written_tables, written_blocks}
 use Rattle.qcow2_alloc.specs.Memory.{written_table, written_block}
 
--- whatever kind it is of, where its marks are nothing of it:
+-- For any entry kind, if `written` ignores the dirty flag.
 entry-kept : {V : Type 0} (kind : WrittenKind V) (written : ℕ × Slot V → ℕ × Slot V) → ((key : ℕ) (slot : Slot V) (modified : Bool) → written (key, record slot { value = kind.marked slot.value key modified }) ≡ written (key, slot))
     → (key : ℕ) (slot : Slot V) (old : StorageState) (result : Result Unit Fault) (new : StorageState) (v' : V) → Flushed kind old key slot.value result new v' → written (key, record slot { value = v' }) ≡ written (key, slot)
 entry-kept kind written marks key slot old result new v' flushed = elim (cases_Bool (kind.modified slot.value)) [
@@ -30,12 +30,10 @@ entry-kept kind written marks key slot old result new v' flushed = elim (cases_B
     by-answer (Ok done) flushed modified reach = as-one (kind.marked slot.value key false) (flushed.ok modified) (marks key slot false)
     by-answer (Err fault) flushed modified reach = as-one (kind.marked slot.value key true) (flushed.err modified reach) (marks key slot true)
 
--- a table
 pub table-kept : (key : ℕ) (slot : Slot TableValue) (old : StorageState) (result : Result Unit Fault) (new : StorageState) (t' : TableValue) → TableFlushed old key slot.value result new t'
     → written_table (key, record slot { value = t' }) ≡ written_table (key, slot)
 table-kept = entry-kept written_tables written_table (λ key slot modified. refl)
 
--- and a block
 pub block-kept : (key : ℕ) (slot : Slot Block) (old : StorageState) (result : Result Unit Fault) (new : StorageState) (b' : Block) → BlockFlushed old key slot.value result new b'
     → written_block (key, record slot { value = b' }) ≡ written_block (key, slot)
 block-kept = entry-kept written_blocks written_block (λ key slot modified. refl)

@@ -1,4 +1,4 @@
--- A cached entry is flushed, of whatever kind.
+-- Flushing a cached entry of any kind.
 use Rattle.std.proofs.Common.{◌≡◌, ℕ, ◌+◌, ◌-◌, ◌*◌, ◌^◌, ◌<◌, arith, ap, sym, subst, ◌∙◌, List, ◌∷◌, ◌++◌, inl, inr, true, false, length, Result, Ok, Err, refl}
 use Rattle.std.specs.Prelude.{◌⊎◌, ⊤, IsTrue, slice_index}
 use Rattle.std.proofs.lemmas.Bool.{cases_Bool, cases_lt}
@@ -26,7 +26,6 @@ use Rattle.qcow2_alloc.proofs.Flushing.WriteSequences.{going-none, going-weaker,
 use Rattle.qcow2_alloc.proofs.Flushing.EntryWriteBacks.{EntryWritten}
 use Rattle.qcow2_alloc.proofs.Memory.EntryKinds.{EntryKind}
 
--- a splice of lists is one of files
 pub spliced-bytes : (old : List ℕ) (at : ℕ) (bytes new : List ℕ) → Spliced old at bytes new → bytes_of new ≡ splice (bytes_of old) at bytes
 spliced-bytes old at bytes new spliced = fun_ext (λ p. elim (cases_lt p at) [
   | inl before ↦ spliced.before p before ∙ sym (splice-outside (bytes_of old) at bytes p (inl before))
@@ -39,18 +38,17 @@ spliced-bytes old at bytes new spliced = fun_ext (λ p. elim (cases_lt p at) [
   ]
 ])
 
--- where no change was refused by a call that made no request, the file is what it was
+-- If a call makes no request and has no change refused, the file is unchanged.
 pub calm-same : (old new : StorageState) → new.shape ≡ old.shape → new.crash_image ≡ old.crash_image → (HasRisen old.refusals new.refusals ⊎ (CrashImageIsBytes old → CrashImageIsBytes new)) → IsTrue old.shape.keeps → NoChangeRefused old new → new.bytes ≡ old.bytes
 calm-same old new shape stop in_step keeps no_change_refused = elim in_step [
   | inl rose ↦ absurd (no_change_refused.no_change_refused rose)
   | inr stays ↦ sym (stays no_change_refused.crash_image_is_bytes (tells_on old new shape no_change_refused.tells) (keeps_on old new shape keeps)) ∙ stop ∙ no_change_refused.crash_image_is_bytes no_change_refused.tells keeps
 ]
 
--- a flush that succeeded
 abbrev pub done_so : Result Unit Fault
 done_so = Ok tt
 
--- What is known of the write: a refusal changes nothing of what was modified; something is written; and once it is, that is settled.
+-- The laws of the write: a failure leaves a dirty entry unchanged, the write isn't empty, and success settles the entry.
 module _ {V : Type 0} (kind : WrittenKind V) (H : Header) (order : CacheDependency) (Ready : Cached → Type 0) (put : Slot V → Cached) (key : ℕ) (here : Slot V) (old new : StorageState)
     (ready : (slot : Slot V) → Ready (put here) → Ready (put slot))
     (noted : kind.modified here.value ≡ true → WellFormed (bytes_of old.bytes) H (put here) order → kind.marked here.value key true ≡ here.value)
@@ -59,14 +57,14 @@ module _ {V : Type 0} (kind : WrittenKind V) (H : Header) (order : CacheDependen
     × (kind.modified here.value ≡ true → WellFormed (bytes_of old.bytes) H (put here) order → 0 < length bytes))
     (there : kind.modified here.value ≡ true → kind.Puts here.value (key * 2 ^ kind.cluster_bits here.value) old new done_so → IsTrue old.shape.keeps → WellFormed (bytes_of old.bytes) H (put here) order → Ready (put here)
     → IsSettled H order old.bytes (put here) new.bytes (put (record here { value = kind.marked here.value key false }))) where
-  -- what is cached with another value there
+  -- The cached entries, with another value here.
   abbrev now : V → Cached
   now value = put (record here { value = value })
 
   abbrev Goes : Type 0 → V → Type 0
   Goes ok value = WritesBackCached H order Ready ok old (put here) new (now value)
 
-  -- one that is written
+  -- The write succeeds.
   entry-put : kind.modified here.value ≡ true → kind.Puts here.value (key * 2 ^ kind.cluster_bits here.value) old new done_so → Goes (done_so ≡ done_so) (kind.marked here.value key false)
   entry-put modified done =
       let p = puts done_so done in
@@ -86,7 +84,7 @@ module _ {V : Type 0} (kind : WrittenKind V) (H : Header) (order : CacheDependen
         holds = λ keeps well_formed r why. there modified done keeps well_formed r;
       }
 
-  -- one that is refused
+  -- The write fails.
   entry-refused : (fault : Fault) → kind.modified here.value ≡ true → (answer : Result Unit Fault) → answer ≡ Err fault → kind.Puts here.value (key * 2 ^ kind.cluster_bits here.value) old new answer
       → Goes (answer ≡ done_so) (kind.marked here.value key true)
   entry-refused fault modified (Ok done) is refused = absurd (cc is)
@@ -107,7 +105,7 @@ module _ {V : Type 0} (kind : WrittenKind V) (H : Header) (order : CacheDependen
         ];
       }
 
-  -- one that needn't be, or can't be
+  -- Nothing is written: the entry is clean, or isn't addressable.
   entry-stays : (ok : Type 0) (value : V) → new ≡ old → value ≡ here.value → Goes ok value
   entry-stays ok value same same' =
       subst (λ (s : StorageState). WritesBackCached H order Ready ok old (put here) s (now value)) (sym same)
@@ -124,7 +122,7 @@ module _ {V : Type 0} (kind : WrittenKind V) (H : Header) (order : CacheDependen
       going-weaker H order Ready (Err fault ≡ done_so) (IsNotResourceError fault) old new (put here) (now value)
       (λ not_resource_error. absurd (never-mild old.faults new.faults fault (puts (Err fault) (flushed.written modified reach)).1.put.answer.cause not_resource_error)) (by-answer (Err fault) value modified reach flushed)
 
-  -- Whatever it is, where it wasn't cut off.
+  -- All cases together.
   pub entry-flushed : (result : Result Unit Fault) (value : V) → Flushed kind old key here.value result new value → Goes (HadNoResourceError result) value
   entry-flushed result value flushed = elim (cases_Bool (kind.modified here.value)) [
     | inr clean ↦ let none = flushed.clean clean in entry-stays (HadNoResourceError result) value none.1 none.2
@@ -134,7 +132,7 @@ module _ {V : Type 0} (kind : WrittenKind V) (H : Header) (order : CacheDependen
     ]
   ]
 
--- The same of an L2 table or a refcount block, by what is known of its write.
+-- The flush of an L2 table or a refcount block, from the laws of its write.
 module _ {V W : Type 0} (kind : EntryKind V W) (laws : EntryLaws kind) (H : Header) (order : CacheDependency) (Ready : Cached → Type 0)
     (rest : List (ℕ × Slot W)) (front : List (ℕ × Slot V)) (key : ℕ) (here : Slot V) (back : List (ℕ × Slot V)) (old new : StorageState) where
   abbrev before : Cached
@@ -175,7 +173,6 @@ module _ {V W : Type 0} (kind : EntryKind V W) (laws : EntryLaws kind) (H : Head
     kind-flushed = entry-flushed kind.writes H order Ready (λ slot. kind.put rest (front ++ (key, slot) ∷ back)) key here old new ready
         (λ modified well_formed. noted modified (fits well_formed)) (λ result put. (kind.bytes here.value, puts result put, some)) there
 
--- One that is flushed isn't modified then.
 pub entry-clean : {V : Type 0} (kind : WrittenKind V) → ((v : V) (key : ℕ) → kind.modified (kind.marked v key false) ≡ false) → (key : ℕ) (v : V) (old new : StorageState) (v' : V) → Flushed kind old key v done_so new v' → kind.modified v' ≡ false
 entry-clean kind off key v old new v' flushed = elim (cases_Bool (kind.modified v)) [
   | inr clean ↦ ap (λ (w : _). kind.modified w) (flushed.clean clean).2 ∙ clean

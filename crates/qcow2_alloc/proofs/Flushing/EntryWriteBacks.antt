@@ -1,4 +1,4 @@
--- A modified entry is written to its cluster: what is cached stays safe where the file stays consistent.
+-- Writing a dirty entry to its cluster. If the file stays consistent, the caches stay well-formed.
 use Rattle.std.proofs.Common.{◌≡◌, ◌≢◌, ℕ, ◌+◌, ◌*◌, ◌<◌, arith, sym, subst, List, ◌∷◌, ◌++◌, length, true, false}
 use Rattle.std.specs.Prelude.{nat_eq, slice_index}
 use Rattle.std.specs.List.{AllByRecursion, IsDistinct}
@@ -17,7 +17,7 @@ use Rattle.qcow2_alloc.proofs.Memory.EntryKinds.{EntryKind, IsSafeMemory}
 use Rattle.qcow2_alloc.proofs.Memory.FittingWords.{written-either}
 use Rattle.qcow2_alloc.proofs.Memory.Patches.{all-append, all-front, all-back, all-weaker, all-both, others-before, others-behind}
 
--- One was written to file f, which is x then.
+-- The entry was written to file `f`, which is now `x`.
 pub record EntryWritten (f x : Bytes) (H : Header) (order : CacheDependency) (cached cached' : Cached) : Type 0 where
   pub well_formed : WellFormed x H cached' order
   pub memory_same : memory x H.fields cached' ≡ memory f H.fields cached
@@ -33,7 +33,6 @@ module _ {V W : Type 0} (kind : EntryKind V W) (laws : EntryLaws kind) (f : Byte
   abbrev x : Bytes
   x = splice f place (kind.bytes here.value)
 
-  -- It fills its cluster, as memory shows.
   pub fills : length (kind.bytes here.value) ≡ cluster_size H.fields
   fills = (laws.is_patch f H well_formed.consistent key here.value (entry-fits kind laws f H rest front key here back order well_formed) modified).long
 
@@ -41,7 +40,7 @@ module _ {V W : Type 0} (kind : EntryKind V W) (laws : EntryLaws kind) (f : Byte
   shown k less = subst (λ t. slice_index (kind.bytes here.value) k ≡ g (t + k)) (sym at)
       (sym (entry-shows kind laws f H rest front key here back order well_formed modified k (omega (arith, less, fills))))
 
-  -- Each entry at another place, and each of the other kind, fits as before.
+  -- Entries at other clusters, and all of the other kind, still fit.
   module _ (consistent : IsConsistent x H) (between : IsBetween f x g H.fields) (ordered : IsOrdered order x g H.fields)
       (kept : (cluster : ℕ) (v : V) → key ≢ cluster → kind.Fits f H.fields cluster v → kind.Fits x H.fields cluster v)
       (others : (cluster : ℕ) (w : W) → kind.OtherFits f H.fields cluster w → kind.OtherFits x H.fields cluster w) where

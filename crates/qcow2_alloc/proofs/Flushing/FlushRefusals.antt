@@ -1,4 +1,4 @@
--- Why cached tables and blocks weren't written.
+-- The causes of failed flushes.
 use Rattle.std.proofs.Common.{◌≡◌, ℕ, ◌*◌, ◌^◌, ◌≤◌, arith, ap, sym, subst, ◌∙◌, List, [], ◌∷◌, inl, inr, Bool, true, false, Option, Some, None, Result, Ok, Err}
 use Rattle.std.specs.Prelude.{IfSome, not, cond, ◌&&◌}
 use Rattle.std.specs.List.{AllByRecursion}
@@ -21,11 +21,11 @@ use Rattle.qcow2_alloc.specs.Going.{IsNotResourceError, HadNoResourceError, writ
 use Rattle.qcow2_alloc.proofs.Causes.{Implies, cause-weaker, storage-cause}
 use Rattle.qcow2_alloc.proofs.Flushing.FaultlessCalls.{faultless-same, faultless-then, mild-later, put-faultless}
 
--- A cause of a write is one of each call that made it, where that says why something was out of reach.
+-- A cause of a write is a cause of each call that made the write.
 pub writing-implies : {reach : Type 0} {b c : ℕ} → (new : Causes) → new.before ≤ b → c ≤ new.after → ((reach → ⊥) → new.damaged) → Implies (writing_causes reach b c) new
 writing-implies new le le' far = record { before = le; after = le'; damaged = far; counter = absurd; full = absurd; limit = λ number. absurd }
 
--- Where all that is written is in reach, a write that wasn't cut off is not refused.
+-- If all dirty entries are addressable, a write only fails with a resource error.
 pub never-refused : (reach : Type 0) (a b : ℕ) (fault : Fault) → reach → IsNotResourceError fault → HasCause (writing_causes reach a b) fault → ⊥
 never-refused reach a b Memory near not_resource_error why = not_resource_error
 never-refused reach a b Storage near not_resource_error why = not_resource_error
@@ -36,13 +36,12 @@ put-counted : (reach : Type 0) (old new : StorageState) (at : ℕ) (bytes : List
 put-counted reach old new at bytes (Ok done) put = put.put.answer.faults
 put-counted reach old new at bytes (Err fault) put = storage-cause _ _ _ (omega arith) (omega arith) fault put.put.answer.cause
 
--- the same, with a count that hasn't fallen, and stays where the storage didn't cut it off
+-- The causes of the result. The fault count doesn't fall, and rises only with a resource error.
 pub record Counted (reach : Type 0) (old new : StorageState) (result : Result Unit Fault) : Type 0 where
   pub counts : FailsFor (writing_causes reach old.faults new.faults) result
   pub rising : old.faults ≤ new.faults
   pub faults : HadNoResourceError result → IsFaultless old new
 
--- where nothing is written
 none-counted : (reach : Type 0) (old new : StorageState) (result : Result Unit Fault) → new ≡ old → result ≡ Ok tt → Counted reach old new result
 none-counted reach old new result same done = record {
   counts = subst (λ (r : Result Unit Fault). FailsFor (writing_causes reach old.faults new.faults) r) (sym done) (ap (λ (s : StorageState). s.faults) same);
@@ -57,7 +56,7 @@ far-counted reach old new result far same refused = record {
   faults = λ whole. faultless-same old new same;
 }
 
--- One is flushed, of a kind that is written by one request:
+-- An entry is flushed, of a kind that is written by one request.
 entry-counted : {V : Type 0} (kind : WrittenKind V) → ((v : V) (place : ℕ) (old new : StorageState) (result : Result Unit Fault) → kind.Puts v place old new result → (bytes : List ℕ) × AtomicWriteOutcome old new place bytes result)
     → (key : ℕ) (v : V) (old new : StorageState) (result : Result Unit Fault) (v' : V) → Flushed kind old key v result new v' → Counted (kind.modified v ≡ true → IsAddressable (kind.cluster_bits v) key) old new result
 entry-counted kind puts key v old new result v' flushed = elim (cases_Bool (kind.modified v)) [
@@ -68,12 +67,10 @@ entry-counted kind puts key v old new result v' flushed = elim (cases_Bool (kind
   ]
 ]
 
--- a table,
 pub table-counted : (key : ℕ) (t : TableValue) (old new : StorageState) (result : Result Unit Fault) (t' : TableValue) → TableFlushed old key t result new t'
     → Counted (t.modified ≡ true → IsAddressable t.layout.cluster_bits key) old new result
 table-counted = entry-counted written_tables (λ t place old new result put. (table_bytes t.raw_entries, put))
 
--- or a block.
 pub block-counted : (key : ℕ) (b : Block) (old new : StorageState) (result : Result Unit Fault) (b' : Block) → BlockFlushed old key b result new b'
     → Counted (b.modified ≡ true → IsAddressable b.cluster_bits key) old new result
 block-counted = entry-counted written_blocks (λ b place old new result put. (put.bytes, put.put))
@@ -81,7 +78,7 @@ block-counted = entry-counted written_blocks (λ b place old new result put. (pu
 -- All entries of a cache are flushed.
 module _ {V D : Type 0} (state : D → StorageState) (flushes : D → ℕ → V → Result Unit Fault → D → V → Type 0) (Reach : ℕ → V → Type 0)
     (step : (old : D) (key : ℕ) (value : V) (result : Result Unit Fault) (new : D) (value' : V) → flushes old key value result new value' → Counted (Reach key value) (state old) (state new) result) where
-  -- what is known of the fault that is reported
+  -- The causes of the reported fault.
   abbrev Outcome : Type 0 → ℕ → ℕ → Option Fault → Type 0
   Outcome reach before after None = after ≡ before
   Outcome reach before after (Some fault) = HasCause (writing_causes reach before after) fault

@@ -1,4 +1,4 @@
--- A cached table is flushed.
+-- Flushing a cached L2 table.
 use Rattle.std.proofs.Common.{◌≡◌, ℕ, ◌^◌, refl, ap, sym, ◌∙◌, List, true, false, Result, Option, Some, Bool}
 use Rattle.imago_storage.specs.State.{StorageState}
 use Rattle.imago_storage.specs.declared.fault.Fault.{Fault}
@@ -16,11 +16,11 @@ use Rattle.qcow2_alloc.proofs.Flushing.EntryFlushes.{done_so, entry-clean, kind-
 use Rattle.qcow2_alloc.proofs.Flushing.TableWriteBacks.{cached-table-written}
 use Rattle.qcow2_alloc.proofs.Memory.EntryKinds.{table_kind, tables_with}
 
--- a refusal changes nothing of a table that was modified
+-- A failed write leaves a dirty table unchanged.
 noted : (t : TableValue) (key : ℕ) → t.cluster ≡ Some key → t.modified ≡ true → record t { cluster = Some key; modified = true } ≡ t
 noted t key placed modified = ap (λ (c : Option ℕ). record t { cluster = c; modified = true }) (sym placed) ∙ ap (λ (m : Bool). record t { modified = m }) (sym modified)
 
--- Whatever it is, where it wasn't cut off.
+-- The flush of any table, dirty or clean.
 pub table-flushed : (H : Header) (order : CacheDependency) (front : List (ℕ × Slot TableValue)) (key : ℕ) (here : Slot TableValue) (back : List (ℕ × Slot TableValue)) (blocks : List (ℕ × Slot Block)) (old new : StorageState)
     → (result : Result Unit Fault) (value : TableValue) → TableFlushed old key here.value result new value
     → WritesBackCached H order (ReadyTables order) (HadNoResourceError result) old (tables_with front key here back blocks) new (tables_with front key (record here { value = value }) back blocks)
@@ -30,6 +30,5 @@ table-flushed H order front key here back blocks old new =
     (λ modified put well_formed ready. cached-table-written (bytes_of old.bytes) H front key here back blocks order well_formed modified ready
     (record here { value = record here.value { cluster = Some key; modified = false } }) refl refl refl refl)
 
--- One that is flushed isn't modified then.
 pub flushed-clean : (key : ℕ) (t : TableValue) (old new : StorageState) (t' : TableValue) → TableFlushed old key t done_so new t' → t'.modified ≡ false
 flushed-clean = entry-clean written_tables (λ t key. refl)

@@ -1,4 +1,4 @@
--- A modified table is written to its cluster: the file stays consistent, and what is cached stays safe.
+-- Writing a dirty table to its cluster keeps the file consistent and the caches well-formed.
 use Rattle.std.proofs.Common.{◌≡◌, ◌≢◌, ℕ, ◌+◌, ◌*◌, ◌/◌, ◌^◌, ◌<◌, ◌≤◌, refl, arith, ap, sym, subst, ◌∙◌, List, length, true, false, inl, inr}
 use Rattle.std.specs.Prelude.{Some, slice_index, IsFalse}
 use Rattle.std.proofs.lemmas.Bool.{not-true}
@@ -41,7 +41,7 @@ use Rattle.qcow2_alloc.proofs.Memory.MemoryWords.{find-table, places-in-memory, 
 table-number : (i k : ℕ) → table i ≡ table k → i ≡ k
 table-number i k same = cc
 
--- what a modified table's words are in memory
+-- The entries of a dirty table, in memory.
 module _ (f : Bytes) (H : Header) (order : CacheDependency) (front : List (ℕ × Slot TableValue)) (key : ℕ) (here : Slot TableValue) (back : List (ℕ × Slot TableValue)) (blocks : List (ℕ × Slot Block))
     (well_formed : WellFormed f H (tables_with front key here back blocks) order) (modified : here.value.modified ≡ true) where
   this-table : IsCachedTable f H.fields key here.value
@@ -60,7 +60,6 @@ module _ (f : Bytes) (H : Header) (order : CacheDependency) (front : List (ℕ �
       let fits : 8 * j + 8 ≤ cluster_size H.fields = words-fit H.fields j lt in
       omega (arith, whole, bits, fits)
 
-  -- each word is the table's
   pub word-here : (j : ℕ) → j < entries_of_cluster H.fields → raw_entry (memory f H.fields (tables_with front key here back blocks)) (key * cluster_size H.fields) j ≡ slice_index here.value.raw_entries j
   word-here j lt =
       let g : Bytes = memory f H.fields (tables_with front key here back blocks) in
@@ -70,7 +69,7 @@ module _ (f : Bytes) (H : Header) (order : CacheDependency) (front : List (ℕ �
       word-same (splice f (key * cluster_size H.fields) (table_bytes here.value.raw_entries)) (memory f H.fields (tables_with front key here back blocks)) (key * cluster_size H.fields) (cluster_size H.fields) j same (words-fit H.fields j lt)
       ∙ table-over f (key * cluster_size H.fields) here.value.raw_entries j this-table.fits.fit (word-within j lt)
 
--- Each word in memory has a meaning.
+-- All L2 entries in memory are valid.
 module _ (f : Bytes) (H : Header) (order : CacheDependency) where
   sound-here : (front : List (ℕ × Slot TableValue)) (key : ℕ) (here : Slot TableValue) (back : List (ℕ × Slot TableValue)) (blocks : List (ℕ × Slot Block)) → WellFormed f H (tables_with front key here back blocks) order → here.value.modified ≡ true
       → (i j : ℕ) → Live (l2_table f H.fields) H.fields i j → key * cluster_size H.fields ≡ l2_table f H.fields i
@@ -169,7 +168,7 @@ module _ (f : Bytes) (H : Header) (front : List (ℕ × Slot TableValue)) (key :
       (memory-sound f H order (tables_with front key here back blocks) well_formed) well_formed.apart
       (counted-by order ordered well_formed.ordered)
 
-  -- cached tables at other places, and blocks, fit the file as before
+  -- Cached tables at other clusters, and blocks, fit the file as before.
   table-kept : (cluster : ℕ) (other : TableValue) → key ≢ cluster → IsCachedTable f H.fields cluster other → IsCachedTable x H.fields cluster other
   table-kept cluster other apart =
       table-still f x H.fields between.places cluster
@@ -205,7 +204,6 @@ module _ (f : Bytes) (H : Header) (front : List (ℕ × Slot TableValue)) (key :
             let bits : 2 ^ here.value.layout.cluster_bits ≡ cluster_size H.fields = ap (λ (l : Layout). 2 ^ l.cluster_bits) this.layout in
             sym (mul-div_left (length here.value.raw_entries) (omega arith)) ∙ ap (λ n. n / 8) (whole ∙ bits)
 
-    -- What is cached stays safe.
     pub cached-table-written : EntryWritten f (splice f (key * cluster_size H.fields) (table_bytes here.value.raw_entries)) H order (tables_with front key here back blocks) (tables_with front key settled back blocks)
     cached-table-written = entry-written table_kind table-kind-laws f H order blocks front key here back well_formed modified (l2_table f H.fields i) place
         consistent between ordered table-kept block-kept settled written settled-is

@@ -1,4 +1,4 @@
--- One turn of the entries, flushed from the last to the first.
+-- The loop over the entries, which are flushed from the last to the first.
 use Rattle.std.proofs.Common.{◌≡◌, ℕ, ◌-◌, ◌<◌, Bool, true, false, List, [], ◌∷◌, ◌++◌, Some, None, Option, Result, Ok, Err, length, arith, refl, ap, sym, subst, ◌∙◌}
 use Rattle.std.specs.Prelude.{slice_get, take, nat_lt, map, cond}
 use Rattle.std.proofs.Math.Seq.{take-append_seam}
@@ -58,7 +58,7 @@ module _ {K V D : Type 0} (eq : K → K → Bool) (laws : IsEquivalence eq) (flu
         entries = promoted_hit (eq key) es slot there w ∙ flushed_hit w;
       }
 
-  -- the last entry dropped, or first where it is pinned
+  -- The last entry is dropped, or moved to the front if it is pinned.
   pub dropped_pinned : nat_lt 0 last.pins ≡ true → DroppedLast es (promoted (eq key) es)
   dropped_pinned pinned = record {
     front = front;
@@ -75,7 +75,7 @@ module _ {K V D : Type 0} (eq : K → K → Bool) (laws : IsEquivalence eq) (flu
     entries = rw free (ap (λ (l : List (K × Slot V)). take (length l - 1) l) split ∙ front_taken);
   }
 
--- The last of entries with distinct keys goes first, with its own key, and these are distinct still.
+-- Moving the last entry to the front keeps the keys distinct.
 module _ {K V : Type 0} (eq : K → K → Bool) (laws : IsEquivalence eq) where
   abbrev key : K × Slot V → K
   key e = e.0
@@ -98,7 +98,7 @@ module _ {K V : Type 0} (eq : K → K → Bool) (laws : IsEquivalence eq) where
       by true = rotated d.front d.last (subst AreDistinct d.split distinct)
       by false = subst AreDistinct (append-nil d.front) (distinct_without key eq d.front d.last [] (subst AreDistinct d.split distinct))
 
--- what is left of the turn, and what was done
+-- The state of the flush loop: the entries to go, and those that are done.
 pub record Turning {K V D : Type 0} (flushes : D → K → V → Result Unit Fault → D → V → Type 0) (before : D) (es : List (K × Slot V)) (left : ℕ) (outcome : Option Fault) (after : D) (es' : List (K × Slot V)) : Type 0 where
   pub todo : List (K × Slot V)
   pub old : List (K × Slot V)
@@ -108,7 +108,7 @@ pub record Turning {K V D : Type 0} (flushes : D → K → V → Result Unit Fau
   pub flushed : FlushedEach flushes before old outcome after done
   pub count : length todo ≡ left
 
--- the last of the entries is the last of those that are left
+-- The last of the entries is the last of those to go.
 record Taken {X : Type 0} (done todo front : List X) (last : X) : Type 0 where
   pub rest : List X
   pub todo_is : todo ≡ rest ++ last ∷ []
@@ -141,7 +141,7 @@ module _ {K V D : Type 0} (flushes : D → K → V → Result Unit Fault → D �
         count = let n = ap (λ (l : List (K × Slot V)). length l) k.todo_is ∙ length-append k.rest (f.last ∷ []) in omega (arith, n, t.count);
       }
 
--- what is left of the turn in which entries are dropped
+-- The state of the loop that drops entries.
 pub record Dropping {K V : Type 0} (es : List (K × Slot V)) (left : ℕ) (es' : List (K × Slot V)) : Type 0 where
   pub todo : List (K × Slot V)
   pub old : List (K × Slot V)
@@ -161,13 +161,12 @@ module _ {K V : Type 0} where
         count = let n = ap (λ (l : List (K × Slot V)). length l) k.todo_is ∙ length-append k.rest (f.last ∷ []) in omega (arith, n, t.count);
       }
 
--- no fault of all is none of each
 pub none-later : (first : Option Fault) (result : Result Unit Fault) → latest first result ≡ None → (first ≡ None) × (result ≡ Ok tt)
 none-later first (Ok done) none = (none, refl)
 none-later None (Err fault) none = absurd (cc none)
 none-later (Some earlier) (Err fault) none = absurd (cc none)
 
--- What holds of each flush holds of all.
+-- A relation that each flush keeps is kept by the loop.
 module _ {K V D : Type 0} (flushes : D → K → V → Result Unit Fault → D → V → Type 0) where
   module _ (R : D → D → Type 0) (same : (d : D) → R d d) (both : (a b c : D) → R a b → R b c → R a c) (step : (old : D) (key : K) (value : V) (result : Result Unit Fault) (new : D) (value' : V) → flushes old key value result new value' → R old new) where
     pub each-related : (before : D) (es : List (K × Slot V)) (outcome : Option Fault) (after : D) (es' : List (K × Slot V)) → FlushedEach flushes before es outcome after es' → R before after
@@ -183,7 +182,7 @@ module _ {K V D : Type 0} (flushes : D → K → V → Result Unit Fault → D �
         subst (λ (l : List (K × Slot V)). AllByRecursion (λ x. Q x.1.value) l) (sym is)
         (step mid e.0 e.1.value after value (subst (λ (r : Result Unit Fault). flushes mid e.0 e.1.value r after value) both.1 flush), each-made before es first mid rest earlier both.0)
 
-  -- what a flush leaves of an entry is left of each
+  -- A property `left` that flushes keep for their entry is kept for all entries.
   module _ {X : Type 0} (left : K × Slot V → X) (step : (key : K) (slot : Slot V) (old : D) (result : Result Unit Fault) (new : D) (value' : V) → flushes old key slot.value result new value' → left (key, record slot { value = value' }) ≡ left (key, slot)) where
     pub each-kept : (before : D) (es : List (K × Slot V)) (outcome : Option Fault) (after : D) (es' : List (K × Slot V)) → FlushedEach flushes before es outcome after es' → map left es' ≡ map left es
     each-kept before [] outcome after es' flushed = ap (λ (l : List (K × Slot V)). map left l) flushed.2
@@ -192,7 +191,7 @@ module _ {K V D : Type 0} (flushes : D → K → V → Result Unit Fault → D �
         ∙ ap (λ (x : X). x ∷ map left rest) (step e.0 e.1 mid result after value flush)
         ∙ ap (λ (l : List X). left e ∷ l) (each-kept before es first mid rest earlier)
 
--- Flushes that are told of in other words are told of so together.
+-- Another description of each flush gives one of the loop.
 module _ {K V D E : Type 0} (state : D → E) (flushes : D → K → V → Result Unit Fault → D → V → Type 0) (others : E → K → V → Result Unit Fault → E → V → Type 0)
     (step : (old : D) (key : K) (value : V) (result : Result Unit Fault) (new : D) (value' : V) → flushes old key value result new value' → others (state old) key value result (state new) value') where
   pub each-told : (before : D) (es : List (K × Slot V)) (outcome : Option Fault) (after : D) (es' : List (K × Slot V)) → FlushedEach flushes before es outcome after es' → FlushedEach others (state before) es outcome (state after) es'

@@ -1,4 +1,4 @@
--- Writes of cached tables and blocks, one behind the other.
+-- Sequences of writes of cached tables and blocks.
 use Rattle.std.proofs.Common.{◌≡◌, ℕ, ◌≤◌, refl, arith, ap, sym, subst, ◌∙◌, List, [], ◌∷◌, ◌++◌, inl, inr, Option, None, Result, Ok, Err}
 use Rattle.std.specs.Prelude.{IsTrue}
 use Rattle.imago_storage.specs.State.{StorageState, HasRisen, CrashImageIsBytes, Shape}
@@ -22,11 +22,11 @@ use Rattle.qcow2_alloc.specs.Memory.{Cached, memory}
 use Rattle.qcow2_alloc.specs.WellFormedness.{WellFormed, IsCrashImage, NoChangeRefused, IsSettled}
 use Rattle.qcow2_alloc.specs.Going.{WritesBackCached, CachedStep, Always, InTurn}
 
--- A file may be left as it is,
+-- A consistent file is a crash image of itself.
 pub left-same : (f g : Bytes) (H : Header) → IsConsistent f H → IsCrashImage f g H f
 left-same f g H was = record { consistent = was; raw_entries = record { places = places-refl f H.fields; slots = λ i j live. inl refl }; bytes = λ p. inl refl }
 
--- and a file that is left behind one that is left is left.
+-- A crash image of a crash image is one of the first file.
 pub left-then : (f x g : Bytes) (H : Header) (y : Bytes) → IsCrashImage f g H x → IsCrashImage x g H y → IsCrashImage f g H y
 left-then f x g H y first second = record {
   consistent = second.consistent;
@@ -49,7 +49,6 @@ module _ (H : Header) (order : CacheDependency) (Ready : Cached → Type 0) wher
   pub settled-same : (f : List ℕ) (cached : Cached) → WellFormed (bytes_of f) H cached order → IsSettled H order f cached f cached
   settled-same f cached well_formed = record { well_formed = well_formed; memory_same = refl; left = left-same (bytes_of f) (memory (bytes_of f) H.fields cached) H well_formed.consistent }
 
-  -- none,
   pub going-none : (ok : Type 0) (old : StorageState) (cached : Cached) → WritesBackCached H order Ready ok old cached old cached
   going-none ok old cached = record {
     shape = refl;
@@ -67,7 +66,7 @@ module _ (H : Header) (order : CacheDependency) (Ready : Cached → Type 0) wher
     left = left-then (bytes_of a) (bytes_of b) (memory (bytes_of a) H.fields A) H (bytes_of c) first.left (subst (λ (g : Bytes). IsCrashImage (bytes_of b) g H (bytes_of c)) first.memory_same second.left);
   }
 
--- Some more, also where the first make ready for the second.
+-- Two sequences, where the first may establish the premise of the second.
 pub going-both-from : (H : Header) (order : CacheDependency) (Ready Ready' : Cached → Type 0) (ok ok' : Type 0) (a b c : StorageState) (A B C : Cached)
     → (IsTrue a.shape.keeps → WellFormed (bytes_of a.bytes) H A order → Ready A → IsSettled H order a.bytes A b.bytes B → Ready' B) → (Ready A → Ready C)
     → WritesBackCached H order Ready ok a A b B → WritesBackCached H order Ready' ok' b B c C → WritesBackCached H order Ready (ok × ok') a A c C
@@ -111,7 +110,6 @@ going-both-from H order Ready Ready' ok ok' a b c A B C from stays first second 
 pub going-both : (H : Header) (order : CacheDependency) (Ready : Cached → Type 0) (ok ok' : Type 0) (a b c : StorageState) (A B C : Cached) → WritesBackCached H order Ready ok a A b B → WritesBackCached H order Ready ok' b B c C → WritesBackCached H order Ready (ok × ok') a A c C
 going-both H order Ready ok ok' a b c A B C first second = going-both-from H order Ready Ready ok ok' a b c A B C (λ keeps well_formed r m. first.ready r) (λ r. second.ready (first.ready r)) first second
 
--- what succeeded may be said otherwise
 pub going-weaker : (H : Header) (order : CacheDependency) (Ready : Cached → Type 0) (ok ok' : Type 0) (a b : StorageState) (A B : Cached) → (ok' → ok) → WritesBackCached H order Ready ok a A b B → WritesBackCached H order Ready ok' a A b B
 going-weaker H order Ready ok ok' a b A B from h = record {
   shape = h.shape;
@@ -122,7 +120,7 @@ going-weaker H order Ready ok ok' a b A B from h = record {
   holds = λ keeps well_formed ready why. h.holds keeps well_formed ready (elim why [ inl done ↦ inl (from done) | inr no_change_refused ↦ inr no_change_refused ]);
 }
 
--- also from what is safe
+-- The success condition may rely on `WellFormed`.
 pub going-safely : (H : Header) (order : CacheDependency) (Ready : Cached → Type 0) (ok ok' : Type 0) (a b : StorageState) (A B : Cached) → (ok' → IsFaultless a b) → (WellFormed (bytes_of a.bytes) H A order → ok' → ok) → WritesBackCached H order Ready ok a A b B → WritesBackCached H order Ready ok' a A b B
 going-safely H order Ready ok ok' a b A B faultless from h = record {
   shape = h.shape;
@@ -156,7 +154,7 @@ module _ {V D : Type 0} (state : D → StorageState) (flushes : D → ℕ → V 
       → WritesBackCached H order Ready (outcome ≡ None) (state before) (put es) (state after) (put es')
   each-flushed = each-behind []
 
--- What is always so is so under any premise.
+-- A sequence without a premise holds under any premise.
 pub going-under : (H : Header) (order : CacheDependency) (P : Type 0) (ok : Type 0) (a b : StorageState) (A B : Cached) → WritesBackCached H order Always ok a A b B → WritesBackCached H order (λ _. P) ok a A b B
 going-under H order P ok a b A B h = record {
   shape = h.shape;
@@ -167,7 +165,7 @@ going-under H order P ok a b A B h = record {
   holds = λ keeps well_formed r. h.holds keeps well_formed tt;
 }
 
--- What may be written at once,
+-- The premise holds already.
 pub going-now : (H : Header) (order : CacheDependency) (Ready : Cached → Type 0) (ok : Type 0) (a b : StorageState) (A B : Cached) → Ready A → WritesBackCached H order Ready ok a A b B → WritesBackCached H order Always ok a A b B
 going-now H order Ready ok a b A B ready h = record {
   shape = h.shape;
@@ -178,12 +176,12 @@ going-now H order Ready ok a b A B ready h = record {
   holds = λ keeps well_formed r. h.holds keeps well_formed ready;
 }
 
--- or after calls that saw to it.
+-- The calls before establish the premise.
 pub going-ready : (H : Header) (order : CacheDependency) (Ready : Cached → Type 0) (ok ok' : Type 0) (a b c : StorageState) (A B C : Cached) → ok → Ready B → WritesBackCached H order Always ok a A b B → WritesBackCached H order Ready ok' b B c C → WritesBackCached H order Always ok' a A c C
 going-ready H order Ready ok ok' a b c A B C done ready first second =
     going-weaker H order Always (ok × ok') ok' a c A C (λ d. (done, d)) (going-both H order Always ok ok' a b c A B C first (going-now H order Ready ok' b c B C ready second))
 
--- So it goes on where the header and the order are what they were.
+-- The next step, under the same header and order.
 pub going-next : (Ready : CacheDependency → Cached → Type 0) (H H' : Header) (order order' : CacheDependency) (ok ok' : Type 0) (a b c : StorageState) (A B C : Cached) → H' ≡ H → order' ≡ order → ok → Ready order' B
     → WritesBackCached H order Always ok a A b B → WritesBackCached H' order' (Ready order') ok' b B c C → WritesBackCached H order Always ok' a A c C
 going-next Ready H H' order order' ok ok' a b c A B C header same done ready first second =
@@ -193,7 +191,7 @@ going-next Ready H H' order order' ok ok' a b c A B C header same done ready fir
 pub kept-same : (s : StorageState) → UnchangedButFaults s s
 kept-same s = record { shape = refl; bytes = refl; refusals = refl; crash_image = refl; past_crash_images = refl }
 
--- A call that makes no request, and after which what is cached is as safe.
+-- A call without a request that keeps the caches well-formed.
 pub going-quiet : (H : Header) (order : CacheDependency) (Ready : Cached → Type 0) (ok : Type 0) (a b : StorageState) (A B : Cached) → UnchangedButFaults a b → a.faults ≤ b.faults → (ok → b.faults ≡ a.faults) → (Ready A → Ready B)
     → (Ready A → WellFormed (bytes_of a.bytes) H A order → WellFormed (bytes_of a.bytes) H B order) → (Ready A → memory (bytes_of a.bytes) H.fields B ≡ memory (bytes_of a.bytes) H.fields A) → WritesBackCached H order Ready ok a A b B
 going-quiet H order Ready ok a b A B kept faults same-count ready safely same = record {
@@ -215,7 +213,7 @@ going-quiet H order Ready ok a b A B kept faults same-count ready safely same = 
     back : (P : Shape → Type 0) → P b.shape → P a.shape
     back P = subst P kept.shape
 
--- What is done in turn, where the first succeeded, and where it didn't.
+-- Two steps in turn: the first succeeds, or it fails.
 module _ (First Second : CachedStep) (a b : StorageState) (A B : Cached) where
   pub in-turn-both : (c : StorageState) (C : Cached) (result : Result Unit Fault) → First a A (Ok tt) b B → Second b B result c C → InTurn First Second a A result c C
   in-turn-both c C result first second = record { mid = b; between = B; answer = Ok tt; first = first; halted = λ e. absurd (cc e); second = λ done. second }

@@ -1,4 +1,4 @@
--- A cluster that waits to be freed is counted down.
+-- Decrementing the refcount of one cluster on the free list.
 use Rattle.std.proofs.Common.{◌≡◌, ◌≢◌, ℕ, ◌+◌, ◌-◌, ◌*◌, ◌/◌, ◌%◌, ◌<◌, ◌≤◌, refl, arith, ap, sym, subst, ◌∙◌, List, length, Option, None, Some, Result, Ok, Err, inl, inr}
 use Rattle.std.specs.Prelude.{◌⊎◌, ⊤, IsTrue, nat_eq, slice_index, MatchOption}
 use Rattle.std.specs.Map.{lookup}
@@ -49,7 +49,6 @@ use Rattle.qcow2_alloc.proofs.Caching.UnpinnedCaches.{KeepsPins, named-keeps}
 use Rattle.qcow2_alloc.proofs.Caching.Pins.{full-pinned}
 use Rattle.qcow2_alloc.proofs.GuestView.QuietFlushes.{quiet-none, used-quiet, flushes-quietly, quietly-weaker, memory-quietly}
 
--- The block that the refcount table in memory names stands where the file's does.
 pub named-there : (m : Metadata) (i key : ℕ) → IsSound m → referenced_block m.table i ≡ Some key → (block_at m.file m.header.fields i ≡ key * cluster_size m.header.fields) × (key ≢ 0)
 named-there m i key sound is = let named = named-block m.file m.header m.table i sound.table key sound.well_formed.consistent is in (named.place, named.some)
 
@@ -60,7 +59,7 @@ module _ {S : Type 0} (state : S → StorageState) (table : TableValue) where
   abbrev has_no_dirty_data : ℕ → ℕ
   has_no_dirty_data c = 0
 
-  -- A search of a block is quiet.
+  -- Searching for a block preserves the guest.
   pub search-calmly : (key : ℕ) (pending : List FreeEntry) (old : MetadataCaches S) (before : ImageFile S) (answer : Result Unit Fault) (mid : MetadataCaches S) (after : ImageFile S) → BlockFound state key old before answer mid after
       → PreservesGuest (NoErrorOrNoChangeRefused answer (state before.image) (state after.image)) has_no_dirty_data has_no_dirty_data (state before.image) (At old before pending) (state after.image) (At mid after pending)
   search-calmly key pending old before answer mid after found =
@@ -75,12 +74,12 @@ module _ {S : Type 0} (state : S → StorageState) (table : TableValue) where
       quietly-weaker _ (HadNoResourceError answer) has_no_dirty_data has_no_dirty_data (state before.image) (At old before pending) (state after.image) (At mid after pending) (λ sound whole. inl whole) (search-calmly key pending old before answer mid after found)
 
   module _ (c : ℕ) (pending pending' : List FreeEntry) where
-    -- what waits once the answer is known
+    -- The free list after the call.
     abbrev pub left : Result Unit Fault → List FreeEntry
     left (Ok done) = pending'
     left (Err fault) = pending
 
-    -- How the list changes: it loses the cluster once.
+    -- The free list loses one occurrence of the cluster.
     pub record LosesOne (old : MetadataCaches S) : Type 0 where
       pub one : (d : ℕ) → listed pending' d + one_at c d ≡ listed pending d
       pub metadata : (d : ℕ) → listed (metadata_in pending') d ≤ listed (metadata_in pending) d
@@ -97,7 +96,6 @@ module _ {S : Type 0} (state : S → StorageState) (table : TableValue) where
       caches-it : IsSound Was → CachesBlock Was.file Was.header.fields Was.cached key c block
       caches-it sound = let place = named-there Was (c / counters_of_block after.header.fields) key sound named in record { block_cached = there; counts = place.0; cluster_nonzero = place.1 }
 
-      -- what the counter is
       pub counter-is : IsSound Was → counted Was c ≡ slice_index block.counters index
       counter-is sound = cached-count Was.file Was.header Was.cached Was.order key c block sound.well_formed (caches-it sound)
 
@@ -113,7 +111,7 @@ module _ {S : Type 0} (state : S → StorageState) (table : TableValue) where
           free-quiet Was key c (slice_index block.counters index - 1) (record (cached_in mid) { blocks = hit (nat_eq key) (cached_in mid).blocks (with_counter block index (slice_index block.counters index - 1)) }) pending' sound loses.may
           (record { block = block; caches = caches-it sound; blocks = refl; tables = refl }) (is ∙ omega (arith, some)) loses.one loses.metadata
 
-      -- Once it is found it is lowered, or that is refused.
+      -- The block is found. Its counter is decremented, or that fails.
       pub lower-quietly : (ok : Type 0) (result : Result Unit Fault) (block' : Block) → DecrementsCounter index block result block'
           → PreservesGuest ok has_no_dirty_data has_no_dirty_data (state after.image) Was (state after.image) (At (with_blocks mid (hit (nat_eq key) (cached_in mid).blocks block')) after (left result))
       lower-quietly ok result block' lowers = memory-quietly ok has_no_dirty_data has_no_dirty_data (state after.image) Was _ (λ sound whole. elim (cases_lt index (length block.counters)) [
@@ -133,7 +131,6 @@ module _ {S : Type 0} (state : S → StorageState) (table : TableValue) where
           let one = here-one c in
           elim loses.may [ inl order ↦ waiting-covered Was c n sound order (omega (arith, own, one)) more | inr some ↦ metadata-covered Was c n sound some ]
 
-      -- Other clusters are counted as they were.
       pub others-counted : IsSound Was → (result : Result Unit Fault) (block' : Block) → DecrementsCounter index block result block' → (d : ℕ) → d ≢ c → counted (At (with_blocks mid (hit (nat_eq key) (cached_in mid).blocks block')) after (left result)) d ≡ counted Was d
       others-counted sound result block' lowers d away = elim (cases_lt index (length block.counters)) [
         | inr past ↦ same-counted (lowers.out past).1
@@ -153,7 +150,6 @@ module _ {S : Type 0} (state : S → StorageState) (table : TableValue) where
           same-counted same = subst (λ (b : Block). count (memory Was.file Was.header.fields (record (cached_in mid) { blocks = hit (nat_eq key) (cached_in mid).blocks b })) Was.header.fields d ≡ counted Was d) (sym same)
               (ap (λ g. count g Was.header.fields d) (block-used Was.file Was.header Was.cached Was.order key sound.well_formed block there).memory_same)
 
-      -- In a sound image there is the counter, and it isn't 0.
       pub counter-there : IsSound Was → (0 < listed pending c) → (index < length block.counters) × (0 < slice_index block.counters index)
       counter-there sound waits =
           let was = sound.covered c in
@@ -163,7 +159,7 @@ module _ {S : Type 0} (state : S → StorageState) (table : TableValue) where
           let long : length block.counters ≡ counters_of_block Was.header.fields = ap (λ (b : Block). length b.counters) (sym found.2) ∙ fits.long in
           (rw long (mod_below c (counters_of_block Was.header.fields) (some-counters Was.header.fields (shaped-in Was.file Was.header sound.well_formed.consistent))), omega (arith, was, is, waits))
 
-    -- It is found and lowered, or that is refused.
+    -- The block is searched for, and its counter decremented. Either may fail.
     module _ (old : MetadataCaches S) (before : ImageFile S) (result : Result Unit Fault) (new : MetadataCaches S) (after : ImageFile S) (loses : LosesOne old) where
       abbrev Old : Metadata
       Old = At old before pending
@@ -217,7 +213,7 @@ module _ {S : Type 0} (state : S → StorageState) (table : TableValue) where
       abbrev Holds : Type 0
       Holds = IsTrue (state before.image).shape.keeps × IsSound Old
 
-      -- Why it is refused, where the cluster waits.
+      -- The causes of a failure, if the cluster is on the list.
       abbrev Counts : Result Unit Fault → Type 0
       Counts q = FailsFor (freeing_causes Holds (HasUnpinnedSlot old) (state before.image).faults (state after.image).faults) q
 
@@ -266,7 +262,6 @@ module _ {S : Type 0} (state : S → StorageState) (table : TableValue) where
               let no : None ≡ Some there.key = sym named ∙ there.names in cc)
           by-name (Some key) named uses waits = by-uses key named uses waits
 
-      -- Other clusters are counted as they were.
       pub counts-stay : DecrementsCluster state table c (cached_file old before) result (cached_file new after) → Holds → Done → (d : ℕ) → d ≢ c → counted New d ≡ counted Old d
       counts-stay = by-name (referenced_block table (c / counters_of_block before.header.fields)) refl
         where

@@ -1,4 +1,4 @@
--- How many entries of a list of clusters to free have a cluster, as the list changes.
+-- The number of occurrences of a cluster on a free list, as the list changes.
 use Rattle.std.proofs.Common.{◌≡◌, ℕ, ◌+◌, ◌*◌, ◌<◌, ◌≤◌, arith, inl, inr, List, [], ◌∷◌, ◌++◌, length}
 use Rattle.std.specs.Prelude.{◌==◌, if◌then◌else◌}
 use Rattle.std.specs.List.{remove}
@@ -12,27 +12,21 @@ use Rattle.qcow2_types.specs.References.{meets}
 use Rattle.qcow2_types.specs.Pending.{FreeEntry}
 use Rattle.qcow2_alloc.specs.FreeList.{entry_at, shorter, tail_of, shortened, covers, listed}
 
--- a pushed entry counts beside the others
 pub listed_push : (entries : List FreeEntry) (e : FreeEntry) (c : ℕ) → listed (entries ++ e ∷ []) c ≡ listed entries c + covers c e
 listed_push entries e c = sum_by_push (covers c) entries e
 
--- an entry that was removed counts no more
 pub listed-remove : (entries : List FreeEntry) (index c : ℕ) → index < length entries → listed (remove entries index) c + covers c (entry_at entries index) ≡ listed entries c
 listed-remove entries index c inside = sum_by-remove (covers c) entries index _ inside
 
--- an entry of no clusters has none
 pub covers-none : (c : ℕ) (e : FreeEntry) → e.count ≡ 0 → covers c e ≡ 0
 covers-none c e none = grind (arith, nat_tests)
 
--- an entry of one cluster has that one
 pub covers-one : (c : ℕ) (e : FreeEntry) → e.count ≡ 1 → covers c e ≡ (if c == e.first then 1 else 0)
 covers-one c e one = grind (arith, nat_tests)
 
--- A cluster of an entry is one of its last n clusters, or one of the others.
 pub covers-parts : (e : FreeEntry) (n c : ℕ) → n ≤ e.count → covers c (shorter e n) + covers c (tail_of e n) ≡ covers c e
 covers-parts e n c enough = grind (arith, nat_tests)
 
--- of an entry that was shortened the last clusters count no more
 pub listed-shortened : (entries : List FreeEntry) (index n c : ℕ) → index < length entries → n ≤ (entry_at entries index).count → listed (shortened entries index n) c + covers c (tail_of (entry_at entries index) n) ≡ listed entries c
 listed-shortened entries index n c inside enough =
     let whole = entry_at entries index in
@@ -40,7 +34,6 @@ listed-shortened entries index n c inside enough =
     let parts : covers c (shorter whole n) + covers c (tail_of whole n) ≡ covers c whole = covers-parts whole n c enough in
     omega (arith, set, parts)
 
--- An entry has the clusters that its bytes meet.
 pub covers-meets : (h : Fields) (c : ℕ) (e : FreeEntry) → covers c e ≡ meets h c (e.first * cluster_size h) (e.count * cluster_size h)
 covers-meets h c e =
     let some : 0 < cluster_size h = pow_pos h.cluster_bits in

@@ -1,4 +1,4 @@
--- Entries of the list of clusters to free are counted down.
+-- Freeing the entries of the free list.
 use Rattle.std.proofs.Common.{◌≡◌, ◌≢◌, ℕ, ◌*◌, ◌^◌, ◌<◌, ◌≤◌, refl, arith, ap, sym, subst, ◌∙◌, List, length, Result, Ok, Err, true, inl, inr, Bool, ◌/◌, ◌%◌}
 use Rattle.std.specs.Prelude.{◌⊎◌, IsTrue, min}
 use Rattle.std.proofs.lemmas.List.{length-set}
@@ -41,7 +41,6 @@ use Rattle.imago_storage.proofs.Composing.{keeps_on}
 use Rattle.std.specs.List.{remove}
 use Rattle.std.proofs.lemmas.List.Edits.{length-remove}
 
--- No cluster is counted past the 64 bits of its number.
 far-uncounted : (m : Metadata) → IsSound m → (c : ℕ) → 2 ^ 64 ≤ c → counted m c ≡ 0
 far-uncounted m sound c far =
     let loads = sound.well_formed.consistent.readable.loads in
@@ -53,7 +52,7 @@ far-uncounted m sound c far =
     let both : refcount_table_entries m.header.fields * counters_of_block m.header.fields ≤ 2 ^ 20 * 2 ^ 24 = mul-le-mul limited.refcount_entries few in
     count-beyond (in_memory m) m.header.fields c some (omega (arith, both, far))
 
--- What waits may be listed otherwise.
+-- The free list may be replaced by one with the same clusters.
 waits-quiet : (m : Metadata) (es : List FreeEntry) → IsSound m → ((d : ℕ) → listed es d ≡ waiting m d) → ((d : ℕ) → listed (metadata_in es) d ≤ waiting_metadata m d) → IsSound (record m { pending = es }) × GuestUnchanged (λ _. 0) (λ _. 0) m (record m { pending = es })
 waits-quiet m es sound same less =
     let guest_unchanged = quiet-none m sound in (
@@ -84,7 +83,7 @@ module _ {S : Type 0} (state : S → StorageState) (table : TableValue) (es : Li
   fewer (Ok done) = let same = length-set es i (shorter (entry_at es i) 1) in omega (arith, same)
   fewer (Err fault) = omega arith
 
-  -- the mark once the answer is known
+  -- The first-free hint after the call.
   abbrev pub moved : ℕ → Result Unit Fault → ℕ
   moved mark (Ok done) = min mark c
   moved mark (Err fault) = mark
@@ -134,7 +133,7 @@ module _ {S : Type 0} (state : S → StorageState) (table : TableValue) (es : Li
         | inr away ↦ others away below
       ]
 
-  -- An entry past the greatest number isn't one of a sound image.
+  -- With `IsSound`, no entry has a cluster number of `2 ^ 64` or more.
   pub far-refused : (old : MetadataCaches S) (before : ImageFile S) (mark : ℕ) → 2 ^ 64 ≤ c → Frees state (with_first_free (image_state table old before es) mark) (Err DamagedTable) (with_first_free (image_state table old before es) mark)
   far-refused old before mark far =
       let m = metadata_of state before old table es in
@@ -153,18 +152,17 @@ module _ {S : Type 0} (state : S → StorageState) (table : TableValue) (es : Li
         cause = λ holds. let none = far-uncounted m holds.1 c far in let was = holds.1.covered c in let w = waits in omega (arith, none, was, w);
       }
 
--- What frees is refused for what refused a part of it,
+-- Causes of a step are causes of the free.
 pub freeing-weaker : {sound sound' loose loose' : Type 0} {a b c : ℕ} → (sound' → sound) → (loose' → loose) → b ≡ a → Implies (freeing_causes sound loose b c) (freeing_causes sound' loose' a c)
 freeing-weaker from from' same = record { before = omega (arith, same); after = omega arith; damaged = λ wrong s. wrong (from s); counter = λ wrong s. wrong (from s); full = λ none l. none (from' l); limit = λ number. absurd }
 
--- and what counts.
 pub unbarred-still : {sound sound' : Type 0} {loose loose' : Bool → Type 0} → (sound' → sound) → ((any : Bool) → loose' any → loose any) → IsUnbarred sound' loose' → IsUnbarred sound loose
 unbarred-still from from' u = (u.0, λ is. from (u.1 is), from' u.0 u.2)
 
 pub counting-weaker : {sound sound' : Type 0} {loose loose' : Bool → Type 0} {a b c : ℕ} → (sound' → sound) → ((any : Bool) → loose' any → loose any) → b ≡ a → Implies (counting_causes sound loose b c) (counting_causes sound' loose' a c)
 counting-weaker from from' same = freeing-weaker from (unbarred-still from from') same
 
--- The mark falls to what was freed, over more calls too.
+-- The first-free hint falls only to freed clusters, also over several calls.
 fallen-then : (mark mark1 mark2 : ℕ) (es es1 es2 : List FreeEntry) → ((d : ℕ) → listed es1 d ≤ listed es d) → ((d : ℕ) → listed es2 d ≤ listed es1 d) → (mark1 ≡ mark) ⊎ (listed es1 mark1 < listed es mark1) → (mark2 ≡ mark1) ⊎ (listed es2 mark2 < listed es1 mark2)
     → (mark2 ≡ mark) ⊎ (listed es2 mark2 < listed es mark2)
 fallen-then mark mark1 mark2 es es1 es2 less less' first second = elim second [
@@ -175,16 +173,13 @@ fallen-then mark mark1 mark2 es es1 es2 less less' first second = elim second [
   ]
 ]
 
--- a call that succeeded
 abbrev pub freed : Result Unit Fault
 freed = Ok tt
 
--- and one that was refused
 abbrev pub failed : Fault → Result Unit Fault
 failed fault = Err fault
 
 module _ {S : Type 0} (state : S → StorageState) where
-  -- None,
   pub frees-none : (s : AllocatorState S) → Frees state s freed s
   frees-none s =
       let m = metadata state s.image in
@@ -203,7 +198,6 @@ module _ {S : Type 0} (state : S → StorageState) where
         cause = refl;
       }
 
-  -- and some more.
   pub frees-then : (a b : AllocatorState S) (result : Result Unit Fault) (c : AllocatorState S) → Frees state a freed b → Frees state b result c → Frees state a result c
   frees-then a b result c first second =
       let on : IsTrue (state a.file.image).shape.keeps → IsTrue (state b.file.image).shape.keeps = keeps_on (state a.file.image) (state b.file.image) first.guest_unchanged.shape in
@@ -234,7 +228,7 @@ module _ {S : Type 0} (state : S → StorageState) where
         | inr no_change_refused ↦ inr (calm-behind _ (λ _. 0) (λ _. 0) (state a.file.image) (metadata state a.image) (state b.file.image) (metadata state b.image) (state c.file.image) keeps sound first.guest_unchanged second.guest_unchanged.counts_not_fallen no_change_refused)
       ]
 
-  -- An entry of no clusters is taken off the list.
+  -- An entry without clusters is removed from the list.
   pub empty-removed : (s : AllocatorState S) (i : ℕ) → i < length s.pending → (entry_at s.pending i).count ≡ 0 → Frees state s freed (with_first_free (image_state s.table s.caches s.file (remove s.pending i)) s.mark)
   empty-removed s i inside none =
       let m = metadata state s.image in
@@ -257,7 +251,7 @@ module _ {S : Type 0} (state : S → StorageState) where
         cause = refl;
       }
 
--- An entry that was shortened may be freed as before.
+-- A shortened entry may be freed like the entry before.
 pub may-still : (es : List FreeEntry) (i n : ℕ) → i < length es → (now : List FreeEntry) (order order' : CacheDependency) → now ≡ shortened es i n → order' ≡ order → MayFree order (entry_at es i) → MayFree order' (entry_at now i)
 may-still es i n inside now order order' is same may = elim may [
   | inl kind ↦ inl (ap (λ (l : List FreeEntry). (entry_at l i).metadata) is ∙ ap (λ (e : FreeEntry). e.metadata) (entry-shortened es i n inside) ∙ kind)

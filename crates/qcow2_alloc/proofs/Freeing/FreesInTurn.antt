@@ -1,4 +1,4 @@
--- All entries are freed, once the order is announced.
+-- Freeing all entries, after the write order is set.
 use Rattle.std.proofs.Common.{◌≡◌, ℕ, ◌<◌, ◌≤◌, refl, arith, ap, sym, subst, ◌∙◌, List, [], ◌∷◌, length, Result, Ok, Err, Bool, true, false, zero, suc, Some, None, inl, inr}
 use Rattle.std.specs.Prelude.{◌⊎◌, ⊤, IsTrue, not, OnOk, OnErr}
 use Rattle.std.specs.List.{filter, remove, position, position_or_len, prefix_len}
@@ -34,7 +34,7 @@ use Rattle.qcow2_alloc.proofs.GuestView.QuietAnnouncements.{announced-quietly, w
 use Rattle.qcow2_alloc.proofs.GuestView.QuietFlushes.{flushes-quietly, quietly-weaker}
 use Rattle.qcow2_alloc.proofs.Memory.SafeLaws.{safe-reach}
 
--- The order is announced.
+-- The order is set.
 module _ {S : Type 0} (state : S → StorageState) (s : AllocatorState S) (new : MetadataCaches S) (after : ImageFile S)
     (kept : written (cached_in new) ≡ written (cached_in s.caches)) (header : after.header ≡ s.file.header) (room : HasRoomOf s.caches new) where
   abbrev Old : Metadata
@@ -101,7 +101,6 @@ module _ {S : Type 0} (state : S → StorageState) (s : AllocatorState S) (new :
         cause = cause-weaker (writing-implies _ (omega arith) (omega arith) (λ far holds. far (safe-reach _ _ _ _ holds.1.well_formed).1)) fault why;
       }
 
--- The entries that held metadata are found one by one.
 pub metadata-found : (es : List FreeEntry) (i : ℕ) → position (λ (e : FreeEntry). e.metadata) es ≡ Some i → (i < length es) × ((entry_at es i).metadata ≡ true)
 metadata-found es i is = let p = position-Some (λ (e : FreeEntry). e.metadata) es i (record { first = 0; count = 0; metadata = false }) is in (p.0, p.1)
 
@@ -129,7 +128,6 @@ data-stays (e ∷ es) (suc i) inside is =
       | inr off ↦ filter-drops (λ (x : FreeEntry). not x.metadata) e (remove es i) off ∙ rest ∙ sym (filter-drops (λ (x : FreeEntry). not x.metadata) e es off)
     ]
 
--- None is found where none did.
 pub none-found : (es : List FreeEntry) (i : ℕ) → i < length es → (entry_at es i).metadata ≡ true → metadata_in es ≡ [] → ⊥
 none-found [] i inside is none = absurd (omega (arith, inside))
 none-found (e ∷ es) zero inside is none = let some = sym (filter-takes (λ (x : FreeEntry). x.metadata) e es is) ∙ none in cc some

@@ -1,4 +1,4 @@
--- What is left of a list of entries that are counted down, and in which order caches are written then.
+-- The entries that are left when freeing stops, and the write order at that point.
 use Rattle.std.proofs.Common.{◌≡◌, ℕ, ◌-◌, ◌<◌, refl, arith, ap, sym, subst, ◌∙◌, List, [], ◌∷◌, Bool, true, false, zero, suc, inl, inr, Result, Ok, Err}
 use Rattle.std.specs.Prelude.{OnOk, not}
 use Rattle.std.specs.List.{AllByRecursion, filter, remove}
@@ -12,17 +12,14 @@ use Rattle.qcow2_alloc.specs.Freeing.{data_in, IsSublist, IsRest, IsRestInTurn, 
 use Rattle.qcow2_alloc.specs.GuestView.{metadata_in}
 use Rattle.qcow2_alloc.proofs.Freeing.FreesInTurn.{filter-takes, filter-drops}
 
--- Each entry is left of all,
 pub sublist-all : (es : List FreeEntry) → IsSublist es es
 sublist-all [] = tt
 sublist-all (e ∷ es) = inl (refl, sublist-all es)
 
--- and what is left of some is left of more,
 sublist-more : (xs es : List FreeEntry) (e : FreeEntry) → IsSublist xs es → IsSublist xs (e ∷ es)
 sublist-more [] es e some = tt
 sublist-more (x ∷ xs) es e some = inr some
 
--- of what was left,
 pub sublist-then : (xs ys zs : List FreeEntry) → IsSublist xs ys → IsSublist ys zs → IsSublist xs zs
 sublist-then [] ys zs first second = tt
 sublist-then (x ∷ xs) [] zs first second = absurd first
@@ -35,14 +32,12 @@ sublist-then (x ∷ xs) (y ∷ ys) (z ∷ zs) first second = elim second [
   | inr rest ↦ inr (sublist-then (x ∷ xs) (y ∷ ys) zs first rest)
 ]
 
--- behind the removal of one,
 pub sublist-removed : (es : List FreeEntry) (i : ℕ) → IsSublist (remove es i) es
 sublist-removed [] zero = tt
 sublist-removed [] (suc i) = tt
 sublist-removed (e ∷ es) zero = sublist-more es es e (sublist-all es)
 sublist-removed (e ∷ es) (suc i) = inl (refl, sublist-removed es i)
 
--- and of those that pass a test.
 sublist-filtered : (test : FreeEntry → Bool) (es : List FreeEntry) → IsSublist (filter test es) es
 sublist-filtered test [] = tt
 sublist-filtered test (e ∷ es) = elim (cases_Bool (test e)) [
@@ -50,7 +45,7 @@ sublist-filtered test (e ∷ es) = elim (cases_Bool (test e)) [
   | inr off ↦ subst (λ l. IsSublist l (e ∷ es)) (sym (filter-drops test e es off)) (sublist-more (filter test es) es e (sublist-filtered test es))
 ]
 
--- an entry of guest data
+-- An entry of guest data.
 abbrev IsData : FreeEntry → Type 0
 IsData e = e.metadata ≡ false
 
@@ -78,7 +73,6 @@ no-metadata : (es : List FreeEntry) → AllByRecursion IsData es → metadata_in
 no-metadata [] all = refl
 no-metadata (e ∷ es) all = filter-drops (λ (x : FreeEntry). x.metadata) e es all.0 ∙ no-metadata es all.1
 
--- Guest data stays while an entry that held metadata is shortened.
 pub data-not-shortened : (es : List FreeEntry) (i n : ℕ) → (entry_at es i).metadata ≡ true → data_in (shortened es i n) ≡ data_in es
 data-not-shortened [] i n is = refl
 data-not-shortened (e ∷ es) zero n is = filter-drops (λ (x : FreeEntry). not x.metadata) (shorter e n) es (ap not is) ∙ sym (filter-drops (λ (x : FreeEntry). not x.metadata) e es (ap not is))
@@ -93,15 +87,12 @@ shortened-nowhere : (es : List FreeEntry) → es ≡ shortened es 0 0
 shortened-nowhere [] = refl
 shortened-nowhere (e ∷ es) = let same : e.count ≡ e.count - 0 = omega arith in ap (λ k. record { first = e.first; count = k; metadata = e.metadata } ∷ es) same
 
--- What is left is some entries,
 pub rest-whole : (old left : List FreeEntry) → IsSublist left old → IsRest old left
 rest-whole old left some = record { kept_entries = left; kept_from_old = some; index = 0; done = 0; short = shortened-nowhere left; more = inl refl }
 
--- of which one may be shortened.
 pub rest-shortened : (old kept left : List FreeEntry) (i n : ℕ) → IsSublist kept old → n < (entry_at kept i).count → left ≡ shortened kept i n → IsRest old left
 rest-shortened old kept left i n some less is = record { kept_entries = kept; kept_from_old = some; index = i; done = n; short = is; more = inr less }
 
--- Of guest data no metadata is left.
 pub rest-without-metadata : (old left : List FreeEntry) → IsRest (data_in old) left → metadata_in left ≡ []
 rest-without-metadata old left rest =
     subst (λ l. metadata_in l ≡ []) (sym rest.short) (no-metadata (shortened rest.kept_entries rest.index rest.done) (data-of-shortened rest.kept_entries rest.index rest.done (data-sublist rest.kept_entries (data_in old) rest.kept_from_old (data-alone old))))
@@ -119,19 +110,16 @@ rest-of-data old left rest = record {
   first = inl (rest-without-metadata old left rest);
 }
 
--- Nothing is left,
 pub rest-none : (old : List FreeEntry) → IsRestInTurn old []
 rest-none old = record { remains = rest-whole old [] tt; first = inl refl }
 
--- or guest data as it was,
 pub rest-with-data : (old left : List FreeEntry) → IsRest old left → data_in left ≡ data_in old → IsRestInTurn old left
 rest-with-data old left rest same = record { remains = rest; first = inr same }
 
--- or everything.
 pub rest-all : (old : List FreeEntry) → IsRestInTurn old old
 rest-all old = rest-with-data old old (rest-whole old old (sublist-all old)) refl
 
--- The order was announced once no metadata was left, as guest data waited that isn't in an external file.
+-- Once no metadata is left, the order was set, if guest data of this file was on the list.
 pub order-announced : (external : Bool) (pending left : List FreeEntry) (old : CacheDependency) (result : Result Unit Fault) (new : CacheDependency) → new ≡ RbDependsOnL2 → external ≡ false → (data_in pending ≡ [] → ⊥) → metadata_in left ≡ [] → OrdersFreeing external pending left old result new
 order-announced external pending left old result new turned inside some gone = record {
   either = inr turned;

@@ -1,4 +1,4 @@
--- The list of clusters to free as an entry gets shorter.
+-- The free list while an entry gets shorter.
 use Rattle.std.proofs.Common.{◌≡◌, ℕ, ◌+◌, ◌-◌, ◌<◌, ◌≤◌, refl, arith, ap, ◌∙◌, List, [], ◌∷◌, length, true, false, zero, suc, inl, inr}
 use Rattle.std.specs.Prelude.{slice_set}
 use Rattle.std.specs.List.{remove}
@@ -10,7 +10,6 @@ use Rattle.qcow2_alloc.specs.GuestView.{metadata_in, one_at}
 use Rattle.qcow2_alloc.proofs.Freeing.ClusterOccurrences.{listed-shortened, covers-parts, covers-one}
 use Rattle.qcow2_alloc.proofs.GuestView.QuietCounters.{here-one}
 
--- one entry more
 listed-cons : (e : FreeEntry) (es : List FreeEntry) (c : ℕ) → listed (e ∷ es) c ≡ covers c e + listed es c
 listed-cons e es c = sum_by-cons (covers c) e es
 
@@ -24,7 +23,6 @@ kept-or-not e e' rest rest' c kind less behind = elim (cases_Bool e.metadata) [
   | inr off ↦ let off' : e'.metadata ≡ false = kind ∙ off in rw (off, off') behind
 ]
 
--- an entry that covers less, of the same kind
 set-less : (es : List FreeEntry) (i c : ℕ) (e' : FreeEntry) → i < length es → e'.metadata ≡ (entry_at es i).metadata → covers c e' ≤ covers c (entry_at es i) → listed (metadata_in (slice_set es i e')) c ≤ listed (metadata_in es) c
 set-less [] i c e' inside kind less = absurd (omega (arith, inside))
 set-less (e ∷ es) zero c e' inside kind less = kept-or-not e e' es es c kind less (omega arith)
@@ -41,7 +39,7 @@ metadata-has (e ∷ es) (suc i) c inside kind some =
     ]
 
 module _ (es : List FreeEntry) (i : ℕ) (inside : i < length es) (some : 0 < (entry_at es i).count) where
-  -- the last cluster of the entry
+  -- The last cluster of the entry.
   abbrev pub last : ℕ
   last = (entry_at es i).first + ((entry_at es i).count - 1)
 
@@ -58,25 +56,21 @@ module _ (es : List FreeEntry) (i : ℕ) (inside : i < length es) (some : 0 < (e
       let here : one_at last last ≡ 1 = here-one last in
       metadata-has es i last inside kind (omega (arith, parts, one, here))
 
--- An entry that was shortened,
 pub entry-shortened : (es : List FreeEntry) (i n : ℕ) → i < length es → entry_at (shortened es i n) i ≡ shorter (entry_at es i) n
 entry-shortened [] i n inside = absurd (omega (arith, inside))
 entry-shortened (e ∷ es) zero n inside = refl
 entry-shortened (e ∷ es) (suc i) n inside = entry-shortened es i n (omega (arith, inside))
 
--- by none,
 pub shortened-none : (es : List FreeEntry) (i : ℕ) → i < length es → es ≡ shortened es i 0
 shortened-none [] i inside = refl
 shortened-none (e ∷ es) zero inside = let same : e.count ≡ e.count - 0 = omega arith in ap (λ k. record { first = e.first; count = k; metadata = e.metadata } ∷ es) same
 shortened-none (e ∷ es) (suc i) inside = ap (λ l. e ∷ l) (shortened-none es i (omega (arith, inside)))
 
--- and by one more,
 pub shortened-more : (es : List FreeEntry) (i n : ℕ) → shortened (shortened es i n) i 1 ≡ shortened es i (n + 1)
 shortened-more [] i n = refl
 shortened-more (e ∷ es) zero n = let less : e.count - n - 1 ≡ e.count - (n + 1) = omega arith in ap (λ k. record { first = e.first; count = k; metadata = e.metadata } ∷ es) less
 shortened-more (e ∷ es) (suc i) n = ap (λ l. e ∷ l) (shortened-more es i n)
 
--- and is removed.
 pub removed-shortened : (es : List FreeEntry) (i n : ℕ) → i < length es → remove (shortened es i n) i ≡ remove es i
 removed-shortened [] i n inside = refl
 removed-shortened (e ∷ es) zero n inside = refl

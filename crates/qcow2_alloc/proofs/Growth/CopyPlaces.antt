@@ -1,4 +1,4 @@
--- A grown copy of the refcount table is placed in a room, in memory.
+-- Placing a grown copy of the refcount table in a free area, in memory.
 use Rattle.std.proofs.Common.{◌≡◌, ◌≢◌, ℕ, ◌+◌, ◌-◌, ◌*◌, ◌/◌, ◌%◌, ◌^◌, ◌≤◌, arith, ap, sym, subst, ◌∙◌, length, Some, true}
 use Rattle.std.specs.Prelude.{IsTrue, slice_index}
 use Rattle.std.proofs.Math.Nat.{div-add-mod, mul-mod_left}
@@ -15,7 +15,6 @@ use Rattle.qcow2_alloc.specs.MakingBlocks.{CanReference}
 use Rattle.qcow2_alloc.specs.MovingTables.{clusters_of, LinksNewBlocks, IsCopyFor, IsPlan}
 use Rattle.qcow2_alloc.proofs.Growth.TableMoves.{cluster-words}
 
--- Whole clusters of words fill them.
 pub whole-fill : (h : Fields) (l : ℕ) → 9 ≤ h.cluster_bits → l % entries_of_cluster h ≡ 0 → 8 * l % 2 ^ h.cluster_bits ≡ 0
 whole-fill h l low whole =
     let parts = div-add-mod l (entries_of_cluster h) in
@@ -41,7 +40,7 @@ module _ (h : Fields) (table : TableValue) (run : Run) (grown placed copy : Tabl
   old-word : (i : ℕ) → slice_index placed.raw_entries i ≡ slice_index table.raw_entries i
   old-word i = ap (λ (t : TableValue). slice_index t.raw_entries i) there ∙ ap (λ (t : TableValue). slice_index t.raw_entries i) for.copied ∙ padded_at table.raw_entries (length grown.raw_entries) i
 
-  -- Its words are those of a table, as those of the grown copy were.
+  -- The entries of the copy are valid, like those of the grown copy before.
   is : IsTable refcount_table_kind copy
   is =
       names.table (subst (λ (t : TableValue). IsTable refcount_table_kind t) (sym there) (record { low = was.low; high = was.high; long = was.long; sound = was.sound; fit = was.fit }))

@@ -1,4 +1,4 @@
--- A copy of the refcount table is written, where its room was taken.
+-- Writing a copy of the refcount table, after its free area was taken.
 use Rattle.std.proofs.Common.{ℕ, ◌+◌, ◌<◌, ◌≤◌, refl, arith, Result}
 use Rattle.std.specs.Prelude.{IsTrue}
 use Rattle.imago_storage.specs.State.{StorageState}
@@ -26,7 +26,6 @@ use Rattle.qcow2_alloc.proofs.Memory.Patches.{shaped-in}
 use Rattle.qcow2_alloc.proofs.Growth.RoomAcquisition.{Given, Next, ours, sound-then, counts-then}
 use Rattle.qcow2_alloc.proofs.Blocks.NewBlockWrites.{put-counts}
 
--- The table is written, where the room was taken.
 module _ {S : Type 0} (state : S → StorageState) (s : ImageState S) (run : Run) (copy : TableValue)
     (C : MetadataCaches S) (fC : ImageFile S) (takes : TakesFreeArea state run s succeeded (image_state s.table C fC s.pending)) (plan : IsPlan fC.header.fields s.table run copy)
     (mid : S) (done : Result Unit Fault) (put : WriteOutcome (state fC.image) (state mid) (table_start copy) (table_bytes copy.raw_entries) done) where

@@ -1,4 +1,4 @@
--- A room for a refcount table wasn't filled: the image has the table that it had.
+-- A free area for a refcount table wasn't filled: the image keeps its table.
 use Rattle.std.proofs.Common.{◌≡◌, ℕ, ◌+◌, ◌/◌, ◌<◌, ◌≤◌, refl, arith, ◌∙◌, List, inl, inr, Err, Bool, true}
 use Rattle.std.specs.Prelude.{⊤, ◌⊎◌, ◌==◌, if◌then◌else◌, IsTrue, slice_index}
 use Rattle.std.proofs.lemmas.Bool.{cases_eq, cases_lt, ne_eqb}
@@ -34,7 +34,7 @@ use Rattle.qcow2_alloc.proofs.GuestView.QuietPremises.{quietly-given}
 use Rattle.qcow2_alloc.proofs.GuestView.QuietSequences.{quiet-otherwise}
 use Rattle.qcow2_alloc.proofs.GuestView.QuietFlushes.{memory-quietly, quiet-none}
 
--- What is known of counts that were raised by a part of a run: each was raised from 0 to 1.
+-- Counting a part of a run raised each refcount from 0 to 1.
 part-raised : (w a b : ℕ) (m m' : ℕ) (first len part c : ℕ) → part ≤ len → ((first ≤ c) → c < first + len → m ≡ 0) → m' ≡ m + (if w == 0 then 0 else covers c (run_of first part)) → (m' ≡ m) ⊎ ((m ≡ 0) × (m' ≡ 1))
 part-raised w a b m m' first len part c le zero is = elim (cases_eq w 0) [
   | inl none ↦ inl (is ∙ (let off : (if w == 0 then 0 else covers c (run_of first part)) ≡ 0 = rw none refl in omega (arith, off)))
@@ -49,7 +49,7 @@ part-raised w a b m m' first len part c le zero is = elim (cases_eq w 0) [
       ]
 ]
 
--- What a refused call has leaked, by its fault.
+-- The clusters that a failed call leaks: those of `handed` after `CacheFull`, otherwise none.
 abbrev leaked-by : Fault → (ℕ → ℕ) → ℕ → ℕ
 leaked-by CacheFull handed c = handed c
 leaked-by fault handed c = 0
@@ -81,7 +81,7 @@ module _ {S : Type 0} (state : S → StorageState) (was : ImageState S) (run : R
   abbrev Sound : Type 0
   Sound = known × Keeps × IsSound m0
 
-  -- Where the room wasn't filled the image has the table that it had.
+  -- Counting failed: the image keeps its table.
   module _ (fault : Fault) (D : MetadataCaches S) (fD : ImageFile S) (counts : CountsReferenced state run.first run.len was (failed fault) (image_state was.table D fD was.pending)) where
     abbrev mD : Metadata
     mD = metadata_of state fD D was.table was.pending
@@ -126,7 +126,7 @@ module _ {S : Type 0} (state : S → StorageState) (was : ImageState S) (run : R
       cause = why;
     }
 
--- Nothing was done.
+-- The call fails before it does anything.
 pub not-begun : {S : Type 0} (state : S → StorageState) (known : Type 0) (table : TableValue) (pending : List FreeEntry) (run : Run) (copy : TableValue) (caches : MetadataCaches S) (file : ImageFile S) (fault : Fault)
     → HasCause (counting_causes (known × IsTrue (state file.image).shape.keeps × IsSound (metadata_of state file caches table pending)) (HasUnpinnedRoom table caches) (state file.image).faults (state file.image).faults) fault
     → FillsFreeArea state known run copy (image_state table caches file pending) (failed fault) (image_state table caches file pending)

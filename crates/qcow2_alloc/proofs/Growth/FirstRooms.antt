@@ -1,4 +1,4 @@
--- How many blocks are lacking for a run, and the first room that holds them.
+-- The number of blocks that are missing for a run, and the first free area with space for them.
 use Rattle.std.proofs.Common.{◌≡◌, ◌≢◌, ℕ, zero, suc, ◌+◌, ◌-◌, ◌*◌, ◌/◌, ◌<◌, ◌≤◌, refl, arith, ap, sym, subst, ◌∙◌, inl, inr, Bool, true, false}
 use Rattle.std.specs.Prelude.{◌==◌, ◌&&◌, nat_le, nat_lt, slice_index}
 use Rattle.std.proofs.lemmas.Bool.{cases_Bool, cases_eq, cases_lt}
@@ -14,7 +14,6 @@ use Rattle.qcow2_alloc.specs.MakingRoom.{rank}
 use Rattle.qcow2_alloc.specs.SearchingClusters.{IsFirstRun}
 use Rattle.qcow2_alloc.proofs.Growth.LongerReftables.{rank-new, rank-old}
 
--- Of more that is asked there is no less,
 pub rank-more : (p q : ℕ → Bool) (N : ℕ) → ((i : ℕ) → i < N → p i ≡ true → q i ≡ true) → rank p N ≤ rank q N
 unfolding sum_below
 rank-more p q zero from = omega arith
@@ -35,7 +34,6 @@ rank-none : (p : ℕ → Bool) → rank p 0 ≡ 0
 unfolding sum_below
 rank-none p = refl
 
--- and of as many that hold nothing, as much,
 pub rank-stays : (p : ℕ → Bool) (a k : ℕ) → ((i : ℕ) → a ≤ i → i < a + k → p i ≡ false) → rank p (a + k) ≡ rank p a
 rank-stays p a zero none = ap (rank p) (omega arith)
 rank-stays p a (suc k) none =
@@ -43,7 +41,6 @@ rank-stays p a (suc k) none =
     let next : a + suc k ≡ suc (a + k) = omega arith in
     ap (rank p) next ∙ rank-old p (a + k) (none (a + k) (omega arith) (omega arith)) ∙ below
 
--- which is no less than before.
 pub rank-longer : (p : ℕ → Bool) (a k : ℕ) → rank p a ≤ rank p (a + k)
 rank-longer p a zero = let same : rank p (a + zero) ≡ rank p a = ap (rank p) (omega arith) in omega (arith, same)
 rank-longer p a (suc k) =
@@ -60,7 +57,6 @@ rank-next p N = elim (cases_Bool (p N)) [
   | inr none ↦ let a = rank-old p N none in omega (arith, a)
 ]
 
--- Of less, where one is gone, there is less.
 pub rank-fewer : (p q : ℕ → Bool) (k N : ℕ) → ((i : ℕ) → i < N → p i ≡ true → q i ≡ true) → k < N → q k ≡ true → p k ≡ false → rank p N + 1 ≤ rank q N
 unfolding sum_below
 rank-fewer p q k zero from inside there gone = absurd (omega (arith, inside))
@@ -81,7 +77,6 @@ rank-fewer p q k (suc N) from inside there gone = elim (cases_eq k N) [
       ]
 ]
 
--- Where one alone may be more, there is one more at most.
 pub rank-almost : (p q : ℕ → Bool) (k N : ℕ) → ((i : ℕ) → i ≢ k → q i ≡ true → p i ≡ true) → rank q N ≤ rank p N + 1
 unfolding sum_below
 rank-almost p q k zero from = omega arith
@@ -100,7 +95,7 @@ rank-almost p q k (suc N) from = elim (cases_eq k N) [
       ]
 ]
 
--- What is of the one or of the other is of a third, but for as many of the first as lie in a window.
+-- The counts of `p` and `q` together exceed that of `u` by at most the size of the window from `a` to `b`.
 pub rank-beside : (p q u : ℕ → Bool) (a b N : ℕ) → ((i : ℕ) → p i ≡ true → a ≤ i) → ((i : ℕ) → b ≤ i → p i ≡ true → (u i ≡ true) × (q i ≡ false)) → ((i : ℕ) → q i ≡ true → u i ≡ true) → ((i : ℕ) → q i ≡ true → b ≤ i)
     → rank p N + rank q N ≤ rank u N + (N - a - (N - b))
 unfolding sum_below
@@ -129,7 +124,6 @@ rank-beside p q u a b (suc N) low both from high =
           ]
     ]
 
--- What holds in a window of so many alone holds no more often.
 rank-window : (p : ℕ → Bool) (a M N : ℕ) → ((i : ℕ) → p i ≡ true → (a ≤ i) × (i < a + M)) → (rank p N ≤ N - a) × (rank p N ≤ M)
 unfolding sum_below
 rank-window p a M zero inside = (omega arith, omega arith)
@@ -160,7 +154,6 @@ tests-there w a i p z t some = grind (arith, nat_tests)
 tests-here : (w a i p z t : ℕ) → w ≡ 0 → a ≤ i → p < z + t → ((w == 0) && (nat_le a i && nat_lt p (z + t))) ≡ true
 tests-here w a i p z t none from to = grind (arith, nat_tests)
 
--- An index is no more than the first cluster of its block, and one behind the run's last block no more than its end.
 pub index-near : (i k end : ℕ) → 0 < k → i * k < end + k → i ≤ end
 index-near zero k end some near = omega arith
 index-near (suc i) k end some near =
@@ -172,7 +165,6 @@ index-near (suc i) k end some near =
     simp_suc a b = omega arith
 
 module _ (table : TableValue) (k : ℕ) where
-  -- What is lacking for a run is lacking for a longer one.
   lacks-longer : (z t t' i : ℕ) → t ≤ t' → lacks table k z t i ≡ true → lacks table k z t' i ≡ true
   lacks-longer z t t' i le is = tests-longer (block_offset (slice_index table.raw_entries i)) (z / k) i (i * k) z t t' le is
 
@@ -183,7 +175,7 @@ module _ (table : TableValue) (k : ℕ) where
       let at : rank (lacks table k z t') (z + t + (t' - t)) ≡ rank (lacks table k z t') (z + t') = ap (rank (lacks table k z t')) (omega (arith, le)) in
       omega (arith, more, on, at)
 
-  -- None is lacking before the block of its first cluster, nor behind that of its last one.
+  -- No block is missing before that of the first cluster, or after that of the last one.
   pub lacking-before : (z t : ℕ) → rank (lacks table k z t) (z / k) ≡ 0
   lacking-before z t =
       let on = rank-stays (lacks table k z t) 0 (z / k) (λ i from to. tests-before (block_offset (slice_index table.raw_entries i)) (z / k) i (i * k) z t (omega (arith, to))) in
@@ -197,11 +189,9 @@ module _ (table : TableValue) (k : ℕ) where
       let at : rank (lacks table k z t) (end + (z + t - end)) ≡ lacking table k z t = ap (rank (lacks table k z t)) (omega (arith, near)) in
       sym on ∙ at
 
-  -- What is lacking counts a cluster of the run.
   pub lacks-inside : (z t i : ℕ) → lacks table k z t i ≡ true → (z / k ≤ i) × (i * k < z + t)
   lacks-inside z t i is = tests-inside (block_offset (slice_index table.raw_entries i)) (z / k) i (i * k) z t is
 
-  -- and isn't there; where it isn't there and counts one, it is lacking.
   pub lacks-none : (z t i : ℕ) → lacks table k z t i ≡ true → block_offset (slice_index table.raw_entries i) ≡ 0
   lacks-none z t i is = elim (cases_eq (block_offset (slice_index table.raw_entries i)) 0) [
     | inl none ↦ none
@@ -211,14 +201,13 @@ module _ (table : TableValue) (k : ℕ) where
   pub lacks-so : (z t i : ℕ) → block_offset (slice_index table.raw_entries i) ≡ 0 → z / k ≤ i → i * k < z + t → lacks table k z t i ≡ true
   lacks-so z t i none from to = tests-here (block_offset (slice_index table.raw_entries i)) (z / k) i (i * k) z t none from to
 
-  -- What is counted one by one.
+  -- Counting missing blocks, index by index.
   pub lacking-there : (z t i : ℕ) → block_offset (slice_index table.raw_entries i) ≢ 0 → rank (lacks table k z t) (suc i) ≡ rank (lacks table k z t) i
   lacking-there z t i some = rank-old (lacks table k z t) i (tests-there (block_offset (slice_index table.raw_entries i)) (z / k) i (i * k) z t some)
 
   pub lacking-here : (z t i : ℕ) → block_offset (slice_index table.raw_entries i) ≡ 0 → z / k ≤ i → i * k < z + t → rank (lacks table k z t) (suc i) ≡ rank (lacks table k z t) i + 1
   lacking-here z t i none from to = rank-new (lacks table k z t) i (tests-here (block_offset (slice_index table.raw_entries i)) (z / k) i (i * k) z t none from to)
 
-  -- No more blocks are lacking than a run meets.
   pub lacking-few : 0 < k → (z t : ℕ) → lacking table k z t ≤ t / k + 2
   lacking-few some z t = (rank-window (lacks table k z t) (z / k) (t / k + 2) (z + t) (λ i is.
       let both = tests-inside (block_offset (slice_index table.raw_entries i)) (z / k) i (i * k) z t is in
@@ -238,7 +227,6 @@ module _ (table : TableValue) (k : ℕ) where
         ],
       ))).1
 
-  -- So a room for n clusters is short.
   pub needed-few : 64 ≤ k → (n : ℕ) (run : Run) → run.len ≤ 2 * n + 4 → needed_for table k n run ≤ 2 * n + 4
   needed-few wide n run few =
       let most = lacking-few (omega (arith, wide)) run.first run.len in
@@ -247,7 +235,7 @@ module _ (table : TableValue) (k : ℕ) where
       omega (arith, most, le, whole, few)
 
   module _ (counts : ℕ → ℕ) (from n : ℕ) where
-    -- The first run of the table alone may begin a room,
+    -- No free area begins before the first run.
     pub room-first : (start z : ℕ) → from ≤ start → ((y t : ℕ) → from ≤ y → y < start → IsFreeArea table k counts n y t → ⊥) → IsFirstRun counts start n z → IsFreeAreaSoFar table k counts from n (record { first = z; len = n })
     room-first start z le none run = record {
       not_before_start = let b = run.not_before_start in omega (arith, le, b);
@@ -265,7 +253,7 @@ module _ (table : TableValue) (k : ℕ) where
       short = λ t room. let is = room.enough in omega (arith, is);
     }
 
-    -- it grows by what is lacking for it,
+    -- The area grows by the missing blocks.
     pub room-longer : (was : Run) → IsFreeAreaSoFar table k counts from n was → IsFirstRun counts was.first (needed_for table k n was) was.first → IsFreeAreaSoFar table k counts from n (record { first = was.first; len = needed_for table k n was })
     room-longer was past run = record {
       not_before_start = past.not_before_start;
@@ -274,7 +262,7 @@ module _ (table : TableValue) (k : ℕ) where
       short = λ t room. let le = lacking-longer was.first was.len t (past.short t room) in let is = room.enough in omega (arith, le, is);
     }
 
-    -- and where that isn't free, none begins here.
+    -- If the longer area isn't free, no free area begins here.
     pub room-over : (was : Run) (z : ℕ) → IsFreeAreaSoFar table k counts from n was → IsFirstRun counts was.first (needed_for table k n was) z → z ≢ was.first → (y t : ℕ) → from ≤ y → y < was.first + 1 → IsFreeArea table k counts n y t → ⊥
     room-over was z past run apart y t above below room = elim (cases_eq y was.first) [
       | inr other ↦ past.least y t above (omega (arith, below, other)) room
@@ -290,7 +278,7 @@ module _ (table : TableValue) (k : ℕ) where
           omega (arith, zero, some)
     ]
 
-    -- Where nothing more is lacking it is the first room.
+    -- If no more blocks are missing, it is the first free area.
     pub room-found : (run : Run) → IsFreeAreaSoFar table k counts from n run → run.len ≡ needed_for table k n run → IsFirstFreeArea table k counts from n run.first run.len
     room-found run past enough = record {
       not_before_start = past.not_before_start;

@@ -1,4 +1,4 @@
--- The refcount table grows once the order of writes was announced.
+-- Growing the refcount table, after the write order is set.
 use Rattle.std.proofs.Common.{inl, ◌≡◌, ℕ, ◌++◌, refl, ap, subst, ◌∙◌, length, Result, Ok, Err, Bool, true}
 use Rattle.std.specs.Prelude.{IsTrue, OnOk, IfErr}
 use Rattle.imago_storage.specs.State.{StorageState}
@@ -38,7 +38,7 @@ module _ {S : Type 0} (state : S → StorageState) (at : ℕ) (s : AllocatorStat
   abbrev Mid : Metadata
   Mid = metadata_of state between mid s.table s.pending
 
-  -- Caches that are as loose as those were, and have as much room.
+  -- The caches keep their capacities and `HasUnpinnedRoom`.
   pub shape-behind : (result : Result Unit Fault) (s' : ImageState S) → Announced state s.image result (image_state s.table mid between s.pending) → MovedTable between.header s'.file.header → ((any : Bool) → HasUnpinnedRoom s.table mid any → HasUnpinnedRoom s'.table s'.caches any) → KeepsTables mid s'.caches
       → StaysInShape s.image s'
   shape-behind result s' first moved loose room = record {
@@ -47,7 +47,7 @@ module _ {S : Type 0} (state : S → StorageState) (at : ℕ) (s : AllocatorStat
     room = record { tables = room.tables ∙ first.room.tables; blocks = room.blocks ∙ first.room.blocks; entries = room.entries ∙ first.room.entries };
   }
 
-  -- There was no grown copy of the table, or no room for the clusters of this one: nothing has changed.
+  -- Making the copy fails: nothing has changed.
   pub not-copied : (fault : Fault) → HasCause (growing_causes s.file.header.fields s.table at) fault → GrowsReftable state at s (failed fault) s
   not-copied fault why = record {
     leaked = λ _. 0;
@@ -66,7 +66,7 @@ module _ {S : Type 0} (state : S → StorageState) (at : ℕ) (s : AllocatorStat
     cause = bare-weaker _ (λ apart known. apart (ap (λ (l : Layout). l.cluster_bits) known.1.table.layout)) (λ number long. ((λ keeps sound. inl long), refl)) fault why;
   }
 
-  -- Where that was refused nothing grew,
+  -- Setting the order fails: the table doesn't grow.
   pub not-announced : (fault : Fault) → Announced state s.image (failed fault) (image_state s.table mid between s.pending) → GrowsReftable state at s (failed fault) (with_first_free (image_state s.table mid between s.pending) s.mark)
   not-announced fault first = record {
     leaked = λ _. 0;
@@ -85,7 +85,7 @@ module _ {S : Type 0} (state : S → StorageState) (at : ℕ) (s : AllocatorStat
     cause = cause-weaker (freeing-allocates (λ holds. holds) (λ u. loose-all s.table s.caches u.0 u.2) refl) fault first.cause;
   }
 
-  -- and else it grows as it does under that order.
+  -- The order is set, and the table grows under it.
   module _ (first : Announced state s.image (Ok tt) (image_state s.table mid between s.pending)) (result : Result Unit Fault) (s' : AllocatorState S)
       (grows : GrowsTable state at (with_first_free (image_state s.table mid between s.pending) s.mark) result s') where
     abbrev End : Metadata

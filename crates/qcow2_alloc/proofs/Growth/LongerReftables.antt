@@ -1,4 +1,4 @@
--- A refcount table that has grown, with new blocks before it: what it names anew is the run of its clusters and theirs.
+-- A grown refcount table with new blocks before it: the newly referenced clusters are the run of the blocks and the table.
 use Rattle.std.proofs.Common.{◌≡◌, ◌≢◌, ℕ, zero, suc, ◌+◌, ◌*◌, ◌/◌, ◌%◌, ◌<◌, ◌≤◌, refl, arith, ap, sym, ◌∙◌, inl, inr, Bool, true, false, length}
 use Rattle.std.specs.Prelude.{◌==◌, nat_lt, if◌then◌else◌, slice_index}
 use Rattle.std.proofs.lemmas.Bool.{cases_Bool, cases_eq, cases_lt, le-ltb}
@@ -22,7 +22,6 @@ use Rattle.qcow2_alloc.proofs.Blocks.BlockNames.{count-none, meets-one}
 use Rattle.qcow2_alloc.proofs.Memory.Patches.{all-weaker, place-there, places-differ}
 use Rattle.qcow2_alloc.proofs.Growth.TableSwitches.{words-at, there-weighs}
 
--- Two runs in a row are one.
 covers-two : (c s a n : ℕ) → covers c (run_of s a) + covers c (run_of (s + a) n) ≡ covers c (run_of s (a + n))
 covers-two c s a n = grind (arith, nat_tests)
 
@@ -38,7 +37,6 @@ covers-before c s n before = grind (arith, nat_tests)
 covers-behind : (c s n : ℕ) → s + n ≤ c → covers c (run_of s n) ≡ 0
 covers-behind c s n behind = grind (arith, nat_tests)
 
--- One word more names a new block, or it doesn't.
 pub rank-new : (new : ℕ → Bool) (i : ℕ) → new i ≡ true → rank new (suc i) ≡ rank new i + 1
 unfolding sum_below
 rank-new new i isnew = rw isnew (omega arith)
@@ -47,7 +45,7 @@ pub rank-old : (new : ℕ → Bool) (i : ℕ) → new i ≡ false → rank new (
 unfolding sum_below
 rank-old new i isold = rw isold (omega arith)
 
--- New blocks, one for each cluster of a run, sum up to that.
+-- New blocks, one for each cluster of a run, sum up to the run.
 sum-run : (N s c : ℕ) (new : ℕ → Bool) (p : ℕ → ℕ) → ((i : ℕ) → i < N → p i ≡ (if new i then one_at (s + rank new i) c else 0)) → sum_below N p ≡ covers c (run_of s (rank new N))
 unfolding sum_below
 sum-run zero s c new p terms = sym (covers-none c (run_of s 0) refl)
@@ -74,7 +72,7 @@ module _ (m : Metadata) (table : TableValue) (s n : ℕ) (new : ℕ → Bool) (s
   abbrev h : Fields
   h = m.header.fields
 
-  -- how many new blocks there are
+  -- The number of new blocks.
   abbrev blocks : ℕ
   blocks = rank new (length table.raw_entries)
 
@@ -104,7 +102,7 @@ module _ (m : Metadata) (table : TableValue) (s n : ℕ) (new : ℕ → Bool) (s
   there : (j : ℕ) → (s + j) * cluster_size h ≢ 0
   there j = place-there (cluster_size h) (s + j) (pow_pos h.cluster_bits) (λ none. grown.cluster_nonzero (omega (arith, none)))
 
-  -- What is newly named is the run.
+  -- The newly referenced clusters are the run.
   pub newly-run : (c : ℕ) → newly m (s + blocks) n c ≡ covers c (run_of s (blocks + n))
   newly-run c =
       let table_there = covers-meets h c (run_of (s + blocks) n) in
@@ -141,7 +139,7 @@ module _ (m : Metadata) (table : TableValue) (s n : ℕ) (new : ℕ → Bool) (s
   unfolding counter
   counter-there place i = refl
 
-  -- What no block counted is not in the run, but for what the new blocks count.
+  -- A cluster without a block isn't in the run, unless a new block counts it.
   uncovered : (c : ℕ) → block_at f h (c / counters_of_block h) ≡ 0 → new (c / counters_of_block h) ≡ false → covers c (run_of s (blocks + n)) ≡ 0
   uncovered c none off = elim (cases_lt 0 (covers c (run_of s (blocks + n)))) [
     | inl some ↦ let one = (grown.counted c some off).0 in let uncounted = count-none f h c none in absurd (omega (arith, one, uncounted))
@@ -174,7 +172,7 @@ module _ (m : Metadata) (table : TableValue) (s n : ℕ) (new : ℕ → Bool) (s
         ]
       ]
 
-  -- What of the run an old block counts: all but what the new blocks do.
+  -- Old blocks count the clusters of the run that no new block counts.
   pub old-counts : (c : ℕ) → new (c / counters_of_block h) ≡ false → newly_counted m (s + blocks) n c ≡ covers c (run_of s (blocks + n))
   old-counts c off = elim (cases_eq (block_at f h (c / counters_of_block h)) 0) [
     | inl none ↦ rw none (sym (uncovered c none off))
@@ -196,7 +194,6 @@ module _ (m : Metadata) (table : TableValue) (s n : ℕ) (new : ℕ → Bool) (s
     | inr off ↦ absurd (place-there (cluster_size h) key (pow_pos h.cluster_bits) some (sym place ∙ old-block k off ∙ none))
   ]
 
-  -- So it can become the refcount table.
   pub grown-ready : IsReadyTable m table (s + blocks) n
   grown-ready = record {
     layout = grown.layout;

@@ -1,4 +1,4 @@
--- The room for a refcount table is taken: counted, flushed, forgotten and written, one step behind the other.
+-- Taking the free area for a refcount table: its clusters are counted, flushed, dropped from the cache and written, step by step.
 use Rattle.std.proofs.Common.{◌≡◌, ℕ, ◌+◌, ◌*◌, ◌<◌, ◌≤◌, refl, arith, ap, sym, subst, ◌∙◌, inl, inr, Result, Ok, Err, None}
 use Rattle.std.specs.Prelude.{⊤, IsTrue, OnOk, IfErr, nat_eq}
 use Rattle.std.specs.Map.{lookup}
@@ -64,18 +64,17 @@ module _ {S : Type 0} (state : S → StorageState) (start : ImageState S) (run :
   abbrev Keeps : Type 0
   Keeps = IsTrue (state start.file.image).shape.keeps
 
-  -- what is known of the image before
+  -- The facts about the image before the call.
   abbrev pub Given : Type 0
   Given = Keeps × (order_of start.caches ≡ L2DependsOnRb) × IsSound m0 × IsUncounted m0 run
 
   abbrev Counts : Result Unit Fault → MetadataCaches S → ImageFile S → Type 0
   Counts result new after = CountsReferenced state run.first run.len start result (image_state start.table new after start.pending)
 
-  -- the clusters of the run
+  -- The clusters of the run.
   abbrev pub ours : ℕ → ℕ
   ours c = covers c (run_of run.first run.len)
 
-  -- none of which was used
   pub ours-unused : IsUncounted m0 run → (c : ℕ) → IsUsed m0 c → ours c ≡ 0
   ours-unused zero c used = elim (cases_lt c run.first) [
     | inl lt ↦ covers-before c run.first run.len lt
@@ -85,7 +84,7 @@ module _ {S : Type 0} (state : S → StorageState) (start : ImageState S) (run :
     ]
   ]
 
-  -- What is done next: it counts nothing more, and changes no cluster that was used but those of the run.
+  -- The outcome of the next step. Refcounts don't change, and of the used clusters only those of the run may change.
   pub record Next (ok : Type 0) (C : MetadataCaches S) (fC : ImageFile S) (D : MetadataCaches S) (fD : ImageFile S) : Type 0 where
     pub shape : (state fD.image).shape ≡ (state fC.image).shape
     pub counts_not_fallen : CountsNotFallen (state fC.image) (state fD.image)
@@ -101,7 +100,6 @@ module _ {S : Type 0} (state : S → StorageState) (start : ImageState S) (run :
     pub sound-then : Given → IsSound (At C fC)
     sound-then given = ((counts.guest_unchanged given.1 (λ s. given.3)).holds given.0 given.2 tt).0
 
-    -- Nothing names the clusters of the run.
     pub unnamed-then : Given → (c : ℕ) → run.first ≤ c → c < run.first + run.len → referenced_at_all (At C fC) c ≡ 0
     unnamed-then given c from to =
         let held = (counts.guest_unchanged given.1 (λ s. given.3)).holds given.0 given.2 tt in
@@ -109,7 +107,7 @@ module _ {S : Type 0} (state : S → StorageState) (start : ImageState S) (run :
         let none = (uncounted-free m0 given.2 given.1 c (given.3 c from to)).0 in
         omega (arith, less, none)
 
-    -- The next step goes on with it,
+    -- A further step after the count.
     pub counts-then : (result : Result Unit Fault) (D : MetadataCaches S) (fD : ImageFile S) → Next (HadNoResourceError result) C fC D fD
         → FailsFor (counting_causes (Given × IsSound (At C fC)) (HasUnpinnedRoom start.table C) (state fC.image).faults (state fD.image).faults) result → Counts result D fD
     counts-then result D fD next cause =
@@ -146,7 +144,7 @@ module _ {S : Type 0} (state : S → StorageState) (start : ImageState S) (run :
         from : Keeps × (order_of start.caches ≡ L2DependsOnRb) × IsSound m0 × ((c : ℕ) → run.first ≤ c → c < run.first + run.len → (counted m0 c ≡ 0) × ⊤) → Given × IsSound (At C fC)
         from holds = let given : Given = (holds.0, holds.1, holds.2, λ c above below. (holds.3 c above below).0) in (given, sound-then given)
 
-    -- where blocks are flushed,
+    -- Blocks are flushed.
     module _ (result : Result Unit Fault) (D : MetadataCaches S) (fD : ImageFile S) (going : WritesBackCached fC.header (order_of C) Always (result ≡ Ok tt) (state fC.image) (cached_in C) (state fD.image) (cached_in D)) (kept : written (cached_in D) ≡ written (cached_in C))
         (others : (D.order ≡ C.order) × (fD.header ≡ fC.header)) (room : HasRoomOf C D) (cause : FailsFor (writing_causes (AreTablesAddressable (cached_in C) × AreBlocksAddressable (cached_in C)) (state fC.image).faults (state fD.image).faults) result) where
       moved : (P : Metadata → Type 0) → P (record (At C fC) { file = bytes_of (state fD.image).bytes; cached = cached_in D }) → P (At D fD)
@@ -179,7 +177,7 @@ module _ {S : Type 0} (state : S → StorageState) (start : ImageState S) (run :
       flushed-then faultless = counts-then result D fD (flushing faultless)
           (fails-weaker _ _ (writing-implies _ (omega arith) (omega arith) (λ far holds. far (safe-reach (At C fC).file (At C fC).header (At C fC).cached (At C fC).order holds.1.well_formed))) (λ same. same) result cause)
 
-    -- or forgotten,
+    -- Cached blocks are dropped.
     module _ (result : Result Unit Fault) (D : MetadataCaches S) (n : ℕ) (few : n ≤ run.len) (forgets : ForgetsRun run.first n (cached_in C) result (cached_in D)) (order : D.order ≡ C.order) (pins : PinsNothing (cached_in C).blocks (cached_in D).blocks) (room : KeepsTables C D)
         (cause : IfErr result (λ fault. (fault ≡ CacheFull) × IsPinnedWithin run.first n C)) where
       there : (P : Metadata → Type 0) → P (record (At C fC) { cached = cached_in D }) → P (At D fC)
@@ -203,7 +201,7 @@ module _ {S : Type 0} (state : S → StorageState) (start : ImageState S) (run :
         stays = record { header = refl; order = order; loose = loose-on start.table C D pins room.blocks; room = room };
       }
 
-      -- No block that the table names is in the run.
+      -- A block that is pinned in the run isn't one that the table references.
       why-full : (r : Result Unit Fault) → IfErr r (λ fault. (fault ≡ CacheFull) × IsPinnedWithin run.first n C)
           → FailsFor (counting_causes (Given × IsSound (At C fC)) (HasUnpinnedRoom start.table C) (state fC.image).faults (state fC.image).faults) r
       why-full (Ok done) none = refl
@@ -213,7 +211,7 @@ module _ {S : Type 0} (state : S → StorageState) (start : ImageState S) (run :
       pub forgotten-then : Counts result D fC
       forgotten-then = counts-then result D fC forgetting (why-full result cause)
 
-    -- or written.
+    -- New blocks are written.
     module _ (result : Result Unit Fault) (fD : ImageFile S) (header : fD.header ≡ fC.header) (writes : WritesLacking fC.header start.table run (state fC.image) result (state fD.image)) where
       with-header : (P : Metadata → Type 0) → P (record (At C fC) { file = bytes_of (state fD.image).bytes }) → P (At C fD)
       with-header P p = subst (λ (h : Header). P (record (At C fC) { file = bytes_of (state fD.image).bytes; header = h })) (sym header) p
@@ -238,7 +236,7 @@ module _ {S : Type 0} (state : S → StorageState) (start : ImageState S) (run :
       pub written-then : Counts result C fD
       written-then = counts-then result C fD writing (storage-fails _ _ _ (omega arith) (omega arith) (λ same. same) result writes.writes.cause)
 
-      -- Then the run is taken.
+      -- The run is taken.
       pub run-taken : (Given → (c : ℕ) → count (At C fC).file (At C fC).header.fields c ≡ counted (At C fC) c) → (0 < counters_of_block fC.header.fields)
           → lacking start.table (counters_of_block fC.header.fields) run.first run.len ≤ run.len
           → (Given → (d : ℕ) → run.first ≤ d → d < run.first + lacking start.table (counters_of_block fC.header.fields) run.first run.len → lookup (nat_eq d) (cached_in C).blocks ≡ None)
@@ -257,7 +255,7 @@ module _ {S : Type 0} (state : S → StorageState) (start : ImageState S) (run :
                 uncached given (run.first + rank (lacks start.table (counters_of_block fC.header.fields) run.first run.len) i) (omega arith) (omega (arith, behind));
           })
 
--- All of them, where the flush and the drop succeeded.
+-- All steps, if the flush and the drop succeed.
 module _ {S : Type 0} (state : S → StorageState) (image : ImageState S) (run : Run) (C : MetadataCaches S) (fC : ImageFile S) (counts : CountsReferenced state run.first run.len image succeeded (image_state image.table C fC image.pending))
     (D : MetadataCaches S) (fD : ImageFile S) (going : WritesBackCached fC.header (order_of C) Always (succeeded ≡ Ok tt) (state fC.image) (cached_in C) (state fD.image) (cached_in D)) (kept : written (cached_in D) ≡ written (cached_in C))
     (others : (D.order ≡ C.order) × (fD.header ≡ fC.header)) (room : HasRoomOf C D) (cause : (state fD.image).faults ≡ (state fC.image).faults) (clean : AreBlocksClean (cached_in D)) (n : ℕ) (few : n ≤ run.len) where

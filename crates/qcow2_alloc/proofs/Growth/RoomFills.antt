@@ -1,4 +1,4 @@
--- A copy of the refcount table takes the room that was found for it, and becomes the image's, from the first of the call to its last.
+-- Filling a free area with a copy of the refcount table, which becomes the image's table: the whole call.
 use Rattle.std.proofs.Common.{◌≡◌, ◌≢◌, ℕ, ◌+◌, ◌*◌, ◌/◌, ◌<◌, ◌≤◌, refl, arith, ap, sym, subst, ◌∙◌, List, [], ◌∷◌, ◌++◌, length, inl, inr, Result, Ok, Err, None, false}
 use Rattle.std.specs.Prelude.{Some, ⊤, ◌⊎◌, ◌==◌, if◌then◌else◌, IsTrue, OnOk, OnErr, slice_index}
 use Rattle.std.proofs.lemmas.Bool.{cases_eq, cases_lt, ne_eqb}
@@ -55,7 +55,6 @@ use Rattle.qcow2_alloc.proofs.Growth.RoomAcquisition.{Given, ours, ours-unused, 
 use Rattle.qcow2_alloc.proofs.Growth.FillRefusals.{not-filled}
 use Rattle.qcow2_alloc.proofs.Growth.CopyWrites.{table-written}
 
--- A sound image has a refcount table of some clusters.
 pub some-clusters : (m : Metadata) → IsSound m → m.header.fields.refcount_table_clusters ≢ 0
 some-clusters m sound none =
     let some = first-counted m sound in
@@ -130,7 +129,7 @@ module _ {S : Type 0} (state : S → StorageState) (image : ImageState S) (run :
   unlisted4 : Known → (c : ℕ) → run.first ≤ c → c < run.first + run.len → waiting m4 c ≡ 0
   unlisted4 given c from to = (uncounted-free m0 given.2 given.1 c (given.3 c from to)).1
 
-  -- what was handed out of the run in all
+  -- The allocated part of the run, once all of it is counted.
   part-whole : (part : ℕ) → part ≡ run.len → (c : ℕ) → named_part image.table (counters_of_block image.file.header.fields) run.first part c ≡ part_named image.table (counters_of_block fC.header.fields) run c
   part-whole part all c =
       ap (λ p. named_part image.table (counters_of_block image.file.header.fields) run.first p c) all
@@ -144,7 +143,6 @@ module _ {S : Type 0} (state : S → StorageState) (image : ImageState S) (run :
       pointer-quietly m4 run n copy (sound4 given) (low4 given) plan.grown plan.room (taken4 given) (state fC.image) (state mid) refl (keeps4 given) put mine used4 (unlisted4 given) (counted m0) (counts4 given) given.3
       fit refl sizes (state after.image) result pointed
 
-  -- The copy names the blocks that the table does.
   names-kept : (i key : ℕ) → referenced_block image.table i ≡ Some key → referenced_block copied i ≡ Some key
   names-kept i key = name-kept image.table copied i key (ap (λ (l : Layout). l.cluster_bits) plan.grown.layout ∙ sym plan.bits) (λ some. plan.grown.olds i (rw (ne_eqb (block_offset (slice_index image.table.raw_entries i)) 0 some) refl))
 
@@ -157,7 +155,7 @@ module _ {S : Type 0} (state : S → StorageState) (image : ImageState S) (run :
   faults5 : (state mid).faults ≡ (state image.file.image).faults
   faults5 = at5.cause
 
-  -- The pointer wasn't written: the call was cut off.
+  -- Writing the header's pointer fails, with a resource error.
   pub not-pointed : (fault : Fault) → result ≡ Err fault → (table' : TableValue) → table' ≡ image.table → MovedTable fC.header after.header → FillsFreeArea state known run copy image (failed fault) (image_state table' C after image.pending)
   not-pointed fault is table' same moved =
       let cause : Cause (state mid).faults (state after.image).faults fault = put-refused (state mid) (state after.image) 0 (first_bytes (naming_table fC.header copy).fields) result pointed.put fault is in
@@ -188,7 +186,7 @@ module _ {S : Type 0} (state : S → StorageState) (image : ImageState S) (run :
       put-refused a b at bytes (Ok v) put fault is = absurd (cc is)
       put-refused a b at bytes (Err other) put fault is = subst (λ (f : Fault). Cause a.faults b.faults f) (let e = is in cc) put.answer.cause
 
-  -- It was: the table is the image's.
+  -- The pointer is written: the copy is now the image's table.
   module _ (done : result ≡ Ok tt) (table' : TableValue) (same : table' ≡ copied) (header : after.header ≡ naming_table fC.header copy) where
     abbrev then_waits : List FreeEntry
     then_waits = image.pending ++ table_run image.file.header.fields
@@ -232,7 +230,6 @@ module _ {S : Type 0} (state : S → StorageState) (image : ImageState S) (run :
     formerly-is : Known → (c : ℕ) → covers c (old_run m4) ≡ formerly m5 c
     formerly-is given c = old-run-is m4 (sound4 given) c
 
-    -- None of these clusters was used.
     unused : (given : Known) → (c : ℕ) → IsUsed m0 c → (newly_counted m5 place n c ≡ 0) × (covers c (old_run m4) ≡ 0)
     unused given c used = (
       (let is = handed-is given c in let whole = part-whole at5.part at5.whole c in let mine_none = ours-unused state image run given.3 c used in
@@ -296,7 +293,7 @@ module _ {S : Type 0} (state : S → StorageState) (image : ImageState S) (run :
           ]
         ]
 
--- In all: the room was taken, and then the table moved.
+-- The whole call: the free area is taken, then the table moves.
 pub room-filled : {S : Type 0} (state : S → StorageState) (s : ImageState S) (run : Run) (copy : TableValue)
     (known : Type 0) (free : known → (order_of s.caches ≡ L2DependsOnRb) × IsUncounted (metadata state s) run)
     (C : MetadataCaches S) (fC : ImageFile S) (takes : TakesFreeArea state run s succeeded (image_state s.table C fC s.pending)) (plan : IsPlan fC.header.fields s.table run copy)

@@ -1,4 +1,4 @@
--- How far the search for a room has come, and that it ends.
+-- The state of the search for a free area, and its termination.
 use Rattle.std.proofs.Common.{◌≡◌, ℕ, ◌+◌, ◌-◌, ◌*◌, ◌<◌, ◌≤◌, arith, ap, sym, subst, ◌∙◌, length, Ok, Err, inl, inr}
 use Rattle.std.specs.Prelude.{max}
 use Rattle.std.proofs.Math.Nat.{mul-le-mul}
@@ -16,7 +16,7 @@ use Rattle.qcow2_alloc.proofs.Growth.FirstRooms.{room-first, room-found, lacking
 use Rattle.qcow2_alloc.proofs.Searching.SearchSequences.{looked-answer, looked-refused, looked-then, safe-still, counts-still}
 use Rattle.qcow2_alloc.specs.Caches.{CachedFile, cached_file}
 
--- How far it has come.
+-- The state of the search.
 pub record RoomSearched {S : Type 0} (state : S → StorageState) (table : TableValue) (from n : ℕ) (old : CachedFile S) (run : Run) (new : CachedFile S) : Type 0 where
   pub looked : Looked state {T = Unit {0}} table old (Ok tt) new
   pub within : run.first ≤ length table.raw_entries * counters_of_block old.file.header.fields
@@ -25,7 +25,7 @@ pub record RoomSearched {S : Type 0} (state : S → StorageState) (table : Table
   pub few : run.len ≤ 2 * n + 4
   pub so_far : IsSafeWith state table old.caches old.file → IsFreeAreaSoFar table (counters_of_block old.file.header.fields) (counts_in state old.caches old.file) from n run
 
--- A room is one where clusters are counted as often, and a search for one has come as far.
+-- Free areas, and the state of the search, depend only on refcounts.
 room-same : (table : TableValue) (k : ℕ) (counts counts' : ℕ → ℕ) (n z t : ℕ) → ((c : ℕ) → counts' c ≡ counts c) → IsFreeArea table k counts n z t → IsFreeArea table k counts' n z t
 room-same table k counts counts' n z t same room = record { enough = room.enough; free = λ c above below. same c ∙ room.free c above below }
 
@@ -44,7 +44,7 @@ module _ {S : Type 0} (state : S → StorageState) (table : TableValue) (from n 
   abbrev B : ℕ
   B = length table.raw_entries * k
 
-  -- It begins with the first run,
+  -- The search starts with the first run.
   pub rooms-first : from ≤ length table.raw_entries * counters_of_block before.header.fields → (z : ℕ) (new : MetadataCaches S) (after : ImageFile S) → LooksForRun state table from n (cached_file old before) (Ok z) (cached_file new after)
       → RoomSearched state table from n (cached_file old before) (record { first = z; len = n }) (cached_file new after)
   rooms-first near z new after looks = record {
@@ -60,7 +60,7 @@ module _ {S : Type 0} (state : S → StorageState) (table : TableValue) (from n 
     abbrev needed : ℕ
     needed = needed_for table k n run
 
-    -- ends where nothing more is lacking,
+    -- The search ends if no block is missing.
     pub rooms-found : needed ≤ run.len → LooksForFreeArea state table from n (cached_file old before) (Ok run) (cached_file mid between)
     rooms-found all = record {
       looked = looked-answer state table old before tt run mid between searched.looked;
@@ -70,11 +70,11 @@ module _ {S : Type 0} (state : S → StorageState) (table : TableValue) (from n 
     same-k : counters_of_block between.header.fields ≡ k
     same-k = ap (λ (h : Header). counters_of_block h.fields) searched.looked.header
 
-    -- or is refused,
+    -- The search fails.
     pub rooms-not-grown : (fault : Fault) (new : MetadataCaches S) (after : ImageFile S) → GrowsFreeArea state table n run (cached_file mid between) (Err fault) (cached_file new after) → LooksForFreeArea state table from n (cached_file old before) (Err fault) (cached_file new after)
     rooms-not-grown fault new after grows = record { looked = looked-refused state table old before fault new after (looked-then state table old before tt mid between (Err fault) new after searched.looked grows.looked); found = λ sound. tt }
 
-    -- or goes on.
+    -- The search continues.
     module _ (wide : 64 ≤ counters_of_block before.header.fields) (now : Run) (new : MetadataCaches S) (after : ImageFile S) (short : run.len < needed_for table (counters_of_block before.header.fields) n run)
         (grows : GrowsFreeArea state table n run (cached_file mid between) (Ok now) (cached_file new after)) where
       near : now.first ≤ max (run.first + 1) B
@@ -125,7 +125,7 @@ module _ {S : Type 0} (state : S → StorageState) (table : TableValue) (from n 
           looked : Looked state {T = Unit {0}} table (cached_file old before) (Ok tt) (cached_file new after)
           looked = looked-answer state table old before now tt new after (looked-then state table old before tt mid between (Ok now) new after searched.looked grows.looked)
 
-      -- The measure falls.
+      -- The measure of the loop decreases.
       pub rooms-fewer :
           (length table.raw_entries * counters_of_block before.header.fields + 1 - now.first) * (2 * n + 5) + (2 * n + 4 - now.len) < (length table.raw_entries * counters_of_block before.header.fields + 1 - run.first) * (2 * n + 5) + (2 * n + 4 - run.len)
       rooms-fewer = elim grows.further [

@@ -1,4 +1,4 @@
--- A room is searched for, run by run.
+-- Searching for a free area, run by run.
 use Rattle.std.proofs.Common.{◌≡◌, ◌≢◌, ℕ, ◌+◌, ◌*◌, ◌≤◌, refl, arith, sym, subst, ◌∙◌, length, Ok, Err, inl, inr}
 use Rattle.std.specs.Prelude.{max}
 use Rattle.imago_storage.specs.State.{StorageState}
@@ -15,7 +15,7 @@ use Rattle.qcow2_alloc.proofs.Growth.FirstRooms.{room-first, room-longer, room-o
 use Rattle.qcow2_alloc.proofs.Searching.SearchSequences.{looked-answer, looked-refused, looked-then, safe-still, counts-still}
 use Rattle.qcow2_alloc.specs.Caches.{cached_file}
 
--- A first run is one where clusters are counted as often.
+-- First runs depend only on refcounts.
 pub first-run-same : (counts counts' : ℕ → ℕ) (from n z : ℕ) → ((c : ℕ) → counts' c ≡ counts c) → IsFirstRun counts from n z → IsFirstRun counts' from n z
 first-run-same counts counts' from n z same run = record {
   not_before_start = run.not_before_start;
@@ -28,7 +28,7 @@ module _ {S : Type 0} (state : S → StorageState) (table : TableValue) (n neede
   abbrev k : ℕ
   k = counters_of_block before.header.fields
 
-  -- The room goes on where it begins,
+  -- The area continues from its start.
   pub room-here : (z : ℕ) (new : MetadataCaches S) (after : ImageFile S) → LooksForRun state table was.first needed (cached_file old before) (Ok z) (cached_file new after) → z ≡ was.first → GrowsFreeArea state table n was (cached_file old before) (Ok (record { first = z; len = needed })) (cached_file new after)
   room-here z new after looks same = record {
     looked = looked-answer state table old before z (record { first = z; len = needed }) new after looks.looked;
@@ -42,12 +42,12 @@ module _ {S : Type 0} (state : S → StorageState) (table : TableValue) (n neede
         (room-longer table k (counts_in state old before) from n was past run));
   }
 
-  -- or is refused,
+  -- The search for a longer run fails.
   pub room-refused : (fault : Fault) (new : MetadataCaches S) (after : ImageFile S) → LooksForRun state table was.first needed (cached_file old before) (Err fault) (cached_file new after) → GrowsFreeArea state table n was (cached_file old before) (Err fault) (cached_file new after)
   room-refused fault new after looks = record { looked = looked-refused state table old before fault new after looks.looked; further = tt; start_bounded = tt; so_far = λ sound. tt }
 
   module _ (z : ℕ) (mid : MetadataCaches S) (between : ImageFile S) (looks : LooksForRun state table was.first needed (cached_file old before) (Ok z) (cached_file mid between)) (apart : z ≢ was.first) where
-    -- or begins anew behind that,
+    -- The longer run isn't free, so a new area begins after this start.
     pub room-next : (z' : ℕ) (new : MetadataCaches S) (after : ImageFile S) → LooksForRun state table (was.first + 1) n (cached_file mid between) (Ok z') (cached_file new after) → GrowsFreeArea state table n was (cached_file old before) (Ok (record { first = z'; len = n })) (cached_file new after)
     room-next z' new after again =
         let near : z' ≤ max (was.first + 1) (length table.raw_entries * counters_of_block before.header.fields) =
@@ -64,7 +64,7 @@ module _ {S : Type 0} (state : S → StorageState) (table : TableValue) (n neede
               room-first table k (counts_in state old before) from n (was.first + 1) z' (omega (arith, first)) (room-over table k (counts_in state old before) from n was z past over apart) run;
         }
 
-    -- or is refused then.
+    -- The search for the new area fails.
     pub room-not-next : (fault : Fault) (new : MetadataCaches S) (after : ImageFile S) → LooksForRun state table (was.first + 1) n (cached_file mid between) (Err fault) (cached_file new after) → GrowsFreeArea state table n was (cached_file old before) (Err fault) (cached_file new after)
     room-not-next fault new after again = record {
       looked = looked-refused state table old before fault new after (looked-then state table old before z mid between (Err fault) new after looks.looked again.looked);

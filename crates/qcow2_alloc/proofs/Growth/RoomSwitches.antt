@@ -1,4 +1,4 @@
--- The header comes to name a table in its room: clusters that were counted for it are named, and those of the old table wait to be freed.
+-- Switching the header to the table in its free area. The table's clusters are now referenced, and those of the old table are freed later.
 use Rattle.std.proofs.Common.{◌≡◌, ◌≢◌, ℕ, ◌+◌, ◌*◌, ◌/◌, ◌<◌, ◌≤◌, refl, arith, ap, sym, subst, ◌∙◌, [], ◌∷◌, ◌++◌, length, inl, inr, Result, Ok, None, Bool, true, false}
 use Rattle.std.specs.Prelude.{◌==◌, ◌&&◌, if◌then◌else◌, IsTrue, slice_index}
 use Rattle.std.proofs.lemmas.Bool.{cases_Bool, cases_eq, cases_lt, ne_eqb}
@@ -43,7 +43,7 @@ use Rattle.qcow2_alloc.proofs.GuestView.QuietNames.{table-names}
 use Rattle.qcow2_alloc.proofs.GuestView.QuietSequences.{quiet-then, quiet-otherwise}
 use Rattle.qcow2_alloc.proofs.Growth.TableSwitches.{switch-quietly, switch-names, sound-sizes}
 
--- 1 where a cluster of a run has a block that counts it, else 0
+-- 1 if cluster `c` is in the run and a block counts it, else 0.
 abbrev pub part_named : TableValue → ℕ → Run → ℕ → ℕ
 part_named table k run c = if block_offset (slice_index table.raw_entries (c / k)) == 0 then 0 else covers c (run_of run.first run.len)
 
@@ -56,7 +56,7 @@ there-part w x some = rw (ne_eqb w 0 some) refl
 first-empty : (w : ℕ) (b : Bool) → ((w == 0) && b) ≡ true → w ≡ 0
 first-empty w b is = grind (arith, nat_tests)
 
--- the clusters of the refcount table that an image has
+-- The clusters of the image's refcount table.
 abbrev pub old_run : Metadata → FreeEntry
 old_run m = run_of (m.header.fields.refcount_table_offset / cluster_size m.header.fields) m.header.fields.refcount_table_clusters
 
@@ -66,11 +66,10 @@ old-run-is m sound c =
     covers-meets m.header.fields c (old_run m)
     ∙ ap (λ p. meets m.header.fields c p (m.header.fields.refcount_table_clusters * cluster_size m.header.fields)) (place-whole m.header.fields.cluster_bits m.header.fields.refcount_table_offset limited.refcount_place)
 
--- No cluster of it is used but by it.
 pub old-run-unused : (m : Metadata) (c : ℕ) → IsUsed m c → formerly m c ≡ 0
 old-run-unused m c used = let part = refcount_table-part m.file m.header.fields (meets m.header.fields c) in let none = used.apart in omega (arith, part, none)
 
--- An image m has a taken run, to which a grown table was written, by a storage that keeps it: so it became m'.
+-- A grown table was written to a run that image `m` took, and the storage keeps writes.
 module _ (m : Metadata) (run : Run) (n : ℕ) (copy : TableValue) (sound : IsSound m) (low : 9 ≤ m.header.fields.cluster_bits) (grown : IsGrownCopy m.header.fields m.table run n copy) (room : HasFreeAreaFor m.header.fields m.table run n) (taken : IsTaken m run)
     (old new : StorageState) (is_in : IsIn old m) (keeps : IsTrue old.shape.keeps) (put : WriteOutcome {T = Unit {0}} old new (table_start copy) (table_bytes copy.raw_entries) (Ok tt)) (mine : ℕ → ℕ) (used : (c : ℕ) → run.first ≤ c → c < run.first + run.len → 0 < mine c)
     (unlisted : (c : ℕ) → run.first ≤ c → c < run.first + run.len → waiting m c ≡ 0) (was : ℕ → ℕ) (counts : (c : ℕ) → counted m c ≡ was c + part_named m.table (counters_of_block m.header.fields) run c) (zero : (c : ℕ) → run.first ≤ c → c < run.first + run.len → was c ≡ 0) where
@@ -86,7 +85,7 @@ module _ (m : Metadata) (run : Run) (n : ℕ) (copy : TableValue) (sound : IsSou
   abbrev copied : TableValue
   copied = record copy { modified = false }
 
-  -- where it stands
+  -- The cluster of the table.
   abbrev place : ℕ
   place = run.first + rank (lacks m.table (counters_of_block m.header.fields) run.first run.len) (length copy.raw_entries)
 
@@ -96,7 +95,6 @@ module _ (m : Metadata) (run : Run) (n : ℕ) (copy : TableValue) (sound : IsSou
   some-k : 0 < k
   some-k = some-counters m.header.fields (shaped-in m.file m.header sound.well_formed.consistent)
 
-  -- What the run has that isn't lacking has a block.
   block-there : (c : ℕ) → run.first ≤ c → c < run.first + run.len → lack (c / k) ≡ false → block_offset (slice_index m.table.raw_entries (c / k)) ≢ 0
   block-there c from to off none =
       let whole : c / k * k ≤ c = div-mul-le_self c k in
@@ -135,7 +133,7 @@ module _ (m : Metadata) (run : Run) (n : ℕ) (copy : TableValue) (sound : IsSou
     ]
   ]
 
-  -- What the switch takes is what was counted for it.
+  -- The switch uses exactly the clusters with a refcount that was raised for it.
   pub part-is : IsSound m5 → (c : ℕ) → newly_counted m5 place n c ≡ part_named m.table k run c
   part-is sound' c = elim (cases_Bool (lack (c / k))) [
     | inl is ↦
@@ -179,7 +177,7 @@ module _ (m : Metadata) (run : Run) (n : ℕ) (copy : TableValue) (sound : IsSou
     switched : IsTrue new.shape.keeps → IsSound m5 → result ≡ Ok tt → TableSwitched m5 m6 place n
     switched keeps' sound' done = switch-names m5 copied place n new last refl ready loads keeps' sound' result at-once done
 
-    -- What is named anew wasn't before.
+    -- A cluster that was referenced isn't newly referenced.
     taken-unnamed : IsSound m5 → (c : ℕ) → 0 < referenced m5 c → newly_counted m5 place n c ≡ 0
     taken-unnamed sound' c some = elim (cases_lt 0 (newly_counted m5 place n c)) [
       | inr least ↦ omega (arith, least)
@@ -196,7 +194,7 @@ module _ (m : Metadata) (run : Run) (n : ℕ) (copy : TableValue) (sound : IsSou
           | inr is ↦ let same = there-part b w is in omega (arith, same, there)
         ]
 
-    -- Then the clusters of the old table wait.
+    -- The clusters of the old table are added to the free list.
     pub waits-quietly : PreservesGuest (result ≡ Ok tt) (formerly m5) (λ c. newly_counted m5 place n c + covers c (old_run m)) new m5 last m7
     waits-quietly =
         let q = pointer-quietly in
@@ -213,7 +211,7 @@ module _ (m : Metadata) (run : Run) (n : ℕ) (copy : TableValue) (sound : IsSou
               );
         }
 
-    -- Each cluster of the run is counted then, and no other count changed.
+    -- The refcounts of the run rise, and no others.
     pub counts-filled : IsTrue new.shape.keeps → (sound' : IsSound m5) → result ≡ Ok tt → ((c : ℕ) → counted m5 c ≡ counted m c) → (c : ℕ) → counted m7 c ≡ was c + covers c (run_of run.first run.len)
     counts-filled keeps' sound' done same c =
         let s = switched keeps' sound' done in

@@ -1,4 +1,4 @@
--- The refcount table grows, from the first of the call to its last.
+-- Growing the refcount table: the whole call.
 use Rattle.std.proofs.Common.{◌≡◌, ◌≢◌, ℕ, ◌+◌, ◌-◌, ◌*◌, ◌/◌, ◌^◌, ◌≤◌, ◌++◌, refl, arith, ap, sym, subst, ◌∙◌, length, inl, inr, Result, Ok, Err, false, true}
 use Rattle.std.specs.Prelude.{⊤, IsTrue, OnOk, OnErr, IfErr, min, slice_index}
 use Rattle.std.proofs.lemmas.Bool.{cases_Bool}
@@ -54,7 +54,7 @@ module _ {S : Type 0} (state : S → StorageState) (at : ℕ) (s : AllocatorStat
   safe-with : Keeps → IsSound start → IsSafeWith state s.table s.caches s.file
   safe-with keeps sound = record { keeps = keeps; well_formed = sound.well_formed; table_of_file = sound.table }
 
-  -- It is refused, and nothing was counted.
+  -- The growth fails, and nothing was counted.
   not-grown : (fault : Fault) (C : MetadataCaches S) (fC : ImageFile S) → Allocating state (IsNotResourceError fault) (λ _. 0) s.image (image_state s.table C fC s.pending) → fC.header ≡ s.file.header
       → (Keeps → IsSound start → (number : ℕ) → fault ≡ Limit number → (c : ℕ) → counted (metadata_of state fC C s.table s.pending) c ≡ counted start c)
       → HasCause (allocating_causes Sound (HasUnpinnedRoom s.table s.caches) Full (state s.file.image).faults (state fC.image).faults) fault → GrowsTable state at s (failed fault) (with_first_free (image_state s.table C fC s.pending) s.mark)
@@ -72,19 +72,19 @@ module _ {S : Type 0} (state : S → StorageState) (at : ℕ) (s : AllocatorStat
     cause = why;
   }
 
-  -- There is no copy of the table,
+  -- The copy can't be made.
   pub no-copy : (fault : Fault) → HasCause (growing_causes s.file.header.fields s.table at) fault → GrowsTable state at s (failed fault) s
   no-copy fault why = not-grown fault s.caches s.file (allocating-as state ⊤ (IsNotResourceError fault) (λ _. 0) (λ _. 0) s.image s.image (λ not_resource_error. tt) (λ c. refl) (allocating-none state s.image)) refl (λ keeps sound number is c. refl)
       (bare-weaker _ (λ apart known. apart (ap (λ (l : Layout). l.cluster_bits) known.2.table.layout)) (λ number long. ((λ order keeps sound. inl long), refl)) fault why)
 
-  -- or the search for a room was refused,
+  -- The search for a free area fails.
   pub no-room : (fault : Fault) (C : MetadataCaches S) (fC : ImageFile S) → Looked state {T = Run} s.table (cached_file s.caches s.file) (Err fault) (cached_file C fC) → GrowsTable state at s (failed fault) (with_first_free (image_state s.table C fC s.pending) s.mark)
   no-room fault C fC looked =
       not-grown fault C fC (looked-allocates state s.image Run (Err fault) C fC looked) looked.header
       (λ keeps sound number is. counts-looked state s.image Run (Err fault) C fC looked keeps sound (subst (λ (f : Fault). HadNoResourceError {T = Run} (Err f)) (sym is) tt))
       (cause-weaker (freeing-allocates (λ known. safe-with known.0 known.2) (λ u. loose-all s.table s.caches u.0 u.2) refl) fault looked.cause)
 
-  -- A room was found for a copy.
+  -- A free area is found for a copy.
   module _ (room : Run) (copy : TableValue) (from n : ℕ) (C : MetadataCaches S) (fC : ImageFile S) (looks : LooksForFreeArea state s.table from n (cached_file s.caches s.file) (Ok room) (cached_file C fC)) (from_is : from ≡ min s.mark (length s.table.raw_entries * counters_of_block s.file.header.fields))
       (n_is : n ≡ clusters_of copy s.file.header.fields.cluster_bits) (long : IsGrownLength (entries_of_cluster s.file.header.fields) (counters_of_block s.file.header.fields) at (length copy.raw_entries))
       (whole : clusters_of copy s.file.header.fields.cluster_bits * entries_of_cluster s.file.header.fields ≡ length copy.raw_entries) where
@@ -105,7 +105,7 @@ module _ {S : Type 0} (state : S → StorageState) (at : ℕ) (s : AllocatorStat
     room-to-grow : Sound → IsFreeAreaToGrow start s.mark at room.first room.len clusters
     room-to-grow known = record { long = subst (λ (l : ℕ). IsGrownLength (entries_of_cluster h) (counters_of_block h) at l) (sym whole) long; room = found known }
 
-    -- It can't take it.
+    -- The copy can't be put there.
     pub no-place : (fault : Fault) → 1 ≤ room.len → HasCause (placing_causes fC.header.fields s.table room copy) fault → GrowsTable state at s (failed fault) (with_first_free (image_state s.table C fC s.pending) s.mark)
     no-place fault some why =
         not-grown fault C fC (allocating-as state ⊤ (IsNotResourceError fault) (λ _. 0) (λ _. 0) s.image (image_state s.table C fC s.pending) (λ not_resource_error. tt) (λ c. refl) (looked-allocates state s.image Run (Ok room) C fC looks.looked)) looks.looked.header
@@ -130,7 +130,7 @@ module _ {S : Type 0} (state : S → StorageState) (at : ℕ) (s : AllocatorStat
             let one = first-counted start known.2 in
             omega (arith, first, one)
 
-    -- It takes it, as it was planned.
+    -- The copy is put there, as planned.
     module _ (placed : TableValue) (plan_there : IsPlan fC.header.fields s.table room placed) (same : length placed.raw_entries ≡ length copy.raw_entries)
         (result : Result Unit Fault) (sD : AllocatorState S) (fills : EntersFree state room placed (image_state s.table C fC s.pending) result sD.image)
         (waits : OnOk result (sD.pending ≡ s.pending ++ table_run fC.header.fields)) (kept : OnErr result (sD.pending ≡ s.pending)) (has_no_dirty_data : sD.mark ≡ s.mark) where

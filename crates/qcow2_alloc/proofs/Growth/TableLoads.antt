@@ -1,4 +1,4 @@
--- The refcount table that was loaded is the file's, and what a checker accepts is sound then.
+-- The loaded refcount table is that of the file. An image that `check` accepts then has `IsSound`.
 use Rattle.std.proofs.Common.{◌≡◌, ℕ, ◌*◌, ◌/◌, ◌%◌, ◌^◌, ◌<◌, ◌≤◌, refl, arith, ap, sym, subst, ◌∙◌, List, [], Bool, Some, Result, Ok, Err, true, false, inl, inr}
 use Rattle.std.specs.Prelude.{IsTrue, nat_lt, slice_index}
 use Rattle.std.proofs.lemmas.Bool.{cases_eq, ne_eqb, lt-ltb}
@@ -35,7 +35,6 @@ use Rattle.qcow2_alloc.proofs.Caching.TableSide.{load-counted}
 use Rattle.qcow2_alloc.proofs.Memory.Patches.{shaped-in}
 use Rattle.qcow2_alloc.proofs.GuestView.QuietEntries.{safe-sound}
 
--- the place of a table that begins with a cluster
 pub placed-whole : (h : Fields) → h.refcount_table_offset % cluster_size h ≡ 0 → h.refcount_table_offset / cluster_size h * cluster_size h ≡ h.refcount_table_offset
 placed-whole h aligned = omega (arith, div-add-mod h.refcount_table_offset (cluster_size h), aligned)
 
@@ -60,7 +59,7 @@ pub why-placed : (f : Bytes) (h : Fields) (before after : ℕ) (fault : Fault) �
     → WhyNotLoaded refcount_table_kind (layout_of h) (raw_entries_in f h.refcount_table_offset (refcount_table_entries h)) before after fault
 why-placed f h before after fault aligned why = subst (λ n. WhyNotLoaded refcount_table_kind (layout_of h) (raw_entries_in f n (refcount_table_entries h)) before after fault) (placed-whole h aligned) why
 
--- where it is loaded from
+-- The range that is loaded.
 pub record IsLoadedFrom (h : Fields) (cluster entries : ℕ) : Type 0 where
   pub placed : IsTablePlaced h
   pub cluster_is : cluster ≡ h.refcount_table_offset / cluster_size h
@@ -72,7 +71,6 @@ loaded-from h offset bits cluster entries at same many aligned place reach =
     let aligned' : h.refcount_table_offset % cluster_size h ≡ 0 = subst (λ b. h.refcount_table_offset % 2 ^ b ≡ 0) same (subst (λ n. n % 2 ^ bits ≡ 0) at aligned) in
     record { placed = placed-here h aligned' (subst (λ b. IsAddressable b (h.refcount_table_offset / cluster_size h)) same (subst (λ n. IsAddressable bits n) here reach)); cluster_is = here; entries_are = many }
 
--- the words that are loaded
 from-words : (f : Bytes) (h : Fields) (cluster entries : ℕ) → IsLoadedFrom h cluster entries
     → raw_entries_in f (cluster * cluster_size h) entries ≡ raw_entries_in f h.refcount_table_offset (refcount_table_entries h)
 from-words f h cluster entries from =
@@ -109,7 +107,7 @@ table-not-loaded old h cluster entries fault new from why kept = record {
   faults = λ not_resource_error. (load-counted refcount_table_kind (layout_of h) (raw_entries_in (bytes_of old.bytes) (cluster * cluster_size h) entries) old.faults new.faults fault why not_resource_error, kept.refusals);
 }
 
--- What a checker accepts is consistent by whatever header loads from it.
+-- A file that `check` accepts is consistent, with any header that loads from it.
 pub verdict-consistent : (f : Bytes) (found : List (ℕ × ℕ)) (writing : Bool) (H : Header) → IsVerdict f (Ok found) → header_of writing f ≡ Ok H → IsConsistent f H
 verdict-consistent f found writing H verdict loads = subst (λ (K : Header). IsConsistent f K) (same (header_of writing f) verdict.0 H (by-kind writing) loads) verdict.1
   where
@@ -127,7 +125,7 @@ module _ (f : Bytes) (H : Header) (consistent : IsConsistent f H) where
   meanings : ValidEntries f H.fields
   meanings = sound-words f H.fields consistent.readable.tables
 
-  -- Its header is counted, so its refcount table has words.
+  -- The header's cluster is counted, so the refcount table has entries.
   some-words : 0 < refcount_table_entries H.fields
   some-words = elim (cases_eq (refcount_table_entries H.fields) 0) [
     | inr some ↦ omega (arith, some)
@@ -141,7 +139,7 @@ module _ (f : Bytes) (H : Header) (consistent : IsConsistent f H) where
         absurd (omega (arith, none-counted, part, one, le, covers))
   ]
 
-  -- That begins with a cluster that words can name, as the L1 table does.
+  -- The refcount table is aligned and addressable, like the L1 table.
   reftable-placed : IsTablePlaced H.fields
   reftable-placed = record {
     aligned = let whole = place-whole H.fields.cluster_bits H.fields.refcount_table_offset limited.refcount_place in omega (arith, div-add-mod H.fields.refcount_table_offset (cluster_size H.fields), whole);
@@ -151,7 +149,7 @@ module _ (f : Bytes) (H : Header) (consistent : IsConsistent f H) where
   l1-whole : H.fields.l1_offset / cluster_size H.fields * cluster_size H.fields ≡ H.fields.l1_offset
   l1-whole = place-whole H.fields.cluster_bits H.fields.l1_offset limited.l1_place
 
-  -- Nothing but memory or the storage keeps a table from being loaded of which each word has a meaning.
+  -- Loading a table with valid entries fails only if memory runs out or the storage fails.
   loads-but : (kind : Kind) (place n : ℕ) → ((i : ℕ) → i < n → IsTrue (raw_entry_valid kind (layout_of H.fields) (raw_entry f place i))) → n ≤ max_entries kind
       → (before after : ℕ) (fault : Fault) → WhyNotLoaded kind (layout_of H.fields) (raw_entries_in f place n) before after fault → Cause before after fault
   loads-but kind place n sound few before after (Limit number) why =
@@ -178,7 +176,6 @@ module _ (f : Bytes) (H : Header) (consistent : IsConsistent f H) where
       loads-but l1_table_kind H.fields.l1_offset H.fields.l1_entries meanings.l1 limited.l1_entries before after fault
       (subst (λ p. WhyNotLoaded l1_table_kind (layout_of H.fields) (raw_entries_in f p H.fields.l1_entries) before after fault) l1-whole why)
 
-  -- The L1 table that is loaded is the file's,
   pub l1-loaded : IsL1Of f H.fields (table_in f H.fields (H.fields.l1_offset / cluster_size H.fields) H.fields.l1_entries)
   unfolding l1_table_sound
   l1-loaded = record {
@@ -187,7 +184,6 @@ module _ (f : Bytes) (H : Header) (consistent : IsConsistent f H) where
     sound = all-below-holds H.fields.l1_entries (λ i. l1_entry_valid H.fields.cluster_bits (raw_entry f H.fields.l1_offset i)) meanings.l1;
   }
 
-  -- and with the refcount table that is, the image is sound.
   pub opened-sound : (s s' : StorageState) (allocator : Allocator) → bytes_of s.bytes ≡ f → LoadsAllocator s H.fields (Ok allocator) s' → IsSound (opened (bytes_of s'.bytes) H (table_of allocator))
   opened-sound s s' allocator is loads =
       subst (λ (g : Bytes). IsSound (opened g H (table_of allocator))) (sym (ap bytes_of loads.unchanged_but_faults.bytes ∙ is))

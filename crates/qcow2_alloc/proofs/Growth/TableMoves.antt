@@ -1,4 +1,4 @@
--- A refcount table that has grown is written to the room that was taken for it, and the header comes to name it.
+-- Writing a grown refcount table to its free area, and referencing it from the header.
 use Rattle.std.proofs.Common.{◌≡◌, ℕ, ◌+◌, ◌-◌, ◌*◌, ◌/◌, ◌^◌, ◌<◌, ◌≤◌, arith, ap, sym, ◌∙◌, List, [], ◌∷◌, length, inl, inr, Result, Ok, Err, None, Some, Option, Bool, true, false}
 use Rattle.std.specs.Prelude.{◌==◌, ◌&&◌, nat_eq, IsTrue, slice_index}
 use Rattle.std.specs.List.{AllByRecursion}
@@ -37,19 +37,16 @@ use Rattle.qcow2_alloc.proofs.Blocks.NewBlockNames.{rank-before, word-inside}
 use Rattle.qcow2_alloc.proofs.Memory.Patches.{shaped-in}
 use Rattle.qcow2_alloc.proofs.Blocks.NewBlockWrites.{own-still}
 
--- Where a write succeeded the file has the bytes.
 put-file : (m : Metadata) (at : ℕ) (bytes : List ℕ) (old new : StorageState) → IsIn old m → (result : Result Unit Fault) → WriteOutcome old new at bytes result → IsTrue old.shape.keeps → result ≡ Ok tt → bytes_of new.bytes ≡ splice m.file at bytes
 put-file m at bytes old new is_in (Ok done) put keeps is = spliced-bytes old.bytes at bytes new.bytes (put.answer.content keeps) ∙ ap (λ (f : Bytes). splice f at bytes) (sym is_in)
 put-file m at bytes old new is_in (Err fault) put keeps is = absurd (cc is)
 
--- The words of a cluster fill it.
 pub cluster-words : (h : Fields) → 9 ≤ h.cluster_bits → 8 * entries_of_cluster h ≡ cluster_size h
 cluster-words h low =
     let split : h.cluster_bits ≡ h.cluster_bits - 3 + 3 = omega (arith, low) in
     let row : 2 ^ h.cluster_bits ≡ 2 ^ (h.cluster_bits - 3) * 2 ^ 3 = ap (λ n. 2 ^ n) split ∙ pow-add 2 (h.cluster_bits - 3) 3 in
     omega (arith, row)
 
--- Two places behind all that are new have as many before them.
 rank-behind : (new : ℕ → Bool) (a b : ℕ) → a ≤ b → ((i : ℕ) → new i ≡ true → i < a) → rank new b ≡ rank new a
 rank-behind new a b le all =
     let on = rank-stays new a (b - a) (λ i from to. elim (cases_Bool (new i)) [ inl is ↦ (let lt = all i is in absurd (omega (arith, lt, from))) | inr off ↦ off ]) in
@@ -62,7 +59,6 @@ rank-both new a b in_a in_b = elim (cases_lt a b) [
   | inr le ↦ rank-behind new b a le in_b
 ]
 
--- A key that isn't there isn't that of an entry.
 none-cached : (m : Metadata) (key : ℕ → ℕ) (new : ℕ → Bool) (es : List (ℕ × Slot Block)) → ((i : ℕ) → new i ≡ true → lookup (nat_eq (key i)) es ≡ None)
     → AllByRecursion (λ e. (i : ℕ) → new i ≡ true → e.0 ≡ key i → e.1.value.counters ≡ counters_in m.file m.header.fields (e.0 * cluster_size m.header.fields)) es
 none-cached m key new [] none = tt
@@ -93,7 +89,7 @@ module _ (m : Metadata) (run : Run) (n : ℕ) (copy : TableValue) (sound : IsSou
   abbrev lack : ℕ → Bool
   lack = lacks m.table (counters_of_block m.header.fields) run.first run.len
 
-  -- where the table stands
+  -- The cluster of the table.
   abbrev pub t : ℕ
   t = run.first + rank (lacks m.table (counters_of_block m.header.fields) run.first run.len) (length copy.raw_entries)
 
@@ -134,7 +130,7 @@ module _ (m : Metadata) (run : Run) (n : ℕ) (copy : TableValue) (sound : IsSou
       let part : n * (8 * entries_of_cluster h) ≡ 8 * (n * entries_of_cluster h) = omega arith in
       omega (arith, size, long, all, part)
 
-  -- It is written there.
+  -- The table is written there.
   module _ (old new : StorageState) (is_in : IsIn old m) (keeps : IsTrue old.shape.keeps) (done : Result Unit Fault) (put : WriteOutcome old new (table_start copy) (table_bytes copy.raw_entries) done) (ours : ℕ → ℕ) (used : (c : ℕ) → run.first ≤ c → c < run.first + run.len → 0 < ours c) where
     free-there : IsSound m → (d : ℕ) → t ≤ d → d ≤ t + (n - 1) → (referenced_at_all m d ≡ 0) × (IsUsed m d → 0 < ours d)
     free-there s d from to =
@@ -196,7 +192,7 @@ module _ (m : Metadata) (run : Run) (n : ℕ) (copy : TableValue) (sound : IsSou
         ],
       )
 
-      -- So it has grown, where the clusters of the room that old blocks count are counted.
+      -- `IsGrownTable` holds, if those clusters of the area are counted that old blocks count.
       pub table-grown : ((c : ℕ) → run.first ≤ c → c < run.first + run.len → waiting m c ≡ 0) → ((c : ℕ) → run.first ≤ c → c < run.first + run.len → lack (c / k) ≡ false → 1 ≤ counted m c)
           → IsGrownTable m' (record copy { modified = false }) run.first lack n
       table-grown unlisted enough = record {

@@ -1,4 +1,4 @@
--- The header comes to name another refcount table.
+-- Switching the header to another refcount table.
 use Rattle.std.proofs.Common.{◌≡◌, ◌≢◌, ℕ, ◌+◌, ◌*◌, ◌/◌, ◌%◌, ◌^◌, ◌<◌, ◌≤◌, refl, arith, ap, sym, subst, ◌∙◌, List, length, inl, inr, true, false, Some, None, Ok}
 use Rattle.std.specs.Prelude.{◌⊎◌, Bool, ◌&&◌, ◌==◌, nat_lt, if◌then◌else◌, slice_index, IsTrue, Result}
 use Rattle.std.proofs.lemmas.Bool.{cases_eq, cases_lt, lt-ltb, le-ltb}
@@ -47,7 +47,6 @@ use Rattle.qcow2_alloc.proofs.Memory.StructureWrites.{splice-agrees, memory-star
 use Rattle.qcow2_alloc.proofs.Memory.FittingWords.{table-fits, counters-same}
 use Rattle.qcow2_alloc.proofs.Memory.KeptWords.{word-contents, structure-named, named-more, copied-stays, ordered-still, block-fits}
 
--- A block that stays in its place counts what it did.
 count-moved : (f : Bytes) (h : Fields) (o n c : ℕ) → block_at f (with_reftable h o n) (c / counters_of_block h) ≡ block_at f h (c / counters_of_block h) → count f (with_reftable h o n) c ≡ count f h c
 unfolding count counter
 count-moved f h o n c same = ap (λ p. if p == 0 then 0 else counter_of f (counter_bits h) p (c % counters_of_block h)) same
@@ -56,7 +55,6 @@ second : (a b : Bool) → (a && b) ≡ true → b ≡ true
 second true b both = both
 second false b both = absurd (cc both)
 
--- A table that stands in a file names the blocks that its words do.
 pub words-at : (f : Bytes) (h : Fields) (raw_entries : List ℕ) (o n : ℕ) → length raw_entries ≡ n * entries_of_cluster h → ((i : ℕ) → i < length raw_entries → raw_entry f o i ≡ slice_index raw_entries i) → (i : ℕ) → block_at f (with_reftable h o n) i ≡ block_offset (slice_index raw_entries i)
 words-at f h raw_entries o n long written i = elim (cases_lt i (n * entries_of_cluster h)) [
   | inl lt ↦ let within : nat_lt i (n * entries_of_cluster h) ≡ true = lt-ltb _ _ lt in rw within (ap block_offset (written i (omega (arith, lt, long))))
@@ -65,7 +63,6 @@ words-at f h raw_entries o n long written i = elim (cases_lt i (n * entries_of_c
       rw past (sym (ap block_offset (get_or_past raw_entries i 0 (omega (arith, le, long)))))
 ]
 
--- What is summed of a place that there is.
 pub there-weighs : (p : ℕ) → p ≢ 0 → (w : ℕ) → (if p == 0 then 0 else w) ≡ w
 there-weighs p is w = grind (arith, nat_tests)
 
@@ -132,14 +129,14 @@ module _ (m : Metadata) (table : TableValue) (t n : ℕ) (sound : IsSound m) (re
   in-file = refcount-table-switched f x m.header sound.well_formed.consistent o n loads out new-sound old-blocks ready.once
       (λ c some. ((let none = (ready.free c some).0 in let le = refs-file f g h c in omega (arith, none, le)), count-at c some))
 
-  -- What becomes the table or a block is in memory what it is in the file:
+  -- The clusters of the new table and blocks are outside the structure, so memory has the bytes of the file there.
   unstructured : (c : ℕ) → 0 < newly m t n c → structure f h (meets h c) ≡ 0
   unstructured c some = let none = (ready.free c some).0 in let le = structure-named f g h c in omega (arith, none, le)
 
   same-there : (c : ℕ) → 0 < newly m t n c → Same f g (c * cluster_size h) (cluster_size h)
   same-there c some = memory-same m.file m.header c (unstructured c some) sound.well_formed.consistent m.cached m.order sound.well_formed
 
-  -- the table,
+  -- Memory has the bytes of the new table.
   same-table : Same f g o (n * cluster_size h)
   same-table k lt =
       let low : (o + k) / cluster_size h * cluster_size h ≤ o + k = div-mul-le_self (o + k) (cluster_size h) in
@@ -154,7 +151,7 @@ module _ (m : Metadata) (table : TableValue) (t n : ℕ) (sound : IsSound m) (re
   blocks-same : (i : ℕ) → block_at g h' i ≡ block_at f h' i
   blocks-same = block_at-same f g h' same-table
 
-  -- and the new blocks.
+  -- A new block is in one of these clusters.
   newly-block : (b : ℕ) → block_at f h b ≡ 0 → block_at f h' b ≢ 0 → (c : ℕ) → block_at f h' b ≡ c * cluster_size h → 0 < newly m t n c
   newly-block b none there c place =
       let inside : b < n * entries_of_cluster h = block-inside f h' b there in
@@ -235,7 +232,6 @@ module _ (m : Metadata) (table : TableValue) (t n : ℕ) (sound : IsSound m) (re
   other-counts : (c : ℕ) → block_at f h (c / counters_of_block h) ≢ 0 → (count x h' c ≡ count f h c) × (counted m' c ≡ counted m c)
   other-counts c there = (in-file.old_counts c there, over-there.old_counts c (λ none. there (sym (places.blocks (c / counters_of_block h)) ∙ none)))
 
-  -- Either a cluster is another, or it is one of the new.
   which : (c : ℕ) → (newly m t n c ≡ 0) ⊎ ((newly m t n c ≡ 1) × (referenced_at_all m c ≡ 0) × (waiting m c ≡ 0))
   which c = elim (cases_lt 0 (newly m t n c)) [
     | inl some ↦ let most = ready.once c in let free = ready.free c some in inr (omega (arith, some, most), free.0, free.1)
@@ -270,7 +266,7 @@ module _ (m : Metadata) (table : TableValue) (t n : ℕ) (sound : IsSound m) (re
     | inr there ↦ let counts = other-counts c there in omega (arith, le, counts.0, counts.1)
   ]
 
-  -- What is cached fits.
+  -- Cached tables and blocks still fit.
   block-still : (cluster : ℕ) (b : Block) → ((k : ℕ) → block_at f h k ≡ 0 → block_at f h' k ≡ cluster * cluster_size h → cluster ≢ 0 → b.counters ≡ counters_in f h (cluster * cluster_size h))
       → IsCachedBlock f h cluster b → IsCachedBlock x h' cluster b
   block-still cluster b fresh is = block-fits f x h o n cluster b
@@ -402,7 +398,7 @@ module _ (m : Metadata) (table : TableValue) (t n : ℕ) (sound : IsSound m) (re
     names = names-moved;
   }
 
--- The header's first bytes are written, by one request.
+-- The first bytes of the header are written by one request.
 module _ (m : Metadata) (table : TableValue) (t n : ℕ) (old new : StorageState) (is_in : IsIn old m) (ready : IsSound m → IsReadyTable m table t n)
     (loads : IsSound m → header_of true (splice m.file 0 (first_bytes (with_reftable m.header.fields (t * cluster_size m.header.fields) n))) ≡ Ok (with_refcount_table m.header (t * cluster_size m.header.fields) n)) where
   abbrev pointer : List ℕ
@@ -419,13 +415,12 @@ module _ (m : Metadata) (table : TableValue) (t n : ℕ) (old new : StorageState
   switch-names keeps sound result put done =
       subst (λ (x : Bytes). TableSwitched m (with_table m table t n x) t n) (sym (at-once-file m 0 pointer old new is_in result put keeps done)) (table-names m table t n sound (ready sound) pointer long (loads sound))
 
--- The header of a sound image keeps the limits.
 pub sound-sizes : (m : Metadata) → IsSound m → first_fault (rules_of_size m.header.fields) ≡ None
 sound-sizes m sound =
     let was = sound.well_formed.consistent.readable.loads in
     subst (λ (h : Fields). first_fault (rules_of_size h) ≡ None) (sym (header-fields true m.file m.header was)) (loaded-parts true m.file m.header was).sizes
 
--- The header's first bytes make a header that loads, where the new table keeps the limits.
+-- The header's first bytes still load, if the new table keeps the limits.
 pub pointer-loads : (m : Metadata) (t n : ℕ) → IsSound m → ((p : ℕ) → m.file p < 256) → first_fault (rules_of_size (with_reftable m.header.fields (t * cluster_size m.header.fields) n)) ≡ None
     → header_of true (splice m.file 0 (first_bytes (with_reftable m.header.fields (t * cluster_size m.header.fields) n))) ≡ Ok (with_refcount_table m.header (t * cluster_size m.header.fields) n)
 pointer-loads m t n sound bytes sizes =

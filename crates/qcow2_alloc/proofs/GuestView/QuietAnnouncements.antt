@@ -1,4 +1,4 @@
--- Announcements of another order are quiet, and so is what was flushed unless it was cut off.
+-- Setting the write order leaves the guest unchanged, as do flushes without a resource error.
 use Rattle.std.proofs.Common.{◌≡◌, ℕ, refl, subst}
 use Rattle.std.specs.Prelude.{Result, Ok, Err, OnOk}
 use Rattle.imago_storage.specs.State.{StorageState}
@@ -15,7 +15,7 @@ use Rattle.qcow2_alloc.proofs.Flushing.FlushRefusals.{never-refused}
 use Rattle.qcow2_alloc.proofs.GuestView.QuietFlushes.{going-quietly, order-quiet, quietly-weaker}
 use Rattle.qcow2_alloc.proofs.Memory.SafeLaws.{safe-reach}
 
--- What is flushed, and then safe in another order, is quiet.
+-- The order changes after a flush.
 pub announced-quietly : (m : Metadata) (order' : CacheDependency) (result : Result Unit Fault) (old new : StorageState) (cached' : Cached) → IsIn old m → WritesBackCached m.header m.order Always (result ≡ Ok tt) old m.cached new cached'
     → OnOk result ((f : Bytes) (H : Header) → WellFormed f H cached' m.order → WellFormed f H cached' order')
     → PreservesGuest (result ≡ Ok tt) (λ _. 0) (λ _. 0) old m new (record m { file = bytes_of new.bytes; cached = cached'; order = order' })
@@ -34,12 +34,12 @@ announced-quietly m order' result old new cached' at going well_formed =
           (turned.0, record { shows = guest_unchanged.shows; raw_entries = guest_unchanged.raw_entries; used_bytes_unchanged = guest_unchanged.used_bytes_unchanged; apart = guest_unchanged.apart; waits = guest_unchanged.waits; law = guest_unchanged.law });
     }
 
--- Writes that weren't cut off succeeded, where all is in reach,
+-- If all dirty entries are addressable, a flush without a resource error succeeds.
 pub written-whole : (reach : Type 0) (before after : ℕ) (result : Result Unit Fault) → FailsFor (writing_causes reach before after) result → reach → HadNoResourceError result → result ≡ Ok tt
 written-whole reach before after (Ok done) counts near whole = refl
 written-whole reach before after (Err fault) counts near whole = absurd (never-refused reach before after fault near whole counts)
 
--- as it is of a sound image.
+-- With `IsSound`, all dirty entries are addressable.
 pub whole-quietly : (m : Metadata) (reach : Type 0) (before after : ℕ) (result : Result Unit Fault) (handed taken : ℕ → ℕ) (old new : StorageState) (m' : Metadata) → (AreTablesAddressable m.cached × AreBlocksAddressable m.cached → reach)
     → FailsFor (writing_causes reach before after) result → PreservesGuest (result ≡ Ok tt) handed taken old m new m' → PreservesGuest (HadNoResourceError result) handed taken old m new m'
 whole-quietly m reach before after result handed taken old new m' near counts quietly =

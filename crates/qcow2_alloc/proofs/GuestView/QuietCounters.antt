@@ -1,4 +1,4 @@
--- A counter is lowered for an entry that waited to be freed, or raised for a cluster that is handed out.
+-- Decrementing counters for the free list, and incrementing counters for allocations.
 use Rattle.std.proofs.Common.{◌≡◌, ◌≢◌, ℕ, ◌+◌, ◌≤◌, ◌<◌, refl, arith, sym, subst, ◌∙◌, List, inl, inr}
 use Rattle.std.specs.Prelude.{◌⊎◌}
 use Rattle.std.proofs.lemmas.Bool.{cases_eq}
@@ -19,7 +19,7 @@ use Rattle.qcow2_alloc.proofs.Memory.CounterChanges.{counter-raised, counter-low
 use Rattle.qcow2_alloc.proofs.Memory.MemoryWords.{places-in-memory}
 use Rattle.qcow2_alloc.proofs.GuestView.ShownDisks.{file-shows}
 
--- A counter changes with the list of what waits to be freed.
+-- A counter changes together with the free list.
 module _ (m : Metadata) (c n : ℕ) (cached' : Cached) (pending' : List FreeEntry) (handed taken : ℕ → ℕ) (sound : IsSound m) (changed : CounterChanged m.file m.header m.order m.cached c n cached')
     (here : n + waiting m c + taken c ≡ counted m c + listed pending' c + handed c) (others : (d : ℕ) → d ≢ c → waiting m d + taken d ≡ listed pending' d + handed d)
     (covers : referenced m c + listed pending' c ≤ n) (fewer : (d : ℕ) → listed pending' d ≤ waiting m d) (metadata : (d : ℕ) → listed (metadata_in pending') d ≤ waiting_metadata m d) where
@@ -77,7 +77,7 @@ here-one c = grind (arith, nat_tests)
 pub away-none : (c d : ℕ) → d ≢ c → one_at c d ≡ 0
 away-none c d apart = grind (arith, nat_tests)
 
--- It is lowered for an entry that had its cluster,
+-- A decrement for an entry of the free list.
 pub lower-quiet : (m : Metadata) (c n : ℕ) (cached' : Cached) (pending' : List FreeEntry) → IsSound m → CounterChanged m.file m.header m.order m.cached c n cached' → counted m c ≡ n + 1
     → ((d : ℕ) → listed pending' d + one_at c d ≡ waiting m d) → ((d : ℕ) → listed (metadata_in pending') d ≤ waiting_metadata m d)
     → IsSound (record m { cached = cached'; pending = pending' }) × GuestUnchanged (λ _. 0) (λ _. 0) m (record m { cached = cached'; pending = pending' })
@@ -88,7 +88,7 @@ lower-quiet m c n cached' pending' sound changed more less metadata =
     counter-quiet m c n cached' pending' (λ _. 0) (λ _. 0) sound changed (omega (arith, more, own, one)) (λ d apart. let at = less d in omega (arith, at, away-none c d apart))
     (omega (arith, was, more, own, one)) (λ d. let at = less d in omega (arith, at)) metadata
 
--- or for a cluster that was handed out and that no entry has and nothing names: it is taken back.
+-- A decrement for an allocated cluster that is neither referenced nor on the free list: the cluster is returned.
 pub return-quiet : (m : Metadata) (c n : ℕ) (cached' : Cached) → IsSound m → CounterChanged m.file m.header m.order m.cached c n cached' → counted m c ≡ n + 1 → referenced m c + waiting m c ≤ n
     → IsSound (record m { cached = cached' }) × GuestUnchanged (λ _. 0) (one_at c) m (record m { cached = cached' })
 return-quiet m c n cached' sound changed more enough =
@@ -96,7 +96,7 @@ return-quiet m c n cached' sound changed more enough =
     counter-quiet m c n cached' m.pending (λ _. 0) (one_at c) sound changed (omega (arith, more, one)) (λ d apart. omega (arith, away-none c d apart))
     enough (λ d. omega arith) (λ d. omega arith)
 
--- It is raised for a cluster that is handed out.
+-- An increment for an allocation.
 pub raise-quiet : (m : Metadata) (c : ℕ) (cached' : Cached) → IsSound m → CounterChanged m.file m.header m.order m.cached c 1 cached' → counted m c ≡ 0
     → IsSound (record m { cached = cached' }) × GuestUnchanged (one_at c) (λ _. 0) m (record m { cached = cached' })
 raise-quiet m c cached' sound changed none =
@@ -105,27 +105,27 @@ raise-quiet m c cached' sound changed none =
     counter-quiet m c 1 cached' m.pending (one_at c) (λ _. 0) sound changed (omega (arith, none, one)) (λ d apart. omega (arith, away-none c d apart))
     (omega (arith, was, none)) (λ d. omega arith) (λ d. omega arith)
 
--- What still names a cluster is covered by a lower count
+-- `IsStillCovered` holds if the lower refcount covers the references in the file and in memory.
 covered-by : (o : CacheDependency) (f g : Bytes) (h : Fields) (c n : ℕ) → SamePlaces f g h → references_in_either f g h c ≤ n → IsStillCovered o f g h c n
 covered-by Unset f g h c n places enough = enough
 covered-by L2DependsOnRb f g h c n places enough = enough
 covered-by RbDependsOnL2 f g h c n places enough = let le = refs-cached f g h c places in omega (arith, le, enough)
 
--- where no more names it in the file or in memory, as where an entry of metadata has it,
+-- `IsStillCovered` holds if at most `n` references are left, as for metadata on the free list.
 pub unnamed-covered : (m : Metadata) (c n : ℕ) → IsSound m → referenced_at_all m c ≤ n → IsStillCovered m.order m.file (in_memory m) m.header.fields c n
 unnamed-covered m c n sound enough = covered-by m.order m.file (in_memory m) m.header.fields c n (places-in-memory m.file m.header sound.well_formed.consistent m.cached sound.well_formed.tables sound.well_formed.blocks) enough
 
 pub metadata-covered : (m : Metadata) (c n : ℕ) → IsSound m → 0 < waiting_metadata m c → IsStillCovered m.order m.file (in_memory m) m.header.fields c n
 metadata-covered m c n sound some = let none = sound.not_referenced c some in unnamed-covered m c n sound (omega (arith, none))
 
--- and while tables are written first, where any entry has it.
+-- `IsStillCovered` holds for each entry of the free list while tables are written first.
 pub waiting-covered : (m : Metadata) (c n : ℕ) → IsSound m → m.order ≡ RbDependsOnL2 → 0 < waiting m c → counted m c ≡ n + 1 → IsStillCovered m.order m.file (in_memory m) m.header.fields c n
 waiting-covered m c n sound order some more =
     let was = sound.covered c in
     let enough : referenced m c ≤ n = omega (arith, was, some, more) in
     subst (λ o. IsStillCovered o m.file (in_memory m) m.header.fields c n) (sym order) enough
 
--- So a cluster is freed that an entry has, while tables are written first, or if the entry is of metadata,
+-- A cluster on the free list is freed: tables are written first, or the cluster was metadata.
 pub free-quiet : (m : Metadata) (key c n : ℕ) (cached' : Cached) (pending' : List FreeEntry) → IsSound m → (m.order ≡ RbDependsOnL2) ⊎ (0 < waiting_metadata m c) → SetsCounter m.file m.header.fields m.cached key c n cached' → counted m c ≡ n + 1
     → ((d : ℕ) → listed pending' d + one_at c d ≡ waiting m d) → ((d : ℕ) → listed (metadata_in pending') d ≤ waiting_metadata m d)
     → IsSound (record m { cached = cached'; pending = pending' }) × GuestUnchanged (λ _. 0) (λ _. 0) m (record m { cached = cached'; pending = pending' })
@@ -135,7 +135,7 @@ free-quiet m key c n cached' pending' sound why sets more less metadata =
     let covers : IsStillCovered m.order m.file (in_memory m) m.header.fields c n = elim why [ inl order ↦ waiting-covered m c n sound order (omega (arith, own, one)) more | inr some ↦ metadata-covered m c n sound some ] in
     lower-quiet m c n cached' pending' sound (counter-lowered m.file m.header m.cached cached' m.order key c n sound.well_formed sets more covers) more less metadata
 
--- or was handed out and isn't named,
+-- An allocated, unreferenced cluster is returned.
 pub give-back-quiet : (m : Metadata) (key c n : ℕ) (cached' : Cached) → IsSound m → SetsCounter m.file m.header.fields m.cached key c n cached' → counted m c ≡ n + 1 → referenced_at_all m c + waiting m c ≤ n
     → IsSound (record m { cached = cached' }) × GuestUnchanged (λ _. 0) (one_at c) m (record m { cached = cached' })
 give-back-quiet m key c n cached' sound sets more enough =
@@ -144,7 +144,7 @@ give-back-quiet m key c n cached' sound sets more enough =
     let covers : IsStillCovered m.order m.file (in_memory m) m.header.fields c n = unnamed-covered m c n sound (omega (arith, enough)) in
     return-quiet m c n cached' sound (counter-lowered m.file m.header m.cached cached' m.order key c n sound.well_formed sets more covers) more (omega (arith, le, enough))
 
--- and handed out while blocks are written first.
+-- A cluster is allocated while blocks are written first.
 pub hand-out-quiet : (m : Metadata) (key c : ℕ) (cached' : Cached) → IsSound m → m.order ≡ L2DependsOnRb → SetsCounter m.file m.header.fields m.cached key c 1 cached' → counted m c ≡ 0
     → IsSound (record m { cached = cached' }) × GuestUnchanged (one_at c) (λ _. 0) m (record m { cached = cached' }) × (referenced_at_all m c ≡ 0)
 hand-out-quiet m key c cached' sound order sets none =
@@ -158,7 +158,7 @@ here-many c by = grind (arith, nat_tests)
 away-many : (c by d : ℕ) → d ≢ c → many_at c by d ≡ 0
 away-many c by d apart = grind (arith, nat_tests)
 
--- It is lowered by any number, where what names it and what waits to free it is still covered.
+-- A refcount falls by any number, as long as it covers the references and the free list.
 pub leaked-quiet : (m : Metadata) (key c n by : ℕ) (cached' : Cached) → IsSound m → SetsCounter m.file m.header.fields m.cached key c n cached' → counted m c ≡ n + by → referenced_at_all m c + waiting m c ≤ n
     → IsSound (record m { cached = cached' }) × GuestUnchanged (λ _. 0) (many_at c by) m (record m { cached = cached' })
 leaked-quiet m key c n by cached' sound sets more enough =

@@ -1,4 +1,4 @@
--- The entries of metadata among those that wait to be freed, and what is put among them quietly.
+-- The metadata entries of the free list. Adding entries to the list leaves the guest unchanged.
 use Rattle.std.proofs.Common.{◌≡◌, ℕ, ◌+◌, ◌<◌, ◌≤◌, refl, arith, ap, sym, ◌∙◌, List, [], ◌∷◌, ◌++◌, length, inl, inr}
 use Rattle.std.specs.Prelude.{Bool}
 use Rattle.std.specs.List.{remove, sum_by}
@@ -17,7 +17,6 @@ use Rattle.qcow2_alloc.specs.GuestView.{IsTableOf, Metadata, metadata_in, covers
 use Rattle.qcow2_alloc.proofs.Freeing.ClusterOccurrences.{listed_push, covers-parts}
 use Rattle.qcow2_alloc.proofs.GuestView.ShownDisks.{file-shows}
 
--- An entry of metadata counts as it does among all, and no other does.
 listed-metadata : (c : ℕ) (entries : List FreeEntry) → listed (metadata_in entries) c ≡ sum_by (covers_metadata c) entries
 listed-metadata c [] = refl
 listed-metadata c (e ∷ es) =
@@ -28,7 +27,6 @@ listed-metadata c (e ∷ es) =
       | inr isnt ↦ rw isnt (omega (arith, rest)) ∙ sym all
     ]
 
--- They are among all.
 pub metadata-among : (c : ℕ) (entries : List FreeEntry) → listed (metadata_in entries) c ≤ listed entries c
 metadata-among c [] = omega arith
 metadata-among c (e ∷ es) =
@@ -39,7 +37,6 @@ metadata-among c (e ∷ es) =
       | inr isnt ↦ rw isnt (omega (arith, rest, all))
     ]
 
--- So the entries of metadata count one by one.
 pub metadata_push : (entries : List FreeEntry) (e : FreeEntry) (c : ℕ) → listed (metadata_in (entries ++ e ∷ [])) c ≡ listed (metadata_in entries) c + covers_metadata c e
 metadata_push entries e c = listed-metadata c (entries ++ e ∷ []) ∙ sum_by_push (covers_metadata c) entries e ∙ ap (λ n. n + covers_metadata c e) (sym (listed-metadata c entries))
 
@@ -63,12 +60,10 @@ metadata-shortened entries index n c inside enough =
     let new = listed-metadata c (shortened entries index n) in
     omega (arith, set, parts, old, new)
 
--- A run of one cluster more has that one too.
 pub covers-more : (c first count : ℕ) (metadata : Bool) → covers c (record { first = first; count = count + 1; metadata = metadata }) ≡ covers c (record { first = first; count = count; metadata = metadata }) + one_at (first + count) c
 covers-more c first count metadata = grind (arith, nat_tests)
 
--- Clusters may be put among those that wait to be freed, where the counts cover them beside what is named and what waits. They are taken
--- back. Nothing names those of metadata.
+-- Clusters can be added to the free list if refcounts cover them in addition to the references and the list. Metadata must be unreferenced.
 pub push-quiet : (m : Metadata) (e : FreeEntry) → IsSound m → ((c : ℕ) → referenced m c + waiting m c + covers c e ≤ counted m c) → ((c : ℕ) → 0 < covers_metadata c e → referenced_at_all m c ≡ 0)
     → IsSound (record m { pending = m.pending ++ e ∷ [] }) × GuestUnchanged (λ _. 0) (λ c. covers c e) m (record m { pending = m.pending ++ e ∷ [] })
 push-quiet m e sound enough not_referenced = (
@@ -91,7 +86,7 @@ push-quiet m e sound enough not_referenced = (
   },
 )
 
--- A safe image of which nothing waits to be freed is sound.
+-- A well-formed image with an empty free list has `IsSound`.
 pub safe-sound : (f : Bytes) (H : Header) (cached : Cached) (order : CacheDependency) (table : TableValue) → WellFormed f H cached order → IsTableOf f H.fields table
     → IsSound (record { file = f; header = H; cached = cached; order = order; table = table; pending = [] })
 safe-sound f H cached order table well_formed is = record {

@@ -1,4 +1,4 @@
--- Flushes, announcements and uses of what is cached are quiet.
+-- Flushes, changes of the order and uses of the caches leave the guest unchanged.
 use Rattle.std.proofs.Common.{◌≡◌, ℕ, ◌+◌, ◌≤◌, refl, arith, ap, sym, subst, ◌∙◌, List, inl}
 use Rattle.std.specs.Prelude.{◌⊎◌}
 use Rattle.imago_storage.specs.State.{StorageState}
@@ -20,11 +20,10 @@ use Rattle.qcow2_alloc.specs.GuestView.{IsTableOf, Metadata, in_memory, counted,
 use Rattle.qcow2_alloc.proofs.Flushing.WriteSequences.{left-same}
 use Rattle.qcow2_alloc.proofs.GuestView.ShownDisks.{left-shows, left-same-there}
 
--- The refcount table in memory is still the file's where that names the same blocks.
 pub still-table : (f x : Bytes) (h : Fields) (table : TableValue) → ((i : ℕ) → block_at x h i ≡ block_at f h i) → IsTableOf f h table → IsTableOf x h table
 still-table f x h table same is = record { layout = is.layout; long = is.long; placed = is.placed; names = λ i lt. is.names i lt ∙ sym (same i) }
 
--- What leaves memory as it was, and of the file what flushes may.
+-- Memory is unchanged, and the file is a crash image of a flush.
 module _ (m : Metadata) (x : Bytes) (cached' : Cached) (order' : CacheDependency) (sound : IsSound m) (well_formed : WellFormed x m.header cached' order') (same : memory x m.header.fields cached' ≡ in_memory m) (left : IsCrashImage m.file (in_memory m) m.header x) where
   names-no-more : (c : ℕ) → references_in_either x (memory x m.header.fields cached') m.header.fields c ≤ references_in_either m.file (in_memory m) m.header.fields c
   names-no-more c =
@@ -54,19 +53,15 @@ module _ (m : Metadata) (x : Bytes) (cached' : Cached) (order' : CacheDependency
   pub stays-quiet : IsSound (record m { file = x; cached = cached'; order = order' }) × GuestUnchanged (λ _. 0) (λ _. 0) m (record m { file = x; cached = cached'; order = order' })
   stays-quiet = (still-sound, still-quiet)
 
--- What stays is quiet,
 pub quiet-none : (m : Metadata) → IsSound m → GuestUnchanged (λ _. 0) (λ _. 0) m m
 quiet-none m sound = still-quiet m m.file m.cached m.order sound sound.well_formed refl (left-same m.file (in_memory m) m.header sound.well_formed.consistent)
 
--- and what is used of the caches,
 pub used-quiet : (m : Metadata) (cached' : Cached) → IsSound m → StaysAsItIs m.file m.header m.cached m.order cached' → IsSound (record m { cached = cached' }) × GuestUnchanged (λ _. 0) (λ _. 0) m (record m { cached = cached' })
 used-quiet m cached' sound stays = stays-quiet m m.file cached' m.order sound stays.well_formed stays.memory_same (left-same m.file (in_memory m) m.header sound.well_formed.consistent)
 
--- and another order that is safe,
 pub order-quiet : (m : Metadata) (order' : CacheDependency) → IsSound m → WellFormed m.file m.header m.cached order' → IsSound (record m { order = order' }) × GuestUnchanged (λ _. 0) (λ _. 0) m (record m { order = order' })
 order-quiet m order' sound well_formed = stays-quiet m m.file m.cached order' sound well_formed refl (left-same m.file (in_memory m) m.header sound.well_formed.consistent)
 
--- and what is flushed.
 pub settled-quiet : (m : Metadata) (old new : List ℕ) (cached' : Cached) → m.file ≡ bytes_of old → IsSound m → IsSettled m.header m.order old m.cached new cached'
     → IsSound (record m { file = bytes_of new; cached = cached' }) × GuestUnchanged (λ _. 0) (λ _. 0) m (record m { file = bytes_of new; cached = cached' })
 settled-quiet m old new cached' at sound settled =
@@ -74,8 +69,7 @@ settled-quiet m old new cached' at sound settled =
     (settled.memory_same ∙ sym (ap (λ (f : Bytes). memory f m.header.fields m.cached) at))
     (subst (λ (f : Bytes). IsCrashImage f (memory f m.header.fields m.cached) m.header (bytes_of new)) (sym at) settled.left)
 
--- So are flushes as they are done. They leave the image sound also where they failed, if a storage that tells its stops refused no
--- change.
+-- Flushes preserve the guest. `IsSound` holds even after a failed flush, if a storage that exposes its crash images refused no change.
 pub flushes-quietly : (m : Metadata) (ok : Type 0) (old new : StorageState) (cached' : Cached) → IsIn old m → WritesBackCached m.header m.order Always ok old m.cached new cached'
     → PreservesGuest (ok ⊎ NoChangeRefused old new) (λ _. 0) (λ _. 0) old m new (record m { file = bytes_of new.bytes; cached = cached' })
 flushes-quietly m ok old new cached' at going = record {
@@ -93,7 +87,7 @@ flushes-quietly m ok old new cached' at going = record {
     left-there : (x : List ℕ) → IsCrashImage (bytes_of old.bytes) (memory (bytes_of old.bytes) m.header.fields m.cached) m.header (bytes_of x) → IsCrashImage m.file (in_memory m) m.header (bytes_of x)
     left-there x left = subst (λ (f : Bytes). IsCrashImage f (memory f m.header.fields m.cached) m.header (bytes_of x)) (sym at) left
 
--- Where it succeeded may be said otherwise.
+-- The success condition may be replaced by a stronger one.
 pub quietly-weaker : (ok ok' : Type 0) (handed taken : ℕ → ℕ) (s : StorageState) (m : Metadata) (s' : StorageState) (m' : Metadata) → (IsSound m → ok' → ok) → PreservesGuest ok handed taken s m s' m' → PreservesGuest ok' handed taken s m s' m'
 quietly-weaker ok ok' handed taken s m s' m' from quietly = record {
   shape = quietly.shape;
@@ -107,7 +101,7 @@ pub going-quietly : (m : Metadata) (ok : Type 0) (old new : StorageState) (cache
 going-quietly m ok old new cached' at going =
     quietly-weaker (ok ⊎ NoChangeRefused old new) ok (λ _. 0) (λ _. 0) old m new (record m { file = bytes_of new.bytes; cached = cached' }) (λ sound done. inl done) (flushes-quietly m ok old new cached' at going)
 
--- A change of memory alone makes no request.
+-- A change in memory makes no request.
 pub memory-quietly : (ok : Type 0) (handed taken : ℕ → ℕ) (s : StorageState) (m m' : Metadata) → (IsSound m → ok → IsSound m' × GuestUnchanged handed taken m m') → PreservesGuest ok handed taken s m s m'
 memory-quietly ok handed taken s m m' guest_unchanged = record {
   shape = refl;

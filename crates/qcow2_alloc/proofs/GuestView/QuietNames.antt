@@ -1,4 +1,4 @@
--- What leaves the disk, the header and the refcount table as they are names no cluster anew.
+-- A call that leaves the guest, the header and the refcount table unchanged adds no reference.
 use Rattle.std.proofs.Common.{◌≡◌, ℕ, ◌≤◌, arith, ap, sym, subst, ◌∙◌, inl, inr, false}
 use Rattle.std.specs.Prelude.{◌⊎◌, nat_lt, slice_index}
 use Rattle.std.proofs.lemmas.Bool.{cases_lt, le-ltb}
@@ -16,7 +16,6 @@ use Rattle.qcow2_types.proofs.Counting.Slots.{slots-same}
 use Rattle.qcow2_metadata.specs.Tables.{TableValue}
 use Rattle.qcow2_alloc.specs.GuestView.{Metadata, in_memory, referenced_at_all, IsSound, GuestUnchanged}
 
--- The refcount table of a sound image names the blocks of its file, at each index.
 pub table-names : (m : Metadata) → IsSound m → (i : ℕ) → block_at m.file m.header.fields i ≡ block_offset (slice_index m.table.raw_entries i)
 table-names m sound i = elim (cases_lt i (refcount_table_entries m.header.fields)) [
   | inl lt ↦ sym (sound.table.names i lt)
@@ -25,7 +24,6 @@ table-names m sound i = elim (cases_lt i (refcount_table_entries m.header.fields
       rw past (sym (ap block_offset (get_or_past m.table.raw_entries i 0 (omega (arith, le, sound.table.long)))))
 ]
 
--- Words that mean the same name the same,
 words-same : (x y g : Bytes) (h : Fields) (c : ℕ) → ((i j : ℕ) → Live (l2_table x h) h i j → slot y h i j ≡ slot g h i j) → references_in_either x y h c ≡ references_in_either x g h c
 unfolding references_in_either
 words-same x y g h c same =
@@ -33,7 +31,6 @@ words-same x y g h c same =
     (λ i j live. ap (λ (n : Mapping). of_either h (meets h c) (slot x h i j) n) (same i j live)) in
     omega (arith, raw_entries)
 
--- and in a file between two versions no more.
 words-fall : (f x g y : Bytes) (h : Fields) (c : ℕ) → IsBetween f x g h → ((i j : ℕ) → Live (l2_table f h) h i j → slot y h i j ≡ slot g h i j) → references_in_either x y h c ≤ references_in_either f g h c
 words-fall f x g y h c between same =
     let falls = named-falls f x g h c between in

@@ -1,4 +1,4 @@
--- What is quiet under what the storage and the image were before it.
+-- Premises that may be used to prove `PreservesGuest`.
 use Rattle.std.proofs.Common.{◌≡◌, ℕ, ◌+◌, ◌<◌, ◌∙◌}
 use Rattle.std.specs.Prelude.{IsTrue}
 use Rattle.imago_storage.specs.State.{StorageState}
@@ -7,7 +7,7 @@ use Rattle.imago_storage.proofs.Composing.{later_both}
 use Rattle.qcow2_alloc.specs.GuestView.{Metadata, referenced, IsSound, GuestUnchanged, PreservesGuest}
 use Rattle.qcow2_alloc.proofs.GuestView.QuietSequences.{quietly-then}
 
--- That the storage keeps what is written, and that the image was sound, may be used to show that a call is quiet,
+-- The storage keeps writes, and `IsSound` holds before the call.
 pub quietly-given : (ok : Type 0) (handed taken : ℕ → ℕ) (s : StorageState) (m : Metadata) (s' : StorageState) (m' : Metadata) → s'.shape ≡ s.shape → CountsNotFallen s s' → (IsTrue s.shape.keeps → IsSound m → PreservesGuest ok handed taken s m s' m') → PreservesGuest ok handed taken s m s' m'
 quietly-given ok handed taken s m s' m' shape later quietly = record {
   shape = shape;
@@ -16,7 +16,7 @@ quietly-given ok handed taken s m s' m' shape later quietly = record {
   holds = λ keeps sound. (quietly keeps sound).holds keeps sound;
 }
 
--- and what the call before it left.
+-- `IsSound` also holds after the call before.
 pub quietly-then-given : (ok1 ok2 : Type 0) (h1 t1 h2 t2 : ℕ → ℕ) (s : StorageState) (m : Metadata) (s1 : StorageState) (m1 : Metadata) (s2 : StorageState) (m2 : Metadata) → ok1 → (IsSound m → (c : ℕ) → 0 < referenced m c → t1 c ≡ 0)
     → PreservesGuest ok1 h1 t1 s m s1 m1 → s2.shape ≡ s1.shape → CountsNotFallen s1 s2 → (IsTrue s.shape.keeps → IsSound m → IsSound m1 → GuestUnchanged h1 t1 m m1 → PreservesGuest ok2 h2 t2 s1 m1 s2 m2)
     → PreservesGuest ok2 (λ c. h1 c + h2 c) (λ c. t1 c + t2 c) s m s2 m2

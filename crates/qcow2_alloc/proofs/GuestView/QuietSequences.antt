@@ -1,4 +1,4 @@
--- Calls that leave the disk as it is, one behind the other.
+-- Sequences of calls that leave the guest unchanged.
 use Rattle.std.proofs.Common.{◌≡◌, ℕ, ◌+◌, ◌*◌, ◌/◌, ◌<◌, ◌≤◌, refl, arith, ap, sym, subst, ◌∙◌, inl, inr, slice_index}
 use Rattle.std.specs.Prelude.{◌⊎◌, IsTrue, Some, None}
 use Rattle.std.proofs.lemmas.Bool.{cases_lt, le-ltb}
@@ -24,7 +24,7 @@ use Rattle.qcow2_alloc.specs.WellFormedness.{NoChangeRefused}
 use Rattle.qcow2_alloc.proofs.Memory.MemoryWords.{places-in-memory}
 use Rattle.qcow2_alloc.proofs.GuestView.ShownDisks.{mapping-meets, in-cluster, named-apart}
 
--- A word names what it does whatever the refcount table.
+-- A mapping references the same clusters under any refcount table.
 pub of-moved : (h h' : Fields) → cluster_size h' ≡ cluster_size h → (w : Weight) (m : Mapping) → of_mapping h' w m ≡ of_mapping h w m
 of-moved h h' same w (data_at cluster copied) = ap (λ s. w (cluster * s) s) same
 of-moved h h' same w (zeroes (Some cluster) copied) = ap (λ s. w (cluster * s) s) same
@@ -33,7 +33,7 @@ of-moved h h' same w (packed offset length) = refl
 of-moved h h' same w unmapped = refl
 of-moved h h' same w damaged = refl
 
--- What all words name is the same where each means the same, whatever the refcount table.
+-- All L2 entries together reference the same clusters under any refcount table, if each means the same.
 module _ (f g : Bytes) (h : Fields) (offset clusters c : ℕ) (tables : (i : ℕ) → l2_table g (with_reftable h offset clusters) i ≡ l2_table f h i)
     (raw_entries : (i j : ℕ) → Live (l2_table f h) h i j → slot g (with_reftable h offset clusters) i j ≡ slot f h i j) where
   abbrev h' : Fields
@@ -50,11 +50,9 @@ module _ (f g : Bytes) (h : Fields) (offset clusters c : ℕ) (tables : (i : ℕ
       ∙ slots-same (l2_table f h) h _ _ (λ i j live. of-moved h h' refl (meets h c) (slot g h' i j) ∙ ap (of_mapping h (meets h c)) (raw_entries i j live))
       ∙ sym (contents-slots f h (of_mapping h (meets h c)))
 
--- In memory the structure has what it has in the file,
 pub structure-in-memory : (m : Metadata) → IsSound m → (w : Weight) → structure (in_memory m) m.header.fields w ≡ structure m.file m.header.fields w
 structure-in-memory m sound w = structure-same m.file (in_memory m) m.header.fields (places-in-memory m.file m.header sound.well_formed.consistent m.cached sound.well_formed.tables sound.well_formed.blocks) w
 
--- and a word names no more than all do.
 word-refers : (m : Metadata) → IsSound m → (c i j : ℕ) → Live (l2_table m.file m.header.fields) m.header.fields i j → of_mapping m.header.fields (meets m.header.fields c) (slot (in_memory m) m.header.fields i j) ≤ referenced m c
 unfolding refs
 word-refers m sound c i j live =
@@ -64,20 +62,17 @@ word-refers m sound c i j live =
     let one = slot-le (l2_table m.file m.header.fields) m.header.fields (λ k n. of_mapping m.header.fields (meets m.header.fields c) (slot (in_memory m) m.header.fields k n)) i j live in
     omega (arith, all, one)
 
--- A cluster that a word names in memory is used.
 named-used : (m : Metadata) → IsSound m → (c i j : ℕ) → Live (l2_table m.file m.header.fields) m.header.fields i j → 0 < of_mapping m.header.fields (meets m.header.fields c) (slot (in_memory m) m.header.fields i j) → IsUsed m c
 named-used m sound c i j live some = record {
   apart = named-apart m.file (in_memory m) m.header.fields c i j (slot (in_memory m) m.header.fields i j) sound.well_formed.apart live (inr refl) some;
   taken = let covers = sound.covered c in let one = word-refers m sound c i j live in omega (arith, covers, one, some);
 }
 
--- Between an image and what it became quietly:
+-- Two images, where the second has the guest of the first.
 module _ (m m1 : Metadata) (handed taken : ℕ → ℕ) (guest_unchanged : GuestUnchanged handed taken m m1) where
-  -- clusters are as large,
   size : cluster_size m1.header.fields ≡ cluster_size m.header.fields
   size = ap (λ (H : Header). cluster_size H.fields) guest_unchanged.shows.moved.2
 
-  -- and the same words are there.
   live-there : (i j : ℕ) → Live (l2_table m.file m.header.fields) m.header.fields i j → Live (l2_table m1.file m1.header.fields) m1.header.fields i j
   live-there i j live = record {
     in_l1 = subst (λ (H : Header). i < H.fields.l1_entries) (sym guest_unchanged.shows.moved.2) live.in_l1;
@@ -85,13 +80,13 @@ module _ (m m1 : Metadata) (handed taken : ℕ → ℕ) (guest_unchanged : Guest
     in_table = subst (λ (H : Header). j < entries_of_cluster H.fields) (sym guest_unchanged.shows.moved.2) live.in_table;
   }
 
-  -- The L1 table stands where it did.
+  -- The L1 table is at the same offset.
   l1-then : (x : Bytes) → ((i : ℕ) → i < m1.header.fields.l1_entries → raw_entry x m1.header.fields.l1_offset i ≡ raw_entry m1.file m1.header.fields.l1_offset i)
       → (i : ℕ) → i < m.header.fields.l1_entries → raw_entry x m.header.fields.l1_offset i ≡ raw_entry m1.file m.header.fields.l1_offset i
   l1-then x same = subst (λ (H : Header). (i : ℕ) → i < H.fields.l1_entries → raw_entry x H.fields.l1_offset i ≡ raw_entry m1.file H.fields.l1_offset i) guest_unchanged.shows.moved.2 same
 
   module _ (sound : IsSound m) (named_kept : (c : ℕ) → 0 < referenced m c → taken c ≡ 0) where
-    -- What a word names in memory keeps its bytes.
+    -- Clusters that L2 entries reference in memory keep their bytes.
     kept-there : (i j : ℕ) → Live (l2_table m.file m.header.fields) m.header.fields i j → (p : ℕ) → 0 < of_mapping m.header.fields (touches p 1) (slot (in_memory m) m.header.fields i j) → m1.file p ≡ m.file p
     kept-there i j live p some =
         let le = mapping-meets m.header.fields p (slot (in_memory m) m.header.fields i j) in
@@ -99,7 +94,7 @@ module _ (m m1 : Metadata) (handed taken : ℕ → ℕ) (guest_unchanged : Guest
         let one = word-refers m sound (p / cluster_size m.header.fields) i j live in
         in-cluster m.header.fields m.file m1.file p (guest_unchanged.used_bytes_unchanged (p / cluster_size m.header.fields) used (named_kept (p / cluster_size m.header.fields) (omega (arith, le, one, some))))
 
-    -- What shows the later image shows the first.
+    -- A file that shows the second image shows the first one.
     pub shows-then : (x : Bytes) (H : Header) → ShowsEither m1 x H → ShowsEither m x H
     shows-then x H second = record {
       consistent = second.consistent;
@@ -120,7 +115,7 @@ module _ (m m1 : Metadata) (handed taken : ℕ → ℕ) (guest_unchanged : Guest
     }
 
   module _ (sound : IsSound m) (sound1 : IsSound m1) where
-    -- A cluster that holds no structure is named in memory as often as it was,
+    -- L2 entries reference a cluster outside the structure as often as before.
     pub contents-then : (c : ℕ) → contents (in_memory m1) m1.header.fields (of_mapping m1.header.fields (meets m1.header.fields c)) ≡ contents (in_memory m) m.header.fields (of_mapping m.header.fields (meets m.header.fields c))
     contents-then c =
         subst (λ (K : Header). ((i : ℕ) → l2_table (in_memory m1) K.fields i ≡ l2_table (in_memory m) m.header.fields i)
@@ -144,7 +139,7 @@ module _ (m m1 : Metadata) (handed taken : ℕ → ℕ) (guest_unchanged : Guest
         let same = contents-then c in
         omega (arith, none, none1, s, s1, same)
 
-    -- What names it stands where it did under the same header and refcount table,
+    -- With the same header and refcount table, tables and blocks are at the same offsets.
     places-stay : m1.header ≡ m.header → m1.table ≡ m.table → SamePlaces m.file m1.file m.header.fields
     places-stay same table = record {
       l1 = subst (λ (H : Header). (i : ℕ) → l2_table m1.file H.fields i ≡ l2_table m.file m.header.fields i) same guest_unchanged.shows.tables;
@@ -160,7 +155,6 @@ module _ (m m1 : Metadata) (handed taken : ℕ → ℕ) (guest_unchanged : Guest
         no-block : (f : Bytes) (i : ℕ) → refcount_table_entries m.header.fields ≤ i → block_at f m.header.fields i ≡ 0
         no-block f i past = rw (le-ltb i (refcount_table_entries m.header.fields) past) refl
 
-    -- and so each cluster is named in memory as often,
     pub references-stay : m1.header ≡ m.header → m1.table ≡ m.table → (c : ℕ) → referenced m1 c ≡ referenced m c
     unfolding refs
     references-stay same table c =
@@ -171,7 +165,7 @@ module _ (m m1 : Metadata) (handed taken : ℕ → ℕ) (guest_unchanged : Guest
         let contained = contents-then c in
         omega (arith, s, s1, stands, contained)
 
-    -- and none is counted more often where nothing was handed out and no more waits.
+    -- Without an allocation or a new entry of the free list, no refcount rises.
     pub fewer-counted : m1.header ≡ m.header → m1.table ≡ m.table → ((c : ℕ) → handed c ≡ 0) → ((c : ℕ) → waiting m1 c ≤ waiting m c) → (c : ℕ) → counted m1 c ≤ counted m c
     fewer-counted same table none less c =
         let references = references-stay same table c in
@@ -180,14 +174,14 @@ module _ (m m1 : Metadata) (handed taken : ℕ → ℕ) (guest_unchanged : Guest
         let le = less c in
         omega (arith, references, law, zero, le)
 
-    -- and so what is used and not taken is used still.
+    -- A used cluster that wasn't taken is still used.
     pub used-then : (c : ℕ) → IsUsed m c → taken c ≡ 0 → IsUsed m1 c
     used-then c used none = record {
       apart = guest_unchanged.apart c used none;
       taken = let same = references-then c used.apart (guest_unchanged.apart c used none) in let law = guest_unchanged.law c in omega (arith, same, law, used.taken, none);
     }
 
--- What is handed out and taken adds up.
+-- Allocated and taken clusters add up.
 pub quiet-then : (m m1 m2 : Metadata) (h1 t1 h2 t2 : ℕ → ℕ) → IsSound m → IsSound m1 → ((c : ℕ) → 0 < referenced m c → t1 c ≡ 0) → GuestUnchanged h1 t1 m m1 → GuestUnchanged h2 t2 m1 m2
     → GuestUnchanged (λ c. h1 c + h2 c) (λ c. t1 c + t2 c) m m2
 quiet-then m m1 m2 h1 t1 h2 t2 sound sound1 named_kept first second = record {
@@ -206,7 +200,7 @@ quiet-then m m1 m2 h1 t1 h2 t2 sound sound1 named_kept first second = record {
   law = λ c. let one = first.law c in let two = second.law c in omega (arith, one, two);
 }
 
--- What was handed out and taken may be said otherwise, where what is used and not taken wasn't.
+-- The allocated and taken clusters may be exchanged for others with the same balance.
 pub quiet-otherwise : (m m' : Metadata) (handed taken h t : ℕ → ℕ) → ((c : ℕ) → handed c + t c ≡ h c + taken c) → ((c : ℕ) → IsUsed m c → t c ≡ 0 → taken c ≡ 0) → GuestUnchanged handed taken m m' → GuestUnchanged h t m m'
 quiet-otherwise m m' handed taken h t same kept guest_unchanged = record {
   shows = guest_unchanged.shows;
@@ -217,12 +211,12 @@ quiet-otherwise m m' handed taken h t same kept guest_unchanged = record {
   law = λ c. let law = guest_unchanged.law c in omega (arith, law, same c);
 }
 
--- What was handed out and then taken counts as neither, where it wasn't used.
+-- Clusters that are first allocated and then taken cancel out, if they weren't used before.
 pub quiet-cancel : (m m' : Metadata) (h t k : ℕ → ℕ) → ((c : ℕ) → IsUsed m c → k c ≡ 0) → GuestUnchanged (λ c. h c + k c) (λ c. t c + k c) m m' → GuestUnchanged h t m m'
 quiet-cancel m m' h t k unused guest_unchanged =
     quiet-otherwise m m' (λ c. h c + k c) (λ c. t c + k c) h t (λ c. omega arith) (λ c used none. let free = unused c used in omega (arith, none, free)) guest_unchanged
 
--- Two calls, where the first wasn't cut off.
+-- Two calls, where the first one met its success condition.
 pub quietly-then : (ok1 ok2 : Type 0) (h1 t1 h2 t2 : ℕ → ℕ) (s : StorageState) (m : Metadata) (s1 : StorageState) (m1 : Metadata) (s2 : StorageState) (m2 : Metadata) → ok1 → (IsSound m → (c : ℕ) → 0 < referenced m c → t1 c ≡ 0)
     → PreservesGuest ok1 h1 t1 s m s1 m1 → PreservesGuest ok2 h2 t2 s1 m1 s2 m2 → PreservesGuest ok2 (λ c. h1 c + h2 c) (λ c. t1 c + t2 c) s m s2 m2
 quietly-then ok1 ok2 h1 t1 h2 t2 s m s1 m1 s2 m2 done named_kept first second = record {
@@ -244,7 +238,7 @@ quietly-then ok1 ok2 h1 t1 h2 t2 s m s1 m1 s2 m2 done named_kept first second = 
       (last.0, quiet-then m m1 m2 h1 t1 h2 t2 sound mid.0 (named_kept sound) mid.1 last.1);
 }
 
--- What no refused change kept from telling its stops wasn't kept from it once the first call was done,
+-- `NoChangeRefused` over both calls gives it for the second.
 pub calm-behind : (ok : Type 0) (handed taken : ℕ → ℕ) (s : StorageState) (m : Metadata) (s1 : StorageState) (m1 : Metadata) (s2 : StorageState) → IsTrue s.shape.keeps → IsSound m → PreservesGuest ok handed taken s m s1 m1 → CountsNotFallen s1 s2 → NoChangeRefused s s2 → NoChangeRefused s1 s2
 calm-behind ok handed taken s m s1 m1 s2 keeps sound first later no_change_refused = record {
   no_change_refused = λ r. no_change_refused.no_change_refused (rose_behind s.refusals s1.refusals s2.refusals first.counts_not_fallen.refusals r);
@@ -252,7 +246,7 @@ calm-behind ok handed taken s m s1 m1 s2 keeps sound first later no_change_refus
   tells = subst (λ (a : Shape). IsTrue a.tells) (sym first.shape) no_change_refused.tells;
 }
 
--- and so a second call may have been cut off there.
+-- The second call may also fail, if no change was refused.
 pub calmly-then : (ok1 ok2 : Type 0) (h1 t1 h2 t2 : ℕ → ℕ) (s : StorageState) (m : Metadata) (s1 : StorageState) (m1 : Metadata) (s2 : StorageState) (m2 : Metadata) → ok1 → (IsSound m → (c : ℕ) → 0 < referenced m c → t1 c ≡ 0)
     → PreservesGuest ok1 h1 t1 s m s1 m1 → PreservesGuest (ok2 ⊎ NoChangeRefused s1 s2) h2 t2 s1 m1 s2 m2 → PreservesGuest (ok2 ⊎ NoChangeRefused s s2) (λ c. h1 c + h2 c) (λ c. t1 c + t2 c) s m s2 m2
 calmly-then ok1 ok2 h1 t1 h2 t2 s m s1 m1 s2 m2 done named_kept first second =
@@ -264,7 +258,7 @@ calmly-then ok1 ok2 h1 t1 h2 t2 s m s1 m1 s2 m2 done named_kept first second =
       holds = λ keeps sound why. both.holds keeps sound (elim why [ inl whole ↦ inl whole | inr no_change_refused ↦ inr (calm-behind ok1 h1 t1 s m s1 m1 s2 keeps sound first second.counts_not_fallen no_change_refused) ]);
     }
 
--- What a call hands out and takes may be said otherwise.
+-- Like `quiet-otherwise`, for calls.
 pub quietly-otherwise : (ok : Type 0) (handed taken h t : ℕ → ℕ) (s : StorageState) (m : Metadata) (s' : StorageState) (m' : Metadata) → (IsSound m → (c : ℕ) → handed c + t c ≡ h c + taken c) → (IsSound m → (c : ℕ) → IsUsed m c → t c ≡ 0 → taken c ≡ 0)
     → PreservesGuest ok handed taken s m s' m' → PreservesGuest ok h t s m s' m'
 quietly-otherwise ok handed taken h t s m s' m' same kept quietly = record {

@@ -1,4 +1,4 @@
--- What flushes of a sound image leave shows what the image did.
+-- Each file that flushes leave shows the image.
 use Rattle.std.proofs.Common.{◌≡◌, ◌≢◌, ℕ, ◌+◌, ◌-◌, ◌*◌, ◌/◌, ◌<◌, ◌≤◌, refl, arith, sym, subst, ◌∙◌, List, inl, inr}
 use Rattle.std.specs.Prelude.{◌⊎◌}
 use Rattle.std.specs.List.{AllByRecursion}
@@ -29,29 +29,25 @@ use Rattle.qcow2_alloc.proofs.Flushing.WriteSequences.{left-same}
 use Rattle.qcow2_alloc.proofs.Memory.MemoryImage.{range-stays}
 use Rattle.qcow2_alloc.proofs.Memory.Patches.{all-weaker, patches-are}
 
--- A place lies in its cluster,
 low : (h : Fields) (p : ℕ) → p / cluster_size h * cluster_size h ≤ p
 low h p = div-mul-le_self p (cluster_size h)
 
 high : (h : Fields) (p : ℕ) → p + 1 ≤ (p / cluster_size h + 1) * cluster_size h
 high h p = let lt : p < p / cluster_size h * cluster_size h + cluster_size h = lt-div-mul-add (pow_pos h.cluster_bits) in omega (arith, lt)
 
--- and what names the place names the cluster.
 pub mapping-meets : (h : Fields) (p : ℕ) (m : Mapping) → of_mapping h (touches p 1) m ≤ of_mapping h (meets h (p / cluster_size h)) m
 mapping-meets h p m = of_mapping-mono h (touches p 1) (meets h (p / cluster_size h)) (touches-cluster h (p / cluster_size h) p 1 (low h p) (high h p)) m
 
--- what holds of each place of a cluster
 pub in-cluster : (h : Fields) (f g : Bytes) (p : ℕ) → Same f g (p / cluster_size h * cluster_size h) (cluster_size h) → g p ≡ f p
 in-cluster h f g p same =
     let at : p / cluster_size h * cluster_size h + (p - p / cluster_size h * cluster_size h) ≡ p = omega (arith, low h p) in
     subst (λ q. g q ≡ f q) at (same (p - p / cluster_size h * cluster_size h) (omega (arith, low h p, high h p)))
 
--- A word weighs no more than all words in both versions.
 either-weighs : (h : Fields) (w : Weight) (m n x : Mapping) → (x ≡ m) ⊎ (x ≡ n) → of_mapping h w x ≤ of_either h w m n
 either-weighs h w m n x (inl e) = rw e (le-max_left (of_mapping h w m) (of_mapping h w n))
 either-weighs h w m n x (inr e) = rw e (le-max_right (of_mapping h w m) (of_mapping h w n))
 
--- The structure has no cluster that a word names, in the file or in memory.
+-- A cluster that an L2 entry references isn't in the structure.
 pub named-apart : (f g : Bytes) (h : Fields) (c i j : ℕ) (m : Mapping) → ReferencedOnce f g h → Live (l2_table f h) h i j → (m ≡ slot f h i j) ⊎ (m ≡ slot g h i j) → 0 < of_mapping h (meets h c) m → structure f h (meets h c) ≡ 0
 unfolding references_in_either
 named-apart f g h c i j m apart live is some =
@@ -63,7 +59,6 @@ named-apart f g h c i j m apart live is some =
       | inr none ↦ omega (arith, none)
     ]
 
--- Ranges that aren't in a cluster are clear of it.
 clear-of : (h : Fields) (c place : ℕ) → meets h c place (cluster_size h) ≡ 0 → (place + cluster_size h ≤ c * cluster_size h) ⊎ (c * cluster_size h + cluster_size h ≤ place)
 clear-of h c place none =
     let some : 0 < cluster_size h = pow_pos h.cluster_bits in
@@ -94,11 +89,9 @@ module _ (f : Bytes) (H : Header) (c : ℕ) (none : structure f H.fields (meets 
   clear-of-all : (es : List Patch) → AllByRecursion (IsPatch f H.fields) es → AllByRecursion (IsClear (c * cluster_size H.fields) (cluster_size H.fields)) es
   clear-of-all es are = all-weaker _ _ clear-of-patch es are
 
-  -- In memory a cluster that the structure doesn't have is that of the file.
   pub memory-same : IsConsistent f H → (cached : Cached) (order : CacheDependency) → WellFormed f H cached order → Same f (memory f H.fields cached) (c * cluster_size H.fields) (cluster_size H.fields)
   memory-same was cached order well_formed = over-clear f (c * cluster_size H.fields) (cluster_size H.fields) (patches H.fields cached) (clear-of-all (patches H.fields cached) (patches-are f H was cached well_formed.tables well_formed.blocks))
 
--- Each byte that flushes leave there is the file's.
 pub left-same-there : (f : Bytes) (H : Header) (cached : Cached) (order : CacheDependency) → WellFormed f H cached order → (x : Bytes) → IsCrashImage f (memory f H.fields cached) H x
     → (c : ℕ) → structure f H.fields (meets H.fields c) ≡ 0 → Same f x (c * cluster_size H.fields) (cluster_size H.fields)
 left-same-there f H cached order well_formed x left c none k lt = elim (left.bytes (c * cluster_size H.fields + k)) [
@@ -106,18 +99,16 @@ left-same-there f H cached order well_formed x left c none k lt = elim (left.byt
   | inr now ↦ now ∙ memory-same f H c none well_formed.consistent cached order well_formed k lt
 ]
 
--- what holds of the first bytes
 pub from-start : (f x : Bytes) (n p : ℕ) → Same f x 0 n → p < n → x p ≡ f p
 from-start f x n p same lt = let place : 0 + p ≡ p = omega arith in subst (λ k. x k ≡ f k) place (same p lt)
 
--- A range that flushes leave is the file's, where memory has the file's bytes there,
 left-same-where : (f g : Bytes) (H : Header) (x : Bytes) → IsCrashImage f g H x → (at n : ℕ) → Same f g at n → Same f x at n
 left-same-where f g H x left at n same k lt = elim (left.bytes (at + k)) [
   | inl was ↦ was
   | inr now ↦ now ∙ same k lt
 ]
 
--- as it has in the header's cluster and in the L1 table.
+-- The header's cluster and the L1 table are those of the file.
 module _ (f : Bytes) (H : Header) (cached : Cached) (order : CacheDependency) (well_formed : WellFormed f H cached order) (x : Bytes) (left : IsCrashImage f (memory f H.fields cached) H x) where
   header-left : Same f x 0 (cluster_size H.fields)
   header-left = left-same-where f (memory f H.fields cached) H x left 0 (cluster_size H.fields)
@@ -129,7 +120,6 @@ module _ (f : Bytes) (H : Header) (cached : Cached) (order : CacheDependency) (w
       (range-stays f H well_formed.consistent l1_table tt refl H.fields.l1_offset (H.fields.l1_entries * 8) (λ w. refl) (patches H.fields cached) (patches-are f H well_formed.consistent cached well_formed.tables well_formed.blocks)))
       (omega (arith, lt))
 
--- What flushes leave shows what the image did,
 pub left-shows : (m : Metadata) (x : Bytes) → IsSound m → IsCrashImage m.file (in_memory m) m.header x → ShowsEither m x m.header
 left-shows m x sound left = record {
   consistent = left.consistent;
@@ -145,6 +135,5 @@ left-shows m x sound left = record {
       in-cluster m.header.fields m.file x p (left-same-there m.file m.header m.cached m.order sound.well_formed x left (p / cluster_size m.header.fields) none);
 }
 
--- and so does its file.
 pub file-shows : (m : Metadata) → IsSound m → ShowsEither m m.file m.header
 file-shows m sound = left-shows m m.file sound (left-same m.file (in_memory m) m.header sound.well_formed.consistent)

@@ -1,4 +1,4 @@
--- One request that leaves the disk as it is.
+-- A single request that leaves the guest unchanged.
 use Rattle.std.proofs.Common.{◌≡◌, ℕ, ◌<◌, ap, sym, subst, ◌∙◌, List, inl, inr, length, Result, Ok, Err, refl}
 use Rattle.std.specs.Prelude.{IsTrue}
 use Rattle.imago_storage.specs.State.{StorageState}
@@ -13,7 +13,7 @@ use Rattle.qcow2_alloc.proofs.Flushing.EntryFlushes.{spliced-bytes}
 use Rattle.qcow2_alloc.specs.Going.{HadNoResourceError}
 use Rattle.qcow2_alloc.proofs.GuestView.QuietFlushes.{quietly-weaker}
 
--- The metadata is what the file makes it.
+-- The metadata depends only on the new file.
 module _ (m : Metadata) (after : Bytes → Metadata) (is_file : (x : Bytes) → (after x).file ≡ x) (handed taken : ℕ → ℕ) (at : ℕ) (bytes : List ℕ) (some : 0 < length bytes) (old new : StorageState) (is_in : IsIn old m)
     (guest_unchanged : IsSound m → IsSound (after (splice m.file at bytes)) × GuestUnchanged handed taken m (after (splice m.file at bytes))) where
   abbrev Shown : List ℕ → Type 0
@@ -48,12 +48,10 @@ module _ (m : Metadata) (after : Bytes → Metadata) (is_file : (x : Bytes) → 
   pub at-once-quietly : (result : Result Unit Fault) → AtomicWriteOutcome old new at bytes result → PreservesGuest (result ≡ Ok tt) handed taken old m new (after (bytes_of new.bytes))
   at-once-quietly = at-once-answer
 
--- Where it succeeded the file has the bytes.
 pub at-once-file : (m : Metadata) (at : ℕ) (bytes : List ℕ) (old new : StorageState) → IsIn old m → (result : Result Unit Fault) → AtomicWriteOutcome old new at bytes result → IsTrue old.shape.keeps → result ≡ Ok tt → bytes_of new.bytes ≡ splice m.file at bytes
 at-once-file m at bytes old new is_in (Ok done) put keeps is = spliced-bytes old.bytes at bytes new.bytes (put.put.answer.content keeps) ∙ ap (λ (f : Bytes). splice f at bytes) (sym is_in)
 at-once-file m at bytes old new is_in (Err fault) put keeps is = absurd (cc is)
 
--- A write that wasn't cut off succeeded.
 pub put-done : (old new : StorageState) (at : ℕ) (bytes : List ℕ) (result : Result Unit Fault) → WriteOutcome old new at bytes result → HadNoResourceError result → result ≡ Ok tt
 put-done old new at bytes (Ok done) put whole = refl
 put-done old new at bytes (Err fault) put not_resource_error = absurd (never-mild old.faults new.faults fault put.answer.cause not_resource_error)

@@ -1,4 +1,4 @@
--- Clusters are handed out once the order of writes was announced.
+-- Allocating clusters, after the write order is set.
 use Rattle.std.proofs.Common.{◌≡◌, ◌≢◌, ℕ, ◌+◌, ◌-◌, ◌/◌, ◌<◌, ◌≤◌, [], Bool, refl, arith, ap, subst, ◌∙◌, inl, inr, List, length, Option, None, Some, Result, Ok, Err, true}
 use Rattle.std.specs.Prelude.{⊤, IsTrue, OnOk, IfOk}
 use Rattle.std.proofs.lemmas.Bool.{le-leb, lt-ltb}
@@ -49,7 +49,7 @@ module _ {S : Type 0} (state : S → StorageState) (cluster : ℕ) (s : Allocato
   abbrev Mid : Metadata
   Mid = metadata_of state between mid s.table s.pending
 
-  -- One cluster isn't where that was refused,
+  -- Setting the order fails, and the cluster isn't allocated.
   pub at-not-announced : (fault : Fault) → Announced state s.image (failed fault) (image_state s.table mid between s.pending) → AllocatesClusterAt state cluster s (not_handed fault) (with_first_free (image_state s.table mid between s.pending) s.mark)
   at-not-announced fault first = record {
     leaked = λ _. 0;
@@ -69,7 +69,7 @@ module _ {S : Type 0} (state : S → StorageState) (cluster : ℕ) (s : Allocato
     cause = cause-weaker (freeing-allocates (λ holds. holds) (λ u. loose-all s.table s.caches u.0 u.2) refl) fault first.cause;
   }
 
-  -- and else as it is under that order.
+  -- The order is set, and the cluster is allocated under it.
   module _ (first : Announced state s.image (Ok tt) (image_state s.table mid between s.pending)) (result : Result (Option FreeEntry) Fault) (s' : AllocatorState S)
       (at : AllocatesAt state (λ m. IsBarred m s.mark cluster) cluster (with_first_free (image_state s.table mid between s.pending) s.mark) result s') where
     abbrev End : Metadata
@@ -127,7 +127,7 @@ module _ {S : Type 0} (state : S → StorageState) (cluster : ℕ) (s : Allocato
       cause = fails-weaker _ _ (allocates-behind state s.image mid between first (λ n full. full)) (λ same. same ∙ first.cause) result at.did.cause;
     }
 
--- Nothing was freed, and nothing has changed, for want of memory.
+-- Memory runs out before anything is freed: nothing changes.
 memory-unfreed : {S : Type 0} (state : S → StorageState) (s : AllocatorState S) → Frees state s (failed Memory) s
 memory-unfreed state s =
     let m = metadata state s.image in
@@ -146,23 +146,21 @@ memory-unfreed state s =
       cause = tt;
     }
 
--- what is answered with a run, and where that is refused
 abbrev pub run_so : FreeEntry → Result FreeEntry Fault
 run_so entry = Ok entry
 
 abbrev pub refused_run : Fault → Result FreeEntry Fault
 refused_run fault = Err fault
 
--- A cluster of an entry is covered by it.
 covers-inside : (c : ℕ) (e : FreeEntry) → e.first ≤ c → c < e.first + e.count → covers c e ≡ 1
 covers-inside c e above below = rw (le-leb e.first c above, lt-ltb c (e.first + e.count) below) refl
 
--- Clusters in a row are handed out: what waits is freed first.
+-- Allocating a run. The free list is processed first.
 module _ {S : Type 0} (state : S → StorageState) (n : ℕ) (is_metadata : Bool) (start : AllocatorState S) where
   abbrev First : Metadata
   First = metadata state start.image
 
-  -- That was refused,
+  -- Processing the list fails.
   module _ (fault : Fault) (mark1 : ℕ) (A : MetadataCaches S) (fA : ImageFile S) (pA : List FreeEntry) (frees : Frees state start (failed fault) (with_first_free (image_state start.table A fA pA) mark1)) (rest : IsRestInTurn start.pending pA) where
     abbrev Rest : Metadata
     Rest = metadata_of state fA A start.table pA
@@ -215,11 +213,11 @@ module _ {S : Type 0} (state : S → StorageState) (n : ℕ) (is_metadata : Bool
       cause = cause-weaker (freeing-allocates (λ holds. holds) (λ u. u.2.room) refl) fault frees.cause;
     }
 
-  -- or not begun, for want of memory,
+  -- Processing doesn't begin, since memory runs out.
   pub run-not-held : AllocatesClusters state n is_metadata start (refused_run Memory) start
   run-not-held = run-not-freed Memory start.mark start.caches start.file start.pending (memory-unfreed state start) (rest-all start.pending)
 
-  -- or there was nothing left.
+  -- The list is now empty.
   module _ (mark1 : ℕ) (A : MetadataCaches S) (fA : ImageFile S) (frees : Frees state start (Ok tt) (with_first_free (image_state start.table A fA []) mark1)) (B : MetadataCaches S) (fB : ImageFile S) where
     abbrev Freed : Metadata
     Freed = metadata_of state fA A start.table []
@@ -238,7 +236,7 @@ module _ {S : Type 0} (state : S → StorageState) (n : ℕ) (is_metadata : Bool
         quietly-otherwise ok (λ c. 0 + handed c) (λ c. 0 + 0) handed (λ _. 0) (state start.file.image) First s m (λ sound c. omega arith) (λ sound c used none. omega arith)
         (quietly-then _ ok (λ _. 0) (λ _. 0) handed (λ _. 0) (state start.file.image) First (state fA.image) Freed s m (inl tt) (λ sound c some. refl) frees.guest_unchanged second)
 
-    -- The announcement was refused,
+    -- Setting the order fails.
     pub run-not-announced : (fault : Fault) → Announced state (image_state start.table A fA []) (failed fault) (image_state start.table B fB []) → AllocatesClusters state n is_metadata start (refused_run fault) (with_first_free (image_state start.table B fB []) mark1)
     run-not-announced fault second = record {
       leaked = λ _. 0;
@@ -298,7 +296,7 @@ module _ {S : Type 0} (state : S → StorageState) (n : ℕ) (is_metadata : Bool
         never (Limit number) searched why = why
         never f searched why = searched
 
-    -- or a run was searched for.
+    -- A run is searched for.
     module _ (second : Announced state (image_state start.table A fA []) (Ok tt) (image_state start.table B fB [])) (result : Result FreeEntry Fault) (s' : AllocatorState S)
         (third : Allocates state n is_metadata (with_first_free (image_state start.table B fB []) mark1) result s') where
       abbrev Last : Metadata

@@ -1,4 +1,4 @@
--- A cluster gets a counter, and is handed out where it is free.
+-- Readying a counter for a cluster, and allocating the cluster if it is free.
 use Rattle.std.proofs.Common.{◌≡◌, ℕ, ◌+◌, ◌/◌, ◌<◌, ◌≤◌, true, refl, arith, ap, sym, subst, ◌∙◌, inl, inr, Option, None, Some, Result, Ok, Err, length}
 use Rattle.std.specs.Prelude.{⊤, ◌⊎◌, IsTrue, IfOk}
 use Rattle.std.proofs.lemmas.Bool.{cases_eq, cases_lt}
@@ -34,11 +34,10 @@ use Rattle.qcow2_alloc.proofs.Handing.ClustersHandedOut.{stands-there}
 use Rattle.qcow2_alloc.proofs.Handing.SingleCounts.{handed_so, not_handed}
 use Rattle.qcow2_alloc.proofs.Blocks.CounterProvision.{ready_so, not_ready}
 
--- What is before the mark stays counted where counts are raised alone,
+-- If refcounts only rise, there is still no free cluster before the first-free hint.
 pub marked-raised : (m m' : Metadata) (mark : ℕ) → OnlyIncremented m m' → NoneFreeBefore m mark → NoneFreeBefore m' mark
 marked-raised m m' mark raised marked c below = counted-still m m' c raised (marked c below)
 
--- and what isn't counted then wasn't before.
 pub free-raised : (m m' : Metadata) (c : ℕ) → OnlyIncremented m m' → counted m' c ≡ 0 → counted m c ≡ 0
 free-raised m m' c raised zero = elim (raised c) [ inl same ↦ omega (arith, same, zero) | inr up ↦ up.0 ]
 
@@ -49,7 +48,7 @@ module _ {S : Type 0} (state : S → StorageState) (cluster : ℕ) (s : Allocato
   abbrev Barred : Metadata → Type 0
   Barred m = IsBarred m s.mark cluster
 
-  -- A cluster that words can't name isn't handed out,
+  -- A cluster that isn't addressable isn't allocated.
   pub out-of-reach : (IsAddressable s.file.header.fields.cluster_bits cluster → ⊥) → AllocatesAt state Barred cluster s (handed_so None) s
   out-of-reach far = record {
     did = record {
@@ -71,7 +70,7 @@ module _ {S : Type 0} (state : S → StorageState) (cluster : ℕ) (s : Allocato
     abbrev Mid : Metadata
     Mid = metadata state mid.image
 
-    -- nor one that there is no counter for,
+    -- A cluster without a counter isn't allocated.
     pub uncounted-at : ReadiesCounter state cluster s (ready_so NoPlace) mid → AllocatesAt state Barred cluster s (handed_so None) mid
     uncounted-at counter = record {
       did = record { leaked = λ _. 0; leaks = leaks-none _ _ (handed_so None); step = counter.did.step; list = counter.did.list; cause = counter.did.cause };
@@ -84,7 +83,7 @@ module _ {S : Type 0} (state : S → StorageState) (cluster : ℕ) (s : Allocato
           marked-raised Old Mid s.mark (counter.did.step.raised order keeps sound tt) marked c (let same = counter.mark in omega (arith, same, below));
     }
 
-    -- nor any where that is refused.
+    -- Readying the counter fails.
     pub refused-at : (fault : Fault) → ReadiesCounter state cluster s (not_ready fault) mid → AllocatesAt state Barred cluster s (not_handed fault) mid
     refused-at fault counter = record {
       did = record {
@@ -118,7 +117,7 @@ module _ {S : Type 0} (state : S → StorageState) (cluster : ℕ) (s : Allocato
       both = allocating-as state (HadNoResourceError result) (HadNoResourceError result) (λ c. leaked_by (ready_so Ready) counter.did.leaked c + handed_at result one.did.leaked c) (handed_at result one.did.leaked) s.image (image_state mid.table new after mid.pending) (λ w. w) (λ c. omega arith)
           (allocating-then state ⊤ (HadNoResourceError result) (leaked_by (ready_so Ready) counter.did.leaked) (handed_at result one.did.leaked) s.image mid.image (image_state mid.table new after mid.pending) tt counter.did.step one.did.step)
 
-      -- None is answered of a cluster that is counted by now: it was before, or something stands in it.
+      -- The cluster isn't allocated since its refcount is above 0: it was before, or the cluster now holds a new table or block.
       taken-by : result ≡ Ok None → order_of s.caches ≡ L2DependsOnRb → IsTrue (state s.file.image).shape.keeps → IsSound Old → 0 < counted Mid cluster → (0 < counted Old cluster) ⊎ (0 < structure New.file New.header.fields (meets New.header.fields cluster))
       taken-by none order keeps sound more =
           let whole : HadNoResourceError result = subst (λ (r : Result (Option FreeEntry) Fault). HadNoResourceError r) (sym none) tt in
@@ -138,7 +137,7 @@ module _ {S : Type 0} (state : S → StorageState) (cluster : ℕ) (s : Allocato
       answered (Ok None) is order keeps sound (inr (inr never)) = absurd never
       answered (Err fault) is order keeps sound said = tt
 
-      -- What was counted anew was so for its counter, or is the cluster.
+      -- Each newly counted cluster is used for the counter, or is the allocated one.
       nearby : (r : Result (Option FreeEntry) Fault) → order_of s.caches ≡ L2DependsOnRb → IsTrue (state s.file.image).shape.keeps → IsSound Old → IfOk r (λ _. IsTakenFor s.mark cluster Mid New) → IfOk r (λ _. IsTakenFor s.mark cluster Old New)
       nearby (Err fault) order keeps sound said = tt
       nearby (Ok found) order keeps sound said = λ c none more. elim (cases_eq (counted Mid c) 0) [
@@ -154,7 +153,7 @@ module _ {S : Type 0} (state : S → StorageState) (cluster : ℕ) (s : Allocato
               let here : length mid.table.raw_entries ≤ cluster / counters_of_block s.file.header.fields = subst (λ (H : Header). length mid.table.raw_entries ≤ cluster / counters_of_block H.fields) counter.did.step.moved.2 past in
               counter.ready_covers_cluster refl (ap block_offset (get_or_past mid.table.raw_entries (cluster / counters_of_block s.file.header.fields) 0 here))
 
-      -- Else it is handed out where it is free.
+      -- The cluster is allocated if it is free.
       pub readied-at : AllocatesAt state Barred cluster s result (with_first_free (image_state mid.table new after mid.pending) mark')
       readied-at = record {
         did = record {

@@ -1,4 +1,4 @@
--- Before clusters are counted it is announced that blocks are written before tables.
+-- Setting the order to blocks before tables, before clusters are counted.
 use Rattle.std.proofs.Common.{◌≡◌, ℕ, ◌+◌, ◌*◌, ◌<◌, ◌≤◌, true, Some, ◌-◌, ◌^◌, refl, arith, ap, sym, subst, length, Result, Ok, Err, inl, inr, Bool}
 use Rattle.std.specs.Prelude.{⊤, IsTrue, OnOk, min, slice_index}
 use Rattle.imago_storage.specs.Calls.{IsFaultless}
@@ -39,7 +39,7 @@ use Rattle.qcow2_alloc.proofs.GuestView.QuietFlushes.{memory-quietly}
 use Rattle.qcow2_alloc.proofs.GuestView.QuietSequences.{quietly-then, quietly-otherwise}
 use Rattle.qcow2_alloc.proofs.Memory.SafeLaws.{safe-reach}
 
--- What the announcement does: it is quiet, and changes no count.
+-- The outcome of setting the order. The guest and the refcounts are unchanged.
 pub record Announced {S : Type 0} (state : S → StorageState) (s : ImageState S) (result : Result Unit Fault) (s' : ImageState S) : Type 0 where
   pub faults : HadNoResourceError result → IsFaultless (state s.file.image) (state s'.file.image)
   pub guest_unchanged : PreservesGuest (HadNoResourceError result) (λ _. 0) (λ _. 0) (state s.file.image) (metadata state s) (state s'.file.image) (metadata state s')
@@ -50,7 +50,7 @@ pub record Announced {S : Type 0} (state : S → StorageState) (s : ImageState S
   pub room : KeepsTables s.caches s'.caches
   pub cause : FailsFor (freeing_causes (KeepsWritesAndSound state s) (HasUnpinnedRoom s.table s.caches true) (state s.file.image).faults (state s'.file.image).faults) result
 
--- Nothing was announced, and nothing has changed, for want of memory.
+-- Memory runs out before the order is set: nothing changes.
 pub not-begun : {S : Type 0} (state : S → StorageState) (s : ImageState S) → Announced state s (Err Memory) s
 not-begun state s =
     let m = metadata state s in
@@ -110,7 +110,7 @@ module _ {S : Type 0} (state : S → StorageState) (s : ImageState S) (new : Met
     cause = cause-weaker (writing-implies _ (omega arith) (omega arith) (λ far holds. far (safe-reach _ _ _ _ holds.1.well_formed).0)) fault why;
   }
 
--- Where two images have the same header and refcount table, and count as much, the table grows in both alike.
+-- The table grows alike in two images with the same header, refcount table and refcounts.
 module _ (m m1 : Metadata) (header : m1.header ≡ m.header) (table : m1.table ≡ m.table) (same : (c : ℕ) → counted m1 c ≡ counted m c) where
   everywhere : counted m1 ≡ counted m
   everywhere = λ i c. same c i
@@ -157,7 +157,7 @@ module _ (m m1 : Metadata) (header : m1.header ≡ m.header) (table : m1.table �
       both : (P : TableValue → Header → Type 0) → P m1.table m1.header → P m.table m.header
       both P p = subst (λ (t : TableValue). P t m.header) table (subst (λ (H : Header). P m1.table H) header p)
 
--- An announcement, and what is done next while blocks are written before tables.
+-- The order is set, then a call is made under it.
 module _ {S : Type 0} (state : S → StorageState) (start : ImageState S) (mid : MetadataCaches S) (between : ImageFile S)
     (first : Announced state start (Ok tt) (image_state start.table mid between start.pending)) where
   abbrev Start : Metadata
@@ -171,7 +171,7 @@ module _ {S : Type 0} (state : S → StorageState) (start : ImageState S) (mid :
       quietly-otherwise ok (λ c. 0 + handed c) (λ c. 0 + 0) handed (λ _. 0) (state start.file.image) Start s m (λ sound c. omega arith) (λ sound c used none. omega arith)
       (quietly-then ⊤ ok (λ _. 0) (λ _. 0) handed (λ _. 0) (state start.file.image) Start (state between.image) Mid s m tt (λ sound c some. refl) first.guest_unchanged (second first.order))
 
-  -- What holds of the storage and the image holds still,
+  -- The premises on the storage and the image still hold.
   pub sound-behind : IsTrue (state start.file.image).shape.keeps → IsSound Start → IsTrue (state between.image).shape.keeps × IsSound Mid
   sound-behind keeps sound = (keeps_on (state start.file.image) (state between.image) first.guest_unchanged.shape keeps, (first.guest_unchanged.holds keeps sound tt).0)
 
@@ -183,7 +183,7 @@ module _ {S : Type 0} (state : S → StorageState) (start : ImageState S) (mid :
   pub marked-behind : (mark : ℕ) → IsTrue (state start.file.image).shape.keeps → IsSound Start → NoneFreeBefore Start mark → NoneFreeBefore Mid mark
   marked-behind mark keeps sound marked c below = let same = first.counts keeps sound tt c in let was = marked c below in omega (arith, same, was)
 
-  -- and a refusal has its cause.
+  -- A failure keeps its cause.
   pub allocates-behind : {full full' : ℕ → Type 0} {after : ℕ} → ((n : ℕ) → full n → full' n)
       → Implies (allocating_causes (IsTrue (state between.image).shape.keeps × (order_of mid ≡ L2DependsOnRb) × IsSound Mid) (HasUnpinnedRoom start.table mid) full (state between.image).faults after)
       (allocating_causes (KeepsWritesAndSound state start) (HasUnpinnedRoom start.table start.caches) full' (state start.file.image).faults after)

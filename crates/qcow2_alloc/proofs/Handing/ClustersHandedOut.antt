@@ -1,4 +1,4 @@
--- What is handed out is named by no version of a word, and nothing waits to free it.
+-- No version of an entry references an allocated cluster, and it isn't on the free list.
 use Rattle.std.proofs.Common.{◌≡◌, ℕ, ◌<◌, ◌≤◌, refl, arith, sym, subst, inl, inr, Bool, true, false, List, [], ◌∷◌, ◌++◌}
 use Rattle.std.specs.Prelude.{◌⊎◌, ◌==◌, max, if◌then◌else◌}
 use Rattle.std.proofs.lemmas.List.{append-nil}
@@ -25,12 +25,11 @@ use Rattle.qcow2_alloc.proofs.Memory.MemoryWords.{places-in-memory}
 use Rattle.qcow2_alloc.proofs.GuestView.QuietSequences.{contents-then, of-moved, structure-in-memory}
 use Rattle.qcow2_alloc.proofs.Growth.RoomSwitches.{old_run, old-run-is}
 
--- A word that means what it did in one of two versions weighs no more than both did.
 either-one : (w : Mapping → ℕ) (a b x y : Mapping) → (x ≡ a) ⊎ (x ≡ b) → y ≡ b → max (w x) (w y) ≤ max (w a) (w b)
 either-one w a b x y (inl first) second = rw (first, second) (omega arith)
 either-one w a b x y (inr first) second = rw (first, second) (omega arith)
 
--- Where words mean in the file what they did there or in memory, and in memory what they did, they name no more, whatever the refcount table.
+-- If L2 entries keep their meaning, in the file or in memory, references don't increase, under any refcount table.
 module _ (f g x y : Bytes) (h : Fields) (offset clusters c : ℕ) (tables : (i : ℕ) → l2_table x (with_reftable h offset clusters) i ≡ l2_table f h i)
     (raw_entries : (i j : ℕ) → Live (l2_table f h) h i j → (slot x (with_reftable h offset clusters) i j ≡ slot f h i j) ⊎ (slot x (with_reftable h offset clusters) i j ≡ slot g h i j))
     (memory : (i j : ℕ) → Live (l2_table f h) h i j → slot y (with_reftable h offset clusters) i j ≡ slot g h i j) where
@@ -54,7 +53,7 @@ module _ (f g x y : Bytes) (h : Fields) (offset clusters c : ℕ) (tables : (i :
       let same = slots-moved in
       omega (arith, none, same, there, le)
 
--- So what is done quietly names a cluster no more where that comes to hold no structure.
+-- So a call that leaves the guest unchanged adds no reference to a cluster outside the structure.
 pub quiet-names-no-more : (m m' : Metadata) (handed taken : ℕ → ℕ) → GuestUnchanged handed taken m m' → (c : ℕ) → structure m'.file m'.header.fields (meets m'.header.fields c) ≡ 0 → referenced_at_all m' c ≤ referenced_at_all m c
 quiet-names-no-more m m' handed taken guest_unchanged c =
     subst (λ (H : Header). ((i : ℕ) → l2_table m'.file H.fields i ≡ l2_table m.file m.header.fields i)
@@ -63,12 +62,11 @@ quiet-names-no-more m m' handed taken guest_unchanged c =
     → structure m'.file H.fields (meets H.fields c) ≡ 0 → references_in_either m'.file (in_memory m') H.fields c ≤ references_in_either m.file (in_memory m) m.header.fields c)
     (sym guest_unchanged.shows.moved.2) (named-no-more m.file (in_memory m) m'.file (in_memory m') m.header.fields guest_unchanged.shows.moved.0 guest_unchanged.shows.moved.1 c) guest_unchanged.shows.tables guest_unchanged.shows.raw_entries guest_unchanged.raw_entries
 
--- What is counted beyond what waits to free it, and named by nothing, is used.
 pub unnamed-used : (m : Metadata) (c : ℕ) → waiting m c < counted m c → referenced_at_all m c ≡ 0 → IsUsed m c
 unfolding references_in_either
 unnamed-used m c more none = record { apart = omega (arith, none); taken = more }
 
--- A cluster that wasn't counted is counted once it is handed out, and there is nothing else to count it for.
+-- A cluster with a refcount that rose from 0 by its allocation has no other use.
 module _ (m m' : Metadata) (handed : ℕ → ℕ) (c : ℕ) (sound : IsSound m) (sound' : IsSound m') (order : m.order ≡ L2DependsOnRb) (guest_unchanged : GuestUnchanged handed (λ _. 0) m m') (zero : counted m c ≡ 0) (one : counted m' c ≡ 1) (given : handed c ≡ 1) where
   unreferenced : (referenced m' c ≡ 0) × (waiting m' c ≡ 0)
   unreferenced = let law = guest_unchanged.law c in let covers = sound.covered c in (omega (arith, law, covers, zero, one, given), omega (arith, law, covers, zero, one, given))
@@ -93,17 +91,16 @@ module _ (m m' : Metadata) (handed : ℕ → ℕ) (c : ℕ) (sound : IsSound m) 
       let none = unnamed-before in
       (omega (arith, le, none), unreferenced.1)
 
--- A run behind a list has no cluster that neither has.
 listed-run : (b : Bool) (l : List FreeEntry) (e : FreeEntry) (c : ℕ) → listed l c ≡ 0 → covers c e ≡ 0 → listed (l ++ (if b then [] else e ∷ [])) c ≡ 0
 listed-run true l e c none away = subst (λ (es : List FreeEntry). listed es c ≡ 0) (sym (append-nil l)) none
 listed-run false l e c none away = let push = listed_push l e c in omega (arith, push, none, away)
 
--- A cluster that wasn't counted, is now, and was handed out to nobody has come to hold a table or a block.
+-- A newly counted cluster that wasn't allocated now holds a table or a block.
 module _ (m m' : Metadata) (handed : ℕ → ℕ) (c : ℕ) (sound : IsSound m) (sound' : IsSound m') (guest_unchanged : GuestUnchanged handed (λ _. 0) m m') (list : IsLengthenedByTable m.header.fields m.table m'.table m.pending m'.pending) (zero : counted m c ≡ 0) (kept : handed c ≡ 0) where
   nothing-named : (referenced m c ≡ 0) × (waiting m c ≡ 0)
   nothing-named = let covers = sound.covered c in (omega (arith, covers, zero), omega (arith, covers, zero))
 
-  -- The old refcount table was counted, so it isn't one of its clusters.
+  -- The old refcount table was counted, so this cluster isn't in it.
   not-of-table : covers c (old_run m) ≡ 0
   unfolding refs
   not-of-table =

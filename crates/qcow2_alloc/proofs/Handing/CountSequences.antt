@@ -1,4 +1,4 @@
--- Calls that count clusters, one behind the other.
+-- Sequences of calls that increment refcounts.
 use Rattle.std.proofs.Common.{◌≡◌, ℕ, ◌+◌, ◌<◌, refl, arith, ap, sym, ◌∙◌, inl, inr}
 use Rattle.std.specs.Prelude.{⊤}
 use Rattle.imago_storage.specs.State.{StorageState}
@@ -12,7 +12,7 @@ use Rattle.qcow2_alloc.proofs.Flushing.FaultlessCalls.{faultless-then}
 use Rattle.qcow2_alloc.proofs.GuestView.QuietFlushes.{memory-quietly, quiet-none, quietly-weaker}
 use Rattle.qcow2_alloc.proofs.GuestView.QuietSequences.{quietly-then, quietly-otherwise}
 
--- A header whose table stays has moved nowhere, and where it moved twice it has moved once.
+-- `MovedTable` is reflexive and transitive.
 pub moved-none : (H H' : Header) → H' ≡ H → MovedTable H H'
 moved-none H H' same = (H.fields.refcount_table_offset, H.fields.refcount_table_clusters, same)
 
@@ -25,12 +25,10 @@ raised-then m m' m'' one two c = elim (one c) [
   | inr up ↦ elim (two c) [ inl same' ↦ inr (up.0, same' ∙ up.1) | inr up' ↦ let a = up.1 in let b = up'.0 in absurd (omega (arith, a, b)) ]
 ]
 
--- What is counted stays so where counts are raised alone.
 pub counted-still : (m m' : Metadata) (c : ℕ) → OnlyIncremented m m' → 0 < counted m c → 0 < counted m' c
 counted-still m m' c raised was = elim (raised c) [ inl same ↦ omega (arith, same, was) | inr up ↦ let one = up.1 in omega (arith, one) ]
 
 module _ {S : Type 0} (state : S → StorageState) where
-  -- None,
   pub allocating-none : (s : ImageState S) → Allocating state ⊤ (λ _. 0) s s
   allocating-none s =
       let m = metadata state s in
@@ -45,7 +43,6 @@ module _ {S : Type 0} (state : S → StorageState) where
         room = record { tables = refl; blocks = refl; entries = refl };
       }
 
-  -- one behind another,
   pub allocating-then : (ok ok' : Type 0) (h h' : ℕ → ℕ) (sA sB sC : ImageState S)
       → ok → Allocating state ok h sA sB → Allocating state ok' h' sB sC → Allocating state ok' (λ c. h c + h' c) sA sC
   allocating-then ok ok' h h' sA sB sC done one two =
@@ -66,7 +63,7 @@ module _ {S : Type 0} (state : S → StorageState) where
         room = record { tables = two.room.tables ∙ one.room.tables; blocks = two.room.blocks ∙ one.room.blocks; entries = two.room.entries ∙ one.room.entries };
       }
 
-  -- and said otherwise, of what is handed out and of what succeeded.
+  -- The allocated clusters and the success condition may be restated.
   pub allocating-as : (ok ok' : Type 0) (h h' : ℕ → ℕ) (sA sB : ImageState S)
       → (ok' → ok) → ((c : ℕ) → h c ≡ h' c) → Allocating state ok h sA sB → Allocating state ok' h' sA sB
   allocating-as ok ok' h h' sA sB from same one = record {

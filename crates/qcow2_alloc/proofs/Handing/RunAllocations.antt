@@ -1,4 +1,4 @@
--- A run that was made ready is counted, and handed out.
+-- Counting a run that is ready, and allocating it.
 use Rattle.std.proofs.Common.{◌≡◌, ◌≢◌, ℕ, ◌+◌, ◌/◌, ◌<◌, ◌≤◌, refl, arith, ap, sym, subst, ◌∙◌, List, Bool, Result, Ok, Err, inl, inr, true}
 use Rattle.std.specs.Prelude.{⊤, IsTrue, slice_index}
 use Rattle.std.proofs.lemmas.Bool.{cases_eq, cases_lt}
@@ -38,14 +38,13 @@ use Rattle.qcow2_alloc.proofs.GuestView.QuietPremises.{quietly-then-given}
 use Rattle.qcow2_alloc.proofs.GuestView.QuietSequences.{quietly-otherwise}
 use Rattle.qcow2_alloc.proofs.Blocks.RunProvision.{leaks-on, leaks-ok}
 
--- No cluster is covered by a run that is no part of it.
 covers-outside : (c first n : ℕ) → (first ≤ c → c < first + n → ⊥) → covers c (run_of first n) ≡ 0
 covers-outside c first n away = elim (cases_lt c first) [
   | inl before ↦ grind (arith, nat_tests)
   | inr from ↦ elim (cases_lt c (first + n)) [ inl below ↦ absurd (away from below) | inr past ↦ grind (arith, nat_tests) ]
 ]
 
--- The mark stands behind a run that it stood before, or a lone cluster that was the first one, and else where it did.
+-- The first-free hint moves past a run that begins at it, and past a single cluster that was the first free one. Otherwise it stays.
 behind-here : (mark n first : ℕ) → first ≡ mark → first_free_after mark n first ≡ first + n
 behind-here mark n first same = grind (arith, nat_tests)
 
@@ -55,14 +54,13 @@ behind-one mark n first apart one = grind (arith, nat_tests)
 behind-not : (mark n first : ℕ) → first ≢ mark → n ≢ 1 → first_free_after mark n first ≡ mark
 behind-not mark n first apart more = grind (arith, nat_tests)
 
--- Counts that are raised alone keep what is before the mark counted,
 marked-on : (m m' : Metadata) (mark : ℕ) → OnlyIncremented m m' → NoneFreeBefore m mark → NoneFreeBefore m' mark
 marked-on m m' mark raised marked c below = elim (raised c) [
   | inl same ↦ let some = marked c below in omega (arith, same, some)
   | inr up ↦ let one = up.1 in omega (arith, one)
 ]
 
--- and so does a run that is counted, which was the first one from the mark on.
+-- The run was the first one from the hint on, so no cluster before the new hint is free.
 marked-behind : (m m' : Metadata) (mark n : ℕ) (entry : FreeEntry) → OnlyIncremented m m' → IsRunCounted mark n m' entry → NoneFreeBefore m mark → NoneFreeBefore m' (first_free_after mark n entry.first)
 marked-behind m m' mark n entry raised taken marked c below =
     let first = entry.first in
@@ -89,12 +87,11 @@ marked-behind m m' mark n entry raised taken marked c below =
       ]
     ]
 
--- What a call lost that was refused as it counted so many clusters of a run.
+-- The clusters that are lost if counting a run fails: the counted part after `CacheFull`, otherwise none.
 abbrev pub lost : Fault → ℕ → ℕ → ℕ → ℕ
 lost CacheFull first part c = covers c (run_of first part)
 lost fault first part c = 0
 
--- an answer that refuses
 abbrev pub refusal : Fault → Result FreeEntry Fault
 refusal fault = Err fault
 
@@ -116,7 +113,7 @@ module _ {S : Type 0} (state : S → StorageState) (n : ℕ) (is_metadata : Bool
   abbrev Handing : Result FreeEntry Fault → TableValue → MetadataCaches S → ImageFile S → List FreeEntry → ℕ → Type 0
   Handing result table' new after pending' mark' = Allocates state n is_metadata s result (with_first_free (image_state table' new after pending') mark')
 
-  -- What can't come about hands out what you like.
+  -- If success is impossible, any clusters may be called allocated.
   allocating-never : (ok : Type 0) (h h' : ℕ → ℕ) (s' : ImageState S) → (order_of s.caches ≡ L2DependsOnRb → Keeps → IsSound mA → ok → ⊥)
       → Allocating state ok h s.image s' → Allocating state ok h' s.image s'
   allocating-never ok h h' s' never step = record {
@@ -130,7 +127,7 @@ module _ {S : Type 0} (state : S → StorageState) (n : ℕ) (is_metadata : Bool
     room = step.room;
   }
 
-  -- A run of no clusters is handed out at the mark.
+  -- A run of no clusters is allocated at the first-free hint.
   pub none-allocated : n ≡ 0 → Handing (Ok (record { first = s.mark; count = n; metadata = is_metadata })) s.table s.caches s.file s.pending s.mark
   none-allocated zero = record {
     leaked = λ _. 0;
@@ -156,7 +153,7 @@ module _ {S : Type 0} (state : S → StorageState) (n : ℕ) (is_metadata : Bool
     abbrev mB : Metadata
     mB = metadata state sB.image
 
-    -- No run was made ready.
+    -- Readying the run fails.
     pub run-refused : (fault : Fault) → ReadiesRun state n s (Err fault) sB → Handing (Err fault) sB.table sB.caches sB.file sB.pending sB.mark
     run-refused fault ready = record {
       leaked = ready.leaked;
@@ -174,14 +171,14 @@ module _ {S : Type 0} (state : S → StorageState) (n : ℕ) (is_metadata : Bool
     }
 
     module _ (first : ℕ) (ready : ReadiesRun state n s (Ok first) sB) where
-      -- So far none was handed out.
+      -- Nothing is allocated up to this point.
       begun : Allocating state ⊤ (λ _. 0) s.image sB.image
       begun = allocating-as state ⊤ ⊤ ready.leaked (λ _. 0) s.image sB.image (λ whole. whole) (leaks-ok _ _ first ready.leaked ready.leaks) ready.step
 
       free : order_of s.caches ≡ L2DependsOnRb → Keeps → IsSound mA → (c : ℕ) → first ≤ c → c < first + n → counted mB c ≡ 0
       free order keeps sound = (ready.found order keeps sound).free
 
-      -- Each can be counted.
+      -- Each cluster of the run can be counted.
       abbrev CanCount : Type 0
       CanCount = IsTrue (state sB.file.image).shape.keeps × (order_of sB.caches ≡ L2DependsOnRb) × IsSound mB
           × ((c : ℕ) → first ≤ c → c < first + n → (counted mB c ≡ 0) × (block_offset (slice_index sB.table.raw_entries (c / counters_of_block sB.file.header.fields)) ≢ 0))
@@ -205,7 +202,7 @@ module _ {S : Type 0} (state : S → StorageState) (n : ℕ) (is_metadata : Bool
         abbrev mC : Metadata
         mC = metadata_of state fC C sB.table sB.pending
 
-        -- A part of the run is counted, each cluster of it once.
+        -- Each cluster of the counted part is counted once.
         counted-more : (result : Result Unit Fault) (counts : CountsRun state first n sB.image result (image_state sB.table C fC sB.pending)) → order_of s.caches ≡ L2DependsOnRb → Keeps → IsSound mA → HadNoResourceError result → (c : ℕ) → counted mC c ≡ counted mB c + covers c (run_of first counts.part)
         counted-more result counts order keeps sound whole =
             let there = holds-on (keeps, order, sound) in
@@ -241,7 +238,7 @@ module _ {S : Type 0} (state : S → StorageState) (n : ℕ) (is_metadata : Bool
         abbrev Stopped : Fault → (ℕ → ℕ) → Type 0
         Stopped f h = Allocating state (HadNoResourceError {T = FreeEntry} (Err f)) h s.image (image_state sB.table C fC sB.pending)
 
-        -- Counting is refused.
+        -- Counting fails.
         pub count-refused : (fault : Fault) → CountsRun state first n sB.image (Err fault) (image_state sB.table C fC sB.pending) → Handing (Err fault) sB.table C fC sB.pending sB.mark
         count-refused fault counts = record {
           leaked = lost fault first counts.part;
@@ -267,7 +264,7 @@ module _ {S : Type 0} (state : S → StorageState) (n : ℕ) (is_metadata : Bool
             stopped Counter why step = allocating-never _ _ _ (image_state sB.table C fC sB.pending) (λ order keeps sound whole. why (holds-on (keeps, order, sound))) step
             stopped other why step = absurd why
 
-        -- All are counted.
+        -- All clusters are counted.
         module _ (counts : CountsRun state first n sB.image (Ok tt) (image_state sB.table C fC sB.pending)) where
           abbrev entry : FreeEntry
           entry = record { first = first; count = n; metadata = is_metadata }
@@ -292,7 +289,7 @@ module _ {S : Type 0} (state : S → StorageState) (n : ℕ) (is_metadata : Bool
                     );
               }
 
-          -- It is among the clusters that are enough,
+          -- No cluster after the first `room_for` clusters of the space is counted.
           run-early : order_of s.caches ≡ L2DependsOnRb → Keeps → IsSound mA → (roomy : IsRoomy mA s.mark n) (c : ℕ) → roomy.first + room_for mA.header.fields n ≤ c → c < roomy.first + roomy.total → counted mC c ≡ 0
           run-early order keeps sound roomy c above below =
               let made = ready.little order keeps sound in
@@ -302,7 +299,6 @@ module _ {S : Type 0} (state : S → StorageState) (n : ℕ) (is_metadata : Bool
               let more = once order keeps sound c in
               omega (arith, none, apart, more)
 
-          -- and leaves no gap.
           run-gapless : order_of s.caches ≡ L2DependsOnRb → Keeps → IsSound mA → n ≤ 1 → IsGapless s.mark mA mC
           run-gapless order keeps sound one c none some d from to =
               let more = once order keeps sound c in

@@ -1,4 +1,4 @@
--- A run of clusters is searched for and made ready, turn by turn.
+-- Searching for a run of clusters and readying it, turn by turn.
 use Rattle.std.proofs.Common.{◌≡◌, ◌≢◌, ℕ, ◌+◌, ◌-◌, ◌*◌, ◌/◌, ◌^◌, ◌<◌, ◌≤◌, refl, arith, ap, sym, subst, ◌∙◌, ◌++◌, List, length, true, Result, Ok, Err, inl, inr}
 use Rattle.std.specs.Prelude.{⊤, ◌⊎◌, min, IsTrue, slice_index, ◌==◌}
 use Rattle.std.proofs.lemmas.Bool.{cases_lt}
@@ -46,7 +46,7 @@ use Rattle.qcow2_alloc.proofs.Space.RoomyRuns.{RoomStays, stays-start, stays-sea
 use Rattle.qcow2_alloc.proofs.Blocks.BlockCreationCalls.{first-counted, freeing-allocates}
 use Rattle.qcow2_alloc.proofs.Blocks.RunProvision.{leaks-none, leaks-on, leaks-ok}
 
--- The list, the header and the length of the table are what they were; or the table became longer, and its old clusters are behind.
+-- The list, the header and the table's length are unchanged. Or the table became longer, and its old clusters were added to the list.
 abbrev pub IsLengthenedOnce : Header → Header → TableValue → TableValue → List FreeEntry → List FreeEntry → Type 0
 IsLengthenedOnce H H' table table' old new = ((new ≡ old) × (H' ≡ H) × (length table'.raw_entries ≡ length table.raw_entries)) ⊎ ((length table.raw_entries < length table'.raw_entries) × (new ≡ old ++ table_run H.fields))
 
@@ -54,13 +54,12 @@ by-table : (H H' : Header) (table table' : TableValue) (old new : List FreeEntry
 by-table H H' table table' old new (inl same) = inl same.0
 by-table H H' table table' old new (inr longer) = inr longer
 
--- What a call came to that has counted clusters, of which it handed out none, and wasn't refused yet.
+-- The state of a call that has counted clusters and allocated none of them, before any failure.
 pub record Readying {S : Type 0} (state : S → StorageState) (s s' : ImageState S) : Type 0 where
   pub step : Allocating state ⊤ (λ _. 0) s s'
   pub list : IsLengthenedOnce s.file.header s'.file.header s.table s'.table s.pending s'.pending
   pub faults : (state s'.file.image).faults ≡ (state s.file.image).faults
 
--- A cluster of a run is counted by a block between those of the first and the last one.
 between-blocks : (k first n c : ℕ) → 0 < k → first ≤ c → c < first + n → (first / k ≤ c / k) × (c / k ≤ (first + (n - 1)) / k)
 between-blocks k first n c some above below =
     let low = div-mul-le_self first k in
@@ -69,7 +68,7 @@ between-blocks k first n c some above below =
       le-div (c / k) (first + (n - 1)) k some (omega (arith, high, below)),
     )
 
--- Words can name the first cluster that a block counts, where they can name one that it counts, or one behind.
+-- The first cluster of a block is addressable if a later cluster is.
 block-near : (H : Header) (z n i : ℕ) → i ≤ (z + (n - 1)) / counters_of_block H.fields → IsAddressable H.fields.cluster_bits (z + (n - 1)) → IsAddressable H.fields.cluster_bits (i * counters_of_block H.fields)
 block-near H z n i below near =
     let le = mul-le-mul_right (counters_of_block H.fields) below in
@@ -77,7 +76,7 @@ block-near H z n i below near =
     let more : i * counters_of_block H.fields * cluster_size H.fields ≤ (z + (n - 1)) * cluster_size H.fields = mul-le-mul_right (cluster_size H.fields) (omega (arith, le, under)) in
     omega (arith, near, more)
 
--- What tells that a table can't grow for a run tells why that can't be made ready, also where nothing that this rests on changed.
+-- A reason why the table can't grow for a run is one why the run can't be readied, as long as refcounts are unchanged.
 making-told : (mark n z : ℕ) (m m' : Metadata) → CountsAsBefore m m' → IsFirstRun (counted m) mark n z → (number : ℕ)
     → NoPlaceToGrow m mark ((z + (n - 1)) / counters_of_block m.header.fields + (n / counters_of_block m.header.fields + 2)) number → IsRunTold m' mark n number
 making-told mark n z m m' same run number none = record {
@@ -87,7 +86,7 @@ making-told mark n z m m' same run number none = record {
       (no-place-as m' m (sym same.header) (sym same.table) (λ c. sym (same.counts c)) mark ((z + (n - 1)) / counters_of_block m.header.fields + (n / counters_of_block m.header.fields + 2)) number none));
 }
 
--- What an allocation leaves of its room, turn by turn.
+-- The space that an allocation leaves, turn by turn.
 pub record StaysRoomy (mark n : ℕ) (m0 m : Metadata) : Type 0 where
   pub room : (roomy : IsRoomy m0 mark n) → RoomStays mark n m0 m roomy
   pub gapless : n ≤ 1 → IsGapless mark m0 m
@@ -99,7 +98,7 @@ module _ {S : Type 0} (state : S → StorageState) (s : ImageState S) where
   abbrev Start : Metadata
   Start = metadata state s
 
-  -- Where there is room for n clusters, so much of it is left, and there is no gap where that is one.
+  -- If `n` clusters had enough space, they still have. If `n` is 1, no gap is left.
   abbrev pub Stays : (mark n : ℕ) → ImageState S → Type 0
   Stays mark n now = IsGuarded state s → StaysRoomy mark n (metadata state s) (metadata state now)
 
@@ -120,7 +119,7 @@ module _ {S : Type 0} (state : S → StorageState) (s : ImageState S) where
         allocating-as state (HadNoResourceError result) (HadNoResourceError result) (λ c. 0 + leaked c) leaked s sB (λ whole. whole) (λ c. omega arith)
         (allocating-then state ⊤ (HadNoResourceError result) (λ _. 0) leaked s sA sB tt so_far.step step)
 
-    -- It goes on with a search,
+    -- The call continues with a search.
     pub readying-searched : (mark n z : ℕ) (B : MetadataCaches S) (fB : ImageFile S) → LooksForRun state sA.table mark n (cached_file sA.caches sA.file) (Ok z) (cached_file B fB) → Readying state s (image_state sA.table B fB sA.pending)
     readying-searched mark n z B fB looks = record {
       step = step-on {T = ℕ} (Ok z) (λ _. 0) (image_state sA.table B fB sA.pending) (looked-allocates state sA ℕ (Ok z) B fB looks.looked);
@@ -128,7 +127,7 @@ module _ {S : Type 0} (state : S → StorageState) (s : ImageState S) where
       faults = looks.looked.cause ∙ so_far.faults;
     }
 
-    -- or with what is made,
+    -- The call continues with new blocks or a longer table.
     pub readying-made : (mark at first last : ℕ) (made : Provision) (sB : AllocatorState S) → ReadiesBlocks state at first last (with_first_free sA mark) (Ok made) sB → (length s.table.raw_entries < length sA.table.raw_entries → last < length sA.table.raw_entries) → Readying state s sB.image
     readying-made mark at first last made sB makes covers = record {
       step = step-on {T = Provision} (Ok made) (λ _. 0) sB.image
@@ -146,7 +145,7 @@ module _ {S : Type 0} (state : S → StorageState) (s : ImageState S) where
       faults = makes.cause ∙ so_far.faults;
     }
 
-    -- and where there was room for it there is still.
+    -- The space for the run is still there.
     pub stays-found : (mark n z : ℕ) → 1 ≤ n → (B : MetadataCaches S) (fB : ImageFile S) → LooksForRun state sA.table mark n (cached_file sA.caches sA.file) (Ok z) (cached_file B fB) → Stays mark n sA → Stays mark n (image_state sA.table B fB sA.pending)
     stays-found mark n z some B fB looks stays holds =
         let there = holds-on holds in
@@ -173,7 +172,7 @@ module _ {S : Type 0} (state : S → StorageState) (s : ImageState S) where
               (last-is ∙ ap (λ x. x / counters_of_block sA.file.header.fields) (let is : z + (n - 1) ≡ z = omega (arith, one) in is)) made);
         }
 
-    -- or is refused as it searches,
+    -- The search fails.
     pub search-refused : (mark n : ℕ) (fault : Fault) (B : MetadataCaches S) (fB : ImageFile S) → LooksForRun state sA.table mark n (cached_file sA.caches sA.file) (Err fault) (cached_file B fB) → ReadiesRun state n (with_first_free s mark) (Err fault) (with_first_free (image_state sA.table B fB sA.pending) mark)
     search-refused mark n fault B fB looks = record {
       leaked = λ _. 0;
@@ -189,7 +188,7 @@ module _ {S : Type 0} (state : S → StorageState) (s : ImageState S) where
       cause = cause-weaker (freeing-allocates safe-with (λ u. loose-all sA.table sA.caches u.0 (so_far.step.keeps_unpinned_room u.0 u.2)) so_far.faults) fault looks.looked.cause;
     }
 
-    -- or as it makes something,
+    -- Making blocks or growing the table fails.
     pub making-refused : (mark n z first last : ℕ) → 1 ≤ n → (IsGuarded state s → IsFirstRun (counted (metadata state sA)) mark n z) → first ≡ z / counters_of_block sA.file.header.fields → last ≡ (z + (n - 1)) / counters_of_block sA.file.header.fields
         → IsAddressable sA.file.header.fields.cluster_bits (z + (n - 1)) → Stays mark n sA → (fault : Fault) (sB : AllocatorState S) → ReadiesBlocks state (last + (n / counters_of_block sA.file.header.fields + 2)) first last (with_first_free sA mark) (Err fault) sB → (length s.table.raw_entries < length sA.table.raw_entries → last < length sA.table.raw_entries) → ReadiesRun state n (with_first_free s mark) (Err fault) sB
     making-refused mark n z first last positive run first-is last-is near stays fault sB makes covers = record {
@@ -248,13 +247,12 @@ module _ {S : Type 0} (state : S → StorageState) (s : ImageState S) where
             (subst (λ (l : ℕ). NoPlaceToGrow mA mark (l + (n / counters_of_block sA.file.header.fields + 2)) number) last-is none)
 
     module _ (mark n z : ℕ) (some : 1 ≤ n) (B : MetadataCaches S) (fB : ImageFile S) (looks : LooksForRun state sA.table mark n (cached_file sA.caches sA.file) (Ok z) (cached_file B fB)) where
-      -- What it found isn't counted.
       pub found-run : IsGuarded state s → IsFirstRun (counts_in state B fB) mark n z
       found-run holds =
           let well_formed = safe-with holds in
           first-run-same (counts_in state sA.caches sA.file) (counts_in state B fB) mark n z (counts-still state sA.table sA.caches sA.file z B fB looks.looked well_formed) (looks.found well_formed)
 
-      -- It is refused as no run begins there that can be counted,
+      -- The call fails, since no run that can be counted begins there.
       pub unfit-refused : (fault : Fault) → HasCause (fitting_causes fB.header.fields n z) fault → Stays mark n sA → ReadiesRun state n (with_first_free s mark) (Err fault) (with_first_free (image_state sA.table B fB sA.pending) mark)
       unfit-refused fault why stays =
           let searched = readying-searched mark n z B fB looks in record {
@@ -293,7 +291,7 @@ module _ {S : Type 0} (state : S → StorageState) (s : ImageState S) where
               run-fits mark n some (metadata state s) sound roomy (metadata state sA) ((stays holds).room roomy) so_far.step.moved (so_far.step.raised order keeps sound tt) there.2 z (looks.found (safe-with holds))
               (subst (λ (H : Header). IsAddressable H.fields.cluster_bits (z + (n - 1)) → 2 ^ 20 ≤ (z + (n - 1)) / counters_of_block H.fields) looks.looked.header far)
 
-      -- What it has taken is little.
+      -- Little of the space is taken.
       little-found : Stays mark n sA → order_of s.caches ≡ L2DependsOnRb → IsTrue (state s.file.image).shape.keeps → IsSound Start → TakesLittle mark n Start (metadata_of state fB B sA.table sA.pending) × ((roomy : IsRoomy Start mark n) → z + n ≤ roomy.first + room_for s.file.header.fields n)
       little-found stays order keeps sound =
           let holds : IsGuarded state s = (keeps, order, sound) in
@@ -303,7 +301,7 @@ module _ {S : Type 0} (state : S → StorageState) (s : ImageState S) where
             λ roomy. run-early mark n some Start sound roomy m (kept.room roomy) z (found-run holds),
           )
 
-      -- It is refused as the table has grown and doesn't count the run,
+      -- The call fails, since the table has grown and still has no entry for the run.
       pub grown-refused : (number : ℕ) → number ≡ last_number z n → length s.table.raw_entries < length sA.table.raw_entries → length sA.table.raw_entries ≤ (z + (n - 1)) / counters_of_block fB.header.fields → Stays mark n sA → ReadiesRun state n (with_first_free s mark) (Err (Limit number)) (with_first_free (image_state sA.table B fB sA.pending) mark)
       grown-refused number is longer past stays =
           let searched = readying-searched mark n z B fB looks in record {
@@ -328,7 +326,7 @@ module _ {S : Type 0} (state : S → StorageState) (s : ImageState S) where
               let past' : length sA.table.raw_entries ≤ (z + (n - 1)) / counters_of_block sA.file.header.fields = subst (λ (H : Header). length sA.table.raw_entries ≤ (z + (n - 1)) / counters_of_block H.fields) looks.looked.header past in
               omega (arith, inside, past')
 
-      -- and ends where each cluster of the run has a block.
+      -- The call ends, since each cluster of the run has a block.
       module _ (sC : AllocatorState S) (k last : ℕ) (size : counters_of_block fB.header.fields ≡ k) (at : ℕ) (made : ReadiesBlocks state at (z / k) last (with_first_free (image_state sA.table B fB sA.pending) mark) (Ok Complete) sC)
           (done : Readying state s sC.image) where
         pub run-ready : Stays mark n sA → 0 < k → z ≢ 0 → IsAddressable fB.header.fields.cluster_bits (z + (n - 1)) → last ≡ (z + (n - 1)) / k → ReadiesRun state n (with_first_free s mark) (Ok z) sC
@@ -362,7 +360,7 @@ module _ {S : Type 0} (state : S → StorageState) (s : ImageState S) where
             moved : MovedTable s.file.header fB.header
             moved = (readying-searched mark n z B fB looks).step.moved
 
--- How far the turns are from their end: with each the refcount table becomes longer, or as long names more blocks.
+-- The measure of the loop: each turn makes the refcount table longer, or links more blocks of a table of the same length.
 abbrev pub turns_left : TableValue → ℕ
 turns_left table = (2 ^ 20 + 1 - length table.raw_entries) * (2 ^ 20 + 1) + min (2 ^ 20) (missing table)
 

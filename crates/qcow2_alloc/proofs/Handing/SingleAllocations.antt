@@ -1,4 +1,4 @@
--- One cluster is handed out where a search has found it free.
+-- Allocating one cluster, after a search found it free.
 use Rattle.std.proofs.Common.{◌≡◌, ◌≢◌, true, ℕ, ◌+◌, ◌*◌, ◌/◌, ◌<◌, ◌≤◌, false, refl, arith, ap, sym, subst, ◌∙◌, inl, inr, Option, Some, None, Result, Ok, Err}
 use Rattle.std.specs.Prelude.{⊤, not, nat_eq, IsTrue, IfOk, OnOk, OnErr, slice_index, ◌⊎◌, ◌==◌, if◌then◌else◌}
 use Rattle.std.specs.Option.{option_eq}
@@ -44,7 +44,6 @@ use Rattle.qcow2_alloc.proofs.GuestView.QuietPremises.{quietly-then-given}
 use Rattle.qcow2_alloc.proofs.GuestView.QuietSequences.{quietly-otherwise}
 use Rattle.qcow2_alloc.proofs.Blocks.RunProvision.{leaks-none}
 
--- The place that was found is the one, or isn't.
 pub other-place : (found : Option ℕ) (c : ℕ) → not (option_eq nat_eq found (Some c)) ≡ true → found ≢ Some c
 other-place None c test is = cc is
 other-place (Some d) c test is = let same : d ≡ c = (let e = is in cc) in let equal = eq-eqb d c same in let no : not (nat_eq d c) ≡ false = rw equal refl in let both = sym test ∙ no in cc
@@ -66,7 +65,7 @@ module _ {S : Type 0} (state : S → StorageState) (cluster : ℕ) (s : Allocato
   abbrev Looks : Result (Option ℕ) Fault → MetadataCaches S → ImageFile S → Type 0
   Looks result mid between = LooksForFree state s.table cluster ((cluster / k + 1) * k) (cached_file s.caches s.file) result (cached_file mid between)
 
-  -- The search was refused,
+  -- The search fails.
   pub search-refused : (fault : Fault) (mid : MetadataCaches S) (between : ImageFile S) → Looks (Err fault) mid between → AllocatesAt state (λ _. ⊥) cluster s (not_handed fault) (with_first_free (image_state s.table mid between s.pending) s.mark)
   search-refused fault mid between looks = record {
     did = record {
@@ -94,7 +93,7 @@ module _ {S : Type 0} (state : S → StorageState) (cluster : ℕ) (s : Allocato
     counts-same : IsTrue (state s.file.image).shape.keeps → IsSound Old → (c : ℕ) → counted Mid c ≡ counted Old c
     counts-same keeps sound c = counts-looked state s.image (Option ℕ) (Ok found) mid between looks.looked keeps sound tt c
 
-    -- or has found that the cluster is counted,
+    -- The cluster is counted already.
     pub counted-already : found ≢ Some cluster → AllocatesAt state (λ _. ⊥) cluster s (handed_so None) (with_first_free (image_state s.table mid between s.pending) s.mark)
     counted-already other = record {
       did = record {
@@ -223,7 +222,7 @@ module _ {S : Type 0} (state : S → StorageState) (cluster : ℕ) (s : Allocato
             ]
           ]
 
-      -- or counted none,
+      -- Counting the cluster fails.
       pub refused-one : (fault : Fault) → result ≡ Err fault → AllocatesAt state (λ _. ⊥) cluster s result (with_first_free (image_state s.table new after s.pending) mark')
       refused-one fault refused = subst (λ (r : Result (Option FreeEntry) Fault). AllocatesAt state (λ _. ⊥) cluster s r (with_first_free (image_state s.table new after s.pending) mark')) (sym refused) record {
         did = record {
@@ -254,7 +253,7 @@ module _ {S : Type 0} (state : S → StorageState) (cluster : ℕ) (s : Allocato
       abbrev itself : FreeEntry
       itself = record { first = cluster; count = 1; metadata = false }
 
-      -- or counted it, and hands it out.
+      -- Counting the cluster succeeds.
       pub handed-one : (entry : Option FreeEntry) → result ≡ Ok entry → AllocatesAt state (λ _. ⊥) cluster s result (with_first_free (image_state s.table new after s.pending) mark')
       handed-one entry ok = subst (λ (r : Result (Option FreeEntry) Fault). AllocatesAt state (λ _. ⊥) cluster s r (with_first_free (image_state s.table new after s.pending) mark')) (sym (ok ∙ ap (λ (o : Option FreeEntry). Ok o) entry-is)) record {
         did = record {

@@ -1,4 +1,4 @@
--- One cluster is counted for who asked for it.
+-- Counting one cluster for an allocation.
 use Rattle.std.proofs.Common.{false, ◌≡◌, ◌≢◌, ℕ, refl, arith, subst, Option, Some, Result, Ok, Err}
 use Rattle.imago_storage.specs.State.{StorageState}
 use Rattle.imago_storage.specs.declared.fault.Fault.{Fault}
@@ -22,7 +22,6 @@ use Rattle.qcow2_alloc.proofs.Blocks.BlockCreationCalls.{first-counted}
 use Rattle.qcow2_alloc.proofs.GuestView.QuietFlushes.{memory-quietly, quiet-none}
 use Rattle.qcow2_alloc.proofs.GuestView.QuietSequences.{quietly-otherwise}
 
--- what is answered with clusters, and where that is refused
 abbrev pub handed_so : Option FreeEntry → Result (Option FreeEntry) Fault
 handed_so found = Ok found
 
@@ -33,7 +32,7 @@ module _ {S : Type 0} (state : S → StorageState) (s : ImageState S) (c : ℕ) 
   abbrev Old : Metadata
   Old = metadata state s
 
-  -- Nothing was counted, for a reason that a sound image doesn't give where the cluster isn't counted.
+  -- Nothing was counted, for a reason that contradicts `IsSound` if the refcount is 0.
   uncounted : (fault : Fault) → ((sound : Type 0) → (sound → IsSound Old × (counted Old c ≡ 0)) → HasCause (counting_causes sound (HasUnpinnedRoom s.table s.caches) (state s.file.image).faults (state s.file.image).faults) fault)
       → CountsOne state c s (not_handed fault) s
   uncounted fault why = record {
@@ -58,7 +57,7 @@ module _ {S : Type 0} (state : S → StorageState) (s : ImageState S) (c : ℕ) 
     cluster_nonzero = tt;
   }
 
-  -- The first cluster is counted for the header.
+  -- Cluster 0 is the header's, so its refcount isn't 0.
   pub first-uncounted : c ≡ 0 → CountsOne state c s (not_handed DamagedTable) s
   first-uncounted first = uncounted DamagedTable (λ sound from holds. let both = from holds in let some = first-counted Old both.0 in let zero = subst (λ n. counted Old n ≡ 0) first both.1 in omega (arith, some, zero))
 

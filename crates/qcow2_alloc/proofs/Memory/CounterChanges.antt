@@ -1,4 +1,4 @@
--- A counter of a cached block is set: what memory becomes, and why what is cached stays safe.
+-- Setting a counter of a cached block: the effect on memory, and why the caches stay well-formed.
 use Rattle.std.proofs.Common.{◌≡◌, ◌≢◌, ℕ, ◌+◌, ◌-◌, ◌*◌, ◌/◌, ◌%◌, ◌^◌, ◌<◌, ◌≤◌, refl, arith, ap, sym, subst, ◌∙◌, List, ◌∷◌, ◌++◌, length, Some, true, false, inl, inr}
 use Rattle.std.specs.Prelude.{nat_eq, slice_index, slice_set, max}
 use Rattle.std.specs.Map.{lookup}
@@ -43,7 +43,7 @@ use Rattle.qcow2_alloc.proofs.Memory.MemoryWords.{block-same, places-in-memory}
 use Rattle.qcow2_alloc.proofs.Memory.Patches.{place-there, block-length, shaped-in}
 use Rattle.qcow2_alloc.proofs.Caching.Places.{Place, place-of-key, place-hit, slot-of}
 
--- Where g' has the words of g, what is named by f or by what is over it is the same.
+-- If `g'` has the L2 entries of `g`, the references in the file or in memory are the same.
 module _ (f g g' : Bytes) (h : Fields) (places : SamePlaces f g h) (keeps : KeepsSlots g g' h) where
   pub named-kept : (c : ℕ) → references_in_either f g' h c ≡ references_in_either f g h c
   unfolding references_in_either
@@ -62,14 +62,14 @@ module _ (f g g' : Bytes) (h : Fields) (places : SamePlaces f g h) (keeps : Keep
       let once : references_in_either f g h c ≤ 1 = apart c (omega (arith, same, some)) in
       omega (arith, once, named-kept c)
 
--- The announced order allows cluster c this count in memory, where f is the file, and g what is in memory over it: it covers what is to
--- be covered by what is written first, and nothing is raised while the tables are.
+-- The write order allows refcount `n` for cluster `c`, over file `f` and memory `g`: `n` covers the references (if tables come first, only
+-- those in memory). Unless blocks come first, `n` isn't above the refcount in the file.
 abbrev pub AllowsCount : CacheDependency → Bytes → Bytes → Fields → ℕ → ℕ → Type 0
 AllowsCount Unset f g h c n = (references_in_either f g h c ≤ n) × (n ≤ count f h c)
 AllowsCount L2DependsOnRb f g h c n = references_in_either f g h c ≤ n
 AllowsCount RbDependsOnL2 f g h c n = (refs g h c ≤ n) × (n ≤ count f h c)
 
--- what a cached block is with one counter set
+-- The cached block with one counter set.
 abbrev counter_set : Slot Block → ℕ → ℕ → Slot Block
 counter_set slot i n = record slot { value = with_counter slot.value i n }
 
@@ -108,21 +108,19 @@ module _ (f : Bytes) (H : Header) (order : CacheDependency) (tables : List (ℕ 
   inside : (d : ℕ) → d % counters_of_block H.fields < counters_of_block H.fields
   inside d = mod_below d (counters_of_block H.fields) (some-counters H.fields shaped)
 
-  -- the counters of a block fill its cluster
   whole-bits : (s : Slot Block) → IsCachedBlock f H.fields key s.value → length s.value.counters * 2 ^ s.value.order ≡ 2 ^ H.fields.cluster_bits * 8
   whole-bits s is =
       let bits : H.fields.cluster_bits + 3 - H.fields.refcount_order + H.fields.refcount_order ≡ H.fields.cluster_bits + 3 = omega (arith, shaped.low, shaped.order) in
       ap (λ n. n * 2 ^ s.value.order) (is.long ∙ sym (power-counters H.fields shaped)) ∙ ap (λ o. 2 ^ (H.fields.cluster_bits + 3 - H.fields.refcount_order) * 2 ^ o) is.order
       ∙ sym (pow-add 2 (H.fields.cluster_bits + 3 - H.fields.refcount_order) H.fields.refcount_order) ∙ ap (λ e. 2 ^ e) bits ∙ pow-add 2 H.fields.cluster_bits 3
 
-  -- and its bytes are those of its counters
   packs : (s : Slot Block) → IsCachedBlock f H.fields key s.value → Packs s.value.order s.value.counters (block_bytes s.value.order s.value.counters)
   packs s is = bytes-pack s.value.order s.value.counters (record { fit = λ k less. is.fit k; whole = let bits = whole-bits s is in omega (arith, bits) })
 
   full : (s : Slot Block) → IsCachedBlock f H.fields key s.value → length (block_bytes s.value.order s.value.counters) ≡ cluster_size H.fields
   full s is = block-length H.fields shaped s.value.order s.value.counters is.order is.long
 
-  -- Where those bytes were put, each cluster of the block is counted as its counters say.
+  -- With these bytes in the file, the clusters of the block have its counters as refcounts.
   counted-by : (base : Bytes) (s : Slot Block) (is : IsCachedBlock f H.fields key s.value) → block_at (splice base (key * cluster_size H.fields) (block_bytes s.value.order s.value.counters)) H.fields r ≡ key * cluster_size H.fields
       → (d : ℕ) → d / counters_of_block H.fields ≡ r → count (splice base (key * cluster_size H.fields) (block_bytes s.value.order s.value.counters)) H.fields d ≡ slice_index s.value.counters (d % counters_of_block H.fields)
   counted-by base s is stands d own =
@@ -135,23 +133,21 @@ module _ (f : Bytes) (H : Header) (order : CacheDependency) (tables : List (ℕ 
       ∙ ap (λ o. counter_of (bytes_of (block_bytes s.value.order s.value.counters)) (2 ^ o) 0 (d % counters_of_block H.fields)) (sym is.order)
       ∙ (packs s is).each (d % counters_of_block H.fields) (omega (arith, inside d, is.long))
 
-  -- all else that is cached, in memory
+  -- Memory without this block.
   abbrev base : Bytes
   base = memory f H.fields (record { tables = tables; blocks = front ++ back })
 
   abbrev bytes : List ℕ
   bytes = block_bytes slot.value.order slot.value.counters
 
-  -- Where it is modified, its bytes are over that;
   modified-memory : slot.value.modified ≡ true → g ≡ splice base (key * cluster_size H.fields) bytes
   modified-memory = over-rest block_kind block-kind-laws f H tables front key slot back order well_formed
 
-  -- and where it isn't, its cluster is the file's.
   clean-memory : slot.value.modified ≡ false → Same f g (block_at f H.fields r) (cluster_size H.fields)
   clean-memory clean = block-same f H well_formed.consistent old well_formed.tables well_formed.blocks r lt there
       (none-there block_kind block-kind-laws f H order tables front key slot back well_formed clean (block_at f H.fields r) counts_it)
 
-  -- In memory each of its clusters is counted as its counters say.
+  -- In memory, the clusters of the block have its counters as refcounts.
   pub counted-in-memory : (d : ℕ) → d / counters_of_block H.fields ≡ r → count g H.fields d ≡ slice_index slot.value.counters (d % counters_of_block H.fields)
   counted-in-memory d own = elim (cases_Bool slot.value.modified) [
     | inl modified ↦
@@ -173,7 +169,7 @@ module _ (f : Bytes) (H : Header) (order : CacheDependency) (tables : List (ℕ 
   there_in_memory : block_at g H.fields r ≢ 0
   there_in_memory none = there (sym (places.blocks r) ∙ none)
 
-  -- The counter of cluster c is set to n.
+  -- The counter of cluster `c` is set to `n`.
   module _ (n : ℕ) (fits : n < 2 ^ counter_bits H.fields) where
     abbrev new : Slot Block
     new = counter_set slot i n
@@ -208,7 +204,7 @@ module _ (f : Bytes) (H : Header) (order : CacheDependency) (tables : List (ℕ 
     abbrev x : Bytes
     x = splice g (key * cluster_size H.fields) new_bytes
 
-    -- Memory has its cluster's bytes replaced, and nothing else.
+    -- Memory changes only in the block's cluster.
     pub counter-put : memory f H.fields cached' ≡ x
     counter-put = entry-put block_kind block-kind-laws f H order tables front key slot back well_formed new new-is refl
 
@@ -288,7 +284,7 @@ module _ (f : Bytes) (H : Header) (order : CacheDependency) (tables : List (ℕ 
       ordered L2DependsOnRb allows first = blocks-first allows first
       ordered RbDependsOnL2 allows first = tables-first allows.1 first
 
-      -- What is cached stays safe.
+      -- The caches stay well-formed.
       pub counter-changed : AllowsCount order f g H.fields c n → CounterChanged f H order old c n cached'
       counter-changed allows = record {
         well_formed = put-safe block_kind block-kind-laws f H order tables front key slot back well_formed new new-is refl (record {
@@ -300,7 +296,7 @@ module _ (f : Bytes) (H : Header) (order : CacheDependency) (tables : List (ℕ 
         names = subst (λ (m : Bytes). (d : ℕ) → references_in_either f m H.fields d ≡ references_in_either f g H.fields d) (sym counter-put) names;
       }
 
--- In memory a cluster is counted as the counter says of the block that is cached,
+-- The refcount of a cluster in memory is the counter in its cached block.
 module _ (f : Bytes) (H : Header) (cached : Cached) (order : CacheDependency) (key c : ℕ) (value : Block) (well_formed : WellFormed f H cached order) (caches : CachesBlock f H.fields cached key c value) where
   found : (s : Slot Block) × (lookup (nat_eq key) cached.blocks ≡ Some s) × (s.value ≡ value)
   found = slot-of (lookup (nat_eq key) cached.blocks) value caches.block_cached
@@ -320,14 +316,13 @@ module _ (f : Bytes) (H : Header) (cached : Cached) (order : CacheDependency) (k
       (counted-in-memory f H order cached.tables p.front key found.0 p.back safe' c caches.counts caches.cluster_nonzero c refl)
       ∙ ap (λ (b : Block). slice_index b.counters (c % counters_of_block H.fields)) found.2
 
-  -- and fits its width.
   pub count-fits : count (memory f H.fields cached) H.fields c < 2 ^ counter_bits H.fields
   count-fits =
       let is = this f H order cached.tables p.front key found.0 p.back safe' c caches.counts caches.cluster_nonzero in
       rw (cached-count, sym (ap (λ (b : Block). slice_index b.counters (c % counters_of_block H.fields)) found.2))
       (subst (λ o. slice_index found.0.value.counters (c % counters_of_block H.fields) < 2 ^ 2 ^ o) is.order (is.fit (c % counters_of_block H.fields)))
 
--- The counter is set there.
+-- The counter is set in the cached block.
 module _ (f : Bytes) (H : Header) (cached cached' : Cached) (order : CacheDependency) (key c n : ℕ) (well_formed : WellFormed f H cached order) (sets : SetsCounter f H.fields cached key c n cached') where
   abbrev s : Slot Block
   s = (found f H cached order key c sets.block well_formed sets.caches).0
@@ -356,7 +351,7 @@ module _ (f : Bytes) (H : Header) (cached cached' : Cached) (order : CacheDepend
       (counter-changed f H order cached.tables q.front key s q.back (safe' f H cached order key c sets.block well_formed sets.caches) c sets.caches.counts sets.caches.cluster_nonzero n fits
       (subst (λ (o : Cached). refs (memory f H.fields o) H.fields c ≤ n) was covers) (subst (λ (o : Cached). AllowsCount order f (memory f H.fields o) H.fields c n) was allows)))
 
--- A counter that is 0 is raised while the blocks are to be written first: nothing names the cluster, in the file or in memory.
+-- A counter rises from 0 while blocks are written first: nothing references the cluster, in the file or in memory.
 pub counter-raised : (f : Bytes) (H : Header) (cached cached' : Cached) (key c : ℕ) → WellFormed f H cached L2DependsOnRb → SetsCounter f H.fields cached key c 1 cached' → count (memory f H.fields cached) H.fields c ≡ 0
     → CounterChanged f H L2DependsOnRb cached c 1 cached' × (references_in_either f (memory f H.fields cached) H.fields c ≡ 0)
 counter-raised f H cached cached' key c well_formed sets none =
@@ -366,7 +361,7 @@ counter-raised f H cached cached' key c well_formed sets none =
     let room : 2 ^ 1 ≤ 2 ^ counter_bits H.fields = pow-le-pow_right (omega arith) bits in
     (counter-sets f H cached cached' L2DependsOnRb key c 1 well_formed sets (omega (arith, room)) (omega (arith, not_referenced)), not_referenced)
 
--- A counter is lowered where what still names the cluster is covered.
+-- A counter falls as long as it covers the remaining references.
 pub counter-lowered : (f : Bytes) (H : Header) (cached cached' : Cached) (order : CacheDependency) (key c n : ℕ) → WellFormed f H cached order → SetsCounter f H.fields cached key c n cached' → count (memory f H.fields cached) H.fields c ≡ n + 1
     → IsStillCovered order f (memory f H.fields cached) H.fields c n → CounterChanged f H order cached c n cached'
 counter-lowered f H cached cached' order key c n well_formed sets more covers =
@@ -378,7 +373,7 @@ counter-lowered f H cached cached' order key c n well_formed sets more covers =
     allows L2DependsOnRb enough first = enough
     allows RbDependsOnL2 enough first = (enough, let le = first.lowered c in omega (arith, le, more))
 
--- The same to any number that isn't above.
+-- Like `counter-lowered`, but to any number that isn't above the refcount.
 pub counter-lowered-to : (f : Bytes) (H : Header) (cached cached' : Cached) (order : CacheDependency) (key c n : ℕ) → WellFormed f H cached order → SetsCounter f H.fields cached key c n cached' → n ≤ count (memory f H.fields cached) H.fields c
     → IsStillCovered order f (memory f H.fields cached) H.fields c n → CounterChanged f H order cached c n cached'
 counter-lowered-to f H cached cached' order key c n well_formed sets less covers =

@@ -1,4 +1,4 @@
--- A cached entry is set: memory has its cluster's bytes replaced, and what is safe of that is so of what is cached.
+-- Setting a cached entry: memory changes only in its cluster. If that memory allows it, the caches stay well-formed.
 use Rattle.std.proofs.Common.{◌≡◌, ◌≢◌, ℕ, ◌+◌, ◌-◌, ◌*◌, arith, ap, sym, subst, ◌∙◌, List, [], ◌∷◌, ◌++◌, length, true, false, inl, inr}
 use Rattle.std.specs.List.{AllByRecursion}
 use Rattle.std.proofs.lemmas.Bool.{cases_Bool, cases_lt}
@@ -16,7 +16,6 @@ use Rattle.qcow2_alloc.proofs.Caching.EntryTraffic.{entries-first}
 use Rattle.qcow2_alloc.proofs.Memory.EntryKinds.{EntryKind, IsSafeMemory}
 use Rattle.qcow2_alloc.proofs.Memory.Patches.{all-append, all-weaker, others-before, others-behind, places-differ}
 
--- The same bytes of a file, written twice.
 splice-again : (f : Bytes) (at : ℕ) (a b : List ℕ) → length a ≡ length b → splice (splice f at a) at b ≡ splice f at b
 splice-again f at a b same = fun_ext (λ p. elim (cases_lt p at) [
   | inl lt ↦ splice-outside (splice f at a) at b p (inl lt) ∙ splice-outside f at a p (inl lt) ∙ sym (splice-outside f at b p (inl lt))
@@ -31,7 +30,7 @@ splice-again f at a b same = fun_ext (λ p. elim (cases_lt p at) [
 module _ {V W : Type 0} (kind : EntryKind V W) (laws : EntryLaws kind) (f : Bytes) (H : Header) (order : CacheDependency)
     (rest : List (ℕ × Slot W)) (front : List (ℕ × Slot V)) (key : ℕ) (slot : Slot V) (back : List (ℕ × Slot V))
     (well_formed : WellFormed f H (kind.put rest (front ++ (key, slot) ∷ back)) order) where
-  -- Where it isn't modified, nothing is to be written to its cluster.
+  -- A clean entry has no patch at its cluster.
   pub none-there : kind.writes.modified slot.value ≡ false → (place : ℕ) → place ≡ key * cluster_size H.fields
       → AllByRecursion (λ e. kind.writes.modified e.1.value ≡ true → e.0 * cluster_size H.fields ≢ place) (front ++ (key, slot) ∷ back)
   none-there clean place at =

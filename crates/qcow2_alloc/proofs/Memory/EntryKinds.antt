@@ -1,4 +1,4 @@
--- What a cached entry is, an L2 table or a refcount block: what is proved of entries in memory is said once, of both kinds.
+-- The kinds of cached entries: L2 tables and refcount blocks. Lemmas on entries in memory are stated once, for both kinds.
 use Rattle.std.proofs.Common.{◌≡◌, ℕ, ◌*◌, ◌≤◌, List, [], ◌∷◌, ◌++◌, Option, Some, None, refl, true, false, inl, inr}
 use Rattle.std.specs.Prelude.{nat_eq, if◌then◌else◌}
 use Rattle.std.specs.List.{AllByRecursion, IsDistinct, filter_map}
@@ -19,8 +19,7 @@ use Rattle.qcow2_alloc.specs.Backends.{WrittenKind, written_tables, written_bloc
 use Rattle.qcow2_alloc.specs.Memory.{Cached, table_patch, block_patch, memory}
 use Rattle.qcow2_alloc.specs.WellFormedness.{IsCachedTable, IsCachedBlock, IsOrdered, WellFormed}
 
--- What is written of an entry, which fit the file, and where they stand beside those of the other kind: what is to be written of these goes
--- ahead, or behind.
+-- The bytes of an entry, when the entry fits the file, and the order of its patches and those of the other kind.
 pub record EntryKind (V W : Type 0) : Type 1 where
   pub writes : WrittenKind V
   pub bytes : V → List ℕ
@@ -30,7 +29,7 @@ pub record EntryKind (V W : Type 0) : Type 1 where
   pub ahead : ℕ → List (ℕ × Slot W) → List Patch
   pub behind : ℕ → List (ℕ × Slot W) → List Patch
 
--- L2 tables are written ahead of blocks,
+-- Patches of L2 tables come before those of blocks.
 abbrev pub table_kind : EntryKind TableValue Block
 table_kind = record {
   writes = written_tables;
@@ -42,7 +41,7 @@ table_kind = record {
   behind = λ size blocks. filter_map (block_patch size) blocks;
 }
 
--- and blocks behind tables.
+-- Patches of blocks come after those of L2 tables.
 abbrev pub block_kind : EntryKind Block TableValue
 block_kind = record {
   writes = written_blocks;
@@ -54,20 +53,20 @@ block_kind = record {
   behind = λ size tables. [];
 }
 
--- all that is cached, with one among the tables,
+-- All cached entries, with one table given separately.
 abbrev pub tables_with : List (ℕ × Slot TableValue) → ℕ → Slot TableValue → List (ℕ × Slot TableValue) → List (ℕ × Slot Block) → Cached
 tables_with front key slot back blocks = record { tables = front ++ (key, slot) ∷ back; blocks = blocks }
 
--- or the blocks
+-- All cached entries, with one block given separately.
 abbrev pub blocks_with : List (ℕ × Slot TableValue) → List (ℕ × Slot Block) → ℕ → Slot Block → List (ℕ × Slot Block) → Cached
 blocks_with tables front key slot back = record { tables = tables; blocks = front ++ (key, slot) ∷ back }
 
--- Entries stand under keys of their own, and fit.
+-- Entries with distinct keys that fit.
 pub record AreEntries {V : Type 0} (Fits : ℕ → V → Type 0) (es : List (ℕ × Slot V)) : Type 0 where
   pub apart : IsDistinct nat_eq (keys_of es)
   pub fit : AllByRecursion (λ (e : ℕ × Slot V). Fits e.0 e.1.value) es
 
--- What is safe of memory g over a file.
+-- The parts of `WellFormed` that depend only on the file and on memory.
 pub record IsSafeMemory (f g : Bytes) (H : Header) (order : CacheDependency) : Type 0 where
   pub apart : ReferencedOnce f g H.fields
   pub ordered : IsOrdered order f g H.fields
@@ -91,11 +90,10 @@ safe-of f H order cached was tables blocks m = record {
 }
 
 module _ {V W : Type 0} (kind : EntryKind V W) where
-  -- what of an entry is to be written, where clusters have this size
+  -- The patch of a dirty entry, for this cluster size.
   abbrev pub patch_of : ℕ → ℕ × Slot V → Option Patch
   patch_of size e = if kind.writes.modified e.1.value then Some (e.0 * size, kind.bytes e.1.value) else None
 
-  -- what holds of each patch
   pub patches-all : (P : Patch → Type 0) (size : ℕ) (es : List (ℕ × Slot V))
       → AllByRecursion (λ e. kind.writes.modified e.1.value ≡ true → P (e.0 * size, kind.bytes e.1.value)) es
       → AllByRecursion P (filter_map (patch_of size) es)
@@ -105,7 +103,6 @@ module _ {V W : Type 0} (kind : EntryKind V W) where
     | inr t ↦ rw t (patches-all P size es all.1)
   ]
 
-  -- nothing is, where none is modified
   pub no-patches : (size : ℕ) (es : List (ℕ × Slot V)) → AllByRecursion (λ e. kind.writes.modified e.1.value ≡ false) es → filter_map (patch_of size) es ≡ []
   no-patches size [] clean = refl
   no-patches size (e ∷ es) clean = rw clean.0 (no-patches size es clean.1)

@@ -1,4 +1,4 @@
--- Cached tables and blocks fit a file that has their words and counters as they were.
+-- Cached tables and blocks fit a file with the same entries and counters.
 use Rattle.std.proofs.Common.{◌≡◌, ◌≢◌, ℕ, ◌+◌, ◌-◌, ◌*◌, ◌<◌, arith, sym, subst, ◌∙◌, List, length, inl, inr}
 use Rattle.std.specs.Prelude.{◌⊎◌, slice_index}
 use Rattle.std.proofs.lemmas.Bool.{cases_lt}
@@ -19,7 +19,6 @@ use Rattle.qcow2_alloc.specs.WellFormedness.{IsCachedTable, IsCachedBlock}
 use Rattle.qcow2_alloc.proofs.Freeing.Lists.{map-same}
 use Rattle.qcow2_alloc.proofs.Memory.Patches.{place-there}
 
--- A byte of what was written is the file's, or what it was to be.
 pub written-either : (f g : Bytes) (at : ℕ) (bytes : List ℕ) → ((k : ℕ) → k < length bytes → slice_index bytes k ≡ g (at + k)) → (p : ℕ) → (splice f at bytes p ≡ f p) ⊎ (splice f at bytes p ≡ g p)
 written-either f g at bytes shown p = elim (cases_lt p at) [
   | inl before ↦ inl (splice-outside f at bytes p (inl before))
@@ -31,7 +30,7 @@ written-either f g at bytes shown p = elim (cases_lt p at) [
   ]
 ]
 
--- A cached table fits the file as before where its words are the same, also with another refcount table.
+-- A cached table still fits if its entries are the same, also under another refcount table.
 pub table-fits : (f x : Bytes) (h : Fields) (offset clusters : ℕ) → ((i : ℕ) → l2_table x (with_reftable h offset clusters) i ≡ l2_table f h i) → (cluster : ℕ)
     → ((i j : ℕ) → l2_table f h i ≡ cluster * cluster_size h → Live (l2_table f h) h i j → raw_entry x (l2_table f h i) j ≡ raw_entry f (l2_table f h i) j)
     → (t : TableValue) → IsCachedTable f h cluster t → IsCachedTable x (with_reftable h offset clusters) cluster t
@@ -49,18 +48,15 @@ table-fits f x h offset clusters tables cluster raw_entries t is = record {
       (λ j less. sym (raw_entries live.0 j at (record { in_l1 = live.1; is_there = there; in_table = less }))));
 }
 
--- Counters are the same where their bytes are.
 pub counters-same : (f x : Bytes) (h : Fields) (place : ℕ) → Same f x place (cluster_size h) → counters_in x h place ≡ counters_in f h place
 counters-same f x h place same = map-same (counter x h place) (counter f h place) (counters_of_block h) (λ k less. counter-same f x h place same k less)
 
--- Where tables and blocks stand as they did,
+-- Tables and blocks are at the same offsets.
 module _ (f x : Bytes) (h : Fields) (places : SamePlaces f x h) (cluster : ℕ) where
-  -- so does a table,
   pub table-still : ((i j : ℕ) → l2_table f h i ≡ cluster * cluster_size h → Live (l2_table f h) h i j → raw_entry x (l2_table f h i) j ≡ raw_entry f (l2_table f h i) j)
       → (t : TableValue) → IsCachedTable f h cluster t → IsCachedTable x h cluster t
   table-still = table-fits f x h h.refcount_table_offset h.refcount_table_clusters places.l1 cluster
 
-  -- and a block.
   pub block-still : ((i : ℕ) → i < refcount_table_entries h → block_at f h i ≢ 0 → block_at f h i ≡ cluster * cluster_size h → Same f x (block_at f h i) (cluster_size h))
       → (b : Block) → IsCachedBlock f h cluster b → IsCachedBlock x h cluster b
   block-still bytes b is = record {

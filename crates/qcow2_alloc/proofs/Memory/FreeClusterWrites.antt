@@ -1,4 +1,4 @@
--- Clusters that nothing names are written.
+-- Writing unreferenced clusters.
 use Rattle.std.proofs.Common.{◌≡◌, ◌≢◌, ℕ, ◌+◌, ◌-◌, ◌*◌, ◌/◌, ◌^◌, ◌<◌, ◌≤◌, refl, arith, ap, sym, subst, ◌∙◌, List, [], ◌∷◌, length, inl, inr}
 use Rattle.std.specs.Prelude.{cond, ◌&&◌, nat_le, nat_lt, slice_index, IsTrue, Result, Ok, Err}
 use Rattle.std.proofs.lemmas.Bool.{cases_lt}
@@ -41,7 +41,6 @@ use Rattle.qcow2_alloc.proofs.GuestView.ShownDisks.{from-start, mapping-meets, i
 use Rattle.qcow2_alloc.proofs.Memory.FittingWords.{table-fits, counters-same}
 use Rattle.qcow2_alloc.proofs.Memory.KeptWords.{word-named, named-more, copied-stays, ordered-still, block-fits}
 
--- What is in memory agrees where the file does.
 pub over-agrees : (f g : Bytes) (es : List Patch) (p : ℕ) → f p ≡ g p → over f es p ≡ over g es p
 unfolding over splice
 over-agrees f g [] p same = same
@@ -55,7 +54,7 @@ module _ (m : Metadata) (sound : IsSound m) (c k : ℕ) (not_referenced : (d : �
   places : SamePlaces m.file (in_memory m) m.header.fields
   places = places-in-memory m.file m.header sound.well_formed.consistent m.cached sound.well_formed.tables sound.well_formed.blocks
 
-  -- No more is named in the file alone, or in memory alone.
+  -- Nothing new is referenced, in the file or in memory.
   in-file : FreeWritten m.file x m.header
   in-file = free-run-written m.file m.header sound.well_formed.consistent c k (λ d from upto. let none = not_referenced d from upto in let le = refs-file m.file (in_memory m) m.header.fields d in omega (arith, none, le)) x at n out low high
 
@@ -117,7 +116,6 @@ module _ (m : Metadata) (sound : IsSound m) (c k : ℕ) (not_referenced : (d : �
     not_referenced = λ d some. named-same d ∙ sound.not_referenced d some;
   }
 
-  -- A cluster out of the run keeps its bytes,
   away : (d : ℕ) → (c ≤ d → d ≤ c + k → ⊥) → Same m.file x (d * cluster_size m.header.fields) (cluster_size m.header.fields)
   away d not = elim (cases_lt d c) [
     | inl before ↦
@@ -133,7 +131,6 @@ module _ (m : Metadata) (sound : IsSound m) (c k : ℕ) (not_referenced : (d : �
     ]
   ]
 
-  -- as does what a word of the file names.
   bytes-named : (i j : ℕ) → Live (l2_table m.file m.header.fields) m.header.fields i j → (p : ℕ) → 0 < of_mapping m.header.fields (touches p 1) (slot x m.header.fields i j) → x p ≡ m.file p
   bytes-named i j live p some =
       let le = mapping-meets m.header.fields p (slot x m.header.fields i j) in
@@ -168,7 +165,7 @@ module _ (m : Metadata) (sound : IsSound m) (c k : ℕ) (not_referenced : (d : �
   pub free-counts : CountsTheSame m m'
   free-counts = record { file = in-file.counts; memory = over-there.counts; references = over-there.references; names = named-same }
 
--- Each file that a stop leaves in a write differs from the old in the written range alone.
+-- Each crash image of a write differs from the old file only in the written range.
 mixed-outside : (old : List ℕ) (at : ℕ) (bytes new : List ℕ) → OldOrNewBytes old at bytes new → Outside (bytes_of old) (bytes_of new) at (length bytes)
 mixed-outside old at bytes new mixed p (inl before) = mixed.before p before
 mixed-outside old at bytes new mixed p (inr after) = mixed.after p after
@@ -177,7 +174,6 @@ spliced-outside : (old : List ℕ) (at : ℕ) (bytes new : List ℕ) → Spliced
 spliced-outside old at bytes new spliced p (inl before) = spliced.before p before
 spliced-outside old at bytes new spliced p (inr after) = spliced.after p after
 
--- Where a write succeeded the rest of the file stays.
 pub put-outside : (old new : StorageState) (at : ℕ) (bytes : List ℕ) (result : Result Unit Fault) → WriteOutcome old new at bytes result → IsTrue old.shape.keeps → result ≡ Ok tt → Outside (bytes_of old.bytes) (bytes_of new.bytes) at (length bytes)
 put-outside old new at bytes (Ok done) put keeps is = spliced-outside old.bytes at bytes new.bytes (put.answer.content keeps)
 put-outside old new at bytes (Err fault) put keeps is = absurd (cc is)
@@ -219,7 +215,6 @@ module _ (m : Metadata) (c k at : ℕ) (bytes : List ℕ) (taken : ℕ → ℕ) 
   run-counts (Ok done) put keeps sound is = (run-holds new.bytes (put.answer.content keeps) sound).2
   run-counts (Err fault) put keeps sound is = absurd (cc is)
 
--- The bytes of a block fill no more than a cluster.
 pub block-short : (h : Fields) (block : Block) (bytes : List ℕ) → Packs block.order block.counters bytes → block.order ≡ h.refcount_order → length block.counters ≡ counters_of_block h → length bytes ≤ cluster_size h
 block-short h block bytes packs order long =
     let size = packs.size in
@@ -227,7 +222,7 @@ block-short h block bytes packs order long =
     let le : counters_of_block h * 2 ^ h.refcount_order ≤ cluster_size h * 8 = div-mul-le_self (cluster_size h * 8) (2 ^ h.refcount_order) in
     omega (arith, size, all, le)
 
--- A block is written so: its counters are in the file then.
+-- A block is written to an unreferenced cluster. The file then has its counters.
 module _ (m : Metadata) (d : ℕ) (block : Block) (old new : StorageState) (is_in : IsIn old m) (order : block.order ≡ m.header.fields.refcount_order) (long : length block.counters ≡ counters_of_block m.header.fields) where
   module _ (shaped : Shaped m.header.fields) (result : Result Unit Fault) (put : BlockPut block (d * cluster_size m.header.fields) old new result) where
     as-long : length put.bytes ≡ cluster_size m.header.fields

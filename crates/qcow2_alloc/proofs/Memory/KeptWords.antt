@@ -1,4 +1,4 @@
--- What is named and what is cached where each word means what it did, in the file and in memory, whatever the refcount table.
+-- References and cached entries, if each entry keeps its meaning in the file and in memory, under any refcount table.
 use Rattle.std.proofs.Common.{◌≡◌, ℕ, ◌+◌, ◌*◌, ◌≤◌, refl, arith, ap, ◌∙◌, true, false}
 use Rattle.std.specs.Prelude.{max, Some, None}
 use Rattle.qcow2_types.specs.Bytes.{Bytes}
@@ -19,7 +19,7 @@ use Rattle.qcow2_alloc.specs.declared.cache.CacheDependency.TheVariants.{Unset, 
 use Rattle.qcow2_alloc.specs.WellFormedness.{IsLiveBlock, IsCachedBlock, IsOrdered}
 use Rattle.qcow2_alloc.proofs.GuestView.QuietSequences.{of-moved}
 
--- What a word names as copied doesn't depend on the refcount table.
+-- COPIED references don't depend on the refcount table.
 copied-moved : (h h' : Fields) → cluster_size h' ≡ cluster_size h → (w : Weight) (m : Mapping) → of_copied h' w m ≡ of_copied h w m
 copied-moved h h' same w (data_at cluster true) = ap (λ s. w (cluster * s) s) same
 copied-moved h h' same w (data_at cluster false) = refl
@@ -30,7 +30,7 @@ copied-moved h h' same w (packed offset length) = refl
 copied-moved h h' same w unmapped = refl
 copied-moved h h' same w damaged = refl
 
--- f is the file and g what is in memory, and x and y are what they become.
+-- File `f` with memory `g` becomes file `x` with memory `y`.
 module _ (f g x y : Bytes) (h : Fields) (offset clusters : ℕ) (tables : (i : ℕ) → l2_table x (with_reftable h offset clusters) i ≡ l2_table f h i)
     (file : (i j : ℕ) → Live (l2_table f h) h i j → slot x (with_reftable h offset clusters) i j ≡ slot f h i j)
     (cached : (i j : ℕ) → Live (l2_table f h) h i j → slot y (with_reftable h offset clusters) i j ≡ slot g h i j) where
@@ -51,7 +51,7 @@ module _ (f g x y : Bytes) (h : Fields) (offset clusters : ℕ) (tables : (i : �
       ap (λ n. max n (of_copied h' (meets h' d) (slot y h' i j))) (copied-moved h h' refl (meets h d) (slot x h' i j) ∙ ap (of_copied h (meets h d)) (file i j live))
       ∙ ap (λ n. max (of_copied h (meets h d) (slot f h i j)) n) (copied-moved h h' refl (meets h d) (slot y h' i j) ∙ ap (of_copied h (meets h d)) (cached i j live))
 
-  -- A cluster is named by the structure, and by words as it was.
+  -- All references change as those of the structure do.
   pub named-more : (d old new : ℕ) → structure x h' (meets h' d) + old ≡ structure f h (meets h d) + new → references_in_either x y h' d + old ≡ references_in_either f g h d + new
   unfolding references_in_either
   named-more d old new more =
@@ -62,7 +62,7 @@ module _ (f g x y : Bytes) (h : Fields) (offset clusters : ℕ) (tables : (i : �
   unfolding copied
   copied-stays d = slots-moved (l2_table x h') (λ i j. max (of_copied h' (meets h' d) (slot x h' i j)) (of_copied h' (meets h' d) (slot y h' i j))) ∙ tables-same (l2_table f h) (l2_table x h') h _ tables ∙ slots-same (l2_table f h) h _ _ (marked-same d)
 
--- What a word of the file names is among all that is named,
+-- References of one L2 entry, or of the structure, are among all references.
 pub word-named : (f g : Bytes) (h : Fields) (d i j : ℕ) → Live (l2_table f h) h i j → of_mapping h (meets h d) (slot f h i j) ≤ references_in_either f g h d
 unfolding references_in_either
 word-named f g h d i j live =
@@ -70,19 +70,17 @@ word-named f g h d i j live =
     let all = slot-le (l2_table f h) h (λ k n. of_either h (meets h d) (slot f h k n) (slot g h k n)) i j live in
     omega (arith, one, all)
 
--- and among what the words of the file name,
 pub word-contents : (f : Bytes) (h : Fields) (d i j : ℕ) → Live (l2_table f h) h i j → of_mapping h (meets h d) (slot f h i j) ≤ contents f h (of_mapping h (meets h d))
 word-contents f h d i j live =
     let all = contents-slots f h (of_mapping h (meets h d)) in
     let one = slot-le (l2_table f h) h (λ k n. of_mapping h (meets h d) (slot f h k n)) i j live in
     omega (arith, one, all)
 
--- and so is what the structure does.
 pub structure-named : (f g : Bytes) (h : Fields) (d : ℕ) → structure f h (meets h d) ≤ references_in_either f g h d
 unfolding references_in_either
 structure-named f g h d = omega arith
 
--- The order is kept where what covers a cluster still does.
+-- The write order is kept if refcounts still cover the references.
 pub ordered-still : (f g x y : Bytes) (h later : Fields) → ((d : ℕ) → references_in_either f g h d ≤ count g h d → references_in_either x y later d ≤ count y later d) → ((d : ℕ) → references_in_either f g h d ≤ count f h d → references_in_either x y later d ≤ count x later d)
     → ((d : ℕ) → refs x later d ≤ count x later d) → ((d : ℕ) → count g h d ≤ count f h d → count y later d ≤ count x later d) → (o : CacheDependency) → IsOrdered o f g h → IsOrdered o x y later
 ordered-still f g x y h later cached file covers lowered Unset both = (

@@ -1,4 +1,4 @@
--- What is in memory of a safe image is a consistent image.
+-- The image in memory of a well-formed image is consistent.
 use Rattle.std.proofs.Common.{◌≡◌, ◌≢◌, ℕ, ◌*◌, ◌<◌, ◌≤◌, refl, arith, ap, sym, ◌∙◌, List, [], ◌∷◌, length, inr}
 use Rattle.std.specs.Prelude.{true}
 use Rattle.std.specs.List.{AllByRecursion}
@@ -23,7 +23,7 @@ use Rattle.qcow2_alloc.proofs.Memory.MemoryWords.{places-in-memory}
 use Rattle.qcow2_alloc.proofs.Flushing.TableWriteBacks.{memory-sound}
 
 module _ (f : Bytes) (H : Header) (was : IsConsistent f H) where
-  -- a table or a block touches itself
+  -- A table or a block touches its own range.
   weighs-itself : (part : Part) → part_place f H.fields part ≢ 0 → 1 ≤ part_weight f H.fields (touches (part_place f H.fields part) (cluster_size H.fields)) part
   weighs-itself header there = absurd (there refl)
   weighs-itself l1_table there = absurd (there refl)
@@ -37,7 +37,7 @@ module _ (f : Bytes) (H : Header) (was : IsConsistent f H) where
       let one : touches (l2_table f H.fields i) (cluster_size H.fields) (l2_table f H.fields i) (cluster_size H.fields) ≡ 1 = touches-inside _ _ _ _ some (omega arith) (omega arith) in
       grind (arith, nat_tests)
 
-  -- A part that is no table and no block stays.
+  -- A part of the structure that is neither a table nor a block is unchanged in memory.
   module _ (q : Part) (inside : IsPart H.fields q) (nowhere : part_place f H.fields q ≡ 0) (at n : ℕ) (weight : (w : ℕ → ℕ → ℕ) → part_weight f H.fields w q ≡ w at n) where
     pub untouched-by : (e : Patch) → IsPatch f H.fields e → touches e.0 (length e.1) at n ≡ 0
     untouched-by e x =

@@ -1,4 +1,4 @@
--- What the words and counters of an image in memory are: those of modified tables and blocks, and else the file's.
+-- Entries and counters in memory: those of dirty tables and blocks, otherwise those of the file.
 use Rattle.std.proofs.Common.{◌≡◌, ◌≢◌, ℕ, ◌*◌, ◌/◌, ◌<◌, refl, ap, sym, ◌∙◌, List, [], ◌∷◌, ◌++◌, true, false, inl, inr}
 use Rattle.std.specs.Prelude.{◌⊎◌}
 use Rattle.std.specs.List.{AllByRecursion}
@@ -23,7 +23,7 @@ use Rattle.qcow2_alloc.specs.WellFormedness.{IsCachedTable, IsCachedBlock}
 use Rattle.qcow2_alloc.proofs.Memory.EntryKinds.{table_kind, block_kind, patches-all}
 use Rattle.qcow2_alloc.proofs.Memory.Patches.{all-append, all-weaker, patches-are, table-no-block, shaped-in}
 
--- a modified table among those that are cached, at this place
+-- A dirty cached table at this offset.
 pub record Among (size place : ℕ) (tables : List (ℕ × Slot TableValue)) : Type 0 where
   pub front : List (ℕ × Slot TableValue)
   pub key : ℕ
@@ -33,7 +33,7 @@ pub record Among (size place : ℕ) (tables : List (ℕ × Slot TableValue)) : T
   pub modified : slot.value.modified ≡ true
   pub place_is : key * size ≡ place
 
--- none at this place is modified
+-- No dirty table is at this offset.
 abbrev pub NoneAt : ℕ → ℕ → List (ℕ × Slot TableValue) → Type 0
 NoneAt size place = AllByRecursion (λ e. e.1.value.modified ≡ true → e.0 * size ≢ place)
 
@@ -61,7 +61,7 @@ module _ (f : Bytes) (H : Header) (was : IsConsistent f H) (cached : Cached)
   pub places-in-memory : SamePlaces f (memory f H.fields cached) H.fields
   places-in-memory = places-over f H was (patches H.fields cached) (patches-are f H was cached tables blocks)
 
-  -- A table of which no modified one is cached stays in memory,
+  -- Without a dirty cached table, the table in memory is that of the file.
   pub table-same : (i : ℕ) → i < H.fields.l1_entries → l2_table f H.fields i ≢ 0 → NoneAt (cluster_size H.fields) (l2_table f H.fields i) cached.tables
       → Same f (memory f H.fields cached) (l2_table f H.fields i) (cluster_size H.fields)
   table-same i lt there none =
@@ -71,13 +71,11 @@ module _ (f : Bytes) (H : Header) (was : IsConsistent f H) (cached : Cached)
       (patches-all block_kind (λ e. e.0 ≢ l2_table f H.fields i) (cluster_size H.fields) cached.blocks
       (all-weaker _ _ (λ e is m same. let live = is.modified m in parts-differ f H was (table_of i) (block_of live.0) lt live.1 there (table-no-block i live.0) (sym (live.2 ∙ same))) cached.blocks blocks)))
 
-  -- and so do its words.
   pub slot-same : (i j : ℕ) → Live (l2_table f H.fields) H.fields i j → NoneAt (cluster_size H.fields) (l2_table f H.fields i) cached.tables → slot (memory f H.fields cached) H.fields i j ≡ slot f H.fields i j
   slot-same i j live none =
       ap (λ t. mapping_of (layout_of H.fields) (raw_entry (memory f H.fields cached) t j)) (places-in-memory.l1 i)
       ∙ ap (mapping_of (layout_of H.fields)) (word-same f (memory f H.fields cached) (l2_table f H.fields i) (cluster_size H.fields) j (table-same i live.in_l1 live.is_there none) (words-fit H.fields j live.in_table))
 
-  -- No count changes while no block is modified.
   pub counts-same : AllByRecursion (λ e. e.1.value.modified ≡ false) cached.blocks → (c : ℕ) → count (memory f H.fields cached) H.fields c ≡ count f H.fields c
   counts-same clean c =
       count-same f (memory f H.fields cached) H.fields c (shaped-in f H was) (places-in-memory.blocks (c / counters_of_block H.fields))
@@ -88,7 +86,7 @@ module _ (f : Bytes) (H : Header) (was : IsConsistent f H) (cached : Cached)
       (all-weaker _ _ (λ e is m same. let live = is.modified m in parts-differ f H was (table_of live.0) (block_of (c / counters_of_block H.fields)) live.1 lt (λ z. there (sym same ∙ sym live.2 ∙ z)) (table-no-block live.0 (c / counters_of_block H.fields)) (live.2 ∙ same)) cached.tables tables))
       (patches-all block_kind _ (cluster_size H.fields) cached.blocks (all-weaker _ _ (λ e off m. absurd (let both = sym off ∙ m in cc)) cached.blocks clean))))
 
-  -- A block of which no modified one is cached stays in memory.
+  -- Without a dirty cached block, the block in memory is that of the file.
   pub block-same : (i : ℕ) → i < refcount_table_entries H.fields → block_at f H.fields i ≢ 0 → AllByRecursion (λ e. e.1.value.modified ≡ true → e.0 * cluster_size H.fields ≢ block_at f H.fields i) cached.blocks
       → Same f (memory f H.fields cached) (block_at f H.fields i) (cluster_size H.fields)
   block-same i lt there none =

@@ -1,4 +1,4 @@
--- The words that are written where a cluster is discarded, zeroed, or data again: what they mean names no more than what was there.
+-- The L2 entries that are written when a cluster is discarded, zeroed or linked again. They reference no more than before.
 use Rattle.std.proofs.Common.{◌≡◌, ◌≢◌, ℕ, ◌+◌, ◌-◌, ◌*◌, ◌/◌, ◌^◌, ◌<◌, ◌≤◌, refl, arith, ap, sym, subst, ◌∙◌, true, false, inl}
 use Rattle.std.specs.Prelude.{slice_index, Bool, cond, ◌||◌, not, nat_le, Option, Some, None}
 use Rattle.std.proofs.Math.Nat.{div-mul-le_self}
@@ -18,7 +18,7 @@ use Rattle.qcow2_alloc.specs.WellFormedness.{WellFormed}
 use Rattle.qcow2_alloc.proofs.Memory.WordChanges.{cached-layout, word-drops}
 use Rattle.qcow2_alloc.proofs.Memory.Patches.{shaped-in}
 
--- a cluster that a word keeps is one that words can name
+-- The cluster that an entry keeps is addressable.
 kept-cluster : (b bad sound zero names : Bool) (place length cluster : ℕ) (mark : Bool) (kept : ℕ × Bool)
     → kept_for_zero (cond b (cond bad damaged (packed place length)) (cond (not sound) damaged (cond zero (zeroes (cond names (Some cluster) None) mark) (cond names (data_at cluster mark) unmapped)))) ≡ Some kept → cluster ≡ kept.0
 kept-cluster true true sound zero names place length cluster mark kept e = absurd (cc)
@@ -38,7 +38,7 @@ kept-near layout w kept e =
     let most : table_offset w ≤ 0x00ff_ffff_ffff_fe00 = omega arith in
     subst (λ n. n * 2 ^ layout.cluster_bits ≤ 0x00ff_ffff_ffff_fe00) is (omega (arith, below, most))
 
--- No name is new where a cluster is zeroed,
+-- Zeroing adds no reference.
 kept-no-more : (h : Fields) (old : Mapping) (kept : ℕ × Bool) → kept_for_zero old ≡ Some kept → ReferencesNoMore h old (zeroed (Some kept))
 kept-no-more h (data_at n true) kept e = let pair : (n, true) ≡ kept = cc in subst (λ k. ReferencesNoMore h (data_at n true) (zeroed (Some k))) pair (λ c. (omega arith, omega arith))
 kept-no-more h (data_at n false) kept e = let pair : (n, false) ≡ kept = cc in subst (λ k. ReferencesNoMore h (data_at n false) (zeroed (Some k))) pair (λ c. (omega arith, omega arith))
@@ -59,7 +59,7 @@ module _ (f : Bytes) (H : Header) (cached cached' : Cached) (order : CacheDepend
       subst (λ (m : Mapping). ReferencesDropped (file_with f H order cached) i j (mapping_in sets.table j) m cached') means
       (word-drops f H cached cached' order key i j w well_formed sets fits (ap is_damaged means ∙ sane) (subst (λ (m : Mapping). ReferencesNoMore H.fields (mapping_in sets.table j) m) (sym means) fewer))
 
-  -- or discarded,
+  -- Discarding adds no reference.
   pub discard-drops : (sets : SetsEntry f H.fields cached key i j 0 cached') → ReferencesDropped (file_with f H order cached) i j (mapping_in sets.table j) unmapped cached'
   discard-drops sets = drops 0 sets unmapped (omega arith) (zero-word (layout_of H.fields)) refl (λ c. (omega arith, omega arith))
 
@@ -86,7 +86,7 @@ module _ (f : Bytes) (H : Header) (cached cached' : Cached) (order : CacheDepend
       by-kept None e = rw e (unkept (rw e at is))
       by-kept (Some kept) e = rw e (keeps kept (kept-of keep kept e) (rw e at is))
 
-  -- or where the cluster that is kept for zeroes holds data again.
+  -- Linking the preallocated zero cluster as data adds no reference.
   pub data-drops : (n : ℕ) (sets : SetsEntry f H.fields cached key i j (2 ^ 63 + n * cluster_size H.fields) cached') → n ≢ 0 → IsAddressable H.fields.cluster_bits n → mapping_in sets.table j ≡ zeroes (Some n) true
       → ReferencesDropped (file_with f H order cached) i j (zeroes (Some n) true) (data_at n true) cached'
   data-drops n sets some near is =

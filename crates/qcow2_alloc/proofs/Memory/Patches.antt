@@ -1,4 +1,4 @@
--- What is to be written of cached tables and blocks, as patches of the image file.
+-- Dirty tables and blocks as patches of the image file.
 use Rattle.std.proofs.Common.{◌≡◌, ◌≢◌, ℕ, ◌+◌, ◌-◌, ◌*◌, ◌/◌, ◌^◌, ◌<◌, arith, ap, sym, subst, ◌∙◌, List, [], ◌∷◌, ◌++◌, length, true, false}
 use Rattle.std.specs.Prelude.{nat_eq}
 use Rattle.std.specs.List.{AllByRecursion, IsDistinct}
@@ -44,7 +44,7 @@ pub all-both : {X : Type 0} (P Q : X → Type 0) (xs : List X) → AllByRecursio
 all-both P Q [] first second = tt
 all-both P Q (x ∷ xs) first second = ((first.0, second.0), all-both P Q xs first.1 second.1)
 
--- entries around one have other keys
+-- The entries around an entry have other keys.
 module _ {V : Type 0} where
   others-after : (key : ℕ) (es : List (ℕ × V)) → AllByRecursion (λ y. nat_eq key y ≡ false) (keys_of es) → AllByRecursion (λ e. key ≢ e.0) es
   others-after key [] all = tt
@@ -64,15 +64,12 @@ module _ {V : Type 0} where
   others-behind key v [] back apart = others-after key back apart.0
   others-behind key v (e ∷ front) back apart = others-behind key v front back apart.1
 
--- clusters stand apart
 pub places-differ : (size a b : ℕ) → 0 < size → a ≢ b → a * size ≢ b * size
 places-differ size a b some apart same = apart (sym (mul-div_left a some) ∙ ap (λ n. n / size) same ∙ mul-div_left b some)
 
--- a table that words can name is not at 0
 pub place-there : (size a : ℕ) → 0 < size → a ≢ 0 → a * size ≢ 0
 place-there size a some apart none = places-differ size a 0 some apart (none ∙ sym (zero-mul size))
 
--- a block fills its cluster
 pub block-length : (h : Fields) → Shaped h → (order : ℕ) (counters : List ℕ) → order ≡ h.refcount_order → length counters ≡ counters_of_block h → length (block_bytes order counters) ≡ cluster_size h
 unfolding block_bytes
 block-length h shaped order counters same long =
@@ -97,7 +94,7 @@ module _ (f : Bytes) (H : Header) (was : IsConsistent f H) where
       let bits : 2 ^ table.layout.cluster_bits ≡ cluster_size H.fields = ap (λ (l : Layout). 2 ^ l.cluster_bits) same in
       omega (arith, bytes, whole, bits)
 
-  -- A modified table of a safe cache is to be written to a table that there is,
+  -- The patch of a dirty table is at a table of the file.
   pub table-is-patch : (cluster : ℕ) (table : TableValue) → IsCachedTable f H.fields cluster table → table.modified ≡ true → IsPatch f H.fields (cluster * cluster_size H.fields, table_bytes table.raw_entries)
   table-is-patch cluster table cached modified =
       let live = cached.modified modified in
@@ -109,7 +106,7 @@ module _ (f : Bytes) (H : Header) (was : IsConsistent f H) where
         long = table-long table cached.fits cached.layout;
       }
 
-  -- and a modified block to a block.
+  -- The patch of a dirty block is at a block of the file.
   pub block-is-patch : (cluster : ℕ) (block : Block) → IsCachedBlock f H.fields cluster block → block.modified ≡ true → IsPatch f H.fields (cluster * cluster_size H.fields, block_bytes block.order block.counters)
   block-is-patch cluster block cached modified =
       let live = cached.modified modified in
@@ -121,7 +118,7 @@ module _ (f : Bytes) (H : Header) (was : IsConsistent f H) where
         long = block-length H.fields shaped-in block.order block.counters cached.order cached.long;
       }
 
-  -- A table and a block touch no byte of each other.
+  -- Patches of tables and of blocks don't overlap.
   pub table-clear-of-block : (cluster : ℕ) (table : TableValue) (is : IsCachedTable f H.fields cluster table) (modified : table.modified ≡ true) (other : ℕ) (block : Block) (is' : IsCachedBlock f H.fields other block) → block.modified ≡ true
       → IsClear (cluster * cluster_size H.fields) (length (table_bytes table.raw_entries)) (other * cluster_size H.fields, block_bytes block.order block.counters)
   unfolding table-is-patch block-is-patch

@@ -1,4 +1,4 @@
--- What holds of each safe image, and of clean caches.
+-- Facts about every well-formed image, and about clean caches.
 use Rattle.std.proofs.Common.{◌≡◌, ℕ, ◌^◌, ◌≤◌, ap, sym, subst, ◌∙◌, List, ◌++◌, true}
 use Rattle.std.specs.List.{filter_map}
 use Rattle.qcow2_types.specs.Bytes.{Bytes, bytes_of, Patch, over}

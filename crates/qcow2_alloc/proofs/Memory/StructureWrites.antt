@@ -1,4 +1,4 @@
--- Writes into the header, the L1 table or the refcount table, which aren't cached: memory changes as the file does.
+-- Writes to the header, the L1 table or the refcount table, which aren't cached. Memory changes like the file.
 use Rattle.std.proofs.Common.{◌≡◌, ℕ, ◌+◌, ◌-◌, ◌*◌, ◌<◌, ◌≤◌, refl, arith, ap, sym, ◌∙◌, List, [], ◌∷◌, ◌++◌, length, inl, inr}
 use Rattle.std.specs.Prelude.{◌⊎◌, cond, ◌&&◌, nat_le, nat_lt, slice_index}
 use Rattle.std.specs.List.{AllByRecursion}
@@ -19,7 +19,7 @@ use Rattle.qcow2_alloc.specs.WellFormedness.{IsCachedTable, IsCachedBlock}
 use Rattle.qcow2_alloc.proofs.Memory.MemoryImage.{untouched-by, range-stays}
 use Rattle.qcow2_alloc.proofs.Memory.Patches.{all-weaker, patches-are}
 
--- What lies below all patches may lie over them, where it is clear of each.
+-- A patch that overlaps no other may be applied first or last.
 over-last : (f : Bytes) (es : List Patch) (e : Patch) → over f (es ++ e ∷ []) ≡ over (splice f e.0 e.1) es
 unfolding over
 over-last f [] e = refl
@@ -29,7 +29,6 @@ over-beside : (f : Bytes) (es : List Patch) (e : Patch) → AllByRecursion (IsCl
 unfolding over
 over-beside f es e clear = sym (over-last f es e) ∙ over-first f es e [] clear ∙ ap (λ (l : List Patch). over f (e ∷ l)) (append-nil es)
 
--- A range in one that isn't touched is clear.
 clear-inside : (p l first long at n : ℕ) → touches p l first long ≡ 0 → 0 < l → 0 < n → first ≤ at → at + n ≤ first + long → (p + l ≤ at) ⊎ (at + n ≤ p)
 unfolding touches
 clear-inside p l first long at n none some some' low high = elim (cases_lt at (p + l)) [
@@ -40,7 +39,7 @@ clear-inside p l first long at n none some some' low high = elim (cases_lt at (p
   | inr le ↦ inl le
 ]
 
--- The range lies in a part q of the structure, from `first` on.
+-- The range is in part `q` of the structure, which begins at `first`.
 module _ (f : Bytes) (H : Header) (was : IsConsistent f H) (cached : Cached) (tables : AllByRecursion (λ e. IsCachedTable f H.fields e.0 e.1.value) cached.tables) (blocks : AllByRecursion (λ e. IsCachedBlock f H.fields e.0 e.1.value) cached.blocks)
     (q : Part) (inside : IsPart H.fields q) (nowhere : part_place f H.fields q ≡ 0) (first long : ℕ) (weight : (w : ℕ → ℕ → ℕ) → part_weight f H.fields w q ≡ w first long)
     (at : ℕ) (bytes : List ℕ) (some : 0 < length bytes) (low : first ≤ at) (high : at + length bytes ≤ first + long) where
@@ -52,7 +51,6 @@ module _ (f : Bytes) (H : Header) (was : IsConsistent f H) (cached : Cached) (ta
   pub memory-beside : memory (splice f at bytes) H.fields cached ≡ splice (memory f H.fields cached) at bytes
   memory-beside = over-beside f (patches H.fields cached) (at, bytes) (all-weaker _ _ clear-of-patch (patches H.fields cached) (patches-are f H was cached tables blocks))
 
--- A cluster that a range doesn't meet keeps its bytes where that is written.
 pub unmet-stays : (f x : Bytes) (h : Fields) (c first long at n : ℕ) → meets h c first long ≡ 0 → first ≤ at → at + n ≤ first + long → Outside f x at n → Same f x (c * cluster_size h) (cluster_size h)
 unmet-stays f x h c first long at n none low high out k less = elim (cases_lt (c * cluster_size h + k) at) [
   | inl before ↦ out (c * cluster_size h + k) (inl before)
@@ -65,11 +63,10 @@ unmet-stays f x h c first long at n none low high out k less = elim (cases_lt (c
     met : at ≤ c * cluster_size h + k → c * cluster_size h + k < at + n → ⊥
     met from to = let next : (c + 1) * cluster_size h ≡ c * cluster_size h + cluster_size h = omega arith in grind (arith, nat_tests)
 
--- In memory the header is the file's.
+-- The header in memory is that of the file.
 pub memory-start : (f : Bytes) (H : Header) → IsConsistent f H → (cached : Cached) → AllByRecursion (λ e. IsCachedTable f H.fields e.0 e.1.value) cached.tables → AllByRecursion (λ e. IsCachedBlock f H.fields e.0 e.1.value) cached.blocks → Same f (memory f H.fields cached) 0 (cluster_size H.fields)
 memory-start f H was cached tables blocks = range-stays f H was header tt refl 0 (cluster_size H.fields) (λ w. refl) (patches H.fields cached) (patches-are f H was cached tables blocks)
 
--- The same bytes over files that agree there agree.
 pub splice-agrees : (f g : Bytes) (at : ℕ) (bytes : List ℕ) (p : ℕ) → f p ≡ g p → splice f at bytes p ≡ splice g at bytes p
 unfolding splice
 splice-agrees f g at bytes p same = ap (cond (nat_le at p && nat_lt p (at + length bytes)) (slice_index bytes (p - at))) same

@@ -1,4 +1,4 @@
--- A word of a cached L2 table is set: what memory becomes, and why what is cached stays safe.
+-- Setting an entry of a cached L2 table: the effect on memory, and why the caches stay well-formed.
 use Rattle.std.proofs.Common.{◌≡◌, ◌≢◌, ℕ, ◌+◌, ◌*◌, ◌/◌, ◌%◌, ◌^◌, ◌<◌, ◌≤◌, refl, arith, ap, sym, subst, ◌∙◌, List, ◌∷◌, ◌++◌, length, Some, true, false, inl, inr}
 use Rattle.std.specs.Prelude.{◌⊎◌, nat_eq, slice_index, slice_set, max, IsTrue, IsFalse}
 use Rattle.std.specs.Map.{lookup}
@@ -49,9 +49,9 @@ use Rattle.qcow2_alloc.proofs.Memory.Patches.{place-there, table-long, shaped-in
 use Rattle.qcow2_alloc.proofs.Caching.Places.{Place, place-of-key, place-hit, slot-of}
 use Rattle.qcow2_alloc.proofs.Flushing.TableWriteBacks.{word-here}
 
--- What one word changes of what is named by the file or by what is over it.
+-- The change that one entry makes to the references in the file or in memory.
 module _ (f g x : Bytes) (h : Fields) (i j : ℕ) (step : ChangesSlot f g x h i j) where
-  -- what is named as copied changes by the word
+  -- COPIED references change by those of the entry.
   copied-change : (c : ℕ) → copied f x h c + max (of_copied h (meets h c) (slot_in f h i j)) (of_copied h (meets h c) (slot_in g h i j))
       ≡ copied f g h c + max (of_copied h (meets h c) (slot_in f h i j)) (of_copied h (meets h c) (slot_in x h i j))
   unfolding copied
@@ -63,7 +63,7 @@ module _ (f g x : Bytes) (h : Fields) (i j : ℕ) (step : ChangesSlot f g x h i 
   pub names-stay : (c : ℕ) → of_mapping h (meets h c) (slot_in x h i j) ≤ of_mapping h (meets h c) (slot_in g h i j) → references_in_either f x h c ≤ references_in_either f g h c
   names-stay c less = let e = named-change f g x h i j c step in omega (arith, e, less)
 
-  -- what a word names in either version is among what is named
+  -- The entry's references are among all references.
   word-named : (c : ℕ) → of_either h (meets h c) (slot_in f h i j) (slot_in g h i j) ≤ references_in_either f g h c
   unfolding references_in_either
   word-named c =
@@ -71,7 +71,7 @@ module _ (f g x : Bytes) (h : Fields) (i j : ℕ) (step : ChangesSlot f g x h i 
       slot-le (l2_table f h) h (λ k m. of_either h (meets h c) (slot_in f h k m) (slot_in g h k m)) i j step.live in
       omega (arith, le)
 
-  -- A cluster that nothing named, and the word does now, is named once.
+  -- A cluster that nothing referenced, and that the entry references now, is referenced once.
   pub named-first : (c : ℕ) → references_in_either f g h c ≡ 0 → of_mapping h (meets h c) (slot_in x h i j) ≡ 1 → references_in_either f x h c ≡ 1
   named-first c none one = let le = word-named c in let e = named-change f g x h i j c step in omega (arith, le, e, none, one)
 
@@ -82,17 +82,17 @@ module _ (f g x : Bytes) (h : Fields) (i j : ℕ) (step : ChangesSlot f g x h i 
       let e = refs-change f g x h i j c places places' step in
       omega (arith, le, few, e, none, one)
 
--- No name of a cluster is new.
+-- Cluster `c` has no new references.
 pub record NoMore (f g x : Bytes) (h : Fields) (c : ℕ) : Type 0 where
   pub references : refs x h c ≤ refs g h c
   pub names : references_in_either f x h c ≤ references_in_either f g h c
   pub copies : copied f x h c ≤ copied f g h c
 
--- Names are no more than they were, or a cluster that is counted is named once.
+-- Each cluster has no new references, or is counted and referenced at most once.
 abbrev pub AreFew : Bytes → Bytes → Bytes → Fields → Type 0
 AreFew f g x h = (c : ℕ) → NoMore f g x h c ⊎ ((references_in_either f x h c ≤ 1) × (1 ≤ count g h c))
 
--- So all that is safe stays so, where counts and places are the same.
+-- So the caches stay well-formed, if refcounts and offsets are unchanged.
 module _ (f g x : Bytes) (h : Fields) (few : AreFew f g x h) (counts : (c : ℕ) → count x h c ≡ count g h c) (places : SamePlaces f x h) where
   pub few-apart : ReferencedOnce f g h → ReferencedOnce f x h
   few-apart apart c some = elim (few c) [
@@ -129,7 +129,7 @@ module _ (f g x : Bytes) (h : Fields) (few : AreFew f g x h) (counts : (c : ℕ)
     | inl same ↦ let le = same.references in let ok = covered c in omega (arith, le, ok, e)
   ]
 
-  -- nothing of the structure, and nothing that is named as copied, is named twice
+  -- The structure and COPIED clusters are referenced once.
   pub few-alone : ReferencedOnce f g h → (c : ℕ) → 0 < structure f h (meets h c) + contents x h (of_copied h (meets h c)) → refs x h c ≤ 1
   few-alone apart c some =
       let between : IsBetween f x x h = record { places = places; slots = λ i j live. inr refl } in
@@ -138,7 +138,7 @@ module _ (f g x : Bytes) (h : Fields) (few : AreFew f g x h) (counts : (c : ℕ)
       let few' = refs-cached f x h c places in
       omega (arith, one, few')
 
--- what a cached table is with one word set
+-- The cached table with one entry set.
 abbrev word_set : Slot TableValue → ℕ → ℕ → Slot TableValue
 word_set slot j w = record slot { value = with_raw_entry slot.value j w }
 
@@ -162,7 +162,6 @@ module _ (f : Bytes) (H : Header) (order : CacheDependency) (front : List (ℕ �
   at_key : l2_table g H.fields i ≡ key * cluster_size H.fields
   at_key = places.l1 i ∙ place
 
-  -- a table fills its cluster
   full : (s : Slot TableValue) → IsCachedTable f H.fields key s.value → length (table_bytes s.value.raw_entries) ≡ cluster_size H.fields
   full s is = table-long f H well_formed.consistent s.value is.fits is.layout
 
@@ -172,13 +171,11 @@ module _ (f : Bytes) (H : Header) (order : CacheDependency) (front : List (ℕ �
   within : (s : Slot TableValue) → IsCachedTable f H.fields key s.value → (m : ℕ) → m < entries_of_cluster H.fields → m < length s.value.raw_entries
   within s is m less = let all = whole s is in let fits = words-fit H.fields m less in omega (arith, all, fits)
 
-  -- Where it isn't modified, it is the file's.
   clean-memory : slot.value.modified ≡ false → Same f g (key * cluster_size H.fields) (cluster_size H.fields)
   clean-memory clean = subst (λ t. Same f g t (cluster_size H.fields)) place
       (table-same f H well_formed.consistent (tables_with front key slot back blocks) well_formed.tables well_formed.blocks i in_l1 there
       (none-there table_kind table-kind-laws f H order blocks front key slot back well_formed clean (l2_table f H.fields i) place))
 
-  -- In memory each of its words is the cached one.
   pub word-in-memory : (m : ℕ) → m < entries_of_cluster H.fields → raw_entry g (key * cluster_size H.fields) m ≡ slice_index slot.value.raw_entries m
   word-in-memory m less = elim (cases_Bool slot.value.modified) [
     | inl modified ↦ word-here f H order front key slot back blocks well_formed modified m less
@@ -199,7 +196,7 @@ module _ (f : Bytes) (H : Header) (order : CacheDependency) (front : List (ℕ �
   there_in_memory : l2_table g H.fields i ≢ 0
   there_in_memory none = there (sym (places.l1 i) ∙ none)
 
-  -- Word j is set to w.
+  -- Entry `j` is set to `w`.
   module _ (j w : ℕ) (in_table : j < entries_of_cluster H.fields) (fits : w < 2 ^ 64) (sane : IsFalse (is_damaged (mapping_of (layout_of H.fields) w))) where
     abbrev new : Slot TableValue
     new = word_set slot j w
@@ -225,7 +222,7 @@ module _ (f : Bytes) (H : Header) (order : CacheDependency) (front : List (ℕ �
     abbrev x : Bytes
     x = splice g (key * cluster_size H.fields) new_bytes
 
-    -- Memory has its cluster's bytes replaced, and nothing else.
+    -- Memory changes only in the table's cluster.
     pub word-put : memory f H.fields cached' ≡ x
     word-put = entry-put table_kind table-kind-laws f H order blocks front key slot back well_formed new new-is refl
 
@@ -252,7 +249,7 @@ module _ (f : Bytes) (H : Header) (order : CacheDependency) (front : List (ℕ �
         ap (λ t. mapping_of (layout_of H.fields) (raw_entry x t j)) (table-changed.places.l1 i ∙ at_key)
         ∙ ap (mapping_of (layout_of H.fields)) (new-word j in_table ∙ get_or-set_same slot.value.raw_entries j w 0 (within slot this j in_table))
 
-    -- each other word is what it was, also past the table
+    -- Each other entry is unchanged, also past the table.
     row : (m : ℕ) → m ≢ j → raw_entry x (key * cluster_size H.fields) m ≡ raw_entry g (key * cluster_size H.fields) m
     unfolding raw_entry
     row m apart = elim (cases_lt m (entries_of_cluster H.fields)) [
@@ -317,7 +314,7 @@ module _ (f : Bytes) (H : Header) (order : CacheDependency) (front : List (ℕ �
               let some_words : 0 < entries_of_cluster H.fields = some-words H.fields (shaped-in f H well_formed.consistent) in
               inr (others i (guest % entries_of_cluster H.fields) (record { in_l1 = in_l1; is_there = there_in_memory; in_table = mod_below guest (entries_of_cluster H.fields) some_words }) (inr other))
 
-      -- What is cached stays safe.
+      -- The caches stay well-formed.
       pub word-changed : EntryChanged (file_with f H order old) i j (mapping_in slot.value j) (mapping_of (layout_of H.fields) w) cached'
       word-changed = record {
         well_formed = put-safe table_kind table-kind-laws f H order blocks front key slot back well_formed new new-is refl (record {
@@ -333,7 +330,7 @@ module _ (f : Bytes) (H : Header) (order : CacheDependency) (front : List (ℕ �
             ∙ ap (λ (m : Mapping). refs g H.fields c + of_mapping H.fields (meets H.fields c) m) here);
       }
 
-    -- The word names no more than it did.
+    -- The entry references no more than before.
     module _ (fewer : ReferencesNoMore H.fields (mapping_in slot.value j) (mapping_of (layout_of H.fields) w)) where
       no-more : (c : ℕ) → NoMore f g x H.fields c
       no-more c =
@@ -352,7 +349,7 @@ module _ (f : Bytes) (H : Header) (order : CacheDependency) (front : List (ℕ �
         names = subst (λ (m : Bytes). (c : ℕ) → references_in_either f m H.fields c ≤ references_in_either f g H.fields c) (sym word-put) (λ c. (no-more c).names);
       }
 
-    -- The word names a data cluster that nothing named, and that is counted.
+    -- The entry references a data cluster that nothing referenced and that is counted.
     module _ (n : ℕ) (means : mapping_of (layout_of H.fields) w ≡ data_at n true) (not_referenced : references_in_either f g H.fields n ≡ 0) (counted : 1 ≤ count g H.fields n) where
       own : of_mapping H.fields (meets H.fields n) (slot_in x H.fields i j) ≡ 1
       own = ap (of_mapping H.fields (meets H.fields n)) (here ∙ means) ∙ meets-own H.fields n
@@ -385,7 +382,7 @@ module _ (f : Bytes) (H : Header) (order : CacheDependency) (front : List (ℕ �
         others = subst (λ (m : Bytes). (c : ℕ) → c ≢ n → references_in_either f m H.fields c ≤ references_in_either f g H.fields c) (sym word-put) (λ c apart. (no-other c apart).names);
       }
 
--- In memory a word means what it does in the table that is cached.
+-- An entry in memory means what it means in the cached table.
 module _ (f : Bytes) (H : Header) (cached : Cached) (order : CacheDependency) (key i : ℕ) (value : TableValue) (well_formed : WellFormed f H cached order) (caches : CachesTable f H.fields cached key i value) where
   found : (s : Slot TableValue) × (lookup (nat_eq key) cached.tables ≡ Some s) × (s.value ≡ value)
   found = slot-of (lookup (nat_eq key) cached.tables) value caches.table_cached
@@ -408,7 +405,7 @@ module _ (f : Bytes) (H : Header) (cached : Cached) (order : CacheDependency) (k
       (slot-in-memory f H order p.front key found.0 p.back cached.blocks safe' i caches.inside caches.place caches.cluster_nonzero j less)
       ∙ ap (λ (t : TableValue). mapping_in t j) found.2
 
--- A word is set there.
+-- The entry is set in the cached table.
 module _ (f : Bytes) (H : Header) (cached cached' : Cached) (order : CacheDependency) (key i j w : ℕ) (well_formed : WellFormed f H cached order) (sets : SetsEntry f H.fields cached key i j w cached') where
   abbrev s : Slot TableValue
   s = (found f H cached order key i sets.table well_formed sets.caches).0
@@ -428,7 +425,7 @@ module _ (f : Bytes) (H : Header) (cached cached' : Cached) (order : CacheDepend
       ∙ ap (λ (ts : List (ℕ × Slot TableValue)). record { tables = ts; blocks = cached.blocks })
       (sets.tables ∙ ap (λ (t : TableValue). hit (nat_eq key) cached.tables (with_raw_entry t j w)) (sym same) ∙ place-hit key cached.tables s q (with_raw_entry s.value j w))
 
-  -- what was shown of that entry
+  -- Moves a fact about the split list to the caches themselves.
   of-entry : (P : Cached → Mapping → Cached → Type 0) → P (tables_with q.front key s q.back cached.blocks) (mapping_in s.value j) (record { tables = (key, word_set s j w) ∷ q.front ++ q.back; blocks = cached.blocks }) → P cached (mapping_in sets.table j) cached'
   of-entry P is = subst (λ (k : Cached). P cached (mapping_in sets.table j) k) (sym as-is)
       (subst (λ (t : TableValue). P cached (mapping_in t j) (record { tables = (key, word_set s j w) ∷ q.front ++ q.back; blocks = cached.blocks })) same
@@ -447,7 +444,7 @@ module _ (f : Bytes) (H : Header) (cached cached' : Cached) (order : CacheDepend
       (cluster-named f H order q.front key s q.back cached.blocks (safe' f H cached order key i sets.table well_formed sets.caches) i sets.caches.inside sets.caches.place sets.caches.cluster_nonzero j w sets.inside fits (ap is_damaged is) n is
       (subst (λ (o : Cached). references_in_either f (memory f H.fields o) H.fields n ≡ 0) was-so not_referenced) (subst (λ (o : Cached). 1 ≤ count (memory f H.fields o) H.fields n) was-so counted))
 
--- The word of a data cluster with its mark, as a table writes it.
+-- The raw entry of a data cluster with its COPIED flag.
 pub cluster-mapped : (f : Bytes) (H : Header) (cached cached' : Cached) (order : CacheDependency) (key i j n : ℕ) → WellFormed f H cached order → (sets : SetsEntry f H.fields cached key i j (2 ^ 63 + n * cluster_size H.fields) cached')
     → n ≢ 0 → IsAddressable H.fields.cluster_bits n → references_in_either f (memory f H.fields cached) H.fields n ≡ 0 → 1 ≤ count (memory f H.fields cached) H.fields n
     → ClusterLinked (file_with f H order cached) i j (mapping_in sets.table j) n cached'

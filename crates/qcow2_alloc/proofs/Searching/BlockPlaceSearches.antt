@@ -1,4 +1,4 @@
--- A place for a refcount block is searched for.
+-- Searching for the cluster of a new refcount block.
 use Rattle.std.proofs.Common.{◌≡◌, ◌≢◌, ℕ, ◌*◌, ◌/◌, ◌<◌, refl, arith, sym, subst, ◌∙◌, inl, Option, Some, Result, Ok, Err}
 use Rattle.std.specs.Prelude.{IsTrue, slice_index}
 use Rattle.imago_storage.specs.State.{StorageState}
@@ -26,7 +26,7 @@ use Rattle.qcow2_alloc.proofs.Caching.UnpinnedCaches.{loose-all}
 use Rattle.qcow2_alloc.proofs.Blocks.BlockCreationCalls.{Follows, begins-none, begins-then, begins-refused, freeing-allocates}
 use Rattle.qcow2_alloc.proofs.GuestView.QuietFlushes.{going-quietly}
 
--- An answer of a search
+-- The result of a search.
 abbrev pub Found : Type 0
 Found = Result (Option ℕ) Fault
 
@@ -55,7 +55,6 @@ module _ {S : Type 0} (state : S → StorageState) (image : ImageState S) (i : �
         subst (λ (h : Header). P (record m0 { file = bytes_of (state fC.image).bytes; cached = cached_in C; header = h; order = order_of C })) (sym looked.header)
         (subst (λ (o : CacheDependency). P (record m0 { file = bytes_of (state fC.image).bytes; cached = cached_in C; order = o })) (sym looked.order) p)
 
-    -- Each cluster is counted as it was.
     counts-same : Keeps → IsSound m0 → HadNoResourceError result → (c : ℕ) → counted mC c ≡ counted m0 c
     counts-same keeps sound whole c =
         moved (λ m. counted m c ≡ counted m0 c) (flushes-count m0 (state image.file.image).bytes (state fC.image).bytes (cached_in C) refl (looked.writes_back_cached.holds keeps sound.well_formed tt (inl whole)) c).0
@@ -80,7 +79,7 @@ module _ {S : Type 0} (state : S → StorageState) (image : ImageState S) (i : �
   looked-begins found looked =
       begins-then state i image (λ _. 0) (λ _. 0) image.caches image.file C fC (begins-none state i image) (λ _. 0) (λ c. omega arith) (looking (found_so found) looked)
 
-  -- What was found is free.
+  -- The cluster that was found is free.
   free-place : (from place : ℕ) → LooksForFree state image.table from (i * counters_of_block image.file.header.fields) (cached_file image.caches image.file) (found_so (Some place)) (cached_file C fC) → Keeps → IsSound m0 → IsFreePlace mC i place
   free-place from place looks keeps sound =
       let found = looks.found (safe-with keeps sound) in

@@ -1,4 +1,4 @@
--- How a cluster that a block counts 0 times is searched for, block by block.
+-- Searching for a cluster with refcount 0, block by block.
 use Rattle.std.proofs.Common.{◌≡◌, ◌≢◌, ℕ, ◌+◌, ◌*◌, ◌/◌, ◌%◌, ◌<◌, ◌≤◌, ◌-◌, arith, ap, sym, subst, ◌∙◌, List, length, Option, None, Some, Result, Ok, Err, inl, inr}
 use Rattle.std.specs.Prelude.{IfOk, slice_index}
 use Rattle.std.proofs.lemmas.Nat.{div-mul-add, pow_pos}
@@ -20,13 +20,13 @@ use Rattle.qcow2_alloc.proofs.Searching.SearchSequences.{IsRead, looked-none, lo
 use Rattle.qcow2_alloc.proofs.Blocks.TableBlocks.{named-block, unnamed-block}
 use Rattle.qcow2_alloc.proofs.Memory.Patches.{place-there}
 
--- a counter's cluster, where the first of its block is that of cluster `base`
+-- The cluster of a counter's index, in a block that counts clusters from `base` on.
 abbrev pub located : ℕ → Result (Option ℕ) Fault → Result (Option ℕ) Fault
 located base (Ok (Some j)) = Ok (Some (base + j))
 located base (Ok None) = Ok None
 located base (Err fault) = Err fault
 
--- What the counters of one block say of its clusters.
+-- The counters of one block are the refcounts of its clusters.
 module _ (counts : ℕ → ℕ) (i k index : ℕ) (counters : List ℕ) (long : length counters ≡ k) (counted : AreCounted counts (i * k) counters) where
   counted-above : (stop z : ℕ) → ((j : ℕ) → index ≤ j → j < stop → 0 < slice_index counters j) → stop ≤ k → i * k + index ≤ z → z < i * k + stop → 0 < counts z
   counted-above stop z above inside ge lt =
@@ -40,7 +40,7 @@ module _ {S : Type 0} (state : S → StorageState) (table : TableValue) (from : 
   abbrev k : ℕ
   k = counters_of_block before.header.fields
 
-  -- the block of the first cluster, and the place of that cluster there
+  -- The block index of the first cluster, and the cluster's index in the block.
   abbrev i : ℕ
   i = from / k
 
@@ -53,7 +53,7 @@ module _ {S : Type 0} (state : S → StorageState) (table : TableValue) (from : 
   own : (j : ℕ) → j < k → (i * k + j) / k ≡ i
   own j lt = div-mul-add i k j lt
 
-  -- There is none.
+  -- There is no block.
   pub finds-none : referenced_block table i ≡ None → LooksForFree state table from ((i + 1) * k) (cached_file old before) (Ok None) (cached_file old before)
   finds-none none = record {
     looked = looked-none state table None old before;
@@ -95,7 +95,6 @@ module _ {S : Type 0} (state : S → StorageState) (table : TableValue) (from : 
           least = λ z ge' lt has. counted-above (counts_in state old before) i k index read.counters long (read.counted sound) j z is.3 (omega (arith, inside)) (omega (arith, at, ge')) (omega (arith, lt));
         }
 
-    -- What is found is one of the block's counters.
     pub finds-inside : (j : ℕ) → UsesBlock state key (Reads k (FindsZero index)) (cached_file old before) (Ok (Some j)) (cached_file new after) → j < k
     finds-inside j uses =
         let read : Read (Some j) = reads-known state table (FindsZero index) key i named old before new after (Ok (Some j)) uses in
@@ -103,7 +102,7 @@ module _ {S : Type 0} (state : S → StorageState) (table : TableValue) (from : 
         let lt = read.reads.1 in
         omega (arith, lt, long)
 
-    -- The block was searched.
+    -- The block is searched.
     pub finds-some : (result : Result (Option ℕ) Fault) → UsesBlock state key (Reads k (FindsZero index)) (cached_file old before) result (cached_file new after) → LooksForFree state table from ((i + 1) * k) (cached_file old before) (located (i * k) result) (cached_file new after)
     finds-some result uses = by-result result (reads-looked state table (FindsZero index) key i named old before new after result uses) (reads-known state table (FindsZero index) key i named old before new after result uses)
       where
@@ -115,7 +114,7 @@ module _ {S : Type 0} (state : S → StorageState) (table : TableValue) (from : 
         by-result (Ok found) looked read = by-found found looked read
         by-result (Err fault) looked read = record { looked = looked; found = λ sound. tt }
 
--- How far a search for a free cluster has come.
+-- The state of the search for a free cluster.
 pub record FreeSearched {S : Type 0} (state : S → StorageState) (table : TableValue) (from : ℕ) (old : MetadataCaches S) (before : ImageFile S) (next : ℕ) (new : MetadataCaches S) (after : ImageFile S) : Type 0 where
   pub looked : Looked state {T = Unit {0}} table (cached_file old before) (Ok tt) (cached_file new after)
   pub behind : from ≤ next
@@ -135,7 +134,7 @@ module _ {S : Type 0} (state : S → StorageState) (table : TableValue) (from : 
           subst (λ (h : Header). block_at (bytes_of (state between.image).bytes) h.fields (c / counters_of_block h.fields) ≡ block_at (bytes_of (state before.image).bytes) before.header.fields (c / counters_of_block before.header.fields)) (sym searched.looked.header)
           (blocks-still state table old before tt mid between searched.looked sound (c / counters_of_block before.header.fields))
 
-      -- What was passed, and what comes then.
+      -- The clusters that were passed, and those of the next block.
       passed-more : (stop : ℕ) → ((z : ℕ) → next ≤ z → z < stop → HasCounter (bytes_of (state between.image).bytes) between.header.fields z → 0 < counts_in state mid between z)
           → (z : ℕ) → from ≤ z → z < stop → HasCounter (bytes_of (state before.image).bytes) before.header.fields z → 0 < counts_in state old before z
       passed-more stop more z ge lt has = elim (cases_lt z next) [
@@ -144,7 +143,7 @@ module _ {S : Type 0} (state : S → StorageState) (table : TableValue) (from : 
       ]
 
     module _ (end : ℕ) (new : MetadataCaches S) (after : ImageFile S) where
-      -- It goes on behind a block,
+      -- The search continues after a block.
       pub passed-then : next ≤ end → LooksForFree state table next end (cached_file mid between) (Ok None) (cached_file new after) → FreeSearched state table from old before end new after
       passed-then le looks = record {
         looked = looked-answer state table old before None tt new after (looked-then state table old before tt mid between (Ok None) new after searched.looked looks.looked);
@@ -152,11 +151,11 @@ module _ {S : Type 0} (state : S → StorageState) (table : TableValue) (from : 
         passed = λ sound. passed-more sound end (looks.found (sound-mid sound));
       }
 
-      -- or is refused,
+      -- The search fails.
       pub passed-refused : (fault : Fault) (last : ℕ) → LooksForFree state table next end (cached_file mid between) (Err fault) (cached_file new after) → LooksForFree state table from last (cached_file old before) (Err fault) (cached_file new after)
       passed-refused fault last looks = record { looked = looked-then state table old before tt mid between (Err fault) new after searched.looked looks.looked; found = λ sound. tt }
 
-      -- or has found one,
+      -- The search finds a cluster.
       pub passed-found : (c last : ℕ) → end ≤ last → LooksForFree state table next end (cached_file mid between) (Ok (Some c)) (cached_file new after) → LooksForFree state table from last (cached_file old before) (Ok (Some c)) (cached_file new after)
       passed-found c last le looks = record {
         looked = looked-then state table old before tt mid between (Ok (Some c)) new after searched.looked looks.looked;
@@ -170,7 +169,7 @@ module _ {S : Type 0} (state : S → StorageState) (table : TableValue) (from : 
             };
       }
 
-    -- or ends with none.
+    -- The search ends without a cluster.
     pub passed-all : (last : ℕ) → last ≤ next → LooksForFree state table from last (cached_file old before) (Ok None) (cached_file mid between)
     passed-all last le = record {
       looked = looked-answer state table old before tt None mid between searched.looked;

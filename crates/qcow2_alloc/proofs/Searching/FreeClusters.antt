@@ -1,4 +1,4 @@
--- Which clusters are free: those that nothing counts, while blocks are written first, and those of a refcount table that was replaced.
+-- Free clusters: those with refcount 0 while blocks are written first, and those of a replaced refcount table.
 use Rattle.std.proofs.Common.{◌≡◌, ℕ, ◌+◌, ◌*◌, ◌/◌, ◌<◌, ◌≤◌, arith, ap, sym, subst, ◌∙◌, [], ◌∷◌, ◌++◌, inl, inr, true, List}
 use Rattle.std.proofs.lemmas.Bool.{cases_eq, cases_lt}
 use Rattle.qcow2_types.specs.Bytes.{Bytes, bytes_of}
@@ -24,7 +24,7 @@ use Rattle.qcow2_alloc.proofs.Freeing.ClusterOccurrences.{covers-meets}
 use Rattle.qcow2_alloc.proofs.GuestView.QuietEntries.{push-quiet}
 use Rattle.qcow2_alloc.proofs.Memory.KeptWords.{structure-named}
 
--- While blocks are written first, what isn't counted in memory is named nowhere, and nothing waits to free it.
+-- While blocks are written first, a cluster with refcount 0 is unreferenced and not on the free list.
 pub uncounted-free : (m : Metadata) → IsSound m → m.order ≡ L2DependsOnRb → (c : ℕ) → counted m c ≡ 0 → (referenced_at_all m c ≡ 0) × (waiting m c ≡ 0) × (IsUsed m c → ⊥)
 uncounted-free m sound order c none =
     let first = subst (λ (o : CacheDependency). IsOrdered o m.file (in_memory m) m.header.fields) order sound.well_formed.ordered in
@@ -35,7 +35,7 @@ uncounted-free m sound order c none =
       λ used. let some = used.taken in absurd (omega (arith, some, none)),
     )
 
--- Flushes leave each count in memory, and name no cluster anew. Where no block waits to be written the file counts what memory does.
+-- Flushes keep the refcounts in memory, and add no reference. If all blocks are clean, the file has the same refcounts.
 pub flushes-count : (m : Metadata) (old new : List ℕ) (cached' : Cached) → m.file ≡ bytes_of old → IsSettled m.header m.order old m.cached new cached' → (c : ℕ)
     → (counted (record m { file = bytes_of new; cached = cached' }) c ≡ counted m c) × (referenced_at_all (record m { file = bytes_of new; cached = cached' }) c ≤ referenced_at_all m c)
 flushes-count m old new cached' at settled c =
@@ -52,7 +52,7 @@ module _ (m : Metadata) (table : TableValue) (t n : ℕ) (x : Bytes) (sound : Is
   abbrev m' : Metadata
   m' = with_table m table t n x
 
-  -- the clusters of the old table
+  -- The clusters of the old table.
   abbrev e : FreeEntry
   e = run_of (m.header.fields.refcount_table_offset / cluster_size m.header.fields) m.header.fields.refcount_table_clusters
 
@@ -62,7 +62,7 @@ module _ (m : Metadata) (table : TableValue) (t n : ℕ) (x : Bytes) (sound : Is
       covers-meets m.header.fields c e
       ∙ ap (λ p. meets m.header.fields c p (m.header.fields.refcount_table_clusters * cluster_size m.header.fields)) (place-whole m.header.fields.cluster_bits m.header.fields.refcount_table_offset limited.refcount_place)
 
-  -- Each of them was named, by the table alone, and so nothing names it now.
+  -- Only the table referenced each of them, so nothing does now.
   was-named : (c : ℕ) → 0 < formerly m c → (referenced_at_all m c ≡ 1) × (newly m t n c ≡ 0)
   was-named c some =
       let part = refcount_table-part m.file m.header.fields (meets m.header.fields c) in
@@ -98,6 +98,6 @@ module _ (m : Metadata) (table : TableValue) (t n : ℕ) (x : Bytes) (sound : Is
       let was = was-named c (omega (arith, run, some)) in
       omega (arith, moved, was.0, was.1, run, some)
 
-  -- They wait to be freed then.
+  -- They are added to the free list.
   pub old-table-waits : IsSound (record m' { pending = m.pending ++ e ∷ [] }) × GuestUnchanged (λ _. 0) (λ c. covers c e) m' (record m' { pending = m.pending ++ e ∷ [] })
   old-table-waits = push-quiet m' e sound' enough not_referenced

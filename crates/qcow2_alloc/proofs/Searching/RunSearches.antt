@@ -1,4 +1,4 @@
--- How a run of clusters that aren't counted is searched for, block by block.
+-- Searching for a run of clusters with refcount 0, block by block.
 use Rattle.std.proofs.Common.{◌≡◌, ℕ, ◌+◌, ◌-◌, ◌*◌, ◌/◌, ◌%◌, ◌<◌, ◌≤◌, arith, ap, sym, subst, ◌∙◌, List, length, None, Some, Result, Ok, Err}
 use Rattle.std.specs.Prelude.{IfOk, max}
 use Rattle.std.proofs.lemmas.Nat.{mod_below, div-mul-add, le-div}
@@ -22,7 +22,6 @@ use Rattle.qcow2_alloc.proofs.Blocks.TableBlocks.{unnamed-block}
 use Rattle.qcow2_alloc.proofs.Memory.Patches.{shaped-in}
 use Rattle.qcow2_alloc.proofs.Searching.RunsInSearch.{blocks-before, run-same, longer, run-longer, run-found, run-last}
 
--- What holds of an answer may be said otherwise.
 ok-weaker : {T E : Type 0} (P Q : T → Type 0) → ((v : T) → P v → Q v) → (result : Result T E) → IfOk result P → IfOk result Q
 ok-weaker P Q weaker (Ok v) holds = weaker v holds
 ok-weaker P Q weaker (Err e) holds = tt
@@ -31,7 +30,7 @@ module _ {S : Type 0} (state : S → StorageState) (table : TableValue) (n : ℕ
   abbrev k : ℕ
   k = counters_of_block before.header.fields
 
-  -- the block of the cluster behind it, and the place of that cluster there
+  -- The block index of the cluster after the run, and the cluster's index in the block.
   abbrev i : ℕ
   i = next_of run / k
 
@@ -47,7 +46,7 @@ module _ {S : Type 0} (state : S → StorageState) (table : TableValue) (n : ℕ
   abbrev Read : (key : ℕ) → referenced_block table i ≡ Some key → MetadataCaches S → ImageFile S → Run → Type 0
   Read key named new after = IsRead state table ScansRun key i named old before new after
 
-  -- The block was scanned,
+  -- The block is scanned.
   pub extends-some : (key : ℕ) → referenced_block table i ≡ Some key → (result : Result Run Fault) (new : MetadataCaches S) (after : ImageFile S) → UsesBlock state key (Reads k ScansRun) (cached_file old before) result (cached_file new after) → ExtendsRun state table n run (cached_file old before) result (cached_file new after)
   extends-some key named result new after uses =
       let known = reads-known state table ScansRun key i named old before new after result uses in record {
@@ -60,7 +59,7 @@ module _ {S : Type 0} (state : S → StorageState) (table : TableValue) (n : ℕ
             (λ now read from so_far. read.reads.scans.so_far (counts_in state old before) from (i * k) split (read.counted sound) so_far) result known;
       }
 
-  -- or there is none, and its clusters aren't counted.
+  -- There is no block, so its clusters have refcount 0.
   pub extends-none : 0 < k → referenced_block table i ≡ None → ExtendsRun state table n run (cached_file old before) (Ok (longer run (k - index))) (cached_file old before)
   extends-none some none =
       let at = split in
@@ -83,7 +82,7 @@ module _ {S : Type 0} (state : S → StorageState) (table : TableValue) (n : ℕ
           let here : c ≡ i * k + j = omega (arith, at, ge) in
           ap (λ d. d / k) here ∙ div-mul-add i k j (omega (arith, at, ge, lt))
 
--- How far a search for a run has come.
+-- The state of the search for a run.
 pub record RunSearched {S : Type 0} (state : S → StorageState) (table : TableValue) (from n : ℕ) (old : CachedFile S) (run : Run) (new : CachedFile S) : Type 0 where
   pub looked : Looked state {T = Unit {0}} table old (Ok tt) new
   pub behind : from ≤ run.first
@@ -92,7 +91,7 @@ pub record RunSearched {S : Type 0} (state : S → StorageState) (table : TableV
 
 module _ {S : Type 0} (state : S → StorageState) (table : TableValue) (from n : ℕ) (old : MetadataCaches S) (before : ImageFile S) where
   module _ (run : Run) (mid : MetadataCaches S) (between : ImageFile S) (searched : RunSearched state table from n (cached_file old before) run (cached_file mid between)) where
-    -- It goes on,
+    -- The search continues.
     pub searched-then : next_of run / counters_of_block before.header.fields < length table.raw_entries → (now : Run) (new : MetadataCaches S) (after : ImageFile S) → ExtendsRun state table n run (cached_file mid between) (Ok now) (cached_file new after) → RunSearched state table from n (cached_file old before) now (cached_file new after)
     searched-then inside now new after extends = record {
       behind = let first = searched.behind in let rising = extends.rising in omega (arith, first, rising);
@@ -109,15 +108,15 @@ module _ {S : Type 0} (state : S → StorageState) (table : TableValue) (from n 
           (run-same (counts_in state old before) (counts_in state mid between) from n run same (searched.so_far sound)));
     }
 
-    -- or is refused,
+    -- The search fails.
     pub searched-refused : (fault : Fault) (new : MetadataCaches S) (after : ImageFile S) → ExtendsRun state table n run (cached_file mid between) (Err fault) (cached_file new after) → LooksForRun state table from n (cached_file old before) (Err fault) (cached_file new after)
     searched-refused fault new after extends = record { looked = looked-refused state table old before fault new after (looked-then state table old before tt mid between (Err fault) new after searched.looked extends.looked); result_bounded = tt; found = λ sound. tt }
 
-    -- or ends with a run that is long enough,
+    -- The search ends with a run that is long enough.
     pub searched-long : n ≤ run.len → LooksForRun state table from n (cached_file old before) (Ok run.first) (cached_file mid between)
     searched-long long = record { looked = looked-answer state table old before tt run.first mid between searched.looked; result_bounded = (searched.behind, let within = searched.within in omega (arith, within)); found = λ sound. run-found (counts_in state old before) from n run long (searched.so_far sound) }
 
-    -- or behind the table.
+    -- The search ends after the clusters that the table counts.
     pub searched-all : length table.raw_entries ≤ next_of run / counters_of_block before.header.fields → LooksForRun state table from n (cached_file old before) (Ok run.first) (cached_file mid between)
     searched-all past = record {
       looked = looked-answer state table old before tt run.first mid between searched.looked;

@@ -1,4 +1,4 @@
--- Runs of clusters that aren't counted, as a search for one goes on.
+-- Runs of clusters with refcount 0, during a search.
 use Rattle.std.proofs.Common.{◌≡◌, ℕ, ◌+◌, ◌*◌, ◌/◌, ◌%◌, ◌^◌, ◌<◌, ◌≤◌, refl, arith, ap, subst, sym, ◌∙◌, List, length, inl, inr, true, false}
 use Rattle.std.specs.Prelude.{◌==◌, Bool, if◌then◌else◌, slice_index}
 use Rattle.std.proofs.lemmas.Bool.{cases_lt, eqb-true, eqb-false}
@@ -8,7 +8,7 @@ use Rattle.qcow2_alloc.specs.declared.allocation.searching.Run.{Run}
 use Rattle.qcow2_alloc.specs.Scanning.{next_of, IsRunSoFar, Scans}
 use Rattle.qcow2_alloc.specs.SearchingClusters.{IsFirstRun}
 
--- The clusters that the blocks of a table count have numbers of 64 bits.
+-- The numbers of the clusters that a table's blocks count fit in 64 bits.
 pub few-clusters : (i k raw_entries bits : ℕ) → i < raw_entries → raw_entries ≤ 2 ^ 20 → 2 ^ bits ≡ k → bits ≤ 24 → (i + 1) * k < 2 ^ 64
 few-clusters i k raw_entries bits inside few size least =
     let most : 2 ^ bits ≤ 2 ^ 24 = pow_mono least in
@@ -17,38 +17,37 @@ few-clusters i k raw_entries bits inside few size least =
     let both : (i + 1) * k ≤ 2 ^ 20 * 2 ^ 24 = mul-le-mul up wide in
     omega (arith, both)
 
--- the indices of a cluster in the table and in its block
+-- The index of a cluster's block, and the cluster's index in the block.
 pub indices : (x next bits k : ℕ) (pair : ℕ × ℕ) → pair ≡ (x / 2 ^ bits, x % 2 ^ bits) → x ≡ next → 2 ^ bits ≡ k → (pair.0 ≡ next / k) × (pair.1 ≡ next % k)
 indices x next bits k pair is at size =
     (ap (λ (p : ℕ × ℕ). p.0) is ∙ ap (λ n. n / 2 ^ bits) at ∙ ap (λ n. next / n) size, ap (λ (p : ℕ × ℕ). p.1) is ∙ ap (λ n. n % 2 ^ bits) at ∙ ap (λ n. next % n) size)
 
--- A cluster is before the next block, which begins before the end or there.
+-- A cluster is before the next block, which begins at or before the end.
 pub block-behind : (next end k : ℕ) → 0 < k → next / k < end → (next < (next / k + 1) * k) × ((next / k + 1) * k ≤ end * k)
 block-behind next end k some inside =
     let below = lt-div-mul-add {a = next} some in
     let up : next / k + 1 ≤ end = omega (arith, inside) in
     (omega (arith, below), mul-le-mul_right k up)
 
--- Each cluster of the blocks before that of a cluster is before it.
 pub blocks-before : (next end k : ℕ) → end ≤ next / k → end * k ≤ next
 blocks-before next end k past =
     let whole = div-mul-le_self next k in
     let all : end * k ≤ next / k * k = mul-le-mul_right k past in
     omega (arith, whole, all)
 
--- none yet, from a cluster on
+-- An empty run that begins at a cluster.
 abbrev pub none_from : ℕ → Run
 none_from first = record { first = first; len = 0 }
 
--- longer by so many clusters
+-- The run, extended by `k` clusters.
 abbrev pub longer : Run → ℕ → Run
 longer run k = record { first = run.first; len = run.len + k }
 
--- the run once the cluster behind it is known
+-- The run, once the next cluster is known to be free or not.
 abbrev pub run_then : Run → Bool → Run
 run_then run is_free = if is_free then longer run 1 else none_from (next_of run + 1)
 
--- The same counts have the same runs.
+-- Runs depend only on refcounts.
 pub run-same : (counts counts' : ℕ → ℕ) (from n : ℕ) (run : Run) → ((c : ℕ) → counts' c ≡ counts c) → IsRunSoFar counts from n run → IsRunSoFar counts' from n run
 run-same counts counts' from n run same so_far = record {
   not_before_start = so_far.not_before_start;
@@ -57,11 +56,11 @@ run-same counts counts' from n run same so_far = record {
 }
 
 module _ (counts : ℕ → ℕ) (from n : ℕ) where
-  -- It begins with none.
+  -- The search begins with an empty run.
   pub run-none : IsRunSoFar counts from n (none_from from)
   run-none = record { not_before_start = omega arith; free = λ c ge lt. absurd (omega (arith, ge, lt)); least = λ z ge lt. absurd (omega (arith, ge, lt)) }
 
-  -- Clusters behind it that aren't counted extend it;
+  -- Clusters with refcount 0 after the run extend it.
   pub run-longer : (run : Run) (k : ℕ) → ((c : ℕ) → next_of run ≤ c → c < next_of run + k → counts c ≡ 0) → IsRunSoFar counts from n run → IsRunSoFar counts from n (longer run k)
   run-longer run k none so_far = record {
     not_before_start = so_far.not_before_start;
@@ -69,7 +68,7 @@ module _ (counts : ℕ → ℕ) (from n : ℕ) where
     least = so_far.least;
   }
 
-  -- behind one that is, another begins, while it is too short.
+  -- After a counted cluster, a new run begins, if the old one is too short.
   pub run-anew : (run : Run) → run.len < n → 0 < counts (next_of run) → IsRunSoFar counts from n run → IsRunSoFar counts from n (none_from (next_of run + 1))
   run-anew run short some so_far = record {
     not_before_start = let was = so_far.not_before_start in omega (arith, was);
@@ -80,11 +79,11 @@ module _ (counts : ℕ → ℕ) (from n : ℕ) where
     ];
   }
 
-  -- One that is long enough is the first,
+  -- A run that is long enough is the first one.
   pub run-found : (run : Run) → n ≤ run.len → IsRunSoFar counts from n run → IsFirstRun counts from n run.first
   run-found run long so_far = record { not_before_start = so_far.not_before_start; free = λ c ge lt. so_far.free c ge (omega (arith, lt, long)); least = so_far.least }
 
-  -- and so is one behind which nothing is counted.
+  -- A run after which nothing is counted is the first one, too.
   pub run-last : (run : Run) → ((c : ℕ) → next_of run ≤ c → counts c ≡ 0) → IsRunSoFar counts from n run → IsFirstRun counts from n run.first
   run-last run none so_far = record {
     not_before_start = so_far.not_before_start;
@@ -97,7 +96,7 @@ module _ (counts : ℕ → ℕ) (from n : ℕ) where
   run-next run false short free counted so_far = run-anew run short (counted refl) so_far
 
 module _ (counters : List ℕ) (n index : ℕ) where
-  -- No counter was scanned yet,
+  -- No counter is scanned yet.
   pub scans-none : (was : Run) → Scans counters n index index was was
   scans-none was = record { moved = refl; rising = omega arith; so_far = λ counts from base at counted so_far. so_far }
 
@@ -109,7 +108,7 @@ module _ (counters : List ℕ) (n index : ℕ) where
   moved-next run true = omega arith
   moved-next run false = omega arith
 
-  -- or one more.
+  -- One more counter is scanned.
   pub scans-next : (at : ℕ) (was now : Run) → index ≤ at → at < length counters → now.len < n → Scans counters n index at was now → Scans counters n index (at + 1) was (run_then now (slice_index counters at == 0))
   scans-next at was now ge inside short scans =
       let is = slice_index counters at == 0 in record {

@@ -1,4 +1,4 @@
--- Searches that load blocks and change nothing else, one behind the other.
+-- Sequences of searches, which load blocks and change nothing else.
 use Rattle.std.proofs.Common.{◌≡◌, ◌≢◌, ℕ, ◌+◌, ◌*◌, ◌/◌, ◌%◌, ◌<◌, ◌≤◌, refl, arith, ap, sym, subst, ◌∙◌, List, length, Some, Result, Ok, Err, inl, inr, Bool, true, false}
 use Rattle.std.specs.Prelude.{⊤, IfOk, MatchResult, nat_eq, slice_index}
 use Rattle.std.specs.Option.{option_map}
@@ -48,7 +48,7 @@ use Rattle.qcow2_alloc.proofs.Memory.SafeLaws.{safe-reach}
 use Rattle.qcow2_alloc.proofs.Caching.SearchOutcomes.{all-at}
 use Rattle.qcow2_alloc.proofs.Caching.EntryUses.{all-hit, block-used}
 
--- What is used of the caches, and stays as it is, asks nothing of the storage.
+-- A use of the caches makes no request.
 going-used : (H : Header) (order : CacheDependency) (s : StorageState) (cached cached' : Cached) → (WellFormed (bytes_of s.bytes) H cached order → StaysAsItIs (bytes_of s.bytes) H cached order cached') → WritesBackCached H order Always ⊤ s cached s cached'
 going-used H order s cached cached' stays = record {
   shape = refl;
@@ -60,7 +60,6 @@ going-used H order s cached cached' stays = record {
       record { well_formed = stay.well_formed; memory_same = stay.memory_same; left = left-same (bytes_of s.bytes) (memory (bytes_of s.bytes) H.fields cached) H well_formed.consistent };
 }
 
--- Two calls that change nothing change nothing.
 pub kept-then : (a b c : StorageState) → UnchangedButFaults a b → UnchangedButFaults b c → UnchangedButFaults a c
 kept-then a b c first second = record {
   shape = second.shape ∙ first.shape;
@@ -71,11 +70,10 @@ kept-then a b c first second = record {
 }
 
 module _ {S : Type 0} (state : S → StorageState) where
-  -- Nothing waits to be written where nothing was done,
+  -- `KeepsClean` for no call, and for two calls.
   pub clean-none : (caches : MetadataCaches S) (file : ImageFile S) → KeepsClean state (cached_file caches file) (cached_file caches file)
   clean-none caches file tables blocks = record { unchanged_but_faults = kept-same (state file.image); tables = tables; blocks = blocks }
 
-  -- nor behind two calls of which each leaves it so.
   pub clean-then : (old : MetadataCaches S) (before : ImageFile S) (mid : MetadataCaches S) (between : ImageFile S) (new : MetadataCaches S) (after : ImageFile S)
       → KeepsClean state (cached_file old before) (cached_file mid between) → KeepsClean state (cached_file mid between) (cached_file new after) → KeepsClean state (cached_file old before) (cached_file new after)
   clean-then old before mid between new after first second tables blocks =
@@ -84,7 +82,7 @@ module _ {S : Type 0} (state : S → StorageState) where
       record { unchanged_but_faults = kept-then (state before.image) (state between.image) (state after.image) one.unchanged_but_faults two.unchanged_but_faults; tables = two.tables; blocks = two.blocks }
 
 module _ {S : Type 0} (state : S → StorageState) (table : TableValue) where
-  -- Nothing was searched yet.
+  -- No search was made yet.
   pub looked-none : {T : Type 0} (v : T) (caches : MetadataCaches S) (file : ImageFile S) → Looked state table (cached_file caches file) (Ok v) (cached_file caches file)
   looked-none v caches file = record {
     writes_back_cached = going-none file.header (order_of caches) Always ⊤ (state file.image) (cached_in caches);
@@ -96,7 +94,7 @@ module _ {S : Type 0} (state : S → StorageState) (table : TableValue) where
     cause = refl;
   }
 
-  -- It does the same whatever it answers.
+  -- `Looked` doesn't depend on the returned value.
   pub looked-answer : {T U : Type 0} (old : MetadataCaches S) (before : ImageFile S) (v : T) (w : U) (new : MetadataCaches S) (after : ImageFile S) → Looked state table (cached_file old before) (Ok v) (cached_file new after) → Looked state table (cached_file old before) (Ok w) (cached_file new after)
   looked-answer old before v w new after looked = record { writes_back_cached = looked.writes_back_cached; order = looked.order; header = looked.header; keeps_unpinned_room = looked.keeps_unpinned_room; room = looked.room; clean = looked.clean; cause = looked.cause }
 
@@ -107,7 +105,7 @@ module _ {S : Type 0} (state : S → StorageState) (table : TableValue) where
     settled : IsSettled before.header (order_of old) (state before.image).bytes (cached_in old) (state after.image).bytes (cached_in new)
     settled = looked.writes_back_cached.holds sound.keeps sound.well_formed tt (inl tt)
 
-    -- What was safe is so behind a search, for the next one,
+    -- `IsSafeWith` still holds after a search.
     pub safe-still : IsSafeWith state table new after
     safe-still =
         let x = bytes_of (state after.image).bytes in record {
@@ -116,13 +114,13 @@ module _ {S : Type 0} (state : S → StorageState) (table : TableValue) where
           table_of_file = subst (λ (h : Header). IsTableOf x h.fields table) (sym looked.header) (still-table (bytes_of (state before.image).bytes) x before.header.fields table settled.left.raw_entries.places.blocks sound.table_of_file);
         }
 
-    -- and counts what it did,
+    -- Refcounts are unchanged.
     pub counts-still : (c : ℕ) → counts_in state new after c ≡ counts_in state old before c
     counts-still c =
         subst (λ (h : Header). count (memory (bytes_of (state after.image).bytes) h.fields (cached_in new)) h.fields c ≡ counts_in state old before c) (sym looked.header)
         (ap (λ (g : Bytes). count g before.header.fields c) settled.memory_same)
 
-    -- in the blocks that it did.
+    -- Blocks are at the same offsets.
     pub blocks-still : (i : ℕ) → block_at (bytes_of (state after.image).bytes) before.header.fields i ≡ block_at (bytes_of (state before.image).bytes) before.header.fields i
     blocks-still i = settled.left.raw_entries.places.blocks i
 
@@ -131,7 +129,7 @@ module _ {S : Type 0} (state : S → StorageState) (table : TableValue) where
     abbrev Goes : Header → CacheDependency → Type 0
     Goes h o = WritesBackCached h o Always (HadNoResourceError result) (state between.image) (cached_in mid) (state after.image) (cached_in new)
 
-    -- A search may go on behind another.
+    -- A second search follows.
     pub looked-then : Looked state table (cached_file old before) result (cached_file new after)
     looked-then =
         let going : Goes before.header (order_of old) = subst (λ (h : Header). Goes h (order_of old)) first.header (subst (λ (o : CacheDependency). Goes between.header o) first.order second.writes_back_cached) in record {
@@ -145,7 +143,7 @@ module _ {S : Type 0} (state : S → StorageState) (table : TableValue) where
           cause = fails-weaker _ _ (freeing-weaker (safe-still old before v mid between first) (first.keeps_unpinned_room true) first.cause) (λ same. same ∙ first.cause) result second.cause;
         }
 
-  -- The search of a block that the refcount table names.
+  -- Searching for a block that the refcount table references.
   module _ (key i : ℕ) (named : referenced_block table i ≡ Some key) (old : MetadataCaches S) (before : ImageFile S) (new : MetadataCaches S) (after : ImageFile S) where
     named-there : IsSafeWith state table old before → IsNamed (bytes_of (state before.image).bytes) before.header i key
     named-there sound = named-block (bytes_of (state before.image).bytes) before.header table i sound.table_of_file key sound.well_formed.consistent named
@@ -191,7 +189,7 @@ module _ {S : Type 0} (state : S → StorageState) (table : TableValue) where
       cause = found.cause;
     }
 
-  -- The entry of a block that is read, and stays as it is, goes first.
+  -- The caches after a block is read, with its entry at the front.
   abbrev used_caches : (key : ℕ) (mid : MetadataCaches S) (block : Block) → MetadataCaches S
   used_caches key mid block = with_blocks mid (hit (nat_eq key) (cached_in mid).blocks block)
 
@@ -216,7 +214,6 @@ module _ {S : Type 0} (state : S → StorageState) (table : TableValue) where
     cause = refl;
   }
 
-  -- A cached block has as many counters as the header says,
   block-long : (key : ℕ) (caches : MetadataCaches S) (file : ImageFile S) (block : Block) → option_map (λ (s : Slot Block). s.value) (lookup (nat_eq key) (cached_in caches).blocks) ≡ Some block
       → IsSafeWith state table caches file → length block.counters ≡ counters_of_block file.header.fields
   block-long key caches file block there sound =
@@ -225,7 +222,7 @@ module _ {S : Type 0} (state : S → StorageState) (table : TableValue) where
       let fits : IsCachedBlock f file.header.fields key found.0.value = all-at (λ (e : ℕ × Slot Block). IsCachedBlock f file.header.fields e.0 e.1.value) key (cached_in caches).blocks found.0 found.1 sound.well_formed.blocks in
       ap (λ (b : Block). length b.counters) (sym found.2) ∙ fits.long
 
-  -- and they are the counts of its clusters.
+  -- The counters of a cached block are the refcounts of its clusters.
   block-counts : (key i : ℕ) → referenced_block table i ≡ Some key → (caches : MetadataCaches S) (file : ImageFile S) (block : Block) → option_map (λ (s : Slot Block). s.value) (lookup (nat_eq key) (cached_in caches).blocks) ≡ Some block
       → IsSafeWith state table caches file → AreCounted (counts_in state caches file) (i * counters_of_block file.header.fields) block.counters
   block-counts key i named caches file block there sound j lt =
@@ -239,7 +236,7 @@ module _ {S : Type 0} (state : S → StorageState) (table : TableValue) where
       let caches-it : CachesBlock f file.header.fields (cached_in caches) key (i * k + j) block = record { block_cached = there; counts = ap (λ n. block_at f file.header.fields n) own ∙ place.place; cluster_nonzero = place.some } in
       cached-count f file.header (cached_in caches) (order_of caches) key (i * k + j) block sound.well_formed caches-it ∙ ap (λ n. slice_index block.counters n) at
 
-  -- A block that the refcount table names is found and read, or that is refused.
+  -- A block that the refcount table references is found and read, or that fails.
   module _ {T : Type 0} (P : List ℕ → T → Type 0) (key i : ℕ) (named : referenced_block table i ≡ Some key) (old : MetadataCaches S) (before : ImageFile S) (new : MetadataCaches S) (after : ImageFile S) where
     abbrev k : ℕ
     k = counters_of_block before.header.fields
@@ -279,7 +276,7 @@ module _ {S : Type 0} (state : S → StorageState) (table : TableValue) where
         | inr odd ↦ subst (λ (r : Result T Fault). Looked state table (cached_file old before) r (cached_file new after)) (sym (used.used.odd odd)) (odd-looked odd)
       ]
 
-    -- what is known of one that was read
+    -- The facts about a block that was read.
     pub record IsRead (v : T) : Type 0 where
       pub counters : List ℕ
       pub long : length counters ≡ k
@@ -302,7 +299,7 @@ module _ {S : Type 0} (state : S → StorageState) (table : TableValue) where
         even-known (Err fault) never even = absurd never
 
   module _ (caches : MetadataCaches S) (file : ImageFile S) (sound : IsSafeWith state table caches file) where
-    -- A cluster that no block counts isn't counted,
+    -- A cluster without a block has refcount 0.
     pub uncounted : (c : ℕ) → block_at (bytes_of (state file.image).bytes) file.header.fields (c / counters_of_block file.header.fields) ≡ 0 → counts_in state caches file c ≡ 0
     uncounted c none =
         let f = bytes_of (state file.image).bytes in
@@ -310,7 +307,7 @@ module _ {S : Type 0} (state : S → StorageState) (table : TableValue) where
         let empty : block_at (memory f file.header.fields (cached_in caches)) file.header.fields (c / counters_of_block file.header.fields) ≡ 0 = places.blocks (c / counters_of_block file.header.fields) ∙ none in
         count-no-block (memory f file.header.fields (cached_in caches)) file.header.fields c empty
 
-    -- and none is behind those that the table's blocks count.
+    -- A cluster after those that the table's blocks count has refcount 0.
     pub uncounted-behind : (c : ℕ) → length table.raw_entries ≤ c / counters_of_block file.header.fields → counts_in state caches file c ≡ 0
     uncounted-behind c past =
         let long = sound.table_of_file.long in

@@ -1,4 +1,4 @@
--- A search counts nothing, and may come before what does.
+-- A search changes no refcount, and may come before calls that do.
 use Rattle.std.proofs.Common.{◌≡◌, ◌≢◌, ℕ, ◌+◌, ◌*◌, ◌/◌, ◌<◌, refl, arith, ap, sym, subst, ◌∙◌, inl, inr, length, Option, Some, None, Result, Ok}
 use Rattle.std.specs.Prelude.{IsTrue, slice_index}
 use Rattle.std.proofs.lemmas.Bool.{cases_lt}
@@ -42,7 +42,6 @@ module _ {S : Type 0} (state : S → StorageState) (s : ImageState S) where
         subst (λ (h : Header). P (record Old { file = bytes_of (state after.image).bytes; cached = cached_in new; header = h; order = order_of new })) (sym looked.header)
         (subst (λ (o : CacheDependency). P (record Old { file = bytes_of (state after.image).bytes; cached = cached_in new; order = o })) (sym looked.order) p)
 
-    -- Each cluster is counted as it was.
     pub counts-looked : IsTrue (state s.file.image).shape.keeps → IsSound Old → HadNoResourceError result → (c : ℕ) → counted New c ≡ counted Old c
     counts-looked keeps sound whole c =
         moved (λ m. counted m c ≡ counted Old c) (flushes-count Old (state s.file.image).bytes (state after.image).bytes (cached_in new) refl (looked.writes_back_cached.holds keeps sound.well_formed tt (inl whole)) c).0
@@ -59,14 +58,14 @@ module _ {S : Type 0} (state : S → StorageState) (s : ImageState S) where
       room = looked.room;
     }
 
-  -- A cluster whose block the refcount table names has a counter.
+  -- A cluster has a counter if the refcount table references its block.
   pub counter-there : IsSound Old → (c : ℕ) → block_offset (slice_index s.table.raw_entries (c / counters_of_block s.file.header.fields)) ≢ 0 → HasCounter (bytes_of (state s.file.image).bytes) s.file.header.fields c
   counter-there sound c some none = elim (cases_lt (c / counters_of_block s.file.header.fields) (length s.table.raw_entries)) [
     | inl inside ↦ let long = sound.table.long in some (sound.table.names (c / counters_of_block s.file.header.fields) (omega (arith, inside, long)) ∙ none)
     | inr past ↦ some (ap block_offset (get_or_past s.table.raw_entries (c / counters_of_block s.file.header.fields) 0 past))
   ]
 
-  -- What is found in the block of a cluster tells whether it is counted.
+  -- A search in the block of a cluster shows if the cluster is counted.
   module _ (c : ℕ) (some : block_offset (slice_index s.table.raw_entries (c / counters_of_block s.file.header.fields)) ≢ 0) (found : Option ℕ) (new : MetadataCaches S) (after : ImageFile S)
       (looks : LooksForFree state s.table c ((c / counters_of_block s.file.header.fields + 1) * counters_of_block s.file.header.fields) (cached_file s.caches s.file) (Ok found) (cached_file new after)) (keeps : IsTrue (state s.file.image).shape.keeps) (sound : IsSound Old) where
     same : counted (metadata_of state after new s.table s.pending) c ≡ counted Old c

@@ -1,4 +1,4 @@
--- A lone cluster that is handed out, and what is made for it, leaves no gap behind the mark.
+-- Allocating a single cluster, and making its block, leaves no gap after the first-free hint.
 use Rattle.std.proofs.Common.{◌≡◌, ℕ, ◌+◌, ◌*◌, ◌/◌, ◌<◌, ◌≤◌, arith, subst, inl, inr, length}
 use Rattle.std.proofs.lemmas.Bool.{cases_eq, cases_lt}
 use Rattle.std.proofs.Math.Nat.{div-mul-le_self, min-le_left, mul-le-mul}
@@ -19,11 +19,10 @@ use Rattle.qcow2_alloc.proofs.Space.RoomPerTurn.{counted-inside}
 use Rattle.qcow2_alloc.proofs.Memory.Patches.{shaped-in}
 use Rattle.qcow2_alloc.proofs.Space.SizesOfSpace.{counters-wide}
 
--- Nothing is counted anew where counts stay,
 pub gapless-same : (mark : ℕ) (m m' : Metadata) → ((c : ℕ) → counted m' c ≡ counted m c) → IsGapless mark m m'
 gapless-same mark m m' same c none some = absurd (let is = same c in omega (arith, is, none, some))
 
--- and what is counted anew in turn leaves no gap where neither does.
+-- Two steps that leave no gap leave none together.
 pub gapless-then : (mark : ℕ) (m0 m m' : Metadata) → IsGapless mark m0 m → OnlyIncremented m m' → IsGapless mark m m' → IsGapless mark m0 m'
 gapless-then mark m0 m m' one raised two c none some d from to = elim (cases_eq (counted m c) 0) [
   | inl has_no_dirty_data ↦ two c has_no_dirty_data some d from to
@@ -40,7 +39,6 @@ module _ (mark : ℕ) (m m' : Metadata) (sound : IsSound m) (raised : OnlyIncrem
   some-counters : 0 < k
   some-counters = let w = wide in omega (arith, w)
 
-  -- Each cluster from the mark to the first free one is counted.
   pub counted-before : (d : ℕ) → mark ≤ d → d < z → 0 < counted m d
   counted-before d from to =
       let met = run.least d from to in
@@ -49,7 +47,7 @@ module _ (mark : ℕ) (m m' : Metadata) (sound : IsSound m) (raised : OnlyIncrem
       let here : met.0 ≡ d = omega (arith, above, below) in
       subst (λ c. 0 < counted m c) here met.3
 
-  -- A block was made for it,
+  -- A block was made for the cluster.
   filled : (last : ℕ) → last ≡ z / k → FillsFrom mark (z / k) (last + 1) m m' → IsGapless mark m m'
   filled last is fills c none some d from to =
       let met = fill-near m.table z z 0 0 mark 1 z (last + 1) m m' fills some-counters z 1 (omega arith) (λ i lt. before i lt) run.not_before_start (omega (arith, is)) (λ x above below. run.free x above below) c (λ same. omega (arith, same, none, some)) in
@@ -59,7 +57,7 @@ module _ (mark : ℕ) (m m' : Metadata) (sound : IsSound m) (raised : OnlyIncrem
       before : (i : ℕ) → i < last + 1 → i * k < z + 1
       before i lt = let le : i * k ≤ z / k * k = mul-le-mul (omega (arith, lt, is)) (omega arith) in let under = div-mul-le_self z k in omega (arith, le, under)
 
-  -- or the table has grown: there was no word for a cluster from there on, so none was counted.
+  -- The table has grown: it had no entry for clusters from there on, so none of them was counted.
   past-free : length m.table.raw_entries ≤ z / k → (c : ℕ) → z ≤ c → counted m c ≡ 0
   past-free past c from = elim (cases_eq (counted m c) 0) [
     | inl none ↦ none
@@ -69,7 +67,7 @@ module _ (mark : ℕ) (m m' : Metadata) (sound : IsSound m) (raised : OnlyIncrem
         absurd (omega (arith, inside, low, past))
   ]
 
-  -- Its room begins no later.
+  -- The free area of the table begins no later than the cluster.
   room-early : (at : ℕ) → length m.table.raw_entries ≤ z / k → (grown : TableGrown mark at m m') → grown.first ≤ z
   room-early at past grown = elim (cases_lt z grown.first) [
     | inr le ↦ le
@@ -93,7 +91,7 @@ module _ (mark : ℕ) (m m' : Metadata) (sound : IsSound m) (raised : OnlyIncrem
         | inr after ↦ let one = covers-inside d grown.first grown.total after (omega (arith, to, ends)) in let counts = grown.counts d in omega (arith, one, counts)
       ]
 
-  -- So is what it needs.
+  -- Both cases together.
   pub made-gapless : (at first last : ℕ) → first ≡ z / k → last ≡ z / k → HasMade mark at first last m m' → IsGapless mark m m'
   made-gapless at first last first-is last-is (inl (inside, long, fills)) = filled last last-is (subst (λ f. FillsFrom mark f (last + 1) m m') first-is fills)
   made-gapless at first last first-is last-is (inr (past, grown)) = grown-gapless at (omega (arith, past, last-is)) grown

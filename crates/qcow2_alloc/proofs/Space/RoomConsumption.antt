@@ -1,4 +1,4 @@
--- Where there is room for an allocation, it stays: what blocks and a growth take of it is little.
+-- Space for an allocation is kept: new blocks and a longer table take little of it.
 use Rattle.std.proofs.Common.{Bool, ◌≡◌, ◌≢◌, ℕ, zero, suc, ◌+◌, ◌-◌, ◌*◌, ◌/◌, ◌<◌, ◌≤◌, refl, arith, ap, sym, ◌∙◌, inl, inr, true}
 use Rattle.std.specs.Prelude.{◌⊎◌, slice_index}
 use Rattle.std.proofs.lemmas.Bool.{cases_Bool, cases_eq, cases_lt}
@@ -21,11 +21,9 @@ use Rattle.qcow2_alloc.proofs.Growth.FirstRooms.{rank-beside, rank-longer, lacki
 use Rattle.qcow2_alloc.proofs.Growth.LongerReftables.{covers-before}
 use Rattle.qcow2_alloc.proofs.Memory.Patches.{place-there}
 
--- A quotient by 64 or more.
 pub quotient-few : (k L : ℕ) → 64 ≤ k → L / k * 64 ≤ L
 quotient-few k L wide = let le : L / k * 64 ≤ L / k * k = mul-le-mul (omega arith) wide in let whole = div-mul-le_self L k in omega (arith, le, whole)
 
--- A run of n clusters meets no more than n blocks.
 pub quotient-step : (k z b : ℕ) → 0 < k → (z + b) / k ≤ z / k + b
 quotient-step k z b some = elim (cases_lt (z / k + b) ((z + b) / k)) [
   | inr le ↦ le
@@ -38,7 +36,6 @@ quotient-step k z b some = elim (cases_lt (z / k + b) ((z + b) / k)) [
       absurd (omega (arith, far, whole, near, split, least))
 ]
 
--- A cluster that a run covers is one of it.
 pub covered-inside : (c first n : ℕ) → 0 < covers c (run_of first n) → (first ≤ c) × (c < first + n)
 covered-inside c first n some = elim (cases_lt c first) [
   | inl before ↦ absurd (let none = covers-before c first n before in omega (arith, some, none))
@@ -48,8 +45,8 @@ covered-inside c first n some = elim (cases_lt c first) [
   ]
 ]
 
--- The clusters that were free in a row from s to e, as a call has left them: what is counted of them lies before an edge, which moves up by the
--- blocks that were made of those lacking for a run of L, and by as much more as a growth took.
+-- The clusters from `s` to `e` were free. Those that are counted now are before an edge. The edge moves up by 1 for each missing block
+-- of a run of `L` that is made, and by `more` for a longer table.
 pub record RoomKept (table0 : TableValue) (k s e more L : ℕ) (table : TableValue) (counts : ℕ → ℕ) : Type 0 where
   pub bound : (c : ℕ) → s ≤ c → c < e → 0 < counts c → c + lacking table k s L < s + more + lacking table0 k s L
   pub fewer : lacking table k s L ≤ lacking table0 k s L
@@ -70,7 +67,7 @@ module _ (table0 : TableValue) (k s e more L : ℕ) (table : TableValue) (counts
     | inr some ↦ let le = kept.fewer in let lt = kept.bound c (omega (arith, above, le)) below (omega (arith, some)) in absurd (omega (arith, lt, above, le))
   ]
 
-  -- A run that is found from before begins no later.
+  -- A run that is searched for from before `s` begins no later than the edge.
   pub run-near : (mark n z : ℕ) → mark ≤ s → edge table0 k s more L table + n ≤ e → IsFirstRun counts mark n z → z ≤ edge table0 k s more L table
   run-near mark n z behind inside run = elim (cases_lt (edge table0 k s more L table) z) [
     | inr le ↦ le
@@ -83,7 +80,7 @@ module _ (table0 : TableValue) (k s e more L : ℕ) (table : TableValue) (counts
         absurd (omega (arith, zero, some))
   ]
 
-  -- So does a room.
+  -- A free area begins no later than the edge, too.
   pub room-near : (from n first total t : ℕ) → from ≤ s → IsFirstFreeArea table k counts from n first total → t ≡ n + lacking table k (edge table0 k s more L table) t → edge table0 k s more L table + t ≤ e → first ≤ edge table0 k s more L table
   room-near from n first total t behind room enough inside = elim (cases_lt (edge table0 k s more L table) first) [
     | inr le ↦ le
@@ -92,7 +89,7 @@ module _ (table0 : TableValue) (k s e more L : ℕ) (table : TableValue) (counts
         absurd (room.least (edge table0 k s more L table) t (omega (arith, behind, ge)) before (record { enough = enough; free = λ c above below. edge-free c above (omega (arith, below, inside)) }))
   ]
 
--- A room that needs no more than it has, for as many blocks as it can lack, is as long as that or shorter.
+-- If `T` clusters hold `n` clusters and the blocks missing for `T`, some `t` up to `T` does so exactly.
 module _ (table : TableValue) (k z n : ℕ) where
   pub room-long : (fuel T : ℕ) → T ≤ fuel → n + lacking table k z T ≤ T → (t : ℕ) × (t ≤ T) × (t ≡ n + lacking table k z t)
   room-long zero T none enough = (T, omega arith, omega (arith, none, enough))
@@ -142,12 +139,12 @@ module _ (table0 : TableValue) (s e more L : ℕ) (mark n z end : ℕ) (m m' : M
     fewer = let one = fills.fewer s L in let two = kept.fewer in omega (arith, one, two);
   }
 
--- The table grows: its room lies behind the edge or before the free clusters.
+-- The table grows. Its free area is after the edge, or before the free clusters.
 module _ (table0 : TableValue) (s e L tc : ℕ) (mark at : ℕ) (m m' : Metadata) (grown : TableGrown mark at m m') where
   abbrev kk : ℕ
   kk = counters_of_block m.header.fields
 
-  -- What it names anew is lacking no more.
+  -- Newly linked blocks are no longer missing.
   named-anew : grown.first ≢ 0 → (i : ℕ) → lacks m.table kk grown.first grown.total i ≡ true → block_offset (slice_index m'.table.raw_entries i) ≢ 0
   named-anew some i is none =
       let there = place-there (cluster_size m.header.fields) (grown.first + rank (lacks m.table kk grown.first grown.total) i) (pow_pos m.header.fields.cluster_bits) (λ zero. some (omega (arith, zero))) in
@@ -159,7 +156,7 @@ module _ (table0 : TableValue) (s e L tc : ℕ) (mark at : ℕ) (m m' : Metadata
     | inr not ↦ sym (grown.olds i (λ so. let both = sym not ∙ so in cc)) ∙ none
   ]
 
-  -- So the blocks of the room are among those that were lacking for a run which holds it, but for those before.
+  -- The blocks of the area were missing for a run that contains it, except for those before `s`.
   lacking-beside : grown.first ≢ 0 → 0 < kk → grown.first + grown.total ≤ s + L → lacking m.table kk grown.first grown.total + lacking m'.table kk s L ≤ lacking m.table kk s L + (s / kk - grown.first / kk)
   lacking-beside some wide inside =
       let room : ℕ → Bool = lacks m.table kk grown.first grown.total in

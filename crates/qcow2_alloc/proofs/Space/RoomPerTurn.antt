@@ -1,4 +1,4 @@
--- Turn by turn of an allocation the room for it stays.
+-- Space for an allocation is kept, turn by turn.
 use Rattle.std.proofs.Common.{◌≡◌, ◌≢◌, ℕ, zero, suc, ◌+◌, ◌-◌, ◌*◌, ◌/◌, ◌^◌, ◌<◌, ◌≤◌, refl, arith, ap, sym, subst, ◌∙◌, inl, inr, length}
 use Rattle.std.specs.Prelude.{◌⊎◌, min}
 use Rattle.std.proofs.lemmas.Bool.{cases_eq, cases_lt}
@@ -22,7 +22,7 @@ use Rattle.qcow2_alloc.proofs.Memory.Patches.{shaped-in}
 use Rattle.qcow2_alloc.proofs.Space.RoomToGrow.{AreSizes, least_run, run-holds, least-holds, least-fits, at, ahead-one, longest-enough, grown_run, grown-holds, grown-least, grown-fits, grown-inside, room-early, room-short}
 use Rattle.qcow2_alloc.proofs.Space.SizesOfSpace.{words-wide, words-divide}
 
--- The first cluster from which on a row is free that reaches to a place: one before it is counted, unless the search begins there.
+-- The start of the free clusters before `e`. The cluster before it is counted, unless the search begins there.
 pub record LeftEnd (counts : ℕ → ℕ) (mark first e : ℕ) : Type 0 where
   pub s : ℕ
   pub behind : mark ≤ s
@@ -42,7 +42,6 @@ left-end counts mark (suc d) e free = elim (cases_eq (counts (mark + d)) 0) [
       record { s = rest.s; behind = rest.behind; early = omega (arith, le); free = rest.free; left = rest.left }
 ]
 
--- What is counted has a block.
 pub counted-inside : (m : Metadata) (c : ℕ) → IsSound m → 0 < counted m c → c / counters_of_block m.header.fields < length m.table.raw_entries
 counted-inside m c sound some =
     let places = places-in-memory m.file m.header sound.well_formed.consistent m.cached sound.well_formed.tables sound.well_formed.blocks in
@@ -52,7 +51,7 @@ counted-inside m c sound some =
       | inr there ↦ let inside = block-inside m.file m.header.fields i there in let long = sound.table.long in omega (arith, inside, long)
     ]
 
--- Before the table has grown the room is kept for each run that may be looked at, and then for one that the table has words for.
+-- Before the table grows, space is kept for each length of a run. After that, it is kept for one length that the table has entries for.
 pub record HasNotGrown (table0 : TableValue) (k n s e Q : ℕ) (table : TableValue) (counts : ℕ → ℕ) : Type 0 where
   pub kept : (L : ℕ) → least_run n ≤ L → L ≤ Q → RoomKept table0 k s e 0 L table counts
 
@@ -72,11 +71,11 @@ module _ (table0 : TableValue) (k n sp Q s e mark : ℕ) (sizes : AreSizes k n s
   wide : 0 < k
   wide = let w = sizes.wide in omega (arith, w)
 
-  -- At first nothing was taken,
+  -- Nothing was taken yet.
   pub keeping-start : (counts : ℕ → ℕ) → ((c : ℕ) → s ≤ c → c < e → counts c ≡ 0) → Keeping table0 k n s e Q table0 counts
   keeping-start counts free = inl (record { kept = λ L low fits. record { bound = λ c above below some. absurd (let none = free c above below in omega (arith, some, none)); fewer = omega arith } })
 
-  -- and a search changes nothing.
+  -- A search changes nothing.
   pub keeping-same : (table : TableValue) (counts counts' : ℕ → ℕ) → ((c : ℕ) → counts' c ≡ counts c) → Keeping table0 k n s e Q table counts → Keeping table0 k n s e Q table counts'
   keeping-same table counts counts' same keeping = subst (λ (f : ℕ → ℕ). Keeping table0 k n s e Q table f) (sym everywhere) keeping
     where
@@ -84,7 +83,7 @@ module _ (table0 : TableValue) (k n sp Q s e mark : ℕ) (sizes : AreSizes k n s
       everywhere = λ i c. same c i
 
   module _ (table : TableValue) (counts : ℕ → ℕ) (z : ℕ) (run : IsFirstRun counts mark n z) where
-    -- A run is found near the start,
+    -- A run is found near the start.
     module _ (L : ℕ) (low : least_run n ≤ L) (fits : L ≤ Q) (kept : RoomKept table0 k s e 0 L table counts) where
       edge-low : edge table0 k s 0 L table + n ≤ s + L
       edge-low = let near = edge-near table0 k s e 0 L table counts kept wide in let h = run-holds k n sp Q s e sizes L low in omega (arith, near, h)
@@ -109,12 +108,12 @@ module _ (table0 : TableValue) (k n sp Q s e mark : ℕ) (sizes : AreSizes k n s
         let early = run-near table0 k s e was.more was.L table counts was.kept mark n z behind (omega (arith, near, h, f, sizes.span)) run in
         (early, omega (arith, early, near, h))
 
-    -- and ends in the space.
+    -- The run ends within the space.
     pub found-ends : Keeping table0 k n s e Q table counts → z + n ≤ sp
     found-ends (inl was) = let near = found-near was in let low = least-fits k n sp Q s e sizes in omega (arith, near, low, sizes.span, sizes.ends)
     found-ends (inr was) = let both = found-within was in let le = both.1 in let f = was.fits in omega (arith, le, f, sizes.span, sizes.ends)
 
-    -- The table that has grown has a word for it.
+    -- A table that has grown has an entry for the run.
     pub found-counted : HasGrown table0 k n s e Q table counts → (z + (n - 1)) / k < length table.raw_entries
     found-counted was = elim (cases_lt ((z + (n - 1)) / k) (length table.raw_entries)) [
       | inl inside ↦ inside
@@ -127,7 +126,7 @@ module _ (table0 : TableValue) (k n sp Q s e mark : ℕ) (sizes : AreSizes k n s
           absurd (omega (arith, le, under, ends, in-words, sizes.some))
     ]
 
-    -- A run before the free clusters ends before them.
+    -- A run that begins before the free clusters ends before them.
     pub apart-or : (s ≤ mark) ⊎ ((c : ℕ) × (c + 1 ≡ s) × (0 < counts c)) → (s ≤ mark) ⊎ (z < s → z + n ≤ s)
     apart-or (inl le) = inl le
     apart-or (inr (c, next, some)) = inr (λ before. elim (cases_lt s (z + n)) [
@@ -135,7 +134,7 @@ module _ (table0 : TableValue) (k n sp Q s e mark : ℕ) (sizes : AreSizes k n s
       | inl over ↦ absurd (let none = run.free c (omega (arith, next, before)) (omega (arith, next, over)) in omega (arith, some, none))
     ])
 
-  -- Blocks were made,
+  -- Blocks were made.
   module _ (m m' : Metadata) (size : counters_of_block m.header.fields ≡ k) (z end : ℕ) (run : IsFirstRun (counted m) mark n z) (fills : FillsFrom mark (z / k) end m m') (last : end ≡ (z + (n - 1)) / k + 1) (left : (s ≤ mark) ⊎ ((c : ℕ) × (c + 1 ≡ s) × (0 < counted m c))) where
     few-blocks : end ≤ z / k + n
     few-blocks = let q = quotient-step k z (n - 1) wide in omega (arith, last, q, sizes.some)
@@ -175,10 +174,10 @@ module _ (table0 : TableValue) (k n sp Q s e mark : ℕ) (sizes : AreSizes k n s
     })
     keeping-filled same (inr was) = inr (grown-filled same was)
 
-  -- or the table is to grow for a run that it has no words for.
+  -- The table must grow, since it has no entries for the run.
   module _ (m : Metadata) (size : counters_of_block m.header.fields ≡ k) (sound : IsSound m) (z : ℕ) (run : IsFirstRun (counted m) mark n z) (was : HasNotGrown table0 k n s e Q m.table (counted m)) (past : length m.table.raw_entries ≤ (z + (n - 1)) / k)
       (left : (s ≤ mark) ⊎ ((c : ℕ) × (c + 1 ≡ s) × (0 < counted m c))) where
-    -- The run isn't one before the free clusters: those are counted up to there.
+    -- The run doesn't begin before the free clusters, since the cluster before them is counted.
     pub run-behind : s ≤ z
     run-behind = elim (cases_lt z s) [
       | inr from ↦ from
@@ -220,7 +219,7 @@ module _ (table0 : TableValue) (k n sp Q s e mark : ℕ) (sizes : AreSizes k n s
       least-kept : RoomKept table0 k s e 0 (least_run n) m.table (counted m)
       least-kept = was.kept (least_run n) (omega arith) (least-fits k n sp Q s e sizes)
 
-      -- Its room ends with the run in which it lies,
+      -- The free area ends within the run that contains it.
       room-inside : first + total ≤ s + run-length
       room-inside =
           let early = room-early k n sp Q s e sizes z run-behind near w (words-wide m.header.fields shaped) (words-divide m.header.fields shaped) clusters long table0 m.table (counted m) (min mark (length m.table.raw_entries * k)) first total (least_run n) least-kept (least-fits k n sp Q s e sizes) (omega arith) first-room from-low in
@@ -243,7 +242,7 @@ module _ (table0 : TableValue) (k n sp Q s e mark : ℕ) (sizes : AreSizes k n s
       some-total : 0 < total
       some-total = let is = first-room.room.enough in let c = some-clusters in omega (arith, is, c)
 
-      -- and so is in reach.
+      -- So the area is addressable.
       in-reach : (reach : (c : ℕ) → c < sp → IsAddressable m.header.fields.cluster_bits c) → IsAreaAddressable m first total clusters
       in-reach reach = record {
         reach = reach (first + (total - 1)) (let i = room-inside in let f = run-fits in let t = some-total in omega (arith, i, f, t, sizes.span, sizes.ends));
@@ -253,14 +252,14 @@ module _ (table0 : TableValue) (k n sp Q s e mark : ℕ) (sizes : AreSizes k n s
             subst (λ (x : ℕ). first + total ≤ clusters * w * x) (sym size) (omega (arith, i, g));
       }
 
-    -- There is a place for the table,
+    -- The table has a free area.
     pub place-there-is : ((c : ℕ) → c < sp → IsAddressable m.header.fields.cluster_bits c) → (number : ℕ) → NoPlaceToGrow m mark index number → ⊥
     place-there-is reach number (inl none) =
         let most = none.0 (2 ^ 20) (subst (λ (x : ℕ). IsEnough w x index (2 ^ 20)) (sym size) (longest-enough k n sp Q s e sizes z run-behind near w (words-wide m.header.fields shaped) (words-divide m.header.fields shaped))) in
         omega (arith, most)
     place-there-is reach number (inr (first, total, clusters, room, far, is)) = far (in-reach clusters first total room reach)
 
-    -- and once it has grown room is kept still.
+    -- After the growth, space is still kept.
     pub has-grown : (m' : Metadata) → TableGrown mark index m m' → HasGrown table0 k n s e Q m'.table (counted m')
     has-grown m' grown =
         let r = grown.room in

@@ -1,4 +1,4 @@
--- Where there is room, a refcount table finds its place.
+-- If enough space is free, the search for a longer refcount table finds a free area.
 use Rattle.std.proofs.Common.{◌≡◌, ℕ, ◌+◌, ◌-◌, ◌*◌, ◌/◌, ◌%◌, ◌^◌, ◌<◌, ◌≤◌, arith, ap, ◌∙◌, inl, inr}
 use Rattle.std.proofs.lemmas.Bool.{cases_lt}
 use Rattle.std.proofs.Math.Nat.{mul-le-mul, div-mul-le_self, lt-div-mul-add, mul-div_left}
@@ -7,7 +7,7 @@ use Rattle.qcow2_alloc.specs.Growing.{lacking, IsFirstFreeArea}
 use Rattle.qcow2_alloc.proofs.Growth.FirstRooms.{lacking-few}
 use Rattle.qcow2_alloc.proofs.Space.RoomConsumption.{RoomKept, edge, edge-near, room-near, room-long, quotient-few}
 
--- The sizes: blocks of k counters, and n clusters that are asked for, for which Q are enough; so many are free behind s, up to e.
+-- The sizes: blocks of `k` counters, and `n` requested clusters, for which `Q` clusters are enough. `Q` clusters fit between `s` and `e`.
 pub record AreSizes (k n space Q s e : ℕ) : Type 0 where
   pub wide : 64 ≤ k
   pub narrow : 64 * k ≤ space
@@ -18,7 +18,7 @@ pub record AreSizes (k n space Q s e : ℕ) : Type 0 where
   pub span : s + Q ≤ e
   pub ends : e ≤ space
 
--- how long a run is at least in which blocks may be made for n clusters
+-- The least length of a run in which blocks may be made for `n` clusters.
 abbrev pub least_run : ℕ → ℕ
 least_run n = n + (n / 32 + 4)
 
@@ -38,7 +38,7 @@ module _ (k n space Q s e : ℕ) (sizes : AreSizes k n space Q s e) where
   pub positive : 0 < k
   positive = let w = sizes.wide in omega (arith, w)
 
-  -- It holds what is asked for, and the blocks that it can lack,
+  -- A run of that length holds `n` clusters, and the blocks that it can miss.
   pub run-holds : (L : ℕ) → least_run n ≤ L → L / k + 2 + n ≤ L
   run-holds L le = let q = quotient-few k L sizes.wide in let a = a-few in let b = a-most in omega (arith, le, q, a, b)
 
@@ -48,12 +48,12 @@ module _ (k n space Q s e : ℕ) (sizes : AreSizes k n space Q s e) where
   pub least-fits : least_run n ≤ Q
   least-fits = let a = a-few in omega (arith, a, sizes.large, sizes.enough)
 
-  -- The table grows for an index behind that of the last cluster of a run that begins soon.
+  -- The table grows for an index after that of the last cluster of a run that begins early.
   module _ (z : ℕ) (from : s ≤ z) (near : z ≤ s + (n / 32 + 2)) where
     abbrev pub at : ℕ
     at = (z + (n - 1)) / k + (n / k + 2)
 
-    -- how many clusters the blocks before that index count behind the run's first
+    -- The number of clusters from `z` on that the blocks before that index count.
     abbrev ahead : ℕ
     ahead = at * k - z
 
@@ -95,7 +95,7 @@ module _ (k n space Q s e : ℕ) (sizes : AreSizes k n space Q s e) where
           absurd (omega (arith, far, x, y, near, a, sizes.large, sizes.fits, sizes.enough, sizes.span, sizes.ends, sizes.wide))
     ]
 
-    -- There is a length for that.
+    -- A table length that is enough exists.
     module _ (w : ℕ) (raw_entries : 64 ≤ w) (whole : 2 ^ 20 % w ≡ 0) where
       pub longest-enough : IsEnough w k at (2 ^ 20)
       longest-enough = record {
@@ -109,7 +109,7 @@ module _ (k n space Q s e : ℕ) (sizes : AreSizes k n space Q s e) where
       }
 
       module _ (clusters : ℕ) (long : IsGrownLength w k at (clusters * w)) where
-        -- how many words it has behind the index
+        -- The number of entries after the index.
         abbrev pub behind : ℕ
         behind = clusters * w - at
 
@@ -131,7 +131,7 @@ module _ (k n space Q s e : ℕ) (sizes : AreSizes k n space Q s e) where
         reaches : clusters * w * k ≡ at * k + behind * k
         reaches = let above = long.enough.above in let is : clusters * w ≡ at + behind = omega (arith, above) in ap (λ x. x * k) is ∙ (let e : (at + behind) * k ≡ at * k + behind * k = omega arith in e)
 
-        -- how long its room is at most
+        -- An upper bound on the length of the free area.
         abbrev pub most : ℕ
         most = clusters + behind + 2
 
@@ -150,7 +150,7 @@ module _ (k n space Q s e : ℕ) (sizes : AreSizes k n space Q s e) where
         most-enough : (table : TableValue) (y : ℕ) → clusters + lacking table k y most ≤ most
         most-enough table y = let few = lacking-few table k positive y most in let q = most-quotient in omega (arith, few, q)
 
-        -- The run in which the table's room lies and what is made later,
+        -- The length of a run for the table's free area and for what is made later.
         abbrev pub grown_run : ℕ
         grown_run = ahead + clusters + behind
 
@@ -188,7 +188,7 @@ module _ (k n space Q s e : ℕ) (sizes : AreSizes k n space Q s e) where
         pub grown-inside : s + grown_run ≤ clusters * w * k
         grown-inside = let x = ahead-holds in let r = reaches in let b = blocks in let c = behind-counts in omega (arith, x, r, b, c, from)
 
-        -- Its room lies in it.
+        -- The free area of the table is in that run.
         module _ (table0 table : TableValue) (counts : ℕ → ℕ) (from' first total L : ℕ) (kept : RoomKept table0 k s e 0 L table counts) (fits : L ≤ Q) (low : least_run n ≤ L) (room : IsFirstFreeArea table k counts from' clusters first total) (early : from' ≤ s) where
           pub room-short : total ≤ most
           room-short =

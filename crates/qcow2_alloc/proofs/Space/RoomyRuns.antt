@@ -1,4 +1,4 @@
--- Where there is room for an allocation a run is found, turn by turn, and what it needs is made.
+-- If an allocation has enough space, a run is found turn by turn, and its blocks can be made.
 use Rattle.std.proofs.Common.{◌≡◌, ℕ, ◌+◌, ◌-◌, ◌*◌, ◌/◌, ◌^◌, ◌<◌, ◌≤◌, arith, ap, sym, subst, ◌∙◌, inl, inr, length}
 use Rattle.std.specs.Prelude.{◌⊎◌}
 use Rattle.std.proofs.Math.Nat.{mul-le-mul, div-mul-le_self}
@@ -19,7 +19,7 @@ use Rattle.qcow2_alloc.proofs.Memory.Patches.{shaped-in}
 use Rattle.qcow2_alloc.proofs.Space.RoomToGrow.{AreSizes, least_run, least-fits, least-holds}
 use Rattle.qcow2_alloc.proofs.Space.SizesOfSpace.{counters-wide, roomy-sizes, space-blocks, space-reach}
 
--- So much of the room is left.
+-- The space that is left.
 pub record RoomStays (mark n : ℕ) (m0 m : Metadata) (roomy : IsRoomy m0 mark n) : Type 0 where
   pub start : LeftEnd (counted m0) mark roomy.first (roomy.first + roomy.total)
   pub keeping : Keeping m0.table (counters_of_block m0.header.fields) n start.s (roomy.first + roomy.total) (room_for m0.header.fields n) m.table (counted m)
@@ -32,7 +32,7 @@ module _ (mark n : ℕ) (some : 1 ≤ n) (m0 : Metadata) (sound0 : IsSound m0) (
   abbrev Q : ℕ
   Q = room_for m0.header.fields n
 
-  -- where the room ends
+  -- The end of the space.
   abbrev end : ℕ
   end = roomy.first + roomy.total
 
@@ -50,7 +50,7 @@ module _ (mark n : ℕ) (some : 1 ≤ n) (m0 : Metadata) (sound0 : IsSound m0) (
     abbrev s : ℕ
     s = stays.start.s
 
-    -- A search changes nothing,
+    -- A search changes nothing.
     pub stays-searched : (m1 : Metadata) → m1.table ≡ m.table → ((c : ℕ) → counted m1 c ≡ counted m c) → RoomStays mark n m0 m1 roomy
     stays-searched m1 table same = record {
       start = stays.start;
@@ -63,7 +63,7 @@ module _ (mark n : ℕ) (some : 1 ≤ n) (m0 : Metadata) (sound0 : IsSound m0) (
     wide : 0 < k
     wide = let w = counters-wide m0.header.fields (shaped-in m0.file m0.header sound0.well_formed.consistent) in omega (arith, w)
 
-    -- Behind the clusters that are enough none is taken,
+    -- Nothing after the first `Q` clusters of the space is taken.
     pub room-left : (c : ℕ) → roomy.first + Q ≤ c → c < end → counted m c ≡ 0
     room-left c above below = elim stays.keeping [
       | inl was ↦
@@ -81,7 +81,7 @@ module _ (mark n : ℕ) (some : 1 ≤ n) (m0 : Metadata) (sound0 : IsSound m0) (
           edge-free m0.table k s end was.more was.L m.table (counted m) was.kept c (omega (arith, near, holds, fits, early, above)) below
     ]
 
-    -- and the run that is found ends before them.
+    -- The run that is found ends before them.
     pub run-early : (z : ℕ) → IsFirstRun (counted m) mark n z → z + n ≤ roomy.first + Q
     run-early z run = elim stays.keeping [
       | inl was ↦
@@ -113,13 +113,13 @@ module _ (mark n : ℕ) (some : 1 ≤ n) (m0 : Metadata) (sound0 : IsSound m0) (
       ends : z + n ≤ space m0.header.fields
       ends = found-ends m0.table k n (space m0.header.fields) Q s end mark (sizes s stays.start.early) stays.start.behind m.table (counted m) z run stays.keeping
 
-      -- A table that has grown counts the run that is found.
+      -- A table that has grown has an entry for the run.
       pub run-counted : length m0.table.raw_entries < length m.table.raw_entries → (z + (n - 1)) / counters_of_block m.header.fields < length m.table.raw_entries
       run-counted longer =
           subst (λ x. (z + (n - 1)) / x < length m.table.raw_entries) (sym size)
           (found-counted m0.table k n (space m0.header.fields) Q s end mark (sizes s stays.start.early) stays.start.behind m.table (counted m) z run (stays.grown longer))
 
-      -- The run that is found ends where words can name it and a table can have words for it.
+      -- The end of the run is addressable, and a table can have an entry for it.
       pub run-fits : (IsAddressable m.header.fields.cluster_bits (z + (n - 1)) → 2 ^ 20 ≤ (z + (n - 1)) / counters_of_block m.header.fields) → ⊥
       run-fits far =
           let inside = ends in
@@ -142,7 +142,7 @@ module _ (mark n : ℕ) (some : 1 ≤ n) (m0 : Metadata) (sound0 : IsSound m0) (
         grow-at : (P : ℕ → Type 0) → P at → P ((z + (n - 1)) / k + (n / k + 2))
         grow-at P p = subst (λ (l : ℕ). P (l + (n / k + 2))) last-is (subst (λ (x : ℕ). P (last + (n / x + 2))) size p)
 
-        -- What it needs can be made,
+        -- The blocks of the run can be made.
         pub can-make : (number : ℕ) → NoneCanBeMade mark at first last number m → ⊥
         can-make number (inl far) = far (λ i above below. reach' i below)
           where
@@ -157,7 +157,7 @@ module _ (mark n : ℕ) (some : 1 ≤ n) (m0 : Metadata) (sound0 : IsSound m0) (
           | inr was ↦ let inside = found-counted m0.table k n (space m0.header.fields) Q s end mark (sizes s stays.start.early) stays.start.behind m.table (counted m) z run was in omega (arith, inside, past, last-is)
         ]
 
-        -- and the room stays.
+        -- The space is kept.
         pub stays-made : (m' : Metadata) → HasMade mark at first last m m' → RoomStays mark n m0 m' roomy
         stays-made m' (inl (inside, long, fills)) =
             let filled = subst (λ (f : ℕ). FillsFrom mark f (last + 1) m m') first-is fills in

@@ -1,4 +1,4 @@
--- How large the space of an image is.
+-- The size of an image's space.
 use Rattle.std.proofs.Common.{◌≡◌, ℕ, ◌+◌, ◌-◌, ◌*◌, ◌/◌, ◌%◌, ◌^◌, ◌<◌, ◌≤◌, arith, ap, sym, subst, ◌∙◌}
 use Rattle.std.proofs.lemmas.Nat.{le-div, pow-add, pow_pos}
 use Rattle.std.proofs.Math.Nat.{div-mul-le_self, lt-div-mul-add, min-le_left, min-le_right, mul-le-mul, mul-mod_left, mul-div_left}
@@ -50,7 +50,7 @@ module _ (h : Fields) (shaped : Shaped h) where
   space-least : (n : ℕ) → n ≤ 2 ^ 20 * k → n ≤ max_offset / cluster_size h + 1 → n ≤ space h
   space-least n one two = omega (arith, one, two)
 
-  -- Words can name each cluster of it.
+  -- Each cluster of the space is addressable.
   pub space-reach : (c : ℕ) → c < space h → IsAddressable h.cluster_bits c
   space-reach c inside =
       let below = space-offsets in
@@ -58,7 +58,7 @@ module _ (h : Fields) (shaped : Shaped h) where
       let whole = div-mul-le_self max_offset (cluster_size h) in
       omega (arith, le, whole)
 
--- The sizes of an allocation for which there is room.
+-- The sizes of an allocation that has enough space.
 pub roomy-sizes : (m : Metadata) (mark n s : ℕ) → Shaped m.header.fields → 1 ≤ n → (roomy : IsRoomy m mark n) → s ≤ roomy.first
     → AreSizes (counters_of_block m.header.fields) n (space m.header.fields) (room_for m.header.fields n) s (roomy.first + roomy.total)
 roomy-sizes m mark n s shaped some roomy early =

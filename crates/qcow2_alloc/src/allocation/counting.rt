@@ -1,4 +1,4 @@
-//! Free clusters are counted, and counters are lowered. For qemu and imago the refcounts of free clusters go from 0 to 1.
+//! Sets refcounts of free clusters to 1, and decrements refcounts.
 ghost use Rattle.std.specs.Prelude.{◌≤◌, ◌+◌, ◌^◌, List};
 ghost use Rattle.qcow2_metadata.specs.Blocks.{Block};
 ghost use Rattle.qcow2_types.specs.Pending.{FreeEntry};
@@ -16,7 +16,7 @@ use qcow2_metadata::RefBlock;
 use qcow2_types::HostCluster;
 
 impl Allocator {
-    // Counts a cluster that isn't counted yet, in the block that a word of the refcount table names for it.
+    // Increments the refcount of a free cluster, in the block that the refcount table references for it.
     pub(crate) fn count_cluster<S: Storage>(
         &self,
         file: &mut ImageFile<S>,
@@ -33,7 +33,7 @@ impl Allocator {
         increment_in(caches, file, rb_cluster, rb_index)
     }
 
-    // Counts clusters in a row that aren't counted yet, from the first to the last.
+    // Increments the refcounts of `count` consecutive free clusters, from the first to the last.
     pub(crate) fn count_run<S: Storage>(
         &self,
         file: &mut ImageFile<S>,
@@ -52,7 +52,8 @@ impl Allocator {
         Ok(())
     }
 
-    // Counts those clusters of a run that a block counts which the refcount table names. The others are for new blocks to count.
+    // Increments the refcounts of those clusters of a run for which the refcount table references a block. New blocks will count the
+    // others.
     pub(crate) fn count_referenced<S: Storage>(
         &self,
         file: &mut ImageFile<S>,
@@ -75,7 +76,7 @@ impl Allocator {
     }
 }
 
-// Raises a counter of a block from 0 to 1.
+// Increments a refcount of a block from 0 to 1.
 fn increment_counter(block: &mut RefBlock, index: usize) -> Result<(), Fault>
     ensures { IncrementsCounter index block.old result block.new }
 {
@@ -89,7 +90,7 @@ fn increment_counter(block: &mut RefBlock, index: usize) -> Result<(), Fault>
     Ok(())
 }
 
-// Raises a counter of the block in a cluster from 0 to 1.
+// Increments a refcount from 0 to 1, in the block in a cluster.
 fn increment_in<S: Storage>(
     caches: &mut MetadataCaches<S>,
     file: &mut ImageFile<S>,
@@ -102,7 +103,7 @@ fn increment_in<S: Storage>(
     increment_counter(block, index)
 }
 
-// Lowers a counter of a block by 1.
+// Decrements a refcount of a block.
 fn decrement_counter(block: &mut RefBlock, index: usize) -> Result<(), Fault>
     ensures { DecrementsCounter index block.old result block.new }
 {
@@ -113,7 +114,7 @@ fn decrement_counter(block: &mut RefBlock, index: usize) -> Result<(), Fault>
     Ok(())
 }
 
-// Lowers a counter of the block in a cluster by 1.
+// Decrements a refcount, in the block in a cluster.
 pub(super) fn decrement_in<S: Storage>(
     caches: &mut MetadataCaches<S>,
     file: &mut ImageFile<S>,

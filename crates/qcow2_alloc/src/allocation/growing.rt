@@ -1,5 +1,4 @@
-//! How long the refcount table gets, and where: a grown copy is made in memory, and the first room for it is searched for. That is the
-//! first half of imago's `grow_reftable` and of qemu's `qcow2_refcount_area`. Words of the table are its entries there.
+//! Grows the refcount table: makes a longer copy in memory, and searches for the first free area for the copy and the blocks that it needs.
 ghost use Rattle.std.specs.Prelude.{◌≡◌, ◌≤◌, ◌<◌, ◌+◌, ◌*◌, ◌/◌, ◌^◌, IfOk, length, ℕ, ◌-◌, ◌++◌, OnOk, OnErr, IfErr, min};
 ghost use Rattle.qcow2_types.specs.Counts.{counters_of_block};
 ghost use Rattle.qcow2_alloc.specs.Allocators.{table_of, first_free_of};
@@ -20,8 +19,8 @@ use qcow2_metadata::{Header, RefTable, Table};
 use qcow2_types::{ClustersToFreeEntry, HostCluster, PendingClusters};
 
 impl Allocator {
-    // How many blocks are lacking for a run: those that would count one of its clusters, and that the refcount table doesn't name. A block
-    // has 2 to the power of `rb_bits` counters.
+    // Returns the number of missing blocks of a run: blocks that would have the refcount of one of its clusters, and that the refcount
+    // table doesn't reference. A block has 2^`rb_bits` refcounts.
     pub(super) fn lacking_for(&self, run: Run, rb_bits: u32) -> u64
         requires bits { rb_bits ≤ 24 }
         requires fits { run.first + run.len + 2 ^ 24 < 2 ^ 64 }
@@ -39,8 +38,9 @@ impl Allocator {
         lacking
     }
 
-    // The first room, from a cluster on, for so many clusters and the blocks that are lacking for them: see `IsFirstFreeArea`. The search
-    // always ends.
+    // Returns the first free area from `from` on for `clusters` clusters and the blocks that are missing for the area (`IsFirstFreeArea`).
+    //
+    // The search always ends.
     pub(super) fn find_free_area<S: Storage>(
         &self,
         file: &mut ImageFile<S>,
@@ -71,7 +71,8 @@ impl Allocator {
         Ok(room)
     }
 
-    // The run with the length that it needs, where that is uncounted too, and else the first one of so many clusters behind its first.
+    // Returns the run with the length that it needs, if all its clusters are free. Otherwise returns the first free run of `clusters`
+    // clusters that starts after its first cluster.
     fn grow_free_area<S: Storage>(
         &self,
         file: &mut ImageFile<S>,
@@ -97,11 +98,11 @@ impl Allocator {
         })
     }
 
-    // Lets the refcount table grow until it holds an index.
+    // Grows the refcount table until it has an entry at `at`.
     //
-    // It refuses with `Fault::Limit` where there is no place for it; with `Fault::Memory`; with `Fault::Storage`; with `Fault::CacheFull`
-    // as the public calls do, and then clusters may be counted that nobody was handed; and with `Fault::Counter` and
-    // `Fault::DamagedTable`, which no sound image has.
+    // The call fails with `Fault::Limit` if the table can't grow that far; with `Fault::Memory`; with `Fault::Storage`; with
+    // `Fault::CacheFull` like the public calls, and then clusters may leak; and with `Fault::Counter` and `Fault::DamagedTable`, which a
+    // consistent image rules out.
     pub(super) fn grow_table<S: Storage>(
         &mut self,
         file: &mut ImageFile<S>,
@@ -119,8 +120,8 @@ impl Allocator {
         self.place_grown(file, caches, list, hold, copy)
     }
 
-    // Lets a copy that has grown in memory become the refcount table, in the first room for it. The list holds room for the clusters of the
-    // old one: it takes them, or is let go.
+    // Writes a grown copy of the refcount table to the first free area, and makes it the image's table. The reserved slot takes the old
+    // table's clusters; on error it is released.
     pub(super) fn place_grown<S: Storage>(
         &mut self,
         file: &mut ImageFile<S>,
@@ -154,8 +155,8 @@ impl Allocator {
         }
     }
 
-    // Lets a table that was placed in a room in memory become the refcount table. The clusters of the old one wait to be freed then, in the
-    // room that is held for them.
+    // Makes a table, which already has its cluster in a free area, the image's refcount table. The old table's clusters go to the list, in
+    // the reserved slot.
     fn enter_free_area<S: Storage>(
         &mut self,
         file: &mut ImageFile<S>,
@@ -175,7 +176,7 @@ impl Allocator {
         ensures mark { first_free_of self.new ≡ first_free_of self.old }
     {
         let clusters = file.header.reftable_clusters();
-        // No sound image has a refcount table of no clusters.
+        // The refcount table of a consistent image has at least one cluster.
         if clusters.0 == 0 {
             list.release(hold);
             return Err(Fault::DamagedTable);
@@ -195,7 +196,7 @@ impl Allocator {
         }
     }
 
-    // A copy of the refcount table that has grown in memory until it holds an index.
+    // Returns a copy of the refcount table in memory that is long enough for an entry at `at`.
     pub(super) fn grown_copy(&self, header: &Header, at: usize) -> Result<RefTable, Fault>
         requires past { length (table_of self.now).raw_entries ≤ at }
         ensures ok { IfOk result (IsGrownFor header.now.fields (table_of self.now) at) }
@@ -207,7 +208,8 @@ impl Allocator {
         self.reftable.clone_and_grow(self.alloc, header, at)
     }
 
-    // Where the search for a room begins: at the mark, or where the clusters end that the refcount table can count.
+    // Returns the start of the search for a free area: the first-free hint, or the end of the clusters that the table can count if that is
+    // less.
     fn free_area_start(&self, rb_bits: u32) -> HostCluster
         requires { rb_bits ≤ 24 }
         ensures { result ≡ min (first_free_of self.now) (length (table_of self.now).raw_entries * 2 ^ rb_bits) }
@@ -216,7 +218,7 @@ impl Allocator {
         HostCluster(self.first_free_cluster.0.min(end.0))
     }
 
-    // Places a copy of the refcount table in memory behind the blocks that are lacking for a run, and lets it name these.
+    // Sets the cluster of a grown copy: after the missing blocks of the free area. Makes the copy reference these blocks.
     fn place_copy(&self, copy: &mut RefTable, header: &Header, room: Run) -> Result<(), Fault>
         requires copy { IsCopyFor header.now.fields (table_of self.now) room copy.old }
         requires fits { room.first + room.len + 2 ^ 24 < 2 ^ 64 }

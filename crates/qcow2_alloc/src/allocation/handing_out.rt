@@ -1,5 +1,4 @@
-//! Clusters are counted and handed out. qemu and imago allocate them: their refcounts come to be above 0, and they are pending, imago's
-//! `PendingClusters`.
+//! Allocates runs of clusters and single clusters: their refcounts become 1, and they are returned as pending (not yet referenced).
 ghost use Rattle.std.specs.Prelude.{◌≡◌, ◌<◌, ◌+◌, ◌^◌, ◌≢◌, ◌==◌, ◌≤◌, ◌/◌, List, IfOk, OnErr, OnOk, slice_index, true};
 ghost use Rattle.qcow2_alloc.specs.Allocators.{first_free_of, table_of};
 ghost use Rattle.qcow2_alloc.specs.ReadyingRuns.{Allocates, LeavesUntouched, first_free_after};
@@ -19,18 +18,19 @@ use imago_storage::{Fault, Storage};
 use qcow2_metadata::Table;
 use qcow2_types::{ClusterCount, ClustersToFreeEntry, HostCluster, PendingClusters};
 
-// Whether a cluster has what counts it: a word of the refcount table, or also the block that this names.
+// Says whether the refcount table has an entry for a cluster, or also references its block.
 #[derive(Clone, Copy)]
 enum Readiness {
-    // It has that.
+    // The cluster has it.
     Ready,
-    // There is no place for a refcount table that long.
+    // The refcount table can't grow that far.
     NoPlace,
 }
 
 impl Allocator {
-    // Counts the first run of so many clusters, from the mark on, that aren't counted, and hands it out. One of none begins at the mark.
-    // The list holds room for its entry already. Before it has begun it only searches.
+    // Allocates the first run of `count` free clusters from the first-free hint on. If `count` is 0, the run starts at the hint.
+    //
+    // The caller has reserved the slot for their entry. Until `begun` is set, the call only searches.
     pub(super) fn allocate<S: Storage>(
         &mut self,
         file: &mut ImageFile<S>,
@@ -51,13 +51,13 @@ impl Allocator {
             return Ok(pending_run(self.first_free_cluster, count, metadata));
         }
         let first = self.ready_run(file, caches, list, count.0, begun)?;
-        // Where this refuses, what was counted of the run leaks.
+        // If this fails, the clusters whose refcounts were already set leak.
         self.count_run(file, caches, first, count.0)?;
         self.first_free_cluster = next_first_free(self.first_free_cluster, first, count);
         Ok(pending_run(first, count, metadata))
     }
 
-    // Frees what waits, announces the order, and hands out clusters. The list holds room for their entry already.
+    // Frees the clusters on the list, makes L2 tables depend on blocks, and allocates. The caller has reserved the slot for the new entry.
     pub(super) fn free_and_allocate<S: Storage>(
         &mut self,
         file: &mut ImageFile<S>,
@@ -82,7 +82,7 @@ impl Allocator {
         self.allocate(file, caches, list, count, metadata, begun)
     }
 
-    // Announces the order, and hands out a cluster where it is free. The list holds room for its entry already.
+    // Makes L2 tables depend on blocks, and allocates a cluster if it is free. The caller has reserved the slot for its entry.
     pub(super) fn announce_and_allocate_at<S: Storage>(
         &mut self,
         file: &mut ImageFile<S>,
@@ -98,7 +98,7 @@ impl Allocator {
         self.allocate_at(file, caches, list, cluster)
     }
 
-    // Hands out a cluster where it is free, while blocks are written before tables.
+    // Allocates a cluster if it is free. L2 tables depend on blocks already.
     fn allocate_at<S: Storage>(
         &mut self,
         file: &mut ImageFile<S>,
@@ -119,7 +119,7 @@ impl Allocator {
         }
     }
 
-    // Lets the refcount table grow until it has a word for a cluster, unless there is no place for a table that long.
+    // Grows the refcount table until it has an entry for a cluster. The result is `NoPlace` if the table can't grow that far.
     fn ensure_entry<S: Storage>(
         &mut self,
         file: &mut ImageFile<S>,
@@ -147,7 +147,8 @@ impl Allocator {
         }
     }
 
-    // Gives a cluster that words can name a counter, unless there is no place for a refcount table that names its block.
+    // Makes sure that a block has the refcount of an addressable cluster. The result is `NoPlace` if the refcount table can't grow that
+    // far.
     fn ensure_counter<S: Storage>(
         &mut self,
         file: &mut ImageFile<S>,
@@ -168,7 +169,7 @@ impl Allocator {
         Ok(Readiness::Ready)
     }
 
-    // Hands out a cluster that a block counts, where it is free.
+    // Allocates a cluster if it is free. A block has its refcount.
     fn allocate_one<S: Storage>(
         &mut self,
         file: &mut ImageFile<S>,
@@ -189,7 +190,7 @@ impl Allocator {
         self.count_one(file, caches, cluster)
     }
 
-    // Counts a cluster that isn't counted yet. The search for free clusters goes on behind it where it would have begun there.
+    // Sets the refcount of a free cluster to 1. If the first-free hint is this cluster, it moves to the next one.
     fn count_one<S: Storage>(
         &mut self,
         file: &mut ImageFile<S>,
@@ -216,7 +217,7 @@ impl Allocator {
     }
 }
 
-// A run of clusters that are to be named, of metadata or of the guest's data.
+// Returns a run of clusters of metadata or of guest data, for tables to reference.
 fn pending_run(first: HostCluster, count: ClusterCount, metadata: bool) -> PendingClusters
     ensures { result ≡ record { first = first; count = count; metadata = metadata } }
 {
@@ -227,7 +228,7 @@ fn pending_run(first: HostCluster, count: ClusterCount, metadata: bool) -> Pendi
     }
 }
 
-// Where the search for free clusters begins once a run is counted that it found.
+// Returns the first-free hint after the allocation of a run that was searched for from the hint on.
 fn next_first_free(mark: HostCluster, first: HostCluster, count: ClusterCount) -> HostCluster
     requires fits { first + count < 2 ^ 64 }
     ensures { result ≡ first_free_after mark count first }
@@ -235,14 +236,14 @@ fn next_first_free(mark: HostCluster, first: HostCluster, count: ClusterCount) -
     if first == mark {
         first + count
     } else if count == ClusterCount(1) {
-        // Each cluster from the mark to it is counted.
+        // All clusters from the hint up to this one are allocated.
         HostCluster(first.0 + 1)
     } else {
         mark
     }
 }
 
-// Whether a call was refused since there is no place left.
+// Returns true if the fault is `Fault::Limit`.
 fn is_limit(fault: Fault) -> bool
     ensures { result ≡ tells_limit fault }
 {

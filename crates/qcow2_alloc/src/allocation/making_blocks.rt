@@ -1,5 +1,5 @@
-//! Refcount blocks are made where there were none, and new ones are written to clusters that nothing names yet. A block is imago's
-//! refblock, which `ensure_rb` makes; qemu's call is `alloc_refcount_block`.
+//! Makes missing refcount blocks, and writes new blocks to clusters that nothing references yet. A new block is placed in a cluster that an
+//! earlier block counts (has the refcount of), or in the first cluster that it counts itself.
 ghost use Rattle.std.specs.Prelude.{IsTrue, ◌≡◌, ◌≢◌, ◌≤◌, ◌<◌, ◌*◌, ◌+◌, ◌/◌, ◌%◌, ◌^◌, ℕ, List, Some, true, OnOk, IfOk, IfErr, IsOkUnless, Err, length, replicate, slice_index, slice_set, ◌-◌};
 ghost use Rattle.qcow2_metadata.specs.Blocks.{block_of};
 ghost use Rattle.qcow2_metadata.specs.Places.{IsAddressable, IsPlaced, place_of};
@@ -33,12 +33,12 @@ use qcow2_types::{ClusterCount, ClustersToFreeEntry, HostCluster, PendingCluster
 use std::alloc::Global;
 
 impl Allocator {
-    // Makes the block at an index of the refcount table, which has none there: in the first free cluster from the mark on that a block
-    // before it counts, or else in the first one that it counts itself.
+    // Makes the missing block at an index of the refcount table. It takes the first free cluster from the first-free hint on that an
+    // earlier block counts; otherwise the first cluster that the new block counts itself.
     //
-    // It refuses with `Fault::Limit` where that is out of reach; with `Fault::Memory`; with `Fault::Storage`; with `Fault::CacheFull`
-    // as the public calls do; and with `Fault::Counter` and `Fault::DamagedTable`, which no sound image has. Unless memory or the
-    // storage failed, nothing is handed out then.
+    // The call fails with `Fault::Limit` if that cluster isn't addressable; with `Fault::Memory`; with `Fault::Storage`; with
+    // `Fault::CacheFull` like the public calls; and with `Fault::Counter` and `Fault::DamagedTable`, which a consistent image rules out. If
+    // the call fails without a resource error (`Fault::Memory`, `Fault::Storage`), nothing is allocated.
     pub(super) fn make_block<S: Storage>(
         &mut self,
         file: &mut ImageFile<S>,
@@ -62,8 +62,10 @@ impl Allocator {
         }
     }
 
-    // Refuses a cluster that a word of the refcount table can't name: the first one, or one out of reach; and any, where the words
-    // themselves can't be written.
+    // Checks that an entry of the refcount table can reference a cluster, and that the table itself can be written.
+    //
+    // The call fails with `Fault::Limit` if the cluster isn't addressable. It fails with `Fault::DamagedTable` if it is cluster 0, or if
+    // the table has no valid offset.
     pub(super) fn check_place(&self, bits: u32, place: HostCluster) -> Result<(), Fault>
         requires { bits ≤ 21 }
         ensures ok { OnOk result (CanReference (table_of self.now) bits place × IsAddressable bits place) }
@@ -85,7 +87,7 @@ impl Allocator {
         Ok(())
     }
 
-    // The first cluster that the block at an index of the refcount table counts.
+    // Returns the first cluster that the block at an index of the refcount table counts.
     fn own_place(&self, index: usize, header: &Header) -> HostCluster
         requires { index < length (table_of self.now).raw_entries }
         ensures first { result ≡ index * counters_of_block header.now.fields }
@@ -94,8 +96,8 @@ impl Allocator {
         HostCluster::from_ref_indices(index, 0, header.rb_bits())
     }
 
-    // Writes a new block to its cluster, and then the word of the refcount table that names it. Where another block counts the cluster,
-    // it was taken for this one.
+    // Writes a new block to its cluster, and then the entry of the refcount table that references it. `taken` is the cluster if another
+    // block counts it.
     fn write_block<S: Storage>(
         &mut self,
         file: &mut ImageFile<S>,
@@ -122,7 +124,7 @@ impl Allocator {
             .write_entry(self.alloc, &mut file.image, index)
     }
 
-    // Makes a block in the first cluster that it counts.
+    // Makes a block in the first cluster that it counts itself.
     fn make_own_block<S: Storage>(
         &mut self,
         file: &mut ImageFile<S>,
@@ -142,12 +144,13 @@ impl Allocator {
         let place = self.own_place(index, &file.header);
         self.check_place(file.header.cluster_bits(), place)?;
         let block = own_block(self.alloc, &file.header, place)?;
-        // What is cached of this cluster was another block.
+        // A block that is cached for this cluster is stale.
         caches.rb_forget(place)?;
         self.write_block(file, index, block, None)
     }
 
-    // Makes a block in a cluster that another block counts, where that isn't counted yet: it is, and is written so before a word names it.
+    // Makes a block in a free cluster that another block counts. The cluster's refcount is in the file before an entry references the
+    // block.
     fn make_counted_block<S: Storage>(
         &mut self,
         file: &mut ImageFile<S>,
@@ -169,16 +172,16 @@ impl Allocator {
         }
         self.check_place(file.header.cluster_bits(), place)?;
         let block = cleared_block(self.alloc, &file.header, place)?;
-        // What is cached of this cluster was another block.
+        // A block that is cached for this cluster is stale.
         caches.rb_forget(place)?;
         self.count_cluster(file, caches, place)?;
         caches.flush_rb(file)?;
         self.write_block(file, index, block, Some(place))
     }
 
-    // Writes the blocks that are lacking for a run to its first clusters, in the order of their indices. Nothing names them yet.
+    // Writes the missing blocks of a run to its first clusters, in the order of their indices. Nothing references them yet.
     //
-    // It refuses with `Fault::Memory` and `Fault::Storage`.
+    // The call fails with `Fault::Memory` and `Fault::Storage`.
     pub(super) fn write_new_blocks<S: Storage>(
         &self,
         file: &mut ImageFile<S>,
@@ -205,7 +208,8 @@ impl Allocator {
         Ok(())
     }
 
-    // Writes a new block for an index of the refcount table to a cluster of a run: it counts those clusters of the run that are its own.
+    // Writes the new block for an index of the refcount table to a cluster of a run. It counts those clusters of the run that belong to the
+    // block.
     fn write_new_block<S: Storage>(
         &self,
         file: &mut ImageFile<S>,
@@ -225,7 +229,7 @@ impl Allocator {
     }
 }
 
-// A block that is to stand in a cluster, and counts nothing.
+// Returns a block for a cluster, with all refcounts 0.
 fn cleared_block(alloc: Global, header: &Header, place: HostCluster) -> Result<RefBlock, Fault>
     ensures ok { IfOk result (λ block. block ≡ block_of header.now.fields.cluster_bits header.now.fields.refcount_order
         (replicate (counters_of_block header.now.fields) 0) (Some place) true) }
@@ -236,7 +240,7 @@ fn cleared_block(alloc: Global, header: &Header, place: HostCluster) -> Result<R
     Ok(block)
 }
 
-// A block that is to stand in a cluster, and counts this alone.
+// Returns a block for a cluster, with refcount 1 for this cluster and 0 for all others.
 fn own_block(alloc: Global, header: &Header, place: HostCluster) -> Result<RefBlock, Fault>
     ensures ok { IfOk result (λ block. block ≡ block_of header.now.fields.cluster_bits header.now.fields.refcount_order
         (slice_set (replicate (counters_of_block header.now.fields) 0) (place % counters_of_block header.now.fields) 1) (Some place) true) }
@@ -250,12 +254,12 @@ fn own_block(alloc: Global, header: &Header, place: HostCluster) -> Result<RefBl
     }
 }
 
-// A cluster that was counted, and is to be named.
+// Returns an allocated cluster as pending metadata, for an entry to reference.
 fn pending_cluster(cluster: HostCluster) -> PendingClusters {
     PendingClusters::new(ClustersToFreeEntry::metadata(cluster, ClusterCount(1)))
 }
 
-// A block for an index of the refcount table, which counts those clusters of a run that are its own, and stands nowhere yet.
+// Returns a block for an index of the refcount table, without a cluster. It counts those clusters of a run that belong to the block.
 fn new_block(alloc: Global, header: &Header, index: usize, run: Run) -> Result<RefBlock, Fault>
     requires own { (index + 1) * counters_of_block header.now.fields < 2 ^ 64 }
     requires fits { next_of run < 2 ^ 64 }
@@ -271,7 +275,7 @@ fn new_block(alloc: Global, header: &Header, index: usize, run: Run) -> Result<R
     Ok(block)
 }
 
-// Raises the counters from one index to another, of a block that counts nothing.
+// Increments the refcounts from index `from` to before index `to` of a block with refcounts 0.
 fn count_row(block: &mut RefBlock, from: usize, to: usize)
     requires order { from ≤ to }
     requires inside { to ≤ length block.old.counters }

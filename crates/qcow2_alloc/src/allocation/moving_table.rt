@@ -1,5 +1,5 @@
-//! The room of a grown refcount table is filled: it is counted, blocks and table are written there, and the header names the table by one
-//! request. That is the second half of qemu's `qcow2_refcount_area` and of imago's `grow_reftable`.
+//! Writes a grown refcount table to its free area: sets the area's refcounts, writes its missing blocks and the table, and makes the header
+//! reference the table by one request.
 ghost use Rattle.std.specs.Prelude.{◌≡◌, ◌≢◌, ◌≤◌, ◌<◌, ◌+◌, ◌-◌, ◌*◌, ◌^◌, ℕ, List, OnOk, OnErr, IfErr, IsOkUnless, length};
 ghost use Rattle.qcow2_metadata.specs.Places.{IsAddressable};
 ghost use Rattle.qcow2_metadata.specs.Tables.{IsPlacedTable};
@@ -21,10 +21,10 @@ use qcow2_metadata::{Header, RefBlock, RefTable, Table};
 use qcow2_types::HostCluster;
 
 impl Allocator {
-    // Lets a copy of the refcount table that has grown take its room, which isn't counted, and become the image's.
+    // Writes a grown copy of the refcount table to a free area, and makes it the image's table.
     //
-    // It refuses with `Fault::Memory`; with `Fault::Storage`; with `Fault::CacheFull` as the public calls do, and then some of the room
-    // may be counted; and with `Fault::Counter` and `Fault::DamagedTable`, which no sound image has.
+    // The call fails with `Fault::Memory`; with `Fault::Storage`; with `Fault::CacheFull` like the public calls, and then some clusters of
+    // the area may leak; and with `Fault::Counter` and `Fault::DamagedTable`, which a consistent image rules out.
     pub(super) fn fill_free_area<S: Storage>(
         &mut self,
         file: &mut ImageFile<S>,
@@ -42,8 +42,8 @@ impl Allocator {
         self.move_table(file, table)
     }
 
-    // Counts a run of clusters that aren't counted, and writes the blocks that are lacking for that to its first ones. Those that old
-    // blocks count are counted in the file before new blocks are named.
+    // Sets the refcounts of a free area, and writes its missing blocks to its first clusters. Refcounts in old blocks are in the file
+    // before new blocks are referenced.
     fn take_free_area<S: Storage>(
         &self,
         file: &mut ImageFile<S>,
@@ -58,13 +58,13 @@ impl Allocator {
     {
         self.count_referenced(file, caches, room)?;
         caches.flush_rb(file)?;
-        // What is cached of these clusters was other blocks.
+        // Blocks that are cached for these clusters are stale.
         let blocks = self.lacking_for(room, file.header.rb_bits());
         forget_run(caches, room.first(), blocks)?;
         self.write_new_blocks(file, room)
     }
 
-    // Writes a table to its place, and then lets the header name it in place of the refcount table.
+    // Writes a table to its clusters, and then makes the header reference it instead of the old refcount table.
     fn move_table<S: Storage>(
         &mut self,
         file: &mut ImageFile<S>,
@@ -95,8 +95,7 @@ impl Allocator {
         }
     }
 
-    // Names the blocks that are lacking for a run by the words of a table: they are to stand in its first clusters, in the order of their
-    // indices.
+    // Makes entries of a table reference the missing blocks of a run: they are in its first clusters, in the order of their indices.
     pub(super) fn link_new_blocks(
         &self,
         table: &mut RefTable,
@@ -111,7 +110,7 @@ impl Allocator {
         ensures ok { OnOk result (LinksNewBlocks header.now.fields (table_of self.now) run table.old table.new) }
         ensures err { IsOkUnless result Fault.Memory }
     {
-        // It lends its place to each word.
+        // This block only carries the cluster for each entry.
         let mut block = RefBlock::new_cleared(self.alloc, header)?;
         let rb_bits = header.rb_bits();
         let HostCluster(end) = run.next();
@@ -129,7 +128,7 @@ impl Allocator {
     }
 }
 
-// Drops the refcount blocks in so many clusters from one on, as far as they are cached, without writing them. One that is pinned stops it.
+// Drops the cached refcount blocks of `count` clusters from `first` on, without writing them. It stops at a block that is pinned.
 fn forget_run<S: Storage>(
     caches: &mut MetadataCaches<S>,
     first: HostCluster,

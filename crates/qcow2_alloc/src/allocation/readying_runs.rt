@@ -1,5 +1,4 @@
-//! A run of free clusters is made ready to be counted: each of its clusters gets a counter. A counter is a refcount for qemu and imago, and
-//! the mark `free_cluster_index`, or `first_free_cluster`.
+//! Prepares a run of free clusters for allocation: makes the missing blocks that will have its refcounts, or grows the refcount table.
 ghost use Rattle.std.specs.Prelude.{true, ◌≡◌, ◌≤◌, IsTrue, List, OnOk, length, ◌≢◌, ◌<◌, ◌+◌, ◌-◌, ◌/◌, ◌^◌, ◌↔◌, IfOk, IfErr, Err};
 ghost use Rattle.qcow2_types.specs.Pending.{FreeEntry};
 ghost use Rattle.qcow2_alloc.specs.Allocating.{MakesBlocks};
@@ -23,17 +22,17 @@ use imago_storage::{Fault, Storage};
 use qcow2_metadata::{Header, RefTable, Table};
 use qcow2_types::HostCluster;
 
-// Whether what counts some clusters was all there, or something was made for that: blocks, or a longer refcount table.
+// Says whether all blocks for some clusters were there, or blocks were made or the refcount table has grown.
 #[derive(Clone, Copy, Drop)]
 pub(crate) enum Provision {
-    // All was there.
+    // All blocks were there.
     Complete,
-    // Something was made.
+    // A block was made, or the table has grown.
     Extended,
 }
 
 impl Allocator {
-    // Makes the blocks from an index to before another that there aren't yet.
+    // Makes the missing blocks from index `first` to before index `end`.
     pub(crate) fn ensure_blocks<S: Storage>(
         &mut self,
         file: &mut ImageFile<S>,
@@ -62,10 +61,11 @@ impl Allocator {
         Ok(provision)
     }
 
-    // Finds the first run of so many clusters, from the mark on, that aren't counted, and sees to it that each has a block. A block or
-    // a table that is made for that takes clusters itself, so the run is searched for again then. The table grows once at most: where there
-    // is room, one that has grown counts the run that is found then. A refusal for want of room tells the run's last cluster, or what a
-    // growth of the table does. Behind the first search it has begun: what comes then may change something.
+    // Finds the first run of `count` free clusters from the first-free hint on, and makes sure that each has a block.
+    //
+    // A block or a table that is made takes clusters itself, so the run is searched for again after that. The table grows at most once: if
+    // there is enough space, the grown table has entries for the run that is found then. `Fault::Limit` has the last cluster of the run, or
+    // the number of the failed growth. `begun` is set after the first search: from then on, the call may change something.
     pub(super) fn ready_run<S: Storage>(
         &mut self,
         file: &mut ImageFile<S>,
@@ -104,7 +104,7 @@ impl Allocator {
         }
     }
 
-    // Whether the refcount table has more words than it had, and none at an index still.
+    // Returns true if the refcount table now has more than `entries` entries, and still none at `index`.
     fn has_grown_short_of(&self, entries: usize, index: usize) -> bool
         ensures { IsTrue result ↔ ((entries < length (table_of self.now).raw_entries) × (length (table_of self.now).raw_entries ≤ index)) }
     {
@@ -112,8 +112,8 @@ impl Allocator {
         entries < now && now <= index
     }
 
-    // Makes the blocks that there aren't yet from an index to another, where the refcount table has words for them, and else lets it grow:
-    // for a run of so many clusters, and beyond, as it takes clusters itself.
+    // Makes the missing blocks from index `first` to index `last`. If the refcount table has no entry at `last`, it grows instead: for a
+    // run of `count` clusters, and further, as the table takes clusters itself.
     fn ready_blocks<S: Storage>(
         &mut self,
         file: &mut ImageFile<S>,
@@ -138,8 +138,10 @@ impl Allocator {
     }
 }
 
-// The index of the block that counts the last cluster of a run, unless no such run can be counted: words can't name its last cluster, or
-// no refcount table has a word for that one's block.
+// Returns the index of the block that has the refcount of a run's last cluster.
+//
+// The call fails with `Fault::Limit` if the last cluster isn't addressable, or if no refcount table can have an entry for it. It fails with
+// `Fault::DamagedTable` if the run starts at cluster 0.
 fn last_index(first: HostCluster, count: u64, header: &Header) -> Result<usize, Fault>
     requires nonempty { 1 ≤ count }
     ensures start { IfOk result (λ last. first ≢ 0) }

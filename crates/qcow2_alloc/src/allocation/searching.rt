@@ -1,5 +1,5 @@
-//! How free clusters are searched for, through the blocks that the refcount table names. A free cluster has refcount 0 for qemu and imago.
-//! A search begins at the mark: qemu's `free_cluster_index`, imago's `first_free_cluster`.
+//! Searches for free clusters, through the blocks that the refcount table references. A free cluster has refcount 0. A search starts at the
+//! first-free hint or at a given cluster.
 ghost use Rattle.std.specs.Prelude.{◌≡◌, ◌≤◌, ◌<◌, ◌+◌, ◌*◌, ◌/◌, ◌%◌, ◌^◌, if◌then◌else◌, length};
 ghost use Rattle.qcow2_types.specs.Counts.{counters_of_block};
 ghost use Rattle.qcow2_alloc.specs.Allocators.{table_of, UsesBlock};
@@ -14,7 +14,7 @@ use imago_storage::{Fault, Storage};
 use qcow2_metadata::{RefBlock, Table};
 use qcow2_types::HostCluster;
 
-// A run of clusters that aren't counted, as far as a search has come.
+// A run of free clusters, as found up to this point of a search.
 #[derive(Clone, Copy)]
 pub(crate) struct Run {
     pub(crate) first: HostCluster,
@@ -22,21 +22,21 @@ pub(crate) struct Run {
 }
 
 impl Run {
-    // Its first cluster.
+    // Returns the first cluster.
     pub(crate) fn first(&self) -> HostCluster
         ensures { result ≡ self.now.first }
     {
         self.first
     }
 
-    // The number of its clusters.
+    // Returns the number of clusters.
     pub(crate) fn len(&self) -> u64
         ensures { result ≡ self.now.len }
     {
         self.len
     }
 
-    // The cluster behind it.
+    // Returns the cluster after the run.
     pub(crate) fn next(&self) -> HostCluster
         requires { next_of self.now < 2 ^ 64 }
         ensures { result ≡ next_of self.now }
@@ -44,7 +44,7 @@ impl Run {
         HostCluster(self.first.0 + self.len)
     }
 
-    // The run once the cluster behind it is known: with it where it is free, else none yet, behind it.
+    // Returns the run after one more cluster is known: extended by the cluster if it is free, otherwise empty and after the cluster.
     fn then(&self, is_free: bool) -> Run
         requires { next_of self.now + 1 < 2 ^ 64 }
         ensures { result ≡ (if is_free then record { first = self.now.first; len = self.now.len + 1 } else
@@ -65,7 +65,7 @@ impl Run {
 }
 
 impl Allocator {
-    // The first run of `count` clusters, from one on, that aren't counted. A cluster that no block counts isn't counted.
+    // Returns the start of the first run of `count` free clusters from `from` on. A cluster without a block is free.
     pub(super) fn find_run<S: Storage>(
         &self,
         file: &mut ImageFile<S>,
@@ -87,7 +87,7 @@ impl Allocator {
         Ok(run.first)
     }
 
-    // A run with what the block of the cluster behind it says of that cluster and of more.
+    // Extends a run by what the block of the next cluster says about that cluster and later ones.
     fn extend_run<S: Storage>(
         &self,
         file: &mut ImageFile<S>,
@@ -112,7 +112,7 @@ impl Allocator {
         }
     }
 
-    // The first cluster from one on that a block before the one at an index counts, and counts 0 times.
+    // Returns the first free cluster from `from` on that has a block, among the blocks before index `end`.
     pub(super) fn find_counted<S: Storage>(
         &self,
         file: &mut ImageFile<S>,
@@ -135,7 +135,7 @@ impl Allocator {
         Ok(None)
     }
 
-    // The same in the block of that cluster.
+    // Like `find_counted`, but only in the block of `from`.
     pub(super) fn find_in_block<S: Storage>(
         &self,
         file: &mut ImageFile<S>,
@@ -159,7 +159,7 @@ impl Allocator {
     }
 }
 
-// A run with what the counters of a block from an index on say, until it has `count` clusters or the block ends.
+// Extends a run by the refcounts of a block from an index on, until it has `count` clusters or the block ends.
 fn scan(block: &RefBlock, index: usize, run: Run, count: u64) -> Run
     requires short { run.len < count }
     requires inside { index < length block.now.counters }
@@ -176,7 +176,7 @@ fn scan(block: &RefBlock, index: usize, run: Run, count: u64) -> Run
     scanned
 }
 
-// The same in a block that has `entries` counters, or it is damaged.
+// Like `scan`, but fails with `Fault::DamagedTable` if the block doesn't have `entries` refcounts.
 fn scan_whole(
     block: &RefBlock,
     entries: usize,
@@ -196,7 +196,7 @@ fn scan_whole(
     }
 }
 
-// The same in the block in a cluster.
+// Calls `scan_whole` for the block in a cluster.
 fn scan_in<S: Storage>(
     caches: &mut MetadataCaches<S>,
     file: &mut ImageFile<S>,
@@ -216,14 +216,14 @@ fn scan_in<S: Storage>(
     scan_whole(block, entries, index, run, count)
 }
 
-// The first counter of a block from an index on that is 0.
+// Returns the index of the first refcount of a block that is 0, from an index on.
 fn find_zero(block: &RefBlock, index: usize) -> Option<usize>
     ensures { FindsZero index block.now.counters result }
 {
     (index..block.entries()).find(|at| block.is_zero(*at))
 }
 
-// The same in a block that has `entries` counters, or it is damaged.
+// Like `find_zero`, but fails with `Fault::DamagedTable` if the block doesn't have `entries` refcounts.
 fn find_zero_whole(block: &RefBlock, entries: usize, index: usize) -> Result<Option<usize>, Fault>
     ensures { Reads entries (FindsZero index) block.now result block.now }
 {
@@ -234,7 +234,7 @@ fn find_zero_whole(block: &RefBlock, entries: usize, index: usize) -> Result<Opt
     }
 }
 
-// The same in the block in a cluster.
+// Calls `find_zero_whole` for the block in a cluster.
 fn find_zero_in<S: Storage>(
     caches: &mut MetadataCaches<S>,
     file: &mut ImageFile<S>,

@@ -64,7 +64,7 @@ returns-in_err-count_run-clause-allocates g c = rw (handed-on _ _ c.from_residua
 pub returns-then-eq-clause-untouched_unless_begun : goal.returns-then-eq-clause-untouched_unless_begun
 returns-then-eq-clause-untouched_unless_begun g c = λ not. (not, refl, refl, refl, clean-none g.S.Storage.state c.args.caches.now c.args.file.now)
 
--- What is counted is so behind the search.
+-- `ready_run` has set `begun`.
 pub returns-clause-untouched_unless_begun : goal.returns-clause-untouched_unless_begun
 returns-clause-untouched_unless_begun g c = λ not. let is = sym c.in_ok-first.ensures.begins ∙ not in absurd (cc is)
 

@@ -19,11 +19,11 @@ use Rattle.qcow2_alloc.proofs.Faults.{handed-on}
 use Rattle.qcow2_alloc.proofs.allocation.Allocator.count_referenced.Goals as goal
 use Rattle.qcow2_alloc.proofs.allocation.Allocator.count_referenced.Goals.{then-is_some+in_ok-count_cluster, else-is_some}
 
--- The word that the code looks at is the one for the cluster,
+-- The entry that the code looks at is the one for the cluster.
 word-of : (cluster next bits index : ℕ) (h h' : Header) → index ≡ cluster / 2 ^ bits → cluster ≡ next → 2 ^ bits ≡ counters_of_block h.fields → h' ≡ h → index ≡ next / counters_of_block h'.fields
 word-of cluster next bits index h h' is at size same = is ∙ ap (λ n. n / 2 ^ bits) at ∙ ap (λ n. next / n) (size ∙ ap (λ (H : Header). counters_of_block H.fields) (sym same))
 
--- and says whether its block is named.
+-- The entry shows if the cluster has a block.
 some-block : (table : TableValue) (index at : ℕ) (o : Option ℕ) → o ≡ referenced_block table index → index ≡ at → true ≡ is_some o → block_offset (slice_index table.raw_entries at) ≢ 0
 some-block table index at o is same some = subst (λ n. block_offset (slice_index table.raw_entries n) ≢ 0) same (named-some table index (ap (λ (q : Option ℕ). is_some q) (sym is) ∙ sym some))
 

@@ -24,7 +24,7 @@ returns-then-clusters-eq0-clause-fills g c = λ before file free.
     (not-begun state known table c.args.list.now.entries c.args.room c.args.table c.args.caches.now c.args.file.now DamagedTable
     (λ all. some-clusters _ all.2 (sym c.reftable_clusters-clusters.ensures ∙ sym c.clusters.view_is ∙ c.if-clusters-eq0.true)))
 
--- the clusters of the old table as an entry
+-- The clusters of the old table as a free-list entry.
 run-is : (h : Fields) (clusters first : ℕ) (e : FreeEntry) → clusters ≢ 0 → clusters ≡ h.refcount_table_clusters → first ≡ h.refcount_table_offset / cluster_size h → e ≡ record { first = first; count = clusters; metadata = true } → e ∷ [] ≡ table_run h
 run-is h clusters first e some is at made =
     let there : h.refcount_table_clusters ≢ 0 = λ none. some (is ∙ none) in

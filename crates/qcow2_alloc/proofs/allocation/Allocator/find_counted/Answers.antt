@@ -16,7 +16,7 @@ use Rattle.qcow2_alloc.proofs.allocation.Allocator.find_counted.Goals.{After-fin
 abbrev k : (g : Over) → After-find_in_block g → ℕ
 k g c = counters_of_block c.args.file.now.header.fields
 
--- the end of the block of the next cluster
+-- The end of the next cluster's block.
 abbrev end : (g : Over) → After-find_in_block g → ℕ
 end g c = (c.loop-next.next / k g c + 1) * k g c
 

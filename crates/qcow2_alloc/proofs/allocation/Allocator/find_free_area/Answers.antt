@@ -11,11 +11,9 @@ use Rattle.qcow2_alloc.proofs.Growth.RoomSearchProgress.{rooms-first, rooms-foun
 use Rattle.qcow2_alloc.proofs.Faults.{handed-on}
 use Rattle.qcow2_alloc.proofs.allocation.Allocator.find_free_area.Goals as goal
 
--- A block has at least 64 counters, and at most 2^24.
 wide : (bits k : ℕ) → 2 ^ bits ≡ k → 6 ≤ bits → 64 ≤ k
 wide bits k size least = let le : 2 ^ 6 ≤ 2 ^ bits = pow-le-pow_right (omega arith) least in omega (arith, le, size)
 
--- So the clusters of a table are fewer than 2^44.
 near : (len bits k : ℕ) → 2 ^ bits ≡ k → bits ≤ 24 → len ≤ 2 ^ 20 → len * k ≤ 2 ^ 20 * 2 ^ 24
 near len bits k size most few = let le : 2 ^ bits ≤ 2 ^ 24 = pow-le-pow_right (omega arith) most in let small : k ≤ 2 ^ 24 = omega (arith, le, size) in mul-le-mul few small
 

@@ -73,7 +73,7 @@ none-waits : (l : List FreeEntry) → (length l == 0) ≡ true → l ≡ []
 none-waits [] is = refl
 none-waits (e ∷ l) is = let none : length (e ∷ l) ≡ 0 = eqb-true (length (e ∷ l)) 0 is in absurd (omega (arith, none))
 
--- Where nothing waited to be freed, what is announced is all that was done.
+-- If the free list was empty, setting the order is all that was done.
 still-clean : {S : Type 0} (state : S → StorageState) (old mid new : MetadataCaches S) (before between after : ImageFile S) → mid ≡ old
     → between ≡ before
     → (AreTablesClean (cached_in mid) → AreBlocksClean (cached_in mid)

@@ -25,7 +25,7 @@ module _ (h : Fields) (table : TableValue) (at : ℕ) where
     | inr less ↦ absurd (other (few n enough less))
   ]
 
-  -- What isn't want of memory is a table that would be too long.
+  -- An error other than `Fault::Memory` means that the table would be too long.
   why-not : (r : Result TableValue Fault) → (((n : ℕ) → IsEnough (entries_of_cluster h) (counters_of_block h) at n → 2 ^ 20 < n) → IsErrOf r (Limit (2 ^ 20 + entries_of_cluster h)))
       → ((n : ℕ) → IsEnough (entries_of_cluster h) (counters_of_block h) at n → n ≤ 2 ^ 20 → IsOkUnless r Memory) → IfErr r (HasCause (growing_causes h table at))
   why-not (Ok copy) limit few = tt

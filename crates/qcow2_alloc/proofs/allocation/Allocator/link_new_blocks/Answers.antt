@@ -15,14 +15,13 @@ use Rattle.qcow2_alloc.proofs.Blocks.NewBlockWrites.{run-fits}
 use Rattle.qcow2_alloc.proofs.allocation.Allocator.link_new_blocks.Goals as goal
 use Rattle.qcow2_alloc.proofs.allocation.Allocator.link_new_blocks.Goals.{then-is_none, else-is_none}
 
--- A block has some counters, and not many.
 some-of : (r k : ℕ) → 2 ^ r ≡ k → 0 < k
 some-of r k is = let some = pow_pos r in omega (arith, some, is)
 
 few-of : (r k : ℕ) → 2 ^ r ≡ k → r ≤ 24 → k ≤ 2 ^ 24
 few-of r k is le = let few : 2 ^ r ≤ 2 ^ 24 = pow-le-pow_right (omega arith) le in omega (arith, few, is)
 
--- The first cluster of a block by its index.
+-- The first cluster of a block, by the block's index.
 first-of : (i r k at : ℕ) → 2 ^ r ≡ k → at ≡ i * 2 ^ r + 0 → at ≡ i * k
 first-of i r k at is place = let same : i * 2 ^ r ≡ i * k = ap (λ n. i * n) is in omega (arith, same, place)
 

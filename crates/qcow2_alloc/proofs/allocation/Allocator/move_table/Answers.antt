@@ -22,7 +22,7 @@ returns-in_err-write-clause-moves g c = rw (handed-on _ _ c.from_residual.ensure
   err = (refl, moved-none c.args.file.now.header c.args.file.now.header refl);
 })
 
--- the header that names the table
+-- The header that references the table.
 pub returns-in-Ok-clause-moves : goal.returns-in-Ok-clause-moves
 returns-in-Ok-clause-moves g c =
     let named : c.set_reftable.new.self ≡ naming_table c.args.file.now.header c.args.table = c.set_reftable.ensures.fields ∙ ap (λ (t : TableValue). naming_table c.args.file.now.header t) c.in_ok-write.ensures.ok in

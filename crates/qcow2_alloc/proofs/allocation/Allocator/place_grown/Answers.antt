@@ -24,7 +24,7 @@ returns-in-Err-clause-grows g c = λ at grown.
     (sym (ap (λ (l : FreeList). l.entries) c.release.ensures))
     (no-room g.S.Storage.state at s c.in-Err.fault c.find_free_area-2.new.caches c.find_free_area-2.new.file c.in-Err.ensures.looks.looked)
 
--- A grown copy has some clusters, which its words fill,
+-- A grown copy has some clusters, and its entries fill them.
 filled : (h : Fields) (table : TableValue) (at : ℕ) (copy : TableValue) → 9 ≤ h.cluster_bits → IsGrownFor h table at copy → clusters_of copy h.cluster_bits * entries_of_cluster h ≡ length copy.raw_entries
 filled h table at copy low grown = whole_entries h (length copy.raw_entries) low (whole-fill h (length copy.raw_entries) low grown.long.enough.whole)
 
@@ -38,7 +38,6 @@ some-clusters h table at copy low grown = elim (cases_lt 0 (clusters_of copy h.c
       absurd (omega (arith, above, all, zero))
 ]
 
--- and not many.
 few-clusters : (bits : ℕ) (copy : TableValue) → bits ≤ 21 → length copy.raw_entries ≤ 2 ^ 20 → clusters_of copy bits ≤ 2 ^ 24
 few-clusters bits copy high long =
     let le : clusters_of copy bits ≤ 8 * length copy.raw_entries + (2 ^ bits - 1) = div-le_self (8 * length copy.raw_entries + (2 ^ bits - 1)) (2 ^ bits) in

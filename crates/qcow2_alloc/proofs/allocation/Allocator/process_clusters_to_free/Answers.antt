@@ -77,7 +77,7 @@ returns-then-is_empty-clause-idle g c = λ none. let idle = c.in_ok-free_metadat
 pub returns-in_err-free_metadata-clause-idle : goal.returns-in_err-free_metadata-clause-idle
 returns-in_err-free_metadata-clause-idle g c = λ none. let never = (c.in_err-free_metadata.ensures.idle (ap metadata_in none)).0 in absurd (cc never)
 
--- An empty list is empty still once the metadata on it is freed.
+-- An empty list is still empty after its metadata is freed.
 pub returns-then-external_data_file-clause-idle : goal.returns-then-external_data_file-clause-idle
 returns-then-external_data_file-clause-idle g c = λ none. let yes = c.is_empty.ensures ∙ ap (λ (l : List FreeEntry). length l == 0) (c.in_ok-free_metadata.ensures.ok ∙ ap data_in none) in let no = sym yes ∙ c.if-is_empty.false in absurd (cc no)
 

@@ -64,7 +64,7 @@ returns-then-has_grown_short_of-clause-readies g c =
     c.saturating_add.result (subst (λ (z : ℕ). c.saturating_add.result ≡ last_number z c.args.count) c.first.view_is c.saturating_add.ensures) (omega (arith, long, more)) (omega (arith, less, index))
     (subst (λ (m : ℕ). Stays state s m c.args.count so_far) (sym l.invariant.1) l.invariant.4))
 
--- The table that has grown has a word for the last cluster of the run where that wasn't refused.
+-- A table that has grown has an entry for the last cluster of the run, unless the call failed.
 covers : (entries now last first : ℕ) (short : Bool) → short ≡ false → (entries < now → now ≤ last → IsTrue short) → entries ≡ first → first < now → last < now
 covers entries now last first short not said is longer = elim (cases_lt last now) [
   | inl inside ↦ inside
@@ -162,7 +162,7 @@ returns-in_err-ready_blocks-clause-readies g c = rw (handed-on _ _ c.from_residu
     index c.in_ok-last_index.ensures.index c.in_ok-last_index.ensures.reach kept c.in_err-ready_blocks.field-0.0 s' c.in_err-ready_blocks.ensures.readies
     (covers _ (length (table_of l.self).raw_entries) c.in_ok-last_index.last_index (length (table_of c.args.self.now).raw_entries) c.has_grown_short_of.result c.if-has_grown_short_of.false (λ a b. c.has_grown_short_of.ensures.1 (a, b)) l.invariant.3)))
 
--- Before the first search nothing was done.
+-- Nothing was done before the first search.
 pub returns-in_err-first-clause-untouched_unless_begun : goal.returns-in_err-first-clause-untouched_unless_begun
 returns-in_err-first-clause-untouched_unless_begun g c = λ not.
     let state = g.S.Storage.state in

@@ -28,7 +28,7 @@ returns-in_err-flush_rb g c = rw (handed-on _ _ c.from_residual-in_err-flush_rb.
       taken = λ order keeps sound zero. tt;
     })
 
--- how many blocks are lacking, by the header as it is then and as it was
+-- The number of missing blocks, by the header now and by the header before.
 lacking-so : (table : TableValue) (run : Run) (h h' : Header) (bits n : ℕ) → h' ≡ h → 2 ^ bits ≡ counters_of_block h'.fields → n ≡ lacking table (2 ^ bits) run.first run.len → lacking table (counters_of_block h.fields) run.first run.len ≤ run.len
     → (n ≡ lacking table (counters_of_block h'.fields) run.first run.len) × (n ≤ run.len)
 lacking-so table run h h' bits n same size is few =

@@ -10,7 +10,7 @@ use Rattle.qcow2_alloc.specs.Allocators.{table_of}
 use Rattle.qcow2_alloc.proofs.Faults.{handed-on}
 use Rattle.qcow2_alloc.proofs.allocation.Allocator.write_block.Goals as goal
 
--- A table that is as it was, or was made modified, has its words still.
+-- A table that is unchanged, or only set to dirty, has the same entries.
 as-it-was : (r : Result Unit Fault) (t t' : TableValue) → OnOk r (t' ≡ t) → OnErr r (t' ≡ record t { modified = true }) → (m : Bool) × (t' ≡ record t { modified = m })
 as-it-was (Ok done) t t' ok err = (t.modified, ok)
 as-it-was (Err fault) t t' ok err = (true, err)

@@ -22,14 +22,13 @@ use Rattle.qcow2_alloc.proofs.Faults.{handed-on}
 use Rattle.qcow2_alloc.proofs.allocation.Allocator.write_new_blocks.Goals as goal
 use Rattle.qcow2_alloc.proofs.allocation.Allocator.write_new_blocks.Goals.{then-is_none+in_ok-write_new_block, else-is_none}
 
--- A block has some counters, and not many.
 some-of : (r k : ℕ) → 2 ^ r ≡ k → 0 < k
 some-of r k is = let some = pow_pos r in omega (arith, some, is)
 
 few-of : (r k : ℕ) → 2 ^ r ≡ k → r ≤ 24 → k ≤ 2 ^ 24
 few-of r k is le = let few : 2 ^ r ≤ 2 ^ 24 = pow-le-pow_right (omega arith) le in omega (arith, few, is)
 
--- The first cluster of a block by its index.
+-- The first cluster of a block, by the block's index.
 first-of : (i r k at : ℕ) → 2 ^ r ≡ k → at ≡ i * 2 ^ r + 0 → at ≡ i * k
 first-of i r k at is place = let same : i * 2 ^ r ≡ i * k = ap (λ n. i * n) is in omega (arith, same, place)
 
@@ -56,7 +55,7 @@ from_ref_indices-requires-clause-fits g c =
     let fits = run-fits c.args.file.now.header.fields.cluster_bits c.args.run.first c.args.run.len c.requires.reach in
     omega (arith, same, few, near, fits)
 
--- Where a block is lacking the run has a cluster for it.
+-- If a block is missing, the run has a cluster for it.
 room-here : (h : Header) (t : TableValue) (run : Run) (r i written at end : ℕ) → 2 ^ r ≡ counters_of_block h.fields → lacking t (counters_of_block h.fields) run.first run.len ≤ run.len → written ≡ rank (lack h t run) i
     → run.first / counters_of_block h.fields ≤ i → at ≡ i * 2 ^ r + 0 → end ≡ run.first + run.len → at < end → block_offset (slice_index t.raw_entries i) ≡ 0 → (rank (lack h t run) (suc i) ≡ rank (lack h t run) i + 1) × (written + 1 ≤ run.len)
 room-here h t run r i written at end entries room is from place stop lt none =

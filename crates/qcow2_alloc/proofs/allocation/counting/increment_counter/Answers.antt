@@ -6,7 +6,7 @@ use Rattle.std.proofs.Math.Nat.{pow-le-pow_right}
 use Rattle.qcow2_metadata.specs.Blocks.{Block}
 use Rattle.qcow2_alloc.proofs.allocation.counting.increment_counter.Goals as goal
 
--- A counter has one bit at least.
+-- A counter has at least one bit.
 pub returns-in_err-_value : goal.returns-in_err-_value
 returns-in_err-_value c =
     let bits = pow_pos c.args.block.now.order in

@@ -6,7 +6,7 @@ use Rattle.qcow2_metadata.specs.Blocks.{Block}
 use Rattle.qcow2_alloc.proofs.Blocks.RunCounts.{covers-behind}
 use Rattle.qcow2_alloc.proofs.allocation.making_blocks.count_row.Goals as goal
 
--- A counter has one bit at least, and this one is zero still.
+-- A counter has at least one bit, and this one is still 0.
 pub unreachable-requires : goal.unreachable-requires
 unreachable-requires c =
     let bits = pow_pos c.loop-index.block.order in
