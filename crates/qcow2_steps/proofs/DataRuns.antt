@@ -1,4 +1,4 @@
--- Clusters are written in which no table, block or header stands: the image stays sound, with each word, count and name.
+-- Writes to clusters without a header, table or block keep the image consistent, and each mapping, refcount and reference.
 use Rattle.std.proofs.Common.{◌≡◌, ◌≢◌, ℕ, ◌*◌, arith, sym, subst, ◌∙◌, inl, inr}
 use Rattle.std.specs.Prelude.{◌⊎◌}
 use Rattle.std.proofs.lemmas.Nat.{pow_pos}
@@ -23,11 +23,11 @@ use Rattle.qcow2_alloc.proofs.Memory.Patches.{all-weaker, place-there}
 use Rattle.qcow2_alloc.proofs.Memory.FittingWords.{counters-same, table-fits}
 use Rattle.qcow2_alloc.proofs.Memory.KeptWords.{block-fits, copied-stays, named-more, ordered-still}
 use Rattle.qcow2_alloc.proofs.GuestView.QuietFlushes.{still-table}
-use Rattle.qcow2_steps.specs.Data.{KeepsRawEntries, WritesBeside}
+use Rattle.qcow2_steps.specs.Data.{KeepsEntries, WritesBeside}
 use Rattle.qcow2_steps.specs.Words.{IsReserved}
 use Rattle.qcow2_steps.proofs.Values.{places-there, within}
 
--- What a write has at a stop, with some of its bytes, is such a write.
+-- A crash image of a write, with some of its bytes, is itself the result of such a write.
 pub stop-writes : (m : Metadata) (c k at n : ℕ) (x y : Bytes) → WritesBeside m c k at n x → ((q : ℕ) → (y q ≡ m.file q) ⊎ (y q ≡ x q)) → WritesBeside m c k at n y
 stop-writes m c k at n x y writes either = record {
   apart = writes.apart;
@@ -104,7 +104,7 @@ module _ (m : Metadata) (sound : IsSound m) (c k at n : ℕ) (x : Bytes) (writes
     not_referenced = λ d some. named-same d ∙ sound.not_referenced d some;
   }
 
-  pub beside-words : KeepsRawEntries m x
+  pub beside-words : KeepsEntries m x
   beside-words = record {
     consistent = in-file.consistent;
     file = in-file.keeps;
@@ -119,8 +119,8 @@ module _ (m : Metadata) (sound : IsSound m) (c k at n : ℕ) (x : Bytes) (writes
     apart = λ d. structure-same m.file x m.header.fields in-file.keeps.places (meets m.header.fields d);
   }
 
--- What is used and what is reserved stays so.
-module _ (m : Metadata) (x : Bytes) (raw_entries : KeepsRawEntries m x) where
+-- Clusters in use stay in use, and reserved clusters stay reserved.
+module _ (m : Metadata) (x : Bytes) (raw_entries : KeepsEntries m x) where
   pub beside-used : (d : ℕ) → IsUsed m d → IsUsed (record m { file = x }) d
   beside-used d used = record {
     apart = raw_entries.apart d ∙ used.apart;

@@ -1,4 +1,5 @@
--- Clusters that no place shows: what is kept for zeroes as copied, and what is reserved. Bytes that are written there give nothing.
+-- Clusters that no guest byte reads: preallocated zero clusters with the COPIED flag, and reserved clusters. A write to them gives
+-- nothing.
 use Rattle.std.proofs.Common.{◌≡◌, ◌≢◌, ℕ, ◌+◌, ◌*◌, ◌/◌, ◌%◌, ◌<◌, ◌≤◌, refl, arith, ap, sym, subst, ◌∙◌, Some, Bool, true, inl, inr}
 use Rattle.std.specs.Prelude.{◌⊎◌}
 use Rattle.std.proofs.Math.Nat.{le-max_left, le-max_right, mul-le-mul_right}
@@ -28,7 +29,7 @@ use Rattle.qcow2_steps.proofs.OwnClusters.{named-alone, unnamed-for}
 use Rattle.qcow2_steps.proofs.Values.{places-there, value-same, within}
 use Rattle.qcow2_steps.proofs.WriteValues.{own-guest}
 
--- The word of a guest cluster that keeps a cluster is one of a table that there is.
+-- The entry of a guest cluster with a preallocated zero cluster exists.
 kept-slot : (f : Bytes) (H : Header) → IsConsistent f H → (guest c : ℕ) → entry f H.fields guest ≡ zeroes (Some c) true
     → Live (l2_table f H.fields) H.fields (guest / entries_of_cluster H.fields) (guest % entries_of_cluster H.fields)
     × (slot f H.fields (guest / entries_of_cluster H.fields) (guest % entries_of_cluster H.fields) ≡ zeroes (Some c) true)
@@ -40,7 +41,7 @@ kept-slot f H was guest c is = elim (cases_eq (l2_table f H.fields (guest / entr
   )
 ]
 
--- What a word names is among what is named.
+-- The references of one entry are at most all references.
 named-slot : (f : Bytes) (h : Fields) (c i j : ℕ) → Live (l2_table f h) h i j → of_mapping h (meets h c) (slot f h i j) ≤ refs f h c
 unfolding refs
 named-slot f h c i j live =
@@ -48,7 +49,7 @@ named-slot f h c i j live =
     let all = contents-slots f h (of_mapping h (meets h c)) in
     omega (arith, one, all)
 
--- A cluster that is named for one guest cluster, if for any.
+-- the case of a single cluster
 one-own : (m : Metadata) (guest c : ℕ) → IsReferencedFor m guest c → AreReferencedFor m guest c 0
 one-own m guest c own d none =
     let same : guest + d ≡ guest = omega (arith, none) in
@@ -56,21 +57,20 @@ one-own m guest c own d none =
     subst (λ g. IsReferencedFor m g (c + d)) (sym same) (subst (IsReferencedFor m guest) (sym same') own)
 
 module _ (m : Metadata) (guest c : ℕ) (sound : IsSound m) (own : IsReferencedFor m guest c) where
-  -- The guest clusters whose data is there are this one, by the file,
+  -- Only this guest cluster can have its data there, by the entries of the file or in memory.
   file-own : (g : ℕ) (copied : Bool) → entry m.file m.header.fields g ≡ data_at c copied → g ≡ guest
   file-own g copied is =
       let there = own-guest m guest c 0 (one-own m guest c own) m.file sound.well_formed.consistent (λ i. refl) (λ d i j. le-max_left _ _) g c copied is
       (omega arith) (omega arith) in
       omega (arith, there)
 
-  -- and in memory.
   memory-own : (g : ℕ) (copied : Bool) → entry (in_memory m) m.header.fields g ≡ data_at c copied → g ≡ guest
   memory-own g copied is =
       let there = own-guest m guest c 0 (one-own m guest c own) (in_memory m) (within m sound) (places-there m sound).l1 (λ d i j. le-max_right _ _) g c copied is
       (omega arith) (omega arith) in
       omega (arith, there)
 
--- So none has, where this one has none.
+-- If this guest cluster hasn't, no guest byte reads the cluster.
 hidden-by : (m : Metadata) (guest c : ℕ) → IsSound m → IsReferencedFor m guest c → structure m.file m.header.fields (meets m.header.fields c) ≡ 0
     → ((copied : Bool) → entry m.file m.header.fields guest ≢ data_at c copied)
     → ((copied : Bool) → entry (in_memory m) m.header.fields guest ≢ data_at c copied) → IsHiddenIn m c
@@ -85,7 +85,6 @@ hidden-by m guest c sound own apart none none' = (
   },
 )
 
--- Nothing names what is reserved.
 pub reserved-hidden : (m : Metadata) (c : ℕ) → IsSound m → IsReserved m c → IsHiddenIn m c
 reserved-hidden m c sound reserved = (
   record {
@@ -108,7 +107,7 @@ module _ (m : Metadata) (guest c : ℕ) (sound : IsSound m) (kept : IsKeptFor m 
   abbrev j : ℕ
   j = guest % entries_of_cluster h
 
-  -- No other word names what is kept as copied.
+  -- No other entry references the preallocated zero cluster.
   alone : IsReferencedFor m guest c × (structure m.file h (meets h c) ≡ 0)
   alone =
       let there = kept-slot m.file m.header sound.well_formed.consistent guest c kept.file in
@@ -121,7 +120,7 @@ module _ (m : Metadata) (guest c : ℕ) (sound : IsSound m) (kept : IsKeptFor m 
       (λ copied is. let bad : zeroes (Some c) true ≡ data_at c copied = sym kept.file ∙ is in cc)
       (λ copied is. let bad : zeroes (Some c) true ≡ data_at c copied = sym kept.memory ∙ is in cc)
 
-  -- It is counted for its word.
+  -- The reference of the entry is one of the cluster's references.
   pub kept-named : 1 ≤ referenced m c
   kept-named =
       let there = kept-slot (in_memory m) m.header (within m sound) guest c kept.memory in
@@ -154,7 +153,7 @@ other-byte m c at n x writes d r other less =
           inr (omega (arith, le, high))
     ])
 
--- So each place shows what it did.
+-- Each guest byte reads as before.
 value-still : (m : Metadata) (c at n : ℕ) (x : Bytes) → WritesBeside m c 0 at n x → (raw_entries : Bytes) → IsHidden raw_entries m.header.fields c → (p : ℕ)
     → own_value_by x m.header.fields p (entry raw_entries m.header.fields (p / cluster_size m.header.fields))
     ≡ own_value_by m.file m.header.fields p (entry raw_entries m.header.fields (p / cluster_size m.header.fields))

@@ -1,4 +1,4 @@
--- The header names a longer L1 table that is ready for it: the image stays sound, and shows what it did.
+-- The header is switched to a longer L1 table that is ready for it: the image stays consistent, and each guest byte reads as before.
 use Rattle.std.proofs.Common.{◌≡◌, ◌≢◌, ℕ, ◌+◌, ◌*◌, ◌/◌, ◌%◌, ◌<◌, ◌≤◌, refl, arith, ap, sym, subst, ◌∙◌, true, Ok, inl, inr}
 use Rattle.std.specs.Prelude.{◌⊎◌, Bool, false, max, nat_lt}
 use Rattle.std.specs.List.{AllByRecursion}
@@ -46,7 +46,7 @@ use Rattle.qcow2_steps.proofs.QuietValues.{data-used}
 use Rattle.qcow2_steps.proofs.Values.{places-there, value-same, within}
 use Rattle.qcow2_steps.proofs.WriteValues.{data-slot}
 
--- A range meets the cluster of each of its places.
+-- A range meets the cluster of each of its bytes.
 inside-meets : (h : Fields) (p first long : ℕ) → first ≤ p → p < first + long → 0 < meets h (p / cluster_size h) first long
 inside-meets h p first long from to =
     let low : p / cluster_size h * cluster_size h ≤ p = div-mul-le_self p (cluster_size h) in
@@ -59,7 +59,7 @@ inside-meets h p first long from to =
 meets-most : (h : Fields) (d first long : ℕ) → meets h d first long ≤ 1
 meets-most h d first long = grind (arith, nat_tests)
 
--- A sum over the words of tables is the same where the L1 table is longer.
+-- A sum over the entries of L2 tables is the same if the L1 table is longer.
 slots-longer : (s t : ℕ → ℕ) (h : Fields) (o more : ℕ) (p q : ℕ → ℕ → ℕ) → ((i : ℕ) → t i ≡ s i) → ((i : ℕ) → h.l1_entries ≤ i → s i ≡ 0) → ((i j : ℕ) → Live s h i j → q i j ≡ p i j)
     → over_slots t (with_l1 h o (h.l1_entries + more)) q ≡ over_slots s h p
 unfolding over_slots
@@ -104,14 +104,14 @@ module _ (m : Metadata) (o more : ℕ) (x : Bytes) (sound : IsSound m) (ready : 
   in-file = l1-table-switched f x m.header sound.well_formed.consistent o more by.loads by.outside ready.raw_entries ready.zeroes
       (λ d met. let r = ready.reserved d met in let none = r.0.not_referenced in let le = refs-file f g h d in (omega (arith, none, le), r.1))
 
-  -- What the structure doesn't have keeps its bytes.
+  -- Clusters without structure keep their bytes.
   kept-there : (d : ℕ) → structure f h (meets h d) ≡ 0 → Same f x (d * cluster_size h) (cluster_size h)
   kept-there d none =
       let part : meets h d 0 (cluster_size h) ≤ structure f h (meets h d) = one-part f h (meets h d) header tt in
       let size = cluster-long f m.header sound.well_formed.consistent in
       unmet-stays f x h d 0 (cluster_size h) 0 64 (omega (arith, part, none)) (omega arith) (omega (arith, size)) by.outside
 
-  -- What is cached fits.
+  -- The cached tables and blocks are still valid for the new file.
   table-still : (cluster : ℕ) (v : TableValue) → IsCachedTable f h cluster v → IsCachedTable x new cluster v
   table-still cluster v is = record {
     fits = is.fits;
@@ -149,14 +149,14 @@ module _ (m : Metadata) (o more : ℕ) (x : Bytes) (sound : IsSound m) (ready : 
   blocks-fit : AllByRecursion (λ e. IsCachedBlock x new e.0 e.1.value) m.cached.blocks
   blocks-fit = all-weaker _ _ (λ e is. block-still e.0 e.1.value is) m.cached.blocks sound.well_formed.blocks
 
-  -- In memory the header changes, too,
+  -- In memory the header is switched, too.
   loads-there : header_of true y ≡ Ok H'
   loads-there = header-kept true x y H' by.loads (memory-start x H' in-file.consistent m.cached tables-fit blocks-fit)
 
   outside-there : Outside g y 0 64
   outside-there p off = over-agrees x f (patches h m.cached) p (by.outside p off)
 
-  -- and the new table is what it is in the file.
+  -- The new table in memory is that of the file.
   table-there : Same f g o long
   table-there k less =
       let met = inside-meets h (o + k) o long (omega arith) (omega (arith, less)) in
@@ -210,7 +210,7 @@ module _ (m : Metadata) (o more : ℕ) (x : Bytes) (sound : IsSound m) (ready : 
   references-there : (d : ℕ) → referenced later d + old_l1 m d ≡ referenced m d + new_l1 m o more d
   references-there = over-there.references
 
-  -- A cluster has a part of the new table, and was reserved, or it has none.
+  -- A cluster either has no part of the new table, or was reserved.
   which : (d : ℕ) → (new_l1 m o more d ≡ 0) ⊎ ((new_l1 m o more d ≡ 1) × (referenced_at_all m d ≡ 0) × (waiting m d ≡ 0) × (1 ≤ count f h d) × (1 ≤ counted m d))
   which d =
       let most = meets-most h d o long in
@@ -279,11 +279,11 @@ module _ (m : Metadata) (o more : ℕ) (x : Bytes) (sound : IsSound m) (ready : 
       let one = ap (of_mapping h (meets h d)) there.1 ∙ meets-own h d in
       named-apart f g h d (guest / entries_of_cluster h) (guest % entries_of_cluster h) (slot f h (guest / entries_of_cluster h) (guest % entries_of_cluster h)) sound.well_formed.apart there.0 (inl refl) (omega (arith, one))
 
-  -- Each guest cluster has its word,
+  -- The mapping of each guest cluster is the same.
   pub words-kept : (guest : ℕ) → (entry y new guest ≡ entry g h guest) × (entry x new guest ≡ entry f h guest)
   words-kept guest = (over-there.entries guest, in-file.entries guest)
 
-  -- and each place shows what it did.
+  -- Each guest byte reads as before, in the file and in memory.
   pub file-shows-same : (p : ℕ) → file_value later p ≡ file_value m p
   file-shows-same p =
       ap (own_value_by x h p) (in-file.entries (p / cluster_size h)) ∙ value-same f x h p (entry f h (p / cluster_size h)) (λ d k is. byte-kept p d (file-apart (p / cluster_size h) d k is))
@@ -310,7 +310,7 @@ module _ (m : Metadata) (o more : ℕ) (x : Bytes) (sound : IsSound m) (ready : 
     law = λ d. let counts = counts-there d in let all = references-there d in omega (arith, counts, all);
   }
 
-  -- Nothing names the old table's clusters.
+  -- Nothing references the clusters of the old table any more.
   pub old-unnamed : (d : ℕ) → old_l1 m d ≡ 1 → referenced_at_all later d ≡ 0
   old-unnamed d own =
       let le = l1-part f h (meets h d) in

@@ -1,4 +1,4 @@
--- A word of the L1 table comes to name a table that is ready for it: the image stays sound, and shows what it did.
+-- An L1 entry is set to reference a table that is ready for it: the image stays consistent, and each guest byte reads as before.
 use Rattle.std.proofs.Common.{◌≡◌, ◌≢◌, ℕ, ◌+◌, ◌*◌, ◌/◌, ◌%◌, ◌<◌, ◌≤◌, refl, arith, ap, sym, subst, ◌∙◌, true, false, inl, inr}
 use Rattle.std.specs.Prelude.{◌⊎◌, ◌==◌, Bool, if◌then◌else◌, max}
 use Rattle.std.specs.Int.{w64, to_be_bytes}
@@ -46,14 +46,14 @@ use Rattle.qcow2_steps.proofs.Steps.{meets-one}
 use Rattle.qcow2_steps.proofs.Values.{places-there, value-same, within}
 use Rattle.qcow2_steps.proofs.WriteValues.{data-slot}
 
--- what is summed of a table that there is
+-- the summand of a table that exists
 chosen : (p n : ℕ) → p ≢ 0 → (if p == 0 then 0 else n) ≡ n
 chosen p n there = grind (arith, nat_tests)
 
 twice : (n : ℕ) → max n n ≡ n
 twice n = omega arith
 
--- The mark of a cluster isn't shown.
+-- The COPIED flag doesn't affect the value.
 unmarked-value : (f : Bytes) (h : Fields) (p : ℕ) (n : Mapping) → own_value_by f h p (mapping_without_copied n) ≡ own_value_by f h p n
 unmarked-value f h p (data_at d copied) = refl
 unmarked-value f h p (zeroes d copied) = refl
@@ -105,13 +105,13 @@ module _ (m : Metadata) (marks : Bool) (i c w : ℕ) (sound : IsSound m) (ready 
   memory-is = memory-beside m.file m.header sound.well_formed.consistent m.cached sound.well_formed.tables sound.well_formed.blocks l1_table tt refl h.l1_offset (h.l1_entries * 8) (λ v. refl)
       (h.l1_offset + 8 * i) (to_be_bytes w64 w) (omega arith) (omega arith) (omega (arith, entry-fits))
 
-  -- What the structure doesn't have keeps its bytes.
+  -- Clusters without structure keep their bytes.
   kept-there : (d : ℕ) → structure f h (meets h d) ≡ 0 → Same f x (d * cluster_size h) (cluster_size h)
   kept-there d none =
       let part = l1-part f h (meets h d) in
       unmet-stays f x h d h.l1_offset (h.l1_entries * 8) (h.l1_offset + 8 * i) 8 (omega (arith, part, none)) (omega arith) (omega (arith, entry-fits)) (splice-is-outside f (h.l1_offset + 8 * i) (to_be_bytes w64 w))
 
-  -- Of the old table nothing waits: its words mean in memory what they do in the file,
+  -- The old table isn't dirty: its mappings in memory are those of the file.
   old-same : (j : ℕ) → Live (l2_table f h) h i j → slot g h i j ≡ slot f h i j
   old-same j live = slot-same m.file m.header sound.well_formed.consistent m.cached sound.well_formed.tables sound.well_formed.blocks i j live ready.settled
 
@@ -121,7 +121,7 @@ module _ (m : Metadata) (marks : Bool) (i c w : ℕ) (sound : IsSound m) (ready 
     | inr full ↦ slot-there g h i j (λ e. full (sym (places.l1 i) ∙ e)) ∙ old-same j (record { in_l1 = ready.inside; is_there = full; in_table = less }) ∙ sym (slot-there f h i j full)
   ]
 
-  -- and so do those of the new one.
+  -- So are those of the new table.
   copies-there : (j : ℕ) → j < entries_of_cluster h → l2_mapping g h t j ≡ copied_as marks (slot_or_none g h i j)
   copies-there j less =
       ap (mapping_of (layout_of h)) (word-same f g t (cluster_size h) j (memory-same m.file m.header c ready.reserved.used.apart sound.well_formed.consistent m.cached m.order sound.well_formed) (words-fit h j less))
@@ -149,7 +149,7 @@ module _ (m : Metadata) (marks : Bool) (i c w : ℕ) (sound : IsSound m) (ready 
   memory-slot j less =
       slot-new g m.header (within m sound) marks i c w ready.inside by.fits by.sane by.names ready.cluster_nonzero unnamed-there counted-there copies-there j less ∙ ap (copied_as marks) (old-either j less)
 
-  -- Words of other tables mean what they did.
+  -- The mappings of other tables are the same.
   other-file : (k j : ℕ) → Live (l2_table f h) h k j → k ≢ i → slot x h k j ≡ slot f h k j
   other-file k j live apart = in-file.replaced.others k j live apart
 
@@ -159,7 +159,7 @@ module _ (m : Metadata) (marks : Bool) (i c w : ℕ) (sound : IsSound m) (ready 
   full-there : l2_table x h i ≢ 0
   full-there none = place-there (cluster_size h) c (pow_pos h.cluster_bits) ready.cluster_nonzero (sym in-file.replaced.here ∙ none)
 
-  -- Row by row as much is named,
+  -- The references by the entries of each table are the same.
   row-same : (d k : ℕ) → k < h.l1_entries → or_none (l2_table x h k) (sum_below (entries_of_cluster h) (λ j. of_either h (meets h d) (slot x h k j) (slot y h k j)))
       ≡ or_none (l2_table f h k) (sum_below (entries_of_cluster h) (λ j. of_either h (meets h d) (slot f h k j) (slot g h k j)))
   row-same d k inside = elim (cases_eq k i) [
@@ -199,7 +199,7 @@ module _ (m : Metadata) (marks : Bool) (i c w : ℕ) (sound : IsSound m) (ready 
             ∙ sym (there-is (l2_table f h i) _ full)
       ]
 
-  -- so that in all what is named changes by the two tables.
+  -- All references together change only by the two tables themselves.
   names : (d : ℕ) → referenced_at_all later d + old_table m i d ≡ referenced_at_all m d + meets h d t (cluster_size h)
   names d =
       let all : references_in_either x y h d + of_cluster h (meets h d) (l2_table f h i) ≡ references_in_either f g h d + of_cluster h (meets h d) (l2_table x h i) =
@@ -211,7 +211,7 @@ module _ (m : Metadata) (marks : Bool) (i c w : ℕ) (sound : IsSound m) (ready 
       named-place : (p : ℕ) → p ≢ 0 → of_cluster h (meets h d) p ≡ meets h d p (cluster_size h)
       named-place p there = chosen p (meets h d p (cluster_size h)) there
 
-  -- No more is marked.
+  -- The COPIED references don't increase.
   fewer-copied : (d : ℕ) → copied x y h d ≤ copied f g h d
   unfolding copied over_slots
   fewer-copied d = sum-mono h.l1_entries _ _ (λ k inside. elim (cases_eq k i) [
@@ -269,7 +269,7 @@ module _ (m : Metadata) (marks : Bool) (i c w : ℕ) (sound : IsSound m) (ready 
   base : (d : ℕ) → structure x h (meets h d) + old_table m i d ≡ structure f h (meets h d) + meets h d t (cluster_size h)
   base d = in-file.replaced.structure (meets h d)
 
-  -- A cluster is the new table's, or no more is named of it than was.
+  -- A cluster is either the new table's, or its references don't increase.
   which : (d : ℕ) → (meets h d t (cluster_size h) ≡ 0) ⊎ ((d ≡ c) × (meets h d t (cluster_size h) ≡ 1))
   which d = elim (cases_eq d c) [
     | inl same ↦ inr (same, subst (λ k. meets h k t (cluster_size h) ≡ 1) (sym same) (meets-own h c))
@@ -288,7 +288,7 @@ module _ (m : Metadata) (marks : Bool) (i c w : ℕ) (sound : IsSound m) (ready 
   consistent-there : IsConsistent (in_memory later) m.header
   consistent-there = subst (λ (z : Bytes). IsConsistent z m.header) (sym memory-is) over-there.consistent
 
-  -- What is cached fits.
+  -- The cached tables and blocks are still valid for the new file.
   same-cluster : (a b : ℕ) → a * cluster_size h ≡ b * cluster_size h → a ≡ b
   same-cluster a b same = elim (cases_eq a b) [
     | inl e ↦ e
@@ -386,7 +386,7 @@ module _ (m : Metadata) (marks : Bool) (i c w : ℕ) (sound : IsSound m) (ready 
         ];
   }
 
-  -- Each place shows what it did, in the file
+  -- Each guest byte reads as before, in the file and in memory.
   byte-kept : (p d : ℕ) → structure f h (meets h d) ≡ 0 → x (d * cluster_size h + p % cluster_size h) ≡ f (d * cluster_size h + p % cluster_size h)
   byte-kept p d none = kept-there d none (p % cluster_size h) (mod_below p (cluster_size h) (pow_pos h.cluster_bits))
 
@@ -402,7 +402,6 @@ module _ (m : Metadata) (marks : Bool) (i c w : ℕ) (sound : IsSound m) (ready 
           let one = ap (of_mapping h (meets h d)) there.1 ∙ meets-own h d in
           named-apart f g h d (guest / entries_of_cluster h) (guest % entries_of_cluster h) (slot f h (guest / entries_of_cluster h) (guest % entries_of_cluster h)) sound.well_formed.apart there.0 (inl refl) (omega (arith, one))
 
-  -- and in memory.
   pub memory-shows-same : (p : ℕ) → memory_value later p ≡ memory_value m p
   memory-shows-same p =
       let same = entry-unmarked g m.header (within m sound) marks i c w ready.inside by.fits by.sane by.names ready.cluster_nonzero unnamed-there counted-there copies-there (p / cluster_size h) in
@@ -410,7 +409,7 @@ module _ (m : Metadata) (marks : Bool) (i c w : ℕ) (sound : IsSound m) (ready 
       ∙ same-value x h p (entry y h (p / cluster_size h)) (entry g h (p / cluster_size h)) same
       ∙ value-same f x h p (entry g h (p / cluster_size h)) (λ d copied is. byte-kept p d (data-used m sound (p / cluster_size h) d copied is).apart)
 
-  -- Its words mean what they did, as they were copied, in the file and in memory, and those of other tables what they did.
+  -- The mappings of the table are those that were copied, in the file and in memory. Those of other tables are the same.
   pub file-copied : (guest : ℕ) → IsOfTable h i guest → entry x h guest ≡ copied_as marks (entry f h guest)
   file-copied = entry-copied f m.header sound.well_formed.consistent marks i c w ready.inside by.fits by.sane by.names ready.cluster_nonzero unnamed-file ready.counts ready.raw_entries
 
@@ -455,7 +454,7 @@ module _ (m : Metadata) (marks : Bool) (i c w : ℕ) (sound : IsSound m) (ready 
     law = λ d. let counts = counts-there d in let all = references-there d in let new = one-new d in omega (arith, counts, all, new);
   }
 
-  -- Nothing names the old table's cluster.
+  -- Nothing references the cluster of the old table any more.
   pub old-unnamed : (d : ℕ) → d ≢ 0 → l2_table f h i ≡ d * cluster_size h → referenced_at_all later d ≡ 0
   unfolding structure
   old-unnamed d some place =

@@ -1,4 +1,4 @@
--- What is named as copied is named by one word alone, of both versions.
+-- A COPIED cluster is referenced by only one entry, in the file and in memory.
 use Rattle.std.proofs.Common.{◌≡◌, ◌≢◌, ℕ, ◌+◌, ◌*◌, ◌<◌, ◌≤◌, arith, ap, ◌∙◌, inl, inr}
 use Rattle.std.specs.Prelude.{◌⊎◌, max}
 use Rattle.std.proofs.Math.Nat.{le-max_left, le-max_right}
@@ -15,7 +15,7 @@ use Rattle.qcow2_types.proofs.Counting.Slots.{slot-le}
 use Rattle.qcow2_alloc.specs.GuestView.{Metadata, IsSound, in_memory, referenced_at_all}
 use Rattle.qcow2_steps.specs.Data.{IsReferencedFor}
 
--- Of what one word names as copied in either version, all do.
+-- COPIED references of one entry are COPIED references of the image.
 copied-by : (f g : Bytes) (h : Fields) (c i j : ℕ) → Live (l2_table f h) h i j → 0 < of_copied h (meets h c) (slot f h i j) + of_copied h (meets h c) (slot g h i j) → 0 < copied f g h c
 unfolding copied
 copied-by f g h c i j live some =
@@ -24,7 +24,7 @@ copied-by f g h c i j live some =
     let right = le-max_right (of_copied h (meets h c) (slot f h i j)) (of_copied h (meets h c) (slot g h i j)) in
     omega (arith, all, left, right, some)
 
--- It names it, too.
+-- A COPIED reference is a reference.
 either-names : (f g : Bytes) (h : Fields) (c i j : ℕ) → 0 < of_copied h (meets h c) (slot f h i j) + of_copied h (meets h c) (slot g h i j) → 1 ≤ of_either h (meets h c) (slot f h i j) (slot g h i j)
 either-names f g h c i j some =
     let one = copied-named h (meets h c) (slot f h i j) in
@@ -33,7 +33,7 @@ either-names f g h c i j some =
     let right = le-max_right (of_mapping h (meets h c) (slot f h i j)) (of_mapping h (meets h c) (slot g h i j)) in
     omega (arith, one, two, left, right, some)
 
--- A word of another guest cluster is another word.
+-- An entry of another guest cluster is another entry.
 other-word : (e i j k n : ℕ) → k * e + n ≢ i * e + j → (k ≢ i) ⊎ (n ≢ j)
 other-word e i j k n apart = elim (cases_eq k i) [
   | inl row ↦ inr (λ column. apart (ap (λ r. r * e + n) row ∙ ap (λ s. i * e + s) column))
@@ -51,7 +51,7 @@ named-alone m i j c sound live some =
       alone-structure m.file (in_memory m) m.header.fields c i j once live here,
     )
 
--- What nothing names no word does.
+-- If a cluster has no references, no entry references it.
 unnamed-slot : (f g : Bytes) (h : Fields) (c : ℕ) → references_in_either f g h c ≡ 0 → ((i j : ℕ) → Live (l2_table f h) h i j → of_either h (meets h c) (slot f h i j) (slot g h i j) ≡ 0) × (structure f h (meets h c) ≡ 0)
 unfolding references_in_either
 unnamed-slot f g h c none = (

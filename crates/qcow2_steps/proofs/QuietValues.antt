@@ -1,4 +1,4 @@
--- What is quiet leaves what each place shows.
+-- Steps that don't change what the guest sees keep the value of each guest byte.
 use Rattle.std.proofs.Common.{◌≡◌, ◌≢◌, ℕ, ◌+◌, ◌*◌, ◌/◌, ◌%◌, ◌<◌, ◌≤◌, refl, arith, ap, sym, subst, ◌∙◌, Bool, Option, inl, inr}
 use Rattle.std.specs.Prelude.{◌⊎◌, if◌then◌else◌, ◌==◌}
 use Rattle.imago_storage.specs.Disk.{Value}
@@ -26,14 +26,14 @@ use Rattle.qcow2_steps.proofs.Headers.{header-counts}
 use Rattle.qcow2_steps.proofs.Values.{places-there, value-same, within}
 use Rattle.qcow2_steps.proofs.WriteValues.{data-slot}
 
--- The word of a guest cluster where tables stand at the same places, and this one word means the same.
+-- The mapping of a guest cluster is the same if its table's offset and its one L2 entry are.
 slot-same : (a b : ℕ) (x y : Mapping) → b ≡ a → (a ≢ 0 → y ≡ x) → (if b == 0 then unmapped else y) ≡ (if a == 0 then unmapped else x)
 slot-same a b x y same raw_entry = elim (cases_eq a 0) [
   | inl none ↦ rw (same, none) refl
   | inr some ↦ ap (λ t. if t == 0 then unmapped else y) same ∙ ap (λ w. if a == 0 then unmapped else w) (raw_entry some)
 ]
 
--- g has its words under the header H, and y under that with another refcount table.
+-- The mappings of g with header H are those of y with another refcount table.
 module _ (g y : Bytes) (H : Header) (o n : ℕ) (was : IsConsistent g H) (is : IsConsistent y (with_refcount_table H o n)) (tables : (i : ℕ) → l2_table y (with_reftable H.fields o n) i ≡ l2_table g H.fields i) where
   pub entry-kept : (guest : ℕ)
       → (Live (l2_table g H.fields) H.fields (guest / entries_of_cluster H.fields) (guest % entries_of_cluster H.fields)
@@ -47,7 +47,7 @@ module _ (g y : Bytes) (H : Header) (o n : ℕ) (was : IsConsistent g H) (is : I
       (λ there. raw_entry (guest-live g H.fields guest (some-words H.fields (consistent-shaped g H was)) there))
       ∙ sym (entry-slot g H.fields guest was.readable.tables)
 
--- What a word names in memory as data is used.
+-- A data cluster by the entries in memory is in use.
 module _ (m : Metadata) (sound : IsSound m) (guest d : ℕ) (copied : Bool) (is : entry (in_memory m) m.header.fields guest ≡ data_at d copied) where
   weighs : 1 ≤ of_mapping m.header.fields (meets m.header.fields d) (slot (in_memory m) m.header.fields (guest / entries_of_cluster m.header.fields) (guest % entries_of_cluster m.header.fields))
   weighs = let one = ap (of_mapping m.header.fields (meets m.header.fields d)) (data-slot (in_memory m) m.header (within m sound) guest d copied is).1 ∙ meets-own m.header.fields d in omega (arith, one)
@@ -86,7 +86,7 @@ module _ (m m' : Metadata) (handed taken : ℕ → ℕ) (sound : IsSound m) (sou
   tables : (i : ℕ) → l2_table (in_memory m') (with_reftable m.header.fields o n) i ≡ l2_table (in_memory m) m.header.fields i
   tables i = ap (λ (H : Header). l2_table (in_memory m') H.fields i) (sym guest_unchanged.shows.moved.2) ∙ (places-there m' sound').l1 i ∙ guest_unchanged.shows.tables i ∙ sym ((places-there m sound).l1 i)
 
-  -- Each guest cluster has its word,
+  -- The mapping of each guest cluster is the same.
   pub quiet-entries : (guest : ℕ) → entry (in_memory m') m'.header.fields guest ≡ entry (in_memory m) m.header.fields guest
   quiet-entries guest =
       ap (λ (H : Header). entry (in_memory m') H.fields guest) guest_unchanged.shows.moved.2
@@ -95,7 +95,7 @@ module _ (m m' : Metadata) (handed taken : ℕ → ℕ) (sound : IsSound m) (sou
       ∙ guest_unchanged.raw_entries (guest / entries_of_cluster m.header.fields) (guest % entries_of_cluster m.header.fields)
       (record { in_l1 = live.in_l1; is_there = λ none. live.is_there ((places-there m sound).l1 (guest / entries_of_cluster m.header.fields) ∙ none); in_table = live.in_table }))
 
-  -- and what it names keeps its bytes.
+  -- Its data cluster keeps its bytes.
   pub quiet-values : ((c : ℕ) → 0 < referenced m c → taken c ≡ 0) → (p : ℕ) → memory_value m' p ≡ memory_value m p
   quiet-values spared p =
       ap (own_value_by m'.file m'.header.fields p) (ap (λ s. entry (in_memory m') m'.header.fields (p / s)) (ap (λ (H : Header). cluster_size H.fields) guest_unchanged.shows.moved.2) ∙ quiet-entries (p / cluster_size m.header.fields))
@@ -104,7 +104,7 @@ module _ (m m' : Metadata) (handed taken : ℕ → ℕ) (sound : IsSound m) (sou
       guest_unchanged.used_bytes_unchanged d (data-used m sound (p / cluster_size m.header.fields) d copied is) (spared d (data-named m sound (p / cluster_size m.header.fields) d copied is))
       (p % cluster_size m.header.fields) (mod_below p (cluster_size m.header.fields) (pow_pos m.header.fields.cluster_bits)))
 
--- A file that shows what the image does may be left where nothing is given.
+-- A file that reads as the image does is a crash image of a step that gives nothing.
 module _ (m : Metadata) (sound : IsSound m) (x : Bytes) (o n : ℕ) (shows : ShowsEither m x (with_refcount_table m.header o n)) (p : ℕ) where
   abbrev h : Fields
   h = m.header.fields
@@ -159,7 +159,7 @@ quiet-left gives m x H sound shows = subst (MayBeCrashImage gives m x) (sym show
       ];
     }
 
--- Where no word waits in memory, what a word names has the bytes that it had, taken or not.
+-- If no entry is dirty, data clusters keep their bytes, even if they were taken.
 module _ (m m' : Metadata) (handed taken : ℕ → ℕ) (sound : IsSound m) (sound' : IsSound m') (guest_unchanged : GuestUnchanged handed taken m m')
     (clean : (guest : ℕ) → entry m'.file m'.header.fields guest ≡ entry (in_memory m') m'.header.fields guest) where
   file-entry : (guest : ℕ) → entry m'.file (with_reftable m.header.fields guest_unchanged.shows.moved.0 guest_unchanged.shows.moved.1) guest ≡ entry (in_memory m) m.header.fields guest

@@ -1,4 +1,4 @@
--- The header names another size of the disk, of an image at rest: nothing else changes.
+-- The header is set to another disk size, in an image with nothing cached: nothing else changes.
 use Rattle.std.proofs.Common.{◌≡◌, ℕ, ◌+◌, ◌*◌, ◌/◌, ◌%◌, ◌<◌, ◌≤◌, refl, arith, ap, sym, ◌∙◌, Bool, List, []}
 use Rattle.std.proofs.lemmas.Nat.{mod_below, pow_pos}
 use Rattle.qcow2_types.specs.Bytes.{Bytes}
@@ -24,7 +24,7 @@ use Rattle.qcow2_steps.specs.Values.{own_value, own_value_by}
 use Rattle.qcow2_steps.proofs.QuietValues.{data-used}
 use Rattle.qcow2_steps.proofs.Values.{value-same}
 
--- What a word shows depends on no size of the disk.
+-- The value of a mapping doesn't depend on the disk size.
 sized-value : (x : Bytes) (h : Fields) (n p : ℕ) (w : Mapping) → own_value_by x (sized h n) p w ≡ own_value_by x h p w
 sized-value x h n p (data_at d copied) = refl
 sized-value x h n p (zeroes d copied) = refl
@@ -52,7 +52,7 @@ module _ (f : Bytes) (H : Header) (n : ℕ) (x : Bytes) (table : TableValue) (pe
   memory-now : in_memory after ≡ x
   memory-now = clean-memory x (sized h n) (record { tables = []; blocks = [] }) tt tt
 
-  -- Data keeps its bytes.
+  -- Data clusters keep their bytes.
   byte-kept : (guest p d : ℕ) (copied : Bool) → entry f h guest ≡ data_at d copied
       → x (d * cluster_size h + p % cluster_size h) ≡ f (d * cluster_size h + p % cluster_size h)
   byte-kept guest p d copied is =

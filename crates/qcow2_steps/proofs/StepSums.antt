@@ -1,4 +1,4 @@
--- Two steps of an image add up to one, which gives what either does.
+-- Two consecutive steps of an image are one step, which gives what either does.
 use Rattle.std.proofs.Common.{◌≡◌, ℕ, ◌+◌, ◌/◌, ◌^◌, arith, ap, sym, subst, ◌∙◌, Option, inl, inr}
 use Rattle.std.specs.Prelude.{◌⊎◌}
 use Rattle.imago_storage.specs.Disk.{Value}
@@ -9,7 +9,7 @@ use Rattle.qcow2_steps.specs.Advancing.{Advances, MayBeCrashImage}
 use Rattle.qcow2_steps.specs.Words.{IsReserved}
 use Rattle.qcow2_steps.proofs.Headers.{header-bits, header-then}
 
--- What may be left where this is given may be left where more is.
+-- A crash image of a step is one of each step that gives more.
 pub left-weaker : (gives more : ℕ → Option Value → Type 0) → ((p : ℕ) (v : Option Value) → gives p v → more p v) → (m : Metadata) (x : Bytes) (H : Header) → MayBeCrashImage gives m x H → MayBeCrashImage more m x H
 left-weaker gives more from m x H left = record {
   consistent = left.consistent;
@@ -20,7 +20,7 @@ left-weaker gives more from m x H left = record {
   ];
 }
 
--- A step may be said to give, write and set more, and to hand out and take the same beside what it hands out and takes.
+-- A step may be described with more given, written, set and taken, if `handed` grows by as much as `taken`.
 pub advances-weaker : (gives more : ℕ → Option Value → Type 0) (written wider set further : ℕ → Type 0) (handed taken h t : ℕ → ℕ) (m m' : Metadata)
     → ((p : ℕ) (v : Option Value) → gives p v → more p v) → ((q : ℕ) → written q → wider q) → ((guest : ℕ) → set guest → further guest)
     → ((c : ℕ) → handed c + t c ≡ h c + taken c) → ((c : ℕ) → IsUsed m c → t c ≡ 0 → taken c ≡ 0)
@@ -42,7 +42,7 @@ module _ (gives gives' : ℕ → Option Value → Type 0) (written set : ℕ →
   abbrev Either : ℕ → Option Value → Type 0
   Either p v = gives p v ⊎ gives' p v
 
-  -- What may be left in the second may be left in both.
+  -- A crash image of the second step is one of both.
   pub left-then : (x : Bytes) (H : Header) → MayBeCrashImage gives' m1 x H → MayBeCrashImage Either m x H
   left-then x H left = record {
     consistent = left.consistent;
@@ -107,7 +107,7 @@ module _ (gives gives' : ℕ → Option Value → Type 0) (written set : ℕ →
       law = λ c. let one = first.law c in let two = second.law c in omega (arith, one, two);
     }
 
--- What was reserved and isn't taken is so still.
+-- A cluster that was reserved and isn't taken is still reserved.
 pub reserved-still : (gives : ℕ → Option Value → Type 0) (written set : ℕ → Type 0) (handed taken : ℕ → ℕ) (m m' : Metadata) → Advances gives written set handed taken m m' → (c : ℕ) → IsReserved m c → taken c ≡ 0 → IsReserved m' c
 reserved-still gives written set handed taken m m' step c reserved none = record {
   used = step.used c reserved.used none;

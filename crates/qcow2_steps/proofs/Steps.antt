@@ -1,4 +1,4 @@
--- Quiet steps, bytes that are written, and words that are set, in the words of what adds up.
+-- Steps that keep what the guest sees, writes of bytes, and set entries, as instances of `Advances`.
 use Rattle.std.proofs.Common.{◌≡◌, ◌≢◌, ℕ, ◌+◌, ◌*◌, ◌/◌, ◌%◌, ◌<◌, ◌≤◌, refl, arith, ap, sym, subst, ◌∙◌, true, [], ◌++◌, ◌∷◌, false, inl, inr}
 use Rattle.std.specs.Prelude.{◌⊎◌}
 use Rattle.std.proofs.lemmas.Bool.{cases_eq, cases_lt}
@@ -45,7 +45,7 @@ quiet-advances m m' handed taken sound sound' guest_unchanged spared = record {
   law = guest_unchanged.law;
 }
 
--- The same whatever is taken, where no word waits in memory.
+-- Like `quiet-advances`, for any taken clusters, if no entry is dirty.
 pub clean-advances : (m m' : Metadata) (handed taken : ℕ → ℕ) → IsSound m → IsSound m' → GuestUnchanged handed taken m m'
     → ((guest : ℕ) → entry m'.file m'.header.fields guest ≡ entry (in_memory m') m'.header.fields guest)
     → Advances (λ p v. ⊥) (λ q. ⊥) (λ guest. ⊥) handed taken m m'
@@ -85,7 +85,7 @@ written-advances m first c k at n x sound writes own =
       law = λ d. let counts = raw_entries.counts d in let references = raw_entries.references d in omega (arith, counts, references);
     }
 
--- What is put among what waits to be freed.
+-- A cluster is added to the free list.
 pub put-off-advances : (m : Metadata) (e : FreeEntry) → IsSound m → ((c : ℕ) → referenced m c + waiting m c + covers c e ≤ counted m c) → ((c : ℕ) → 0 < covers_metadata c e → referenced_at_all m c ≡ 0)
     → Advances (λ p v. ⊥) (λ q. ⊥) (λ guest. ⊥) (λ _. 0) (λ c. covers c e) m (record m { pending = m.pending ++ e ∷ [] })
 put-off-advances m e sound enough not_referenced =
@@ -103,7 +103,7 @@ put-off-advances m e sound enough not_referenced =
       law = both.1.law;
     }
 
--- A word is set.
+-- An L2 entry is set.
 module _ (m : Metadata) (i j : ℕ) (old new : Mapping) (cached' : Cached) (changes : ChangesEntry m i j old new cached') where
   abbrev later : Metadata
   later = record m { cached = cached' }
@@ -126,7 +126,7 @@ module _ (m : Metadata) (i j : ℕ) (old new : Mapping) (cached' : Cached) (chan
   pub value-elsewhere : (p : ℕ) → IsOfOther m.header.fields i j (p / cluster_size m.header.fields) → memory_value later p ≡ memory_value m p
   value-elsewhere p other = ap (own_value_by m.file m.header.fields p) (word-elsewhere (p / cluster_size m.header.fields) other)
 
-  -- What it shows, and that the rest stays.
+  -- The values that the entry gives; everything else is the same.
   set-advances : (handed taken : ℕ → ℕ) → IsSound m → IsSound later → ((c : ℕ) → taken c ≡ 0 → referenced_at_all later c ≤ referenced_at_all m c)
       → ((c : ℕ) → of_mapping m.header.fields (meets m.header.fields c) old + taken c ≡ of_mapping m.header.fields (meets m.header.fields c) new + handed c)
       → Advances (GivesEntry m i j new) (λ q. ⊥) (IsOfEntry m.header.fields i j) handed taken m later
@@ -149,7 +149,7 @@ module _ (m : Metadata) (i j : ℕ) (old new : Mapping) (cached' : Cached) (chan
     law = λ c. let counts = changes.written.counts c in let moved = changes.references c in let e = law c in omega (arith, counts, moved, e);
   }
 
--- What data in cluster x meets.
+-- the references of data in cluster x
 pub meets-one : (h : Fields) (x c : ℕ) → of_mapping h (meets h c) (data_at x true) ≡ one_at x c
 meets-one h x c = elim (cases_eq c x) [
   | inl is ↦ let own = meets-own h c in subst (λ d. meets h c (d * cluster_size h) (cluster_size h) ≡ one_at d c) is (own ∙ sym (one-here c))
@@ -178,7 +178,7 @@ pub dropped-advances : (m : Metadata) (i j : ℕ) (old new : Mapping) (handed : 
 dropped-advances m i j old new handed cached' sound drops back =
     set-advances m i j old new cached' drops.changed handed (λ _. 0) sound (dropped-sound m i j old cached' sound new drops) (λ c none. drops.names c) (λ c. let e = back c in omega (arith, e))
 
--- What a word names no longer may wait to be freed: the two steps add up.
+-- An entry drops references, and the dropped clusters are added to the free list: the sum of two steps.
 pub freed-advances : (m : Metadata) (i j : ℕ) (old new : Mapping) (e : FreeEntry) (cached' : Cached) → IsSound m → DropsNames m i j old new cached' → e.metadata ≡ false
     → ((c : ℕ) → of_mapping m.header.fields (meets m.header.fields c) new + covers c e ≡ of_mapping m.header.fields (meets m.header.fields c) old)
     → Advances (GivesEntry m i j new) (λ q. ⊥) (IsOfEntry m.header.fields i j) (λ c. covers c e) (λ c. covers c e) m (record m { cached = cached'; pending = m.pending ++ e ∷ [] })

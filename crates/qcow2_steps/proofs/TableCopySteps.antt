@@ -1,4 +1,4 @@
--- In one file, a word of the L1 table comes to name a table whose words mean what those of the old one do, with their marks or without.
+-- In one file, an L1 entry is set to reference a table with the mappings of the old table, with the COPIED flags or without.
 use Rattle.std.proofs.Common.{◌≡◌, ◌≢◌, ℕ, ◌+◌, ◌*◌, ◌/◌, ◌%◌, ◌^◌, ◌<◌, ◌≤◌, refl, arith, ap, sym, subst, ◌∙◌, Some, None, inl, inr}
 use Rattle.std.specs.Prelude.{◌==◌, if◌then◌else◌, Bool, IsFalse, IsTrue, true, false}
 use Rattle.std.specs.Int.{w64, to_be_bytes}
@@ -24,7 +24,7 @@ use Rattle.qcow2_types.proofs.Showing.Values.{entry-slot}
 use Rattle.qcow2_alloc.proofs.Memory.Patches.{place-there}
 use Rattle.qcow2_steps.specs.NewTables.{copied_as, slot_or_none}
 
--- The mark of a cluster changes nothing but what is named as copied.
+-- Without the COPIED flag a mapping has the same references, but no COPIED ones.
 unmarked-weighs : (h : Fields) (w : Weight) (n : Mapping) → of_mapping h w (mapping_without_copied n) ≡ of_mapping h w n
 unmarked-weighs h w (data_at d copied) = refl
 unmarked-weighs h w (zeroes (Some d) copied) = refl
@@ -55,7 +55,7 @@ unmarked-twice (packed offset n) = refl
 unmarked-twice unmapped = refl
 unmarked-twice damaged = refl
 
--- So a word that is copied weighs what it did, and names no more as copied.
+-- So a copied mapping has the same references, and no more COPIED ones.
 pub copied-weighs : (marks : Bool) (h : Fields) (w : Weight) (n : Mapping) → of_mapping h w (copied_as marks n) ≡ of_mapping h w n
 copied-weighs true h w n = refl
 copied-weighs false h w n = unmarked-weighs h w n
@@ -72,7 +72,7 @@ copied-unmarked : (marks : Bool) (n : Mapping) → mapping_without_copied (copie
 copied-unmarked true n = refl
 copied-unmarked false n = unmarked-twice n
 
--- The word of a table that there is, and where there is none.
+-- The mapping of an entry, without a table and with one.
 pub none-there : (f : Bytes) (h : Fields) (i j : ℕ) → l2_table f h i ≡ 0 → slot_or_none f h i j ≡ unmapped
 none-there f h i j none = rw none refl
 
@@ -82,7 +82,7 @@ slot-there f h i j there = choose (l2_table f h i) unmapped (slot f h i j) there
     choose : (t : ℕ) (a b : Mapping) → t ≢ 0 → (if t == 0 then a else b) ≡ b
     choose t a b there = grind (arith, nat_tests)
 
--- what is summed of a table that there is
+-- the summand of a table that exists
 chosen : (p n : ℕ) → p ≢ 0 → (if p == 0 then 0 else n) ≡ n
 chosen p n apart = grind (arith, nat_tests)
 
@@ -104,7 +104,7 @@ module _ (f : Bytes) (H : Header) (was : IsConsistent f H) (marks : Bool) (i c w
   pub replaced : TableReplaced f x H i t
   replaced = table-replaced-spliced f H was i inside w fits sane c t names there refl not_referenced
 
-  -- Its words weigh what those of the old one do,
+  -- The entries of the new table have the weight of those of the old one.
   as-before : (of : Mapping → ℕ) → ((n : Mapping) → of (copied_as marks n) ≡ of n) → of unmapped ≡ 0 → of_table f h of t ≡ of_table_or_none f h of (l2_table f h i)
   unfolding of_table
   as-before of same none = elim (cases_eq (l2_table f h i) 0) [
@@ -116,7 +116,7 @@ module _ (f : Bytes) (H : Header) (was : IsConsistent f H) (marks : Bool) (i c w
         ∙ sym (chosen (l2_table f h i) (sum_below (entries_of_cluster h) (λ j. of (slot f h i j))) full)
   ]
 
-  -- and no more of them are marked.
+  -- The COPIED references don't increase.
   marks-before : (of : Mapping → ℕ) → ((n : Mapping) → of (copied_as marks n) ≤ of n) → of unmapped ≡ 0 → of_table f h of t ≤ of_table_or_none f h of (l2_table f h i)
   unfolding of_table
   marks-before of fewer none = elim (cases_eq (l2_table f h i) 0) [
@@ -132,7 +132,7 @@ module _ (f : Bytes) (H : Header) (was : IsConsistent f H) (marks : Bool) (i c w
         subst (λ n. sum_below (entries_of_cluster h) (λ j. of (l2_mapping f h t j)) ≤ n) (sym (chosen (l2_table f h i) (sum_below (entries_of_cluster h) (λ j. of (slot f h i j))) full)) le
   ]
 
-  -- So each cluster is named as often, but for the two tables' own.
+  -- References change only by the two tables themselves.
   pub references : (d : ℕ) → refs x h d + of_cluster h (meets h d) (l2_table f h i) ≡ refs f h d + meets h d t (cluster_size h)
   references d =
       let all = replaced.references d in
@@ -145,7 +145,7 @@ module _ (f : Bytes) (H : Header) (was : IsConsistent f H) (marks : Bool) (i c w
       let fewer = marks-before (of_copied h (meets h d)) (copied-marks marks h (meets h d)) refl in
       omega (arith, all, fewer)
 
-  -- The old table doesn't stand in the new one's cluster.
+  -- The old table isn't in the new table's cluster.
   old-apart : of_cluster h (meets h c) (l2_table f h i) ≡ 0
   unfolding structure
   old-apart =
@@ -190,7 +190,7 @@ module _ (f : Bytes) (H : Header) (was : IsConsistent f H) (marks : Bool) (i c w
   pub swapped : TableSwapped f x H i t
   swapped = table-swapped-spliced f H was i inside w fits sane c t names there refl not_referenced plain covered apart-still
 
-  -- A guest cluster of the table has its mapping as it was copied,
+  -- A guest cluster of the table has the copied mapping; any other has the same mapping as before.
   pub entry-copied : (guest : ℕ) → guest / entries_of_cluster h ≡ i → entry x h guest ≡ copied_as marks (entry f h guest)
   entry-copied guest row =
       let less : guest % entries_of_cluster h < entries_of_cluster h = mod_below guest (entries_of_cluster h) (some-words h (consistent-shaped f H was)) in
@@ -199,17 +199,16 @@ module _ (f : Bytes) (H : Header) (was : IsConsistent f H) (marks : Bool) (i c w
       ∙ ap (λ k. copied_as marks (slot_or_none f h k (guest % entries_of_cluster h))) (sym row)
       ∙ ap (copied_as marks) (sym (entry-slot f h guest was.readable.tables))
 
-  -- any other its own,
   pub entry-elsewhere : (guest : ℕ) → guest / entries_of_cluster h ≢ i → entry x h guest ≡ entry f h guest
   entry-elsewhere guest apart = (swapped.elsewhere guest (inl apart)).mapping
 
-  -- and so each has its own but for the mark.
+  -- So the mapping of each guest cluster is the same, apart from the COPIED flag.
   pub entry-unmarked : (guest : ℕ) → mapping_without_copied (entry x h guest) ≡ mapping_without_copied (entry f h guest)
   entry-unmarked guest = elim (cases_eq (guest / entries_of_cluster h) i) [
     | inr apart ↦ ap mapping_without_copied (entry-elsewhere guest apart)
     | inl row ↦ ap mapping_without_copied (entry-copied guest row) ∙ copied-unmarked marks (entry f h guest)
   ]
 
-  -- A word of the new table means what the old one's did, as it was copied.
+  -- An entry of the new table has the copied mapping.
   pub slot-new : (j : ℕ) → j < entries_of_cluster h → slot x h i j ≡ copied_as marks (slot_or_none f h i j)
   slot-new j less = ap (λ p. l2_mapping x h p j) replaced.here ∙ ap (mapping_of (layout_of h)) (replaced.raw_entries j less) ∙ copies j less

@@ -1,4 +1,4 @@
--- What places show by words and bytes.
+-- The values of guest bytes, by mappings and bytes.
 use Rattle.std.proofs.Common.{◌≡◌, ℕ, ◌+◌, ◌*◌, ◌%◌, refl, ap, Bool, Some}
 use Rattle.imago_storage.specs.Disk.{byte}
 use Rattle.qcow2_types.specs.Bytes.{Bytes}
@@ -11,7 +11,7 @@ use Rattle.qcow2_alloc.proofs.Memory.MemoryImage.{safe-memory}
 use Rattle.qcow2_alloc.proofs.Memory.MemoryWords.{places-in-memory}
 use Rattle.qcow2_steps.specs.Values.{own_value_by}
 
--- A place shows the same where its word does, and the byte that it names is the same.
+-- The value at an offset is the same if the mapping is, and the byte that it references.
 pub value-same : (f x : Bytes) (h : Fields) (p : ℕ) (w : Mapping)
     → ((d : ℕ) (copied : Bool) → w ≡ data_at d copied → x (d * cluster_size h + p % cluster_size h) ≡ f (d * cluster_size h + p % cluster_size h))
     → own_value_by x h p w ≡ own_value_by f h p w
@@ -21,7 +21,7 @@ value-same f x h p (packed offset n) same = refl
 value-same f x h p unmapped same = refl
 value-same f x h p damaged same = refl
 
--- The image in memory is consistent, and has its tables and blocks where the file has them.
+-- The image in memory is consistent, and has its tables and blocks at the offsets of the file.
 module _ (m : Metadata) (sound : IsSound m) where
   pub within : IsConsistent (in_memory m) m.header
   within = safe-memory m.file m.header m.cached m.order sound.well_formed

@@ -1,4 +1,4 @@
--- A word of a cached table is set: the image stays sound, and what was handed out stays so.
+-- An entry of a cached table is set: the image stays consistent, and reserved clusters stay reserved.
 use Rattle.std.proofs.Common.{◌≡◌, ◌≢◌, ◌+◌, ◌≤◌, ℕ, [], ◌∷◌, ◌++◌, refl, arith, sym, subst, true, false, inl, inr}
 use Rattle.std.proofs.lemmas.Bool.{cases_eq}
 use Rattle.qcow2_types.specs.Pending.{FreeEntry}
@@ -18,7 +18,7 @@ module _ (m : Metadata) (i j : ℕ) (old : Mapping) (cached' : Cached) where
   abbrev later : Metadata
   later = record m { cached = cached' }
 
-  -- What is used stays so, as counts and the structure do.
+  -- Clusters in use stay in use, since refcounts and the structure are the same.
   pub used-after : (new : Mapping) → ChangesEntry m i j old new cached' → (c : ℕ) → IsUsed m c → IsUsed later c
   used-after new changes c used = record { apart = used.apart; taken = let same = changes.written.counts c in let taken = used.taken in omega (arith, same, taken) }
 
@@ -36,7 +36,7 @@ module _ (m : Metadata) (i j : ℕ) (old : Mapping) (cached' : Cached) where
   dropped-reserved new drops c reserved = reserved-after new drops.changed c (drops.names c) reserved
 
   module _ (sound : IsSound m) where
-    -- What a word named that comes to name a reserved cluster is counted for it still.
+    -- The refcounts still include the references of the entry's old mapping.
     pub named-owed : (x : ℕ) → LinksCluster m i j old x cached' → IsReserved m x → (c : ℕ) → referenced later c + waiting m c + of_mapping m.header.fields (meets m.header.fields c) old ≤ counted m c
     named-owed x names reserved c = elim (cases_eq c x) [
       | inl is ↦ subst (λ d. referenced later d + waiting m d + of_mapping m.header.fields (meets m.header.fields d) old ≤ counted m d) (sym is) (
@@ -94,7 +94,7 @@ module _ (m : Metadata) (i j : ℕ) (old : Mapping) (cached' : Cached) where
       pub dropped-owed : (c : ℕ) → referenced later c + waiting m c + of_mapping m.header.fields (meets m.header.fields c) old ≤ counted m c + of_mapping m.header.fields (meets m.header.fields c) new
       dropped-owed c = let moved = drops.changed.references c in let was = sound.covered c in omega (arith, moved, was)
 
-      -- What it named no longer may wait.
+      -- Clusters that the entry no longer references can be added to the free list.
       pub waits-sound : (e : FreeEntry) → e.metadata ≡ false
           → ((c : ℕ) → of_mapping m.header.fields (meets m.header.fields c) new + covers c e ≤ of_mapping m.header.fields (meets m.header.fields c) old)
           → IsSound (record m { cached = cached'; pending = m.pending ++ e ∷ [] })

@@ -1,4 +1,4 @@
--- Where written bytes show: at the places of the guest clusters that the written clusters belong to.
+-- Written bytes are read only by the guest clusters that the written clusters belong to.
 use Rattle.std.proofs.Common.{◌≡◌, ℕ, ◌+◌, ◌-◌, ◌*◌, ◌/◌, ◌%◌, ◌<◌, ◌≤◌, refl, arith, ap, sym, subst, ◌∙◌, Some, Bool, Option, inl, inr}
 use Rattle.std.specs.Prelude.{◌⊎◌}
 use Rattle.std.proofs.Math.Nat.{le-max_left, le-max_right, mul-le-mul_right}
@@ -24,7 +24,7 @@ use Rattle.qcow2_steps.proofs.DataRuns.{beside-words, stop-writes}
 use Rattle.qcow2_steps.proofs.Headers.{header-same}
 use Rattle.qcow2_steps.proofs.Values.{places-there, within}
 
--- The word of a guest cluster that maps it to data is one of a table that there is.
+-- The entry of a guest cluster that is mapped to data exists.
 pub data-slot : (f : Bytes) (H : Header) → IsConsistent f H → (guest d : ℕ) (copied : Bool) → entry f H.fields guest ≡ data_at d copied
     → Live (l2_table f H.fields) H.fields (guest / entries_of_cluster H.fields) (guest % entries_of_cluster H.fields)
     × (slot f H.fields (guest / entries_of_cluster H.fields) (guest % entries_of_cluster H.fields) ≡ data_at d copied)
@@ -36,7 +36,7 @@ data-slot f H was guest d copied is = elim (cases_eq (l2_table f H.fields (guest
   )
 ]
 
--- A place lies as far behind guest cluster `first` as its byte does behind cluster c.
+-- A guest byte's distance from guest cluster `first` is its host byte's distance from cluster c.
 shifted : (p c d first s r e : ℕ) → p ≡ (first + e) * s + r → c + e ≡ d → p + c * s ≡ d * s + r + first * s
 shifted p c d first s r e is there =
     let guests : (first + e) * s ≡ first * s + e * s = omega arith in
@@ -44,11 +44,11 @@ shifted p c d first s r e is there =
     let same : (c + e) * s ≡ d * s = ap (λ n. n * s) there in
     omega (arith, is, guests, hosts, same)
 
--- Of the words w of an image of m, those that name the clusters c to c + k belong to guest clusters in a row.
+-- In the entries of w, clusters c to c + k only belong to consecutive guest clusters.
 module _ (m : Metadata) (first c k : ℕ) (own : AreReferencedFor m first c k) (w : Bytes) (was : IsConsistent w m.header) (tables : (i : ℕ) → l2_table w m.header.fields i ≡ l2_table m.file m.header.fields i)
     (among : (d i j : ℕ) → of_mapping m.header.fields (meets m.header.fields d) (slot w m.header.fields i j)
     ≤ of_either m.header.fields (meets m.header.fields d) (slot m.file m.header.fields i j) (slot (in_memory m) m.header.fields i j)) where
-  -- So a guest cluster whose data is there is its own.
+  -- So a guest cluster with data in one of them is the one that the cluster belongs to.
   pub own-guest : (guest d : ℕ) (copied : Bool) → entry w m.header.fields guest ≡ data_at d copied → c ≤ d → d ≤ c + k → guest ≡ first + (d - c)
   own-guest guest d copied is from upto =
       let there = data-slot w m.header was guest d copied is in
@@ -68,7 +68,7 @@ module _ (m : Metadata) (first c k : ℕ) (own : AreReferencedFor m first c k) (
             omega (arith, none, one, le))
       ]
 
-  -- A place shows what it did, or the byte that was written for it.
+  -- A guest byte reads as before, or as the byte that was written for it.
   module _ (at n : ℕ) (x y : Bytes) (writes : WritesBeside m c k at n x) (either : (q : ℕ) → (y q ≡ m.file q) ⊎ (y q ≡ x q)) (p : ℕ) where
     abbrev size : ℕ
     size = cluster_size m.header.fields
@@ -125,7 +125,7 @@ module _ (m : Metadata) (first c k at n : ℕ) (x y : Bytes) (sound : IsSound m)
   abbrev Gives : Option Value → Type 0
   Gives = GivesData m.header.fields first c at n x p
 
-  -- by the words of the file
+  -- by the entries of the file
   file-written : (own_value y y m.header.fields p ≡ file_value m p) ⊎ Gives (own_value y y m.header.fields p)
   file-written =
       let raw_entries = beside-words m sound c k at n y (stop-writes m c k at n x y writes either) in
@@ -135,7 +135,7 @@ module _ (m : Metadata) (first c k at n : ℕ) (x y : Bytes) (sound : IsSound m)
         | inr given ↦ inr (subst Gives (sym same) given)
       ]
 
-  -- and by those in memory
+  -- by the entries in memory
   memory-written : (memory_value (record m { file = y }) p ≡ memory_value m p) ⊎ Gives (memory_value (record m { file = y }) p)
   memory-written =
       let raw_entries = beside-words m sound c k at n y (stop-writes m c k at n x y writes either) in

@@ -1,5 +1,5 @@
--- What an image goes through from one moment to a later one, seen from the first: which values its places may come to show, in its file and
--- in memory, and what is left of its clusters. It adds up.
+-- Specifies how an image before and after a step are related: the values that guest bytes may get, in the file and with the cached
+-- metadata, and how references and refcounts change. Two steps in sequence are one step.
 use Rattle.std.specs.Prelude.{◌≡◌, ◌⊎◌, ℕ, ◌+◌, ◌/◌, ◌≤◌, Option}
 use Rattle.imago_storage.specs.Disk.{Value}
 use Rattle.qcow2_types.specs.Bytes.{Bytes}
@@ -10,24 +10,24 @@ use Rattle.qcow2_types.specs.Switched.{with_l1_table, with_refcount_table}
 use Rattle.qcow2_alloc.specs.GuestView.{Metadata, IsSound, IsUsed, counted, in_memory, referenced_at_all, referenced, waiting}
 use Rattle.qcow2_steps.specs.Values.{file_value, memory_value, own_value}
 
--- The second header is the first one, but for where its L1 table and its refcount table stand, and how long they are.
+-- The second header differs from the first only in the offsets and lengths of the L1 table and the refcount table.
 abbrev pub KeepsHeader : Header → Header → Type 0
 KeepsHeader H H' = (l1 : ℕ) × (entries : ℕ) × (table : ℕ) × (clusters : ℕ)
     × (H' ≡ with_refcount_table (with_l1_table H l1 entries) table clusters)
 
--- A file with this header that a stop leaves in a call that gives such values, begun on m: it is consistent, states the size of the disk
--- and all else that the header did, but for its two tables, and shows at each place what the file did, what the image did in memory, or
--- what the call gives.
+-- x with header H may be a crash image (the file after a crash) of a call on image m that gives these values to guest bytes. It is
+-- consistent, and its header differs only in the offsets and lengths of the L1 table and the refcount table. Each guest byte reads as in
+-- the file of m, as in memory, or as the call gives.
 pub record MayBeCrashImage (gives : ℕ → Option Value → Type 0) (m : Metadata) (x : Bytes) (H : Header) : Type 0 where
   pub consistent : IsConsistent x H
   pub header : KeepsHeader m.header H
   pub shows : (p : ℕ) → (own_value x x H.fields p ≡ file_value m p)
       ⊎ ((own_value x x H.fields p ≡ memory_value m p) ⊎ gives p (own_value x x H.fields p))
 
--- The image came from m to m', both sound. It keeps its header but for its two tables, and its file is one that may have been left. In
--- memory each place shows what it did, or what was given; and the word of each guest cluster is what it was, but where it was set. What was
--- used and not taken is so still, waits no more, is named no more often and keeps its bytes but those that were written. How often a
--- cluster is counted beyond what names it and waits to free it has changed by what was handed out and taken.
+-- The image changed from m to m', which is consistent in the file and in memory. Its header differs only in the offsets and lengths of the
+-- L1 table and the refcount table, and its file may be a crash image. In memory each guest byte reads as before or as given, and each
+-- mapping is the same unless it was set. Clusters that were in use and weren't taken stay in use, and keep their bytes except for written
+-- ones. Their entries on the free list and their references don't increase. The excess refcount grows by `handed` and shrinks by `taken`.
 pub record Advances (gives : ℕ → Option Value → Type 0) (written set : ℕ → Type 0) (handed taken : ℕ → ℕ) (m m' : Metadata) : Type 0 where
   pub sound : IsSound m'
   pub header : KeepsHeader m.header m'.header

@@ -1,4 +1,5 @@
--- Bytes are written into clusters in a row in which no table, block or header stands.
+-- Definitions for bytes that are written to consecutive clusters without a header, table or refcount block: what the write changes, and
+-- which guest clusters reference these clusters.
 use Rattle.std.specs.Prelude.{◌≡◌, ◌≢◌, ℕ, ◌+◌, ◌*◌, ◌<◌, ◌≤◌, Bool, true, Option, Some}
 use Rattle.imago_storage.specs.Disk.{Value, byte}
 use Rattle.qcow2_types.specs.Bytes.{Bytes}
@@ -13,15 +14,15 @@ use Rattle.qcow2_types.specs.Versions.{KeepsSlots, of_either}
 use Rattle.qcow2_types.specs.Words.{Mapping, data_at, zeroes}
 use Rattle.qcow2_alloc.specs.GuestView.{Metadata, counted, in_memory, referenced_at_all, referenced}
 
--- x is the file with n other bytes from `at` on, in clusters c to c + k.
+-- x is the file with n bytes replaced at `at`, in clusters c to c + k, which contain no header, table or block.
 pub record WritesBeside (m : Metadata) (c k at n : ℕ) (x : Bytes) : Type 0 where
   pub apart : (d : ℕ) → c ≤ d → d ≤ c + k → structure m.file m.header.fields (meets m.header.fields d) ≡ 0
   pub low : c * cluster_size m.header.fields ≤ at
   pub high : at + n ≤ (c + k + 1) * cluster_size m.header.fields
   pub outside : Outside m.file x at n
 
--- With x as its file the image has each word that it had, in the file and in memory, and counts and names each cluster as often there.
-pub record KeepsRawEntries (m : Metadata) (x : Bytes) : Type 0 where
+-- With x as its file, the image has the same mappings, refcounts and references, in the file and in memory.
+pub record KeepsEntries (m : Metadata) (x : Bytes) : Type 0 where
   pub consistent : IsConsistent x m.header
   pub file : KeepsSlots m.file x m.header.fields
   pub memory : KeepsSlots (in_memory m) (in_memory (record m { file = x })) m.header.fields
@@ -35,25 +36,25 @@ pub record KeepsRawEntries (m : Metadata) (x : Bytes) : Type 0 where
   pub names : (d : ℕ) → referenced_at_all (record m { file = x }) d ≡ referenced_at_all m d
   pub apart : (d : ℕ) → structure x m.header.fields (meets m.header.fields d) ≡ structure m.file m.header.fields (meets m.header.fields d)
 
--- how often a word that means this names cluster c as copied
+-- the number of references to cluster c by an entry with this mapping, if it has the COPIED flag
 abbrev pub copies_at : Metadata → Mapping → ℕ → ℕ
 copies_at m mapping c = of_copied m.header.fields (meets m.header.fields c) mapping
 
--- No word of another guest cluster names cluster c, in the file or in memory.
+-- No entry of another guest cluster references cluster c, neither in the file nor in memory.
 abbrev pub IsReferencedFor : Metadata → ℕ → ℕ → Type 0
 IsReferencedFor m guest c = (i j : ℕ) → Live (l2_table m.file m.header.fields) m.header.fields i j
     → i * entries_of_cluster m.header.fields + j ≢ guest
     → of_either m.header.fields (meets m.header.fields c) (slot m.file m.header.fields i j) (slot (in_memory m) m.header.fields i j) ≡ 0
 
--- Each of clusters c to c + k is so for the guest cluster that lies as far behind `first` as it does behind c.
+-- Only guest cluster `first + d` may reference cluster c + d, for each d up to k.
 abbrev pub AreReferencedFor : Metadata → ℕ → ℕ → ℕ → Type 0
 AreReferencedFor m first c k = (d : ℕ) → d ≤ k → IsReferencedFor m (first + d) (c + d)
 
--- Byte q of a file lies as far behind cluster c as the place behind guest cluster `first`.
+-- Byte q of the file has the same distance from cluster c as guest byte p from guest cluster `first`.
 abbrev pub IsByteOf : Fields → ℕ → ℕ → ℕ → ℕ → Type 0
 IsByteOf h first c q p = p + c * cluster_size h ≡ q + first * cluster_size h
 
--- What such a place shows whose byte is among the n from `at` on: the byte that is there.
+-- Guest byte p reads as its byte of x, which is one of the n bytes at `at`.
 pub record GivesData (h : Fields) (first c at n : ℕ) (x : Bytes) (p : ℕ) (v : Option Value) : Type 0 where
   pub q : ℕ
   pub from : at ≤ q
@@ -61,16 +62,16 @@ pub record GivesData (h : Fields) (first c at n : ℕ) (x : Bytes) (p : ℕ) (v 
   pub place : IsByteOf h first c q p
   pub value : v ≡ Some (byte (x q))
 
--- A cluster that no place shows by these words: no table, block or header stands in it, and no word has its data there.
+-- No guest byte reads cluster c by these entries: it contains no header, table or block, and no entry maps data to it.
 pub record IsHidden (raw_entries : Bytes) (h : Fields) (c : ℕ) : Type 0 where
   pub apart : structure raw_entries h (meets h c) ≡ 0
   pub dataless : (guest : ℕ) (copied : Bool) → entry raw_entries h guest ≢ data_at c copied
 
--- The same by the words of the file, and by those in memory.
+-- `IsHidden` by the entries of the file, and by those in memory
 abbrev pub IsHiddenIn : Metadata → ℕ → Type 0
 IsHiddenIn m c = IsHidden m.file m.header.fields c × IsHidden (in_memory m) m.header.fields c
 
--- A guest cluster reads as zeroes, and keeps this cluster for them, as copied, in the file and in memory.
+-- Cluster c is the preallocated zero cluster of a guest cluster, with the COPIED flag, in the file and in memory.
 pub record IsKeptFor (m : Metadata) (guest c : ℕ) : Type 0 where
   pub file : entry m.file m.header.fields guest ≡ zeroes (Some c) true
   pub memory : entry (in_memory m) m.header.fields guest ≡ zeroes (Some c) true

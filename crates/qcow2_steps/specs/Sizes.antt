@@ -1,4 +1,4 @@
--- The header names another size of the disk, of an image at rest.
+-- Definitions for setting the header to another disk size, in an image whose caches are empty.
 use Rattle.std.specs.Prelude.{◌≡◌, ℕ, true, Ok, List, []}
 use Rattle.qcow2_types.specs.Bytes.{Bytes}
 use Rattle.qcow2_types.specs.Counts.{count}
@@ -13,7 +13,7 @@ use Rattle.qcow2_alloc.specs.declared.cache.CacheDependency.TheVariants.{Unset}
 use Rattle.qcow2_alloc.specs.GuestView.{IsSound, Metadata}
 use Rattle.qcow2_steps.specs.Values.{own_value}
 
--- an image of which nothing is cached
+-- an image with nothing cached
 abbrev pub rested : Bytes → Header → TableValue → List FreeEntry → Metadata
 rested f H table pending = record {
   file = f;
@@ -24,13 +24,12 @@ rested f H table pending = record {
   pending = pending;
 }
 
--- x is the file with the header that names this size, in other first bytes.
+-- x is the file with a header of this disk size. Only the first 64 bytes differ.
 pub record WritesHeaderSize (f : Bytes) (H : Header) (n : ℕ) (x : Bytes) : Type 0 where
   pub loads : header_of true x ≡ Ok (with_size H n)
   pub outside : Outside f x 0 64
 
--- Such a file shows what it did at each place, each word means what it did, and each cluster is counted and named as often; the image is
--- sound.
+-- The image with file x is consistent in the file and in memory. Each guest byte, mapping, refcount and reference is the same.
 pub record KeepsAllButSize (f : Bytes) (H : Header) (n : ℕ) (x : Bytes) (table : TableValue) (pending : List FreeEntry) : Type 0 where
   pub sound : IsSound (rested x (with_size H n) table pending)
   pub values : (p : ℕ) → own_value x x (sized H.fields n) p ≡ own_value f f H.fields p

@@ -1,5 +1,6 @@
-//! Each step in the words of what adds up: what it may show, and what is left of the clusters. The functions do nothing, and their
-//! contracts are the laws. What is handed out is allocated in qemu and imago.
+//! Laws that describe each step (a change of an image's file or cached metadata) by one relation, `Advances`. It says which values the step
+//! gives to guest bytes, and how refcounts and references change. The excess refcount of a cluster is its refcount, minus its references
+//! and its entries on the free list. A step takes a cluster if it lowers the excess refcount. Definitions: specs/Advancing.antt.
 
 ghost use Rattle.std.specs.Prelude.{◌≡◌, ◌⊎◌, ◌+◌, ◌<◌, ◌≤◌, ◌++◌, ◌∷◌, [], ℕ, Option, false, true};
 ghost use Rattle.imago_storage.specs.Disk.{Value};
@@ -18,7 +19,8 @@ ghost use Rattle.qcow2_steps.specs.Words.{DropsNames, GivesEntry, IsOfEntry, IsR
 
 use std::marker::Brand;
 
-/// What a step may come to show at which place, which bytes it writes, and of which guest clusters it sets the words.
+/// A step: the values that the step may give to guest bytes, the file offsets that it writes, and the guest clusters whose L2 entries it
+/// sets.
 pub trait Step {
     ghost gives: { ℕ → Option Value → Type 0 };
 
@@ -27,7 +29,7 @@ pub trait Step {
     ghost set: { ℕ → Type 0 };
 }
 
-// Stands for any step: the proof of a call picks what it gives, writes and sets.
+// Represents any step: the proof of a call chooses what the step gives, writes and sets.
 impl Step for Brand {
     ghost gives = { λ p v. ⊥ };
 
@@ -36,8 +38,11 @@ impl Step for Brand {
     ghost set = { λ guest. ⊥ };
 }
 
-/// Two steps add up, whatever they give: together they give, write and set what either does, and hand out and take what both do. A stop in
-/// the second is one in both. What was reserved before a step and isn't taken by it is so after it.
+/// Law: if one step follows another, both together are one step, their sum.
+///
+/// The sum gives, writes and sets what either step does. Its counts `handed` and `taken`, by which excess refcounts grow and shrink, are
+/// the sums of the steps' counts. A crash image of the second step is a crash image of the sum. If a cluster is reserved (allocated, and
+/// not yet referenced) before a step that doesn't take it, it is reserved after the step.
 pub fn steps_add_up<First: Step, Second: Step>()
     ensures both { (handed taken handed' taken' : ℕ → ℕ) (m m1 m2 : Metadata)
         → Advances First.gives First.written First.set handed taken m m1
@@ -51,7 +56,17 @@ pub fn steps_add_up<First: Step, Second: Step>()
         → (c : ℕ) → IsReserved m c → taken c ≡ 0 → IsReserved m1 c }
 {}
 
-/// What is quiet, and takes nothing that is named, gives nothing.
+/// Law: if a step doesn't change guest data, it gives no values to guest bytes. In memory each guest byte reads as before. In the file, and
+/// in a crash image, each reads as in the file or in memory before.
+///
+/// One of these must be true:
+/// - the step takes no cluster that is referenced in memory;
+/// - after the step no entry is dirty: each guest cluster has the same mapping in the file and in memory.
+///
+/// # Crash safety
+///
+/// If each guest byte of a consistent file reads as in the image file or as with the cached metadata (`ShowsEither`), the file may be a
+/// crash image of such a step.
 pub fn unchanged_guest_advances()
     ensures preserves_guest { (m m' : Metadata) (handed taken : ℕ → ℕ) → IsSound m → IsSound m' → GuestUnchanged handed taken m m'
         → ((c : ℕ) → 0 < referenced m c → taken c ≡ 0) → Advances (λ p v. ⊥) (λ q. ⊥) (λ guest. ⊥) handed taken m m' }
@@ -61,13 +76,13 @@ pub fn unchanged_guest_advances()
     ensures crash_images { (m : Metadata) (x : Bytes) (H : Header) → IsSound m → ShowsEither m x H → MayBeCrashImage (λ p v. ⊥) m x H }
 {}
 
-/// Bytes that are written for guest clusters in a row give these.
+/// Law: if bytes are written to the clusters of consecutive guest clusters, the step gives the written bytes to these guest clusters.
 pub fn what_is_written_advances()
     ensures { (m : Metadata) (first c k at n : ℕ) (x : Bytes) → IsSound m → WritesBeside m c k at n x → AreReferencedFor m first c k
         → Advances (GivesData m.header.fields first c at n x) (IsIn at n) (λ guest. ⊥) (λ _. 0) (λ _. 0) m (record m { file = x }) }
 {}
 
-/// Bytes that are written in a cluster that no place shows give nothing.
+/// Law: if bytes are written to a cluster that no guest byte is read from, the step gives no values to guest bytes.
 pub fn what_is_hidden_advances()
     ensures hidden { (m : Metadata) (c at n : ℕ) (x : Bytes) → IsSound m → WritesBeside m c 0 at n x → IsHiddenIn m c
         → Advances (λ p v. ⊥) (IsIn at n) (λ guest. ⊥) (λ _. 0) (λ _. 0) m (record m { file = x }) }
@@ -75,8 +90,10 @@ pub fn what_is_hidden_advances()
         → ((q : ℕ) → (y q ≡ m.file q) ⊎ (y q ≡ x q)) → MayBeCrashImage (λ p v. ⊥) m y m.header }
 {}
 
-/// What is put among what waits to be freed is taken, also where other words name it still. So where a word names less, and what it named
-/// no longer waits, this is handed out by the one and taken by the other.
+/// Law: if a step adds clusters to the free list, it takes the clusters, even if other entries still reference them.
+///
+/// If an L2 entry no longer references some clusters, their excess refcount grows. It shrinks again when the clusters are added to the free
+/// list.
 pub fn deferred_frees_advance()
     ensures pushed { (m : Metadata) (e : FreeEntry) → IsSound m → ((c : ℕ) → referenced m c + waiting m c + covers c e ≤ counted m c)
         → ((c : ℕ) → 0 < covers_metadata c e → referenced_at_all m c ≡ 0)
@@ -87,7 +104,9 @@ pub fn deferred_frees_advance()
         m (record m { cached = cached'; pending = m.pending ++ e ∷ [] }) }
 {}
 
-/// A word that is set gives what it means, to its guest cluster. The cluster that it names anew is taken, and what it named is handed out.
+/// Law: if a step sets an L2 entry, it gives the entry's guest cluster the values that the new entry means.
+///
+/// The step takes the newly referenced cluster. The excess refcount grows by the clusters that only the old entry referenced.
 pub fn what_is_set_advances()
     ensures named { (m : Metadata) (i j x : ℕ) (old : Mapping) (cached' : Cached) → IsSound m → LinksCluster m i j old x cached'
         → IsReserved m x

@@ -1,5 +1,4 @@
-//! What an image becomes where its header names a longer L1 table. The functions do nothing, and their contracts are the laws.
-//! In qemu the step is in `qcow2_grow_l1_table`.
+//! Law on switching the header to a longer L1 table, the last step of growing the L1 table. Definitions: specs/LongerL1.antt.
 
 ghost use Rattle.std.specs.Prelude.{◌≡◌, ℕ};
 ghost use Rattle.qcow2_types.specs.Bytes.{Bytes};
@@ -9,9 +8,11 @@ ghost use Rattle.qcow2_steps.specs.Advancing.{Advances};
 ghost use Rattle.qcow2_steps.specs.LongerL1.{IsReadyL1Table, NamesL1Table, new_l1, old_l1, with_longer_l1};
 ghost use Rattle.qcow2_steps.specs.Values.{file_value, memory_value};
 
-/// The header may name an L1 table that is ready for it, by one request: the image stays sound, with each word, and each place shows what
-/// it did, in the file and in memory. The clusters of the new table are taken, and those of the old one handed out; nothing names them
-/// then.
+/// Law: if a longer L1 table is ready (written, in reserved clusters), the header can be switched to it, in one request.
+///
+/// The image stays consistent (`IsSound`). Each mapping is unchanged, and each guest byte reads as before, in the file and in memory. The
+/// new table's clusters are now referenced, so their excess refcount shrinks. Nothing references the clusters of the old table any more,
+/// and their excess refcount grows.
 pub fn switching_to_a_longer_l1_table()
     ensures sound { (m : Metadata) (offset more : ℕ) (x : Bytes) → IsSound m → IsReadyL1Table m offset more → NamesL1Table m offset more x
         → IsSound (with_longer_l1 m offset more x) }

@@ -1,5 +1,4 @@
-//! What an image becomes where a word of the L1 table comes to name a new L2 table. The functions do nothing, and their contracts are the
-//! laws. In qemu the step is in `l2_allocate`, and the word an L1 entry, as in imago.
+//! Law on setting an L1 entry to a new L2 table, which is empty or a copy of the old one. Definitions: specs/NewTables.antt.
 
 ghost use Rattle.std.specs.Prelude.{◌≡◌, ◌≢◌, ◌*◌, ◌/◌, Bool, ℕ};
 ghost use Rattle.qcow2_types.specs.Entries.{entry, l2_table};
@@ -9,9 +8,12 @@ ghost use Rattle.qcow2_steps.specs.Advancing.{Advances};
 ghost use Rattle.qcow2_steps.specs.NewTables.{IsOfTable, IsReadyL2Table, LosesCopied, NamesTable, copied_as, old_table, with_l1_entry};
 ghost use Rattle.qcow2_steps.specs.Values.{file_value, memory_value};
 
-/// A word of the L1 table may come to name a table that is ready for it, by one request: the image stays sound, and each place shows what
-/// it did, in the file and in memory. Each word of the table means what it did, with its mark or without as it was copied, and each of
-/// another table what it did. The cluster is taken, and that of the old table, if there was one, is handed out; nothing names it then.
+/// Law: if a new L2 table is ready (written, in a reserved cluster), an L1 entry can be set to reference it, in one request.
+///
+/// The image stays consistent (`IsSound`), and each guest byte reads as before, in the file and in memory. Each entry of the table has the
+/// mapping of the old table, with the COPIED flag or without it (`copied_as`). The mappings of other tables are unchanged. The new table's
+/// cluster is now referenced, so its excess refcount shrinks. Nothing references the old table, if any, any more, and its excess refcount
+/// grows.
 pub fn linking_a_new_table()
     ensures sound { (m : Metadata) (marks : Bool) (i c w : ℕ) → IsSound m → IsReadyL2Table m marks i c → NamesTable m.header.fields c w
         → IsSound (with_l1_entry m i w) }

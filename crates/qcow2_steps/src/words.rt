@@ -1,6 +1,5 @@
-//! What an image becomes where a word of a cached L2 table is set. The functions do nothing, and their contracts are the laws.
-//! Nothing is asked of the file: it stays, and each of its places shows what it did.
-//! In qemu the word is an L2 entry, and one that comes to name a cluster is linked.
+//! Laws on setting an entry of a cached L2 table. The file doesn't change. A reserved cluster is allocated, and not yet referenced. "In
+//! memory" means with the cached tables and refcount blocks instead of the file's. Definitions: specs/Words.antt.
 
 ghost use Rattle.std.specs.Prelude.{◌≡◌, ◌≢◌, ◌+◌, ◌/◌, ◌≤◌, ◌++◌, ◌∷◌, [], ℕ, false};
 ghost use Rattle.qcow2_types.specs.Entries.{entry};
@@ -13,8 +12,10 @@ ghost use Rattle.qcow2_alloc.specs.GuestView.{Metadata, IsSound, counted, in_mem
 ghost use Rattle.qcow2_steps.specs.Values.{memory_value, own_value_by};
 ghost use Rattle.qcow2_steps.specs.Words.{ChangesEntry, DropsNames, IsOfOther, IsOfEntry, IsReserved, LinksCluster, names_at};
 
-/// A word may come to name a reserved cluster: the image stays sound, and other clusters stay reserved. What the word named is still
-/// counted for it, so that it may be put among what waits to be freed.
+/// Law: if a cluster is reserved, a cached L2 entry can be set to reference it.
+///
+/// The image stays consistent (`IsSound`), and other reserved clusters stay reserved. The refcounts still include the references of the
+/// old entry, so the clusters that it referenced can be added to the free list.
 pub fn linking_a_reserved_cluster()
     ensures sound { (m : Metadata) (i j x : ℕ) (old : Mapping) (cached' : Cached) → IsSound m → LinksCluster m i j old x cached'
         → IsReserved m x → IsSound (record m { cached = cached' }) }
@@ -24,8 +25,10 @@ pub fn linking_a_reserved_cluster()
         → (c : ℕ) → c ≢ x → IsReserved m c → IsReserved (record m { cached = cached' }) c }
 {}
 
-/// A word may come to name less: the image stays sound, and all clusters stay reserved. What it named no longer may wait to be freed, as
-/// data.
+/// Law: if a new mapping references no cluster that the old one didn't, a cached L2 entry can be set to it.
+///
+/// The image stays consistent (`IsSound`), and all reserved clusters stay reserved. Clusters that the entry no longer references can be
+/// added to the free list, as data.
 pub fn dropping_a_reference()
     ensures sound { (m : Metadata) (i j : ℕ) (old new : Mapping) (cached' : Cached) → IsSound m → DropsNames m i j old new cached'
         → IsSound (record m { cached = cached' }) }
@@ -38,8 +41,9 @@ pub fn dropping_a_reference()
         → IsSound (record m { cached = cached'; pending = m.pending ++ e ∷ [] }) }
 {}
 
-/// In memory the places of the word's guest cluster show by what it means then, with the bytes of the file. All others show what they did,
-/// and each other guest cluster has its word.
+/// Law: if a cached L2 entry is set, its guest cluster reads in memory as the new mapping says, with the bytes of the file.
+///
+/// All other guest clusters keep their mapping, and read as before.
 pub fn what_a_set_entry_shows()
     ensures here { (m : Metadata) (i j p : ℕ) (old new : Mapping) (cached' : Cached) → ChangesEntry m i j old new cached'
         → IsOfEntry m.header.fields i j (p / cluster_size m.header.fields)
