@@ -1,4 +1,4 @@
--- Clusters in a row are allocated from rest.
+-- Consecutive clusters are allocated in a flushed image.
 use Rattle.std.proofs.Common.{◌≡◌, ◌≢◌, ℕ, ◌+◌, ◌-◌, ◌<◌, ◌≤◌, refl, arith, ap, sym, subst, Result, Ok, Err, Bool, List, false}
 use Rattle.std.specs.Prelude.{⊤}
 use Rattle.imago_storage.specs.State.{StorageState}
@@ -33,7 +33,7 @@ use Rattle.qcow2_clusters.proofs.EndsAtRest.{begun, begun-then, ready-kept, lent
 use Rattle.qcow2_clusters.proofs.RoomAfterAllocations.{allocation-leaves, crowded-there, marked-as}
 use Rattle.qcow2_clusters.proofs.StartsAtRest.{begun-counts, begun-quiet, empty-loose, loose-unpinned}
 
--- it isn't since the cache is full then
+-- The fault isn't that the cache is full.
 why-full : (sound : Type 0) (loose : Bool → Type 0) (full : ℕ → Type 0) → loose false → (before after : ℕ) (fault : Fault) → fault ≡ CacheFull
     → HasCause (allocating_causes sound loose full before after) fault → ⊥
 why-full sound loose full room before after fault is why =
@@ -44,11 +44,11 @@ module _ {S : Type 0} (state : S → StorageState) (c : Clusters S) (empty : Are
   loose = empty-loose (table_of c.space.allocator) c.caches empty room
 
   module _ (result : Result FreeEntry Fault) (a : AllocatesClusters state n false (lent_by c) result (lent_by mid)) where
-    -- Nothing is pinned then,
+    -- Nothing is pinned after the allocation.
     pub run-unpinned : AreUnpinned mid.caches
     run-unpinned = loose-unpinned (table_of mid.space.allocator) c.caches mid.caches empty a.shape.room (a.shape.keeps_unpinned_room false loose)
 
-    -- there is as much room, and clusters are as large.
+    -- The caches have as much space, and clusters have the same size.
     pub run-room : HasRoomOf c.caches mid.caches
     run-room = record { tables = a.shape.room.tables; blocks = a.shape.room.blocks }
 
@@ -58,7 +58,7 @@ module _ {S : Type 0} (state : S → StorageState) (c : Clusters S) (empty : Are
     pub run-bits : mid.file.header.fields.cluster_bits ≡ c.file.header.fields.cluster_bits
     run-bits = ap (λ (H : Header). H.fields.cluster_bits) a.shape.moved.2
 
-    -- No cluster before the mark is free, where none was.
+    -- If no cluster before the first-free hint was free, none is free there afterwards.
     pub run-marked : IsReady state c → HadNoResourceError result → NoneFreeBefore (flushed_metadata state c) (first_free_in c) → NoneFreeBefore (changed state mid) (first_free_in mid)
     run-marked ready whole marked =
         let kept = ready-kept state c empty ready in
@@ -67,7 +67,7 @@ module _ {S : Type 0} (state : S → StorageState) (c : Clusters S) (empty : Are
     handed-quietly : PreservesGuest (HadNoResourceError result) (handed_out result a.leaked) (λ _. 0) (storage state c) (flushed_metadata state c) (storage state mid) (changed state mid)
     handed-quietly = begun-then state c empty (HadNoResourceError result) (handed_out result a.leaked) (storage state mid) (changed state mid) a.guest_unchanged
 
-  -- Where it was refused nothing was handed out.
+  -- If the allocation fails, nothing is newly allocated.
   module _ (fault : Fault) (a : AllocatesClusters state n false (lent_by c) (Err fault) (lent_by mid)) where
     never-full : fault ≡ CacheFull → ⊥
     never-full is =
@@ -81,7 +81,7 @@ module _ {S : Type 0} (state : S → StorageState) (c : Clusters S) (empty : Are
     abbrev asked-full : ℕ → Type 0
     asked-full number = WhereKept state (begun c) (IsCrowded a.mid.image a.mid.mark n × IsRunTold (changed state mid) a.mid.mark n number)
 
-    -- There was no room for it then, and a number tells why.
+    -- Then no run is long enough, and a number says why.
     full-there : (number : ℕ) → fault ≡ Limit number → IsReady state c → asked-full number → IsFull n (flushed_metadata state c) (first_free_in c) (changed state mid) (first_free_in mid) number
     full-there number is ready full =
         let kept = ready-kept state c empty ready in
@@ -116,9 +116,9 @@ module _ {S : Type 0} (state : S → StorageState) (c : Clusters S) (empty : Are
       }) fault (cause-told _ fault a.cause);
     }
 
-  -- Else clusters were:
+  -- The allocation succeeds.
   module _ (entry : FreeEntry) (a : AllocatesClusters state n false (lent_by c) (Ok entry) (lent_by mid)) where
-    -- these,
+    -- These clusters are newly allocated.
     covers-run : (d : ℕ) → covers d (run_of entry.first n) ≡ covers d entry
     covers-run d = rw (sym a.run.0) refl
 
@@ -127,11 +127,11 @@ module _ {S : Type 0} (state : S → StorageState) (c : Clusters S) (empty : Are
         quietly-otherwise ⊤ (handed_out (Ok entry) a.leaked) (λ _. 0) (λ d. covers d (run_of entry.first n)) (λ _. 0) (storage state c) (flushed_metadata state c) (storage state mid) (changed state mid)
         (λ sound d. let same = covers-run d in omega (arith, same)) (λ sound d used none. refl) (handed-quietly (Ok entry) a)
 
-    -- which words can name,
+    -- They are addressable.
     pub run-named : 0 < n → (entry.first ≢ 0) × IsAddressable c.file.header.fields.cluster_bits (entry.first + (n - 1))
     run-named some = a.run.2 some
 
-    -- which weren't used,
+    -- They weren't in use.
     pub run-unused : IsReady state c → (d : ℕ) → entry.first ≤ d → d < entry.first + n → IsUsed (flushed_metadata state c) d → ⊥
     run-unused ready d from to used =
         let kept = ready-kept state c empty ready in
@@ -143,7 +143,7 @@ module _ {S : Type 0} (state : S → StorageState) (c : Clusters S) (empty : Are
         let more = there.taken in
         omega (arith, zero, more)
 
-    -- which leave room behind them,
+    -- The free space after the allocation.
     pub run-leaves : IsReady state c → LeavesRoom (room_for c.file.header.fields n) (flushed_metadata state c) (first_free_in c) (changed state mid) (first_free_in mid)
     run-leaves ready =
         let kept = ready-kept state c empty ready in
@@ -151,7 +151,7 @@ module _ {S : Type 0} (state : S → StorageState) (c : Clusters S) (empty : Are
         (changed state mid) (first_free_in mid) entry (ap (λ (H : Header). space H.fields) a.shape.moved.2)
         (a.little kept.0 kept.1) (a.taken kept.0 kept.1) a.further
 
-    -- and are reserved now.
+    -- They are reserved.
     pub run-reserved : IsReady state c → AreReserved n (changed state mid) entry.first
     run-reserved ready d from to =
         let kept = ready-kept state c empty ready in

@@ -1,4 +1,4 @@
--- Words of a table that is cached alone, of an image that rested, are cleared one behind the other: what that does to its metadata.
+-- The effect on the metadata of a flushed image when entries of its only cached table are cleared, one after another.
 use Rattle.std.proofs.Common.{◌≡◌, ◌≢◌, ℕ, zero, suc, ◌+◌, ◌-◌, ◌*◌, ◌/◌, ◌%◌, ◌^◌, ◌<◌, ◌≤◌, eq-eqb, refl, arith, ap, sym, subst, ◌∙◌, inl, inr, true, false, Some, Option, length}
 use Rattle.std.specs.Prelude.{◌++◌, nat_eq, IfSome}
 use Rattle.std.specs.Option.{option_map}
@@ -36,7 +36,7 @@ use Rattle.qcow2_clusters.proofs.LoneTables.{lone-hit, lone_table}
 use Rattle.qcow2_clusters.proofs.ClusterNames.{idle}
 use Rattle.qcow2_clusters.proofs.ClearedWords.{drops, dropping, given-data, now-means, word-cleared}
 
--- Words that were cleared leave the table's layout and its length.
+-- Clearing entries keeps the table's layout and length.
 pub cleared-layout : (how : Clearing) (index n : ℕ) (old new : Listed) → ClearsEntries how index n old new → new.table.layout ≡ old.table.layout
 unfolding ClearsEntries
 cleared-layout how index zero old new is = ap (λ (l : Listed). l.table.layout) is
@@ -49,11 +49,11 @@ cleared-length how index zero old new is = ap (λ (l : Listed). length l.table.r
 cleared-length how index (suc n) old new is =
     ap (λ (t : TableValue). length t.raw_entries) is.2.clears.set ∙ length-set is.0.table.raw_entries _ _ ∙ cleared-length how index n old is.0 is.1
 
--- Another word of a table means what it did.
+-- The other entries of the table keep their meanings.
 other-mapping : (t : TableValue) (a b w : ℕ) → b ≢ a → mapping_in (with_raw_entry t a w) b ≡ mapping_in t b
 other-mapping t a b w apart = ap (mapping_of t.layout) (get_or-set_other t.raw_entries a b w 0 apart)
 
--- The image at rest, and the L2 table as its file has it.
+-- The flushed image, and the L2 table as the file has it.
 module _ (how : Clearing) (m : Metadata) (table guest n : ℕ) (sound : IsSound m) (possible : IsPossible how m.header.fields.version)
     (under : AreUnder n m table guest) (order : CacheDependency) (t0 : TableValue)
     (is : t0 ≡ table_in m.file m.header.fields table (entries_of_cluster m.header.fields)) (list0 : FreeList)
@@ -82,7 +82,7 @@ module _ (how : Clearing) (m : Metadata) (table guest n : ℕ) (sound : IsSound 
   column-of : (d : ℕ) → j + d < entries_of_cluster h → (guest + d) % entries_of_cluster h ≡ j + d
   column-of d less = ap (λ g. g % entries_of_cluster h) (parts d) ∙ mod-mul-add i (entries_of_cluster h) (j + d) less
 
-  -- The table says what the file does.
+  -- The table has the meanings of the file.
   pub first-words-of : (d : ℕ) → d < n → mapping_in t0 (j + d) ≡ meant m (guest + d)
   first-words-of d to =
       let g : ℕ = guest + d in
@@ -100,7 +100,7 @@ module _ (how : Clearing) (m : Metadata) (table guest n : ℕ) (sound : IsSound 
       ∙ ap (λ c. l2_mapping m.file h (l2_table m.file h (g / entries_of_cluster h)) c) (sym column)
       ∙ sym (entry-slot m.file h g sound.well_formed.consistent.readable.tables ∙ guest-slot-there m.file h g is-there)
 
-  -- The first k words have been cleared.
+  -- The first `k` entries are cleared.
   pub record Standing (k : ℕ) (s : Listed) : Type 0 where
     pub step : AdvancesBy (clearing_run how m guest k) found (image s)
     pub waits : s.list.entries ≡ list0.entries ++ given_up_run how m guest k
@@ -121,7 +121,7 @@ module _ (how : Clearing) (m : Metadata) (table guest n : ℕ) (sound : IsSound 
       long = ap (λ (t : TableValue). length t.raw_entries) is ∙ words_long m.file (table * cluster_size h) (entries_of_cluster h);
     }
 
-    -- One more is.
+    -- One more entry is cleared.
     module _ (k : ℕ) (less : k < n) (s s' : Listed) (was : Standing k s) (one : ClearsEntry how (j + k) s s') where
       abbrev g : ℕ
       g = guest + k
@@ -167,7 +167,7 @@ module _ (how : Clearing) (m : Metadata) (table guest n : ℕ) (sound : IsSound 
         blocks = refl;
       }
 
-      -- The word that is written means what was asked for.
+      -- The written entry has the requested meaning.
       word-means : mapping_of s.table.layout w ≡ cleared how old
       word-means =
           ap (mapping_of s.table.layout) (sym (get_or-set_same s.table.raw_entries (j + k) w 0 (let long = was.long in omega (arith, long, here))))
@@ -199,7 +199,7 @@ module _ (how : Clearing) (m : Metadata) (table guest n : ℕ) (sound : IsSound 
       abbrev DropsAt : ℕ → ℕ → Mapping → Option FreeEntry → Type 0
       DropsAt a b x given = AdvancesBy (dropping m a b (cleared how x) given) (image s) (image s')
 
-      -- The same, as it is said of the image at rest.
+      -- The same step, stated of the flushed image.
       second : AdvancesBy (clearing how m g) (image s) (image s')
       second = subst (λ a. DropsAt a (g % entries_of_cluster h) (meant m g) (given_up_for how m g)) (sym row)
           (subst (λ b. DropsAt i b (meant m g) (given_up_for how m g)) (sym column)
@@ -210,10 +210,10 @@ module _ (how : Clearing) (m : Metadata) (table guest n : ℕ) (sound : IsSound 
       next =
           let first = clearing_run how m guest k in
           let last = clearing how m g in
-          advances-then first.gives last.gives first.written first.set first.newly_allocated first.taken found (image s) was.step
-          last.written last.set last.newly_allocated last.taken (image s') second
+          advances-then first.gives last.gives first.written first.set first.excess_added first.taken found (image s) was.step
+          last.written last.set last.excess_added last.taken (image s') second
 
-      -- Another word of the row stays.
+      -- Another entry of the run is unchanged.
       word-stays : (d : ℕ) → d < n → d ≢ k → entry (in_memory (image s')) h (guest + d) ≡ entry (in_memory (image s)) h (guest + d)
       word-stays d to other = elim (second.raw_entries (guest + d)) [
         | inl same ↦ same
@@ -249,7 +249,7 @@ module _ (how : Clearing) (m : Metadata) (table guest n : ℕ) (sound : IsSound 
     stands zero most s at = subst (Standing 0) (sym at) begun
     stands (suc k) most s at = stands-next k (omega (arith, most)) at.0 s (stands k (omega (arith, most)) at.0 at.1) at.2
 
--- No words have been cleared to begin with, and then one more.
+-- No entries are cleared at first, and then one more.
 pub cleared-none : (how : Clearing) (index : ℕ) (old : Listed) → ClearsEntries how index 0 old old
 unfolding ClearsEntries
 cleared-none how index old = refl

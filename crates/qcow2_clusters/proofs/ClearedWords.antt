@@ -1,4 +1,4 @@
--- A word of a table that is cached is cleared: it names no more than it did, and what it gives up waits to be freed.
+-- An entry of a cached table is cleared: it references nothing new, and what it no longer references becomes pending.
 use Rattle.std.proofs.Common.{◌≡◌, ◌≢◌, ℕ, ◌+◌, ◌/◌, ◌%◌, ◌<◌, ◌≤◌, refl, arith, ap, sym, subst, ◌∙◌, Some, None, Option, List, length}
 use Rattle.std.specs.Prelude.{◌++◌, IfSome, true, false, nat_eq}
 use Rattle.std.proofs.lemmas.List.{append-nil, get_or-set_same, length-set}
@@ -27,17 +27,17 @@ use Rattle.qcow2_clusters.specs.declared.clearing.Clearing.TheVariants.{Keep, Gi
 use Rattle.qcow2_clusters.proofs.ClusterNames.{freed-data}
 use Rattle.qcow2_clusters.proofs.ProgressSums.{AdvancesBy}
 
--- what is given, set, handed out and taken by one word that comes to mean this and gives that up
+-- The kind of a change of one entry to this meaning that frees these clusters.
 abbrev pub dropping : Metadata → (i j : ℕ) → Mapping → Option FreeEntry → Kind
 dropping m i j new given = record {
   gives = GivesEntry m i j new;
   written = λ q. ⊥;
   set = IsOfEntry m.header.fields i j;
-  newly_allocated = λ c. holds c given;
+  excess_added = λ c. holds c given;
   taken = λ c. holds c given;
 }
 
--- What a word names no longer waits to be freed, if it is anything.
+-- The clusters that the entry no longer references can become pending.
 pub dropped-waits : (m : Metadata) (i j : ℕ) (old new : Mapping) (given : Option FreeEntry) (cached' : Cached) → IsSound m
     → DropsNames m i j old new cached' → IfSome given (λ e. e.metadata ≡ false)
     → ((c : ℕ) → names_at m new c + holds c given ≡ names_at m old c)
@@ -47,13 +47,13 @@ dropped-waits m i j old new None cached' sound drops guest back =
     (dropped-advances m i j old new (λ _. 0) cached' sound drops back)
 dropped-waits m i j old new (Some e) cached' sound drops guest back = freed-advances m i j old new e cached' sound drops guest back
 
--- What is given up is data.
+-- The clusters to free hold data.
 pub given-data : (bits : ℕ) (how : Clearing) (old : Mapping) → IfSome (given_up bits how old) (λ e. e.metadata ≡ false)
 given-data bits Keep old = freed-data _
 given-data bits GiveUp old = freed-data _
 given-data bits Unmap old = freed-data (allocation_of bits old)
 
--- The word of an L2 table that is cached.
+-- The entry of a cached L2 table.
 module _ (how : Clearing) (m : Metadata) (key i j : ℕ) (cached' : Cached) (sound : IsSound m) (possible : IsPossible how m.header.fields.version)
     (w : ℕ) (sets : SetsEntry m.file m.header.fields m.cached key i j w cached')
     (is : w ≡ cleared_raw_entry m.header.fields.cluster_bits how (mapping_in sets.table j)) where
@@ -78,11 +78,11 @@ module _ (how : Clearing) (m : Metadata) (key i j : ℕ) (cached' : Cached) (sou
   pub drops : DropsNames m i j old (cleared how old) cached'
   drops = drops-by how possible is
 
-  -- Of its guest cluster the word means that then.
+  -- The entry has the new meaning for its guest cluster.
   pub now-means : slot (in_memory (record m { cached = cached' })) m.header.fields i j ≡ cleared how old
   now-means = drops.changed.written.here
 
-  -- It names as often what it did, or gives it up.
+  -- Each cluster that the entry referenced is still referenced, or is to free.
   module _ (given : Option FreeEntry) (data-alone : IfSome given (λ e. e.metadata ≡ false))
       (conserved : Conserves m.header.fields.cluster_bits old (cleared how old) given (λ c. 0)) where
     pub word-cleared : AdvancesBy (dropping m i j (cleared how old) given) m (record m { cached = cached'; pending = m.pending ++ listed_of given })

@@ -1,4 +1,4 @@
--- How guest clusters in a row are cleared.
+-- Clearing consecutive guest clusters of a flushed image.
 use Rattle.std.proofs.Common.{◌≡◌, ℕ, ◌+◌, ◌*◌, ◌%◌, ◌<◌, ◌≤◌, refl, arith, ap, sym, subst, ◌∙◌, inl, inr, Result, Ok, Err}
 use Rattle.std.specs.Prelude.{◌⊎◌}
 use Rattle.imago_storage.specs.State.{StorageState}

@@ -1,5 +1,5 @@
--- A word of a table that is cached alone, of an image that rested, comes to name a cluster that was reserved, or kept for its guest cluster:
--- what that does to its metadata.
+-- The effect on the metadata of a flushed image when an entry of its only cached table is linked to a reserved or
+-- preallocated cluster.
 use Rattle.std.proofs.Common.{◌≡◌, ◌≢◌, ℕ, ◌+◌, ◌*◌, ◌/◌, ◌%◌, ◌^◌, ◌<◌, ◌≤◌, eq-eqb, refl, arith, ap, sym, subst, ◌∙◌, inl, inr, true, Some, None, Option, List}
 use Rattle.std.specs.Prelude.{Bool, false, nat_eq, not, ◌&&◌, ◌==◌, ◌++◌, IfSome, if◌then◌else◌}
 use Rattle.std.specs.Option.{option_map}
@@ -44,11 +44,11 @@ use Rattle.qcow2_steps.proofs.QuietValues.{quiet-entries}
 use Rattle.qcow2_steps.proofs.Steps.{dropped-advances, meets-one, named-advances, put-off-advances, quiet-advances}
 use Rattle.qcow2_steps.proofs.Values.{places-there}
 use Rattle.qcow2_steps.proofs.WordSteps.{named-owed, used-after}
-use Rattle.qcow2_clusters.specs.Linking.{CanBeLinked, listed_of, naming}
+use Rattle.qcow2_clusters.specs.Linking.{CanBeLinked, listed_of, linking}
 use Rattle.qcow2_clusters.specs.Progress.{Kind, handing}
 use Rattle.qcow2_clusters.proofs.ProgressSums.{AdvancesBy, IsWider}
 
--- The image at rest, and the table of the guest cluster as its file has it.
+-- The flushed image, and the guest cluster's table as the file has it.
 module _ (m : Metadata) (table guest x : ℕ) (sound : IsSound m) (able : CanBeLinked m table guest x) where
   abbrev h : Fields
   h = m.header.fields
@@ -65,19 +65,19 @@ module _ (m : Metadata) (table guest x : ℕ) (sound : IsSound m) (able : CanBeL
   is-there : l2_table m.file h i ≢ 0
   is-there none =
       let long : 0 < cluster_size h = pow_pos h.cluster_bits in
-      let some = mul-pos {m = table} (let apart = able.layers_below.table_nonzero in omega (arith, apart)) long in
-      let place = able.layers_below.table_linked in
+      let some = mul-pos {m = table} (let apart = able.in_table.table_nonzero in omega (arith, apart)) long in
+      let place = able.in_table.table_linked in
       omega (arith, some, place, none)
 
   pub table-near : IsAddressable h.cluster_bits table
-  table-near = subst (λ n. n ≤ max_offset) able.layers_below.table_linked
-      (place-near h.cluster_bits (l2_table m.file h i) (table-place m.file h i (sound-words m.file h sound.well_formed.consistent.readable.tables) able.layers_below.inside))
+  table-near = subst (λ n. n ≤ max_offset) able.in_table.table_linked
+      (place-near h.cluster_bits (l2_table m.file h i) (table-place m.file h i (sound-words m.file h sound.well_formed.consistent.readable.tables) able.in_table.inside))
 
-  -- Each of its words means something.
+  -- Each of its entries is valid.
   word-fine : (k : ℕ) → k < entries_of_cluster h → is_damaged (l2_mapping m.file h (table * cluster_size h) k) ≡ false
   word-fine k lt =
-      subst (λ p. is_damaged (l2_mapping m.file h p k) ≡ false) able.layers_below.table_linked
-      ((sound-words m.file h sound.well_formed.consistent.readable.tables).slots i k (record { in_l1 = able.layers_below.inside; is_there = is-there; in_table = lt }))
+      subst (λ p. is_damaged (l2_mapping m.file h p k) ≡ false) able.in_table.table_linked
+      ((sound-words m.file h sound.well_formed.consistent.readable.tables).slots i k (record { in_l1 = able.in_table.inside; is_there = is-there; in_table = lt }))
 
   pub table-fine : (f : Bytes) → f ≡ m.file → IsTableFine f h table
   table-fine f same = record {
@@ -92,18 +92,18 @@ module _ (m : Metadata) (table guest x : ℕ) (sound : IsSound m) (able : CanBeL
   }
 
   module _ (t : TableValue) (is : t ≡ table_in m.file h table (entries_of_cluster h)) where
-    -- What the word meant.
+    -- The entry's meaning before,
     pub old-slot : mapping_in t j ≡ slot m.file h i j
     old-slot =
         ap (λ (x : TableValue). mapping_in x j) is
         ∙ ap (mapping_of (layout_of h)) (words_at m.file (table * cluster_size h) (entries_of_cluster h) j row)
-        ∙ ap (λ p. l2_mapping m.file h p j) (sym able.layers_below.table_linked)
+        ∙ ap (λ p. l2_mapping m.file h p j) (sym able.in_table.table_linked)
 
-    -- as the file says.
+    -- as in the file.
     pub old-entry : mapping_in t j ≡ entry m.file h guest
     old-entry = old-slot ∙ sym (entry-slot m.file h guest sound.well_formed.consistent.readable.tables ∙ guest-slot-there m.file h guest is-there)
 
--- What a word named is handed back as often as it named it, and the new cluster is taken, where it didn't name that.
+-- Each reference of the old entry is freed. The new cluster is taken, unless the entry referenced it before.
 module _ (h : Fields) (x : ℕ) (old new : Mapping) (before : Option FreeEntry) (means : new ≡ data_at x true)
     (conserved : Conserves h.cluster_bits old new before (newly x (allocation_of h.cluster_bits old))) (not_referenced : of_mapping h (meets h x) old ≡ 0) where
   total : (c : ℕ) → one_at x c + holds c before ≡ of_mapping h (meets h c) old + newly x (allocation_of h.cluster_bits old) c
@@ -132,7 +132,7 @@ module _ (h : Fields) (x : ℕ) (old new : Mapping) (before : Option FreeEntry) 
   pub back-named : (c : ℕ) → holds c before ≡ of_mapping h (meets h c) old
   back-named c = let new-one = newly-one c in omega (arith, total c, new-one)
 
--- Where it kept the cluster it hands back nothing, and nothing is taken.
+-- If the entry kept the cluster, nothing is freed and nothing is taken.
 own-just : (x : ℕ) → is_just x (Some (x, 1)) ≡ true
 own-just x = rw (eq-eqb x x refl) refl
 
@@ -145,7 +145,7 @@ kept-newly x c = rw (own-just x) (none (c == x)) where
   none true = refl
   none false = refl
 
--- Nothing is done to an image.
+-- A call that does nothing.
 pub idle : (m : Metadata) → IsSound m → AdvancesBy (handing (λ _. 0) (λ _. 0)) m m
 idle m sound = record {
   sound = sound;
@@ -160,7 +160,7 @@ idle m sound = record {
   law = λ c. omega arith;
 }
 
--- What was named may wait to be freed, if it was anything.
+-- The clusters that the entry referenced, if any, can become pending.
 pub put-advances : (m : Metadata) (before : Option FreeEntry) → IsSound m → ((c : ℕ) → referenced m c + waiting m c + holds c before ≤ counted m c)
     → IfSome before (λ e. e.metadata ≡ false) → AdvancesBy (handing (λ _. 0) (λ c. holds c before)) m (record m { pending = m.pending ++ listed_of before })
 put-advances m None sound enough guest =
@@ -173,32 +173,32 @@ pub freed-data : (clusters : Option (ℕ × ℕ)) → IfSome (freed clusters) (�
 freed-data None = tt
 freed-data (Some clusters) = refl
 
--- A word that names a cluster means that its data is there.
+-- An entry that references a cluster means its data.
 pub names-data : (m : Metadata) (x : ℕ) → IsSound m → x ≢ 0 → IsAddressable m.header.fields.cluster_bits x
     → mapping_of (layout_of m.header.fields) (2 ^ 63 + x * cluster_size m.header.fields) ≡ data_at x true
 names-data m x sound some near = fresh-word m.header.fields x (consistent-shaped m.file m.header sound.well_formed.consistent).low (omega (arith, some)) near
 
--- What is given, set, handed out and taken by that one step, where it hands this back.
+-- The kind of this one step.
 abbrev pub stepping : Metadata → (i j x : ℕ) → Mapping → Option FreeEntry → Kind
 stepping m i j x old before = record {
   gives = GivesEntry m i j (data_at x true);
   written = λ q. ⊥;
   set = IsOfEntry m.header.fields i j;
-  newly_allocated = λ c. holds c before;
+  excess_added = λ c. holds c before;
   taken = newly x (allocation_of m.header.fields.cluster_bits old);
 }
 
--- The word was set: what it named is counted still, so that it may wait to be freed, and so is the cluster that it names.
+-- The entry is linked. What it referenced still has its refcount, so it can become pending, and so has the new cluster.
 pub record WordNamed (m : Metadata) (guest x : ℕ) (old : Mapping) (before : Option FreeEntry) (found set : Metadata) : Type 0 where
   pub step : AdvancesBy (stepping found (guest / entries_of_cluster m.header.fields) (guest % entries_of_cluster m.header.fields) x old before) found set
   pub named : entry (in_memory set) m.header.fields guest ≡ data_at x true
-  pub wider : IsWider (stepping found (guest / entries_of_cluster m.header.fields) (guest % entries_of_cluster m.header.fields) x old before) (naming m guest x)
+  pub wider : IsWider (stepping found (guest / entries_of_cluster m.header.fields) (guest % entries_of_cluster m.header.fields) x old before) (linking m guest x)
   pub used : IsUsed set x
   pub owed : (c : ℕ) → referenced set c + waiting set c + holds c before ≤ counted set c
   pub left_untouched : holds x before ≡ 0
   pub untouched_unless_begun : (c : ℕ) → c ≢ x → referenced_at_all found c ≡ 0 → holds c before ≡ 0
 
--- It is found, over a file that is the same, and its word comes to name the cluster.
+-- The table is found, the file is the same, and the entry is linked to the cluster.
 module _ (m : Metadata) (table guest x : ℕ) (sound : IsSound m) (able : CanBeLinked m table guest x) (some : x ≢ 0) (near : IsAddressable m.header.fields.cluster_bits x)
     (y : Bytes) (cached : Cached) (order : CacheDependency) (same : y ≡ m.file) where
   abbrev found : Metadata
@@ -216,7 +216,7 @@ module _ (m : Metadata) (table guest x : ℕ) (sound : IsSound m) (able : CanBeL
     abbrev sets : SetsEntry y m.header.fields cached table i' j' (2 ^ 63 + x * cluster_size m.header.fields) cached'
     sets = record {
       table = t;
-      caches = record { table_cached = there; inside = able.layers_below.inside; place = ap (λ (b : Bytes). l2_table b m.header.fields i') same ∙ able.layers_below.table_linked; cluster_nonzero = able.layers_below.table_nonzero };
+      caches = record { table_cached = there; inside = able.in_table.inside; place = ap (λ (b : Bytes). l2_table b m.header.fields i') same ∙ able.in_table.table_linked; cluster_nonzero = able.in_table.table_nonzero };
       inside = row m table guest x sound able;
       tables = tables;
       blocks = blocks;
@@ -225,7 +225,7 @@ module _ (m : Metadata) (table guest x : ℕ) (sound : IsSound m) (able : CanBeL
     abbrev set : Metadata
     set = record found { cached = cached' }
 
-    named-wider : (old : Mapping) (before : Option FreeEntry) → IsWider (stepping found i' j' x old before) (naming m guest x)
+    named-wider : (old : Mapping) (before : Option FreeEntry) → IsWider (stepping found i' j' x old before) (linking m guest x)
     named-wider old before = record {
       gives = λ p v given. (given.0, given.1 ∙ ap (λ (b : Bytes). own_value_by b m.header.fields p (data_at x true)) same);
       written = λ q none. none;
@@ -245,7 +245,7 @@ module _ (m : Metadata) (table guest x : ℕ) (sound : IsSound m) (able : CanBeL
       names =
           cluster-mapped y m.header cached cached' order table i' j' x sound'.well_formed sets some near reserved.not_referenced (let taken = reserved.used.taken in omega (arith, taken))
 
-      -- The word didn't name it.
+      -- The entry didn't reference it.
       not_referenced : names_at found (mapping_in t j') x ≡ 0
       not_referenced =
           let now = names.changed.references x in
@@ -295,7 +295,7 @@ module _ (m : Metadata) (table guest x : ℕ) (sound : IsSound m) (able : CanBeL
             omega (arith, all, moved, other, least, none);
       }
 
-    -- The guest cluster kept it for its zeroes.
+    -- The guest cluster had it as its preallocated cluster.
     module _ (was : IsKeptFor m guest x) (meant : mapping_in t j' ≡ entry m.file m.header.fields guest) where
       kept : IsKeptFor found guest x
       kept = record {
@@ -332,7 +332,7 @@ module _ (m : Metadata) (table guest x : ℕ) (sound : IsSound m) (able : CanBeL
           subst (λ (b : Option FreeEntry). WordNamed m guest x (mapping_in t j') b found set) none
           (subst (λ (w : Mapping). WordNamed m guest x w None found set) (sym is) kept-named)
 
-    -- Either way.
+    -- Both cases.
     pub word-named : (before : Option FreeEntry) → before ≡ freed (replaced x (allocation_of m.header.fields.cluster_bits (mapping_in t j')))
         → (mapping : Mapping) → mapping ≡ data_at x true
         → Conserves m.header.fields.cluster_bits (mapping_in t j') mapping before (newly x (allocation_of m.header.fields.cluster_bits (mapping_in t j')))

@@ -1,4 +1,4 @@
--- What is left as it was where a call was refused before it had begun.
+-- Calls that fail before they have begun.
 use Rattle.std.proofs.Common.{◌≡◌, ℕ, Bool, refl, sym, subst, ◌∙◌, Err}
 use Rattle.imago_storage.specs.State.{StorageState}
 use Rattle.imago_storage.specs.Calls.{UnchangedButFaults}
@@ -19,7 +19,7 @@ use Rattle.qcow2_clusters.specs.Flushed.{AreEmpty, Clusters, clusters_state, sto
 use Rattle.qcow2_clusters.specs.LeftUntouched.{IsLeftUntouched, LeavesUntouched, LeavesUnsettledUntouched}
 
 module _ {S : Type 0} (state : S → StorageState) where
-  -- Nothing was done,
+  -- Nothing was done.
   pub nothing-begun : {T : Type 0} (was : Bool) (c : Clusters S) (e : Fault) → LeavesUntouched {T = T} state was c (Err e) was c
   nothing-begun {T} was c e = λ not. record {
     unbegun = not;
@@ -29,7 +29,7 @@ module _ {S : Type 0} (state : S → StorageState) where
     space = refl;
   }
 
-  -- or nothing but what changes no byte.
+  -- Only steps were done that change no byte.
   pub spared-behind : {T : Type 0} (was now : Bool) (old mid new : Clusters S) (e : Fault) → UnchangedButFaults (storage state old) (storage state mid)
       → mid.file.header ≡ old.file.header → mid.space ≡ old.space → IsLeftUntouched {T = T} state was mid (Err e) new
       → IsLeftUntouched {T = T} state was old (Err e) new
@@ -62,6 +62,6 @@ module _ {S : Type 0} (state : S → StorageState) where
         clean.blocks,
       )
 
--- a table that stays
+-- The table is unchanged.
 pub words-same : (top : TableValue) → HasEntriesOf top top
 words-same top = record { layout = refl; raw_entries = refl }

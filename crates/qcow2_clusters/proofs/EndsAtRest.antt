@@ -1,4 +1,4 @@
--- Changes that end at rest: what holds once they are settled.
+-- The properties of a change, after its dirty metadata is written and the caches are emptied.
 use Rattle.std.proofs.Common.{◌≡◌, ℕ, ◌+◌, refl, arith, ap, sym, subst, inl, inr, List, Result, Ok, Err}
 use Rattle.std.specs.Prelude.{◌⊎◌, ⊤, IfErr, IfOk, OnOk}
 use Rattle.imago_storage.specs.State.{StorageState}
@@ -23,14 +23,14 @@ use Rattle.qcow2_clusters.specs.WritingBack.{WritesBack, all_flushed}
 use Rattle.qcow2_clusters.proofs.ProgressSums.{progresses-halted, progresses-then, progresses-weaker, quiet-progresses, wider-both, wider-handing, wider-same}
 use Rattle.qcow2_clusters.proofs.StartsAtRest.{begun-quietly, begun-sound}
 
--- An answer was cut off or not.
+-- A result is a resource error or not.
 pub cut-or-not : {T : Type 0} (given : Result T Fault) → HadNoResourceError given ⊎ (HadNoResourceError given → ⊥)
 cut-or-not (Ok v) = inl tt
 cut-or-not (Err Memory) = inr (λ whole. whole)
 cut-or-not (Err Storage) = inr (λ whole. whole)
 cut-or-not (Err _) = inl tt
 
--- Two quiet calls that take nothing, where the first wasn't cut off.
+-- Two calls that preserve the guest and take nothing. The first has no resource error.
 pub quiet-both : (ok done : Type 0) (handed handed' : ℕ → ℕ) (s : StorageState) (m : Metadata) (s1 : StorageState) (m1 : Metadata)
     (s2 : StorageState) (m2 : Metadata) → done → PreservesGuest done handed (λ _. 0) s m s1 m1 → PreservesGuest ok handed' (λ _. 0) s1 m1 s2 m2
     → PreservesGuest ok (λ c. handed c + handed' c) (λ _. 0) s m s2 m2
@@ -38,7 +38,7 @@ quiet-both ok done handed handed' s m s1 m1 s2 m2 was first second =
     quietly-otherwise ok (λ c. handed c + handed' c) (λ c. 0 + 0) (λ c. handed c + handed' c) (λ _. 0) s m s2 m2 (λ sound c. omega arith) (λ sound c used none. refl)
     (quietly-then done ok handed (λ _. 0) handed' (λ _. 0) s m s1 m1 s2 m2 was (λ sound c some. refl) first second)
 
--- the same, where the second hands out nothing
+-- The second call allocates nothing.
 pub quiet-then-nothing : (ok done : Type 0) (handed : ℕ → ℕ) (s : StorageState) (m : Metadata) (s1 : StorageState) (m1 : Metadata)
     (s2 : StorageState) (m2 : Metadata) → done → PreservesGuest done handed (λ _. 0) s m s1 m1 → PreservesGuest ok (λ _. 0) (λ _. 0) s1 m1 s2 m2
     → PreservesGuest ok handed (λ _. 0) s m s2 m2
@@ -46,7 +46,7 @@ quiet-then-nothing ok done handed s m s1 m1 s2 m2 was first second =
     quietly-otherwise ok (λ c. handed c + 0) (λ _. 0) handed (λ _. 0) s m s2 m2 (λ sound c. omega arith) (λ sound c used none. refl)
     (quiet-both ok done handed (λ _. 0) s m s1 m1 s2 m2 was first second)
 
--- or the first does
+-- The first call allocates nothing.
 pub quiet-behind-nothing : (ok done : Type 0) (handed : ℕ → ℕ) (s : StorageState) (m : Metadata) (s1 : StorageState) (m1 : Metadata)
     (s2 : StorageState) (m2 : Metadata) → done → PreservesGuest done (λ _. 0) (λ _. 0) s m s1 m1 → PreservesGuest ok handed (λ _. 0) s1 m1 s2 m2
     → PreservesGuest ok handed (λ _. 0) s m s2 m2
@@ -54,7 +54,7 @@ quiet-behind-nothing ok done handed s m s1 m1 s2 m2 was first second =
     quietly-otherwise ok (λ c. 0 + handed c) (λ _. 0) handed (λ _. 0) s m s2 m2 (λ sound c. omega arith) (λ sound c used none. refl)
     (quiet-both ok done (λ _. 0) handed s m s1 m1 s2 m2 was first second)
 
--- A quiet call that was cut off is so whatever is in memory.
+-- A call that preserves the guest and fails with a resource error does so for any metadata in memory.
 pub quiet-halted : (ok ok' : Type 0) (handed taken handed' taken' : ℕ → ℕ) (s : StorageState) (m : Metadata) (s' : StorageState) (m' m'' : Metadata)
     → (ok' → ⊥) → PreservesGuest ok handed taken s m s' m' → PreservesGuest ok' handed' taken' s m s' m''
 quiet-halted ok ok' handed taken handed' taken' s m s' m' m'' never guest_unchanged = record {
@@ -64,19 +64,19 @@ quiet-halted ok ok' handed taken handed' taken' s m s' m' m'' never guest_unchan
   holds = λ keeps sound done. absurd (never done);
 }
 
--- an image at rest as a call of the allocator is lent it
+-- A flushed image, as the parameter of an allocator's call.
 abbrev pub begun : {S : Type 0} → Clusters S → ImageState S
 begun c = seen c.space.allocator c.caches c.file c.space.to_free
 
--- and with its mark
+-- A flushed image with its first-free hint.
 abbrev pub lent_by : {S : Type 0} → Clusters S → AllocatorState S
 lent_by c = allocator_state c.space.allocator c.caches c.file c.space.to_free
 
--- What is ready is sound for the allocator,
+-- If the image is ready, it is consistent for the allocator.
 pub ready-kept : {S : Type 0} (state : S → StorageState) (c : Clusters S) → AreEmpty c.caches → IsReady state c → KeepsWritesAndSound state (begun c)
 ready-kept state c empty ready = (ready.keeps, begun-sound (changed state c) empty ready.sound)
 
--- and what is quiet from there is so from rest.
+-- A call that preserves the guest from there preserves it from the flushed image.
 pub begun-then : {S : Type 0} (state : S → StorageState) (c : Clusters S) → AreEmpty c.caches → (ok : Type 0) (handed : ℕ → ℕ) (s : StorageState) (m : Metadata)
     → PreservesGuest ok handed (λ _. 0) (storage state c) (changed state c) s m → PreservesGuest ok handed (λ _. 0) (storage state c) (flushed_metadata state c) s m
 begun-then state c empty ok handed s m guest_unchanged =
@@ -91,7 +91,7 @@ module _ {S T : Type 0} (state : S → StorageState) (given : Result T Fault) (b
     abbrev rested : ImageFile S → Metadata
     rested f = all_flushed (metadata_of state f old table pending)
 
-    -- A change that is settled is of its kind,
+    -- A change whose metadata is written is still of its kind.
     pub settled-progresses : (kind : Kind) → Progresses (HadNoResourceError given) kind s m (state before.image) between
         → Progresses (HadNoResourceError result) kind s m (state after.image) (rested after)
     settled-progresses kind first = elim (cut-or-not given) [
@@ -107,7 +107,7 @@ module _ {S T : Type 0} (state : S → StorageState) (given : Result T Fault) (b
           (progresses-halted (HadNoResourceError given) (HadNoResourceError given) kind kind s m (state before.image) between (rested before) (wider-same kind) (λ keeps sound done. cut done) first))
     ]
 
-    -- and quiet where it was.
+    -- It still preserves the guest.
     pub settled-quietly : (handed : ℕ → ℕ) → PreservesGuest (HadNoResourceError given) handed (λ _. 0) s m (state before.image) between
         → PreservesGuest (HadNoResourceError result) handed (λ _. 0) s m (state after.image) (rested after)
     settled-quietly handed first = elim (cut-or-not given) [
@@ -120,14 +120,14 @@ module _ {S T : Type 0} (state : S → StorageState) (given : Result T Fault) (b
           (quiet-halted (HadNoResourceError given) (HadNoResourceError given) handed (λ _. 0) handed (λ _. 0) s m (state before.image) between (rested before) cut first))
     ]
 
-  -- It fails no request unless it was cut off.
+  -- Without a resource error it fails no request.
   pub settled-faultless : (s : StorageState) → (HadNoResourceError given → IsFaultless s (state before.image)) → HadNoResourceError result → IsFaultless s (state after.image)
   settled-faultless s first whole = elim (cut-or-not given) [
     | inl done ↦ faultless-then (first done) (settles.faults whole)
     | inr cut ↦ absurd (cut (subst (λ (r : Result T Fault). HadNoResourceError r) (settles.cut cut).0 whole))
   ]
 
-  -- What holds of an answer that succeeded does so still.
+  -- A property of a successful result still holds.
   pub settled-ok : (P : Type 0) → OnOk given P → OnOk result P
   settled-ok P holds = elim settles.answer [
     | inl same ↦ subst (λ (r : Result T Fault). OnOk r P) (sym same) holds
@@ -140,14 +140,14 @@ module _ {S T : Type 0} (state : S → StorageState) (given : Result T Fault) (b
     | inr refused ↦ subst (λ (r : Result T Fault). IfOk r P) (sym refused.1) tt
   ]
 
-  -- The storage failed no request behind an answer that stays.
+  -- If the result stays, the storage failed no further request.
   same-faults : result ≡ given → (state after.image).faults ≡ (state before.image).faults
   same-faults same = elim (cut-or-not given) [
     | inl whole ↦ (settles.faults (subst (λ (r : Result T Fault). HadNoResourceError r) (sym same) whole)).0
     | inr cut ↦ ap (λ (f : ImageFile S). (state f.image).faults) (settles.cut cut).1
   ]
 
-  -- The answer stays, or a change that wasn't cut off is answered with the fault of the flush.
+  -- The result stays. Otherwise it wasn't a resource error, and the flush failed.
   pub settled-cases : (result ≡ given) ⊎ (HadNoResourceError given × (fault : Fault) × (result ≡ Err fault)
       × HasCause (writing_causes (AreTablesAddressable (cached_in old) × AreBlocksAddressable (cached_in old)) (state before.image).faults (state after.image).faults) fault)
   settled-cases = elim (cut-or-not given) [
@@ -158,7 +158,7 @@ module _ {S T : Type 0} (state : S → StorageState) (given : Result T Fault) (b
     | inr cut ↦ inl (settles.cut cut).0
   ]
 
-  -- Why it was refused: as before, or as the flush was.
+  -- The cause of the failure: the call's own, or that of the flush.
   pub settled-cause : (why : ℕ → Fault → Type 0) → IfErr given (why (state before.image).faults)
       → (HadNoResourceError given → (fault : Fault)
       → HasCause (writing_causes (AreTablesAddressable (cached_in old) × AreBlocksAddressable (cached_in old)) (state before.image).faults (state after.image).faults) fault

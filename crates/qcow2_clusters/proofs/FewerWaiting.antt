@@ -1,4 +1,4 @@
--- An image that is sound is so with fewer entries that wait to be freed.
+-- A consistent image is still consistent with fewer entries on the free list.
 use Rattle.std.proofs.Common.{◌≡◌, ℕ, ◌≤◌, arith, ap, subst, List, [], ◌∷◌, ◌++◌}
 use Rattle.std.proofs.lemmas.List.{append-nil, append_assoc}
 use Rattle.qcow2_types.specs.Pending.{FreeEntry}

@@ -1,4 +1,4 @@
--- Files that reach the end of clusters in a row.
+-- Files that reach the end of consecutive clusters.
 use Rattle.std.proofs.Common.{◌≡◌, ℕ, ◌+◌, ◌-◌, ◌*◌, ◌^◌, ◌<◌, ◌≤◌, max, refl, arith, ap, sym, ◌∙◌, inl, inr, List, [], length, replicate, Result, Ok, Err}
 use Rattle.std.specs.Prelude.{IsTrue, OnOk, slice_index}
 use Rattle.std.proofs.lemmas.Bool.{cases_lt}
@@ -19,14 +19,14 @@ use Rattle.qcow2_clusters.specs.Flushed.{Clusters, clusters_state, storage}
 use Rattle.qcow2_clusters.specs.Storing.{ReachesEnd, ReachesRun, StoresRun}
 use Rattle.qcow2_clusters.proofs.RunWrites.{run-unwritten, run-written}
 
--- where clusters in a row end
+-- The end of consecutive clusters.
 pub ends-at : (x n size : ℕ) → 0 < n → (x + n) * size ≡ (x + (n - 1)) * size + size
 ends-at x n size some =
     let one : x + n ≡ x + (n - 1) + 1 = omega (arith, some) in
     let parts : (x + (n - 1) + 1) * size ≡ (x + (n - 1)) * size + 1 * size = add-mul (x + (n - 1)) 1 size in
     ap (λ k. k * size) one ∙ (let sum : (x + (n - 1) + 1) * size ≡ (x + (n - 1)) * size + size = omega (arith, parts) in sum)
 
--- A run that words can name ends well below 2^63.
+-- An addressable run ends below 2^63.
 pub ends-low : (x n bits : ℕ) → 0 < n → 2 ^ bits ≤ 2 ^ 21 → IsAddressable bits (x + (n - 1)) → (x + n) * 2 ^ bits ≤ 2 ^ 63
 ends-low x n bits some most reach =
     let whole = ends-at x n (2 ^ bits) some in
@@ -37,7 +37,7 @@ ends-near x n bits some reach =
     let more : (x + (n - 1)) * 1 ≤ (x + (n - 1)) * 2 ^ bits = mul-le (x + (n - 1)) 1 (x + (n - 1)) (2 ^ bits) (omega arith) (pow_pos bits) in
     omega (arith, more, reach, some)
 
--- A write that succeeds reaches its end.
+-- After a successful write the file reaches its end.
 pub put-reaches : (r : Result Unit Fault) (old new : StorageState) (at : ℕ) (bytes : List ℕ) (end : ℕ) → 0 < length bytes → IsAlignment (unit_of old.shape)
     → end ≡ at + length bytes → OnOk r (WriteSucceeded old new at bytes) → OnOk r (end ≤ length new.bytes)
 put-reaches (Ok v) old new at bytes end some alignment is through =
@@ -48,7 +48,7 @@ put-reaches (Ok v) old new at bytes end some alignment is through =
     omega (arith, up, most, size, is)
 put-reaches (Err e) old new at bytes end some alignment is not = tt
 
--- A write of no bytes, for which no request is made.
+-- A write of no bytes makes no request.
 put-nothing : (s : StorageState) (at : ℕ) → WriteOutcome {T = Unit} s s at [] (Ok tt)
 put-nothing s at = record {
   answer = record {
@@ -67,7 +67,7 @@ put-nothing s at = record {
   counts_not_fallen = later_same s;
 }
 
--- Zeroes behind the end of a file change no byte of it.
+-- Zeroes after the end of a file change none of its bytes.
 zeroes-same : (old new : List ℕ) (from n : ℕ) → length old ≤ from → Spliced old from (replicate n 0) new → (p : ℕ) → slice_index new p ≡ slice_index old p
 zeroes-same old new from n behind spliced p =
     let long : length (replicate {A = ℕ} n 0) ≡ n = length-replicate {A = ℕ} n 0 in
@@ -79,7 +79,7 @@ zeroes-same old new from n behind spliced p =
       ]
     ]
 
--- It is as long already,
+-- The file is long enough already.
 pub reached-before : {S : Type 0} (state : S → StorageState) (x n : ℕ) (file : ImageFile S) → ReachesEnd state x n file file → ReachesRun state x n file (Ok tt) file
 reached-before state x n file long = record {
   place = x * cluster_size file.header.fields;
@@ -94,7 +94,7 @@ reached-before state x n file long = record {
   long = long;
 }
 
--- or zeroes are written behind its end.
+-- Zeroes are written after its end.
 pub zeroes-reach : {S : Type 0} (state : S → StorageState) (x n : ℕ) (before : ImageFile S) (r : Result Unit Fault) (after : ImageFile S) (from count : ℕ)
     → x * cluster_size before.header.fields ≤ from → length (state before.image).bytes ≤ from → 0 < count
     → from + count ≡ (x + n) * cluster_size before.header.fields → after.header ≡ before.header → IsAlignment (unit_of (state before.image).shape)
@@ -119,7 +119,7 @@ zeroes-reach state x n before r after from count low behind some end header alig
     by (Ok v) through keeps = zeroes-same (state before.image).bytes (state after.image).bytes from count behind (through.content keeps)
     by (Err e) not keeps = tt
 
--- What is stored stays so where the file reaches the end of its clusters then,
+-- The file reaches the end of the clusters, and the data is still stored.
 module _ {S : Type 0} (state : S → StorageState) (n : ℕ) (some : 0 < n) (content : List ℕ) (x : ℕ) (c mid : Clusters S)
     (run : StoresRun state n content c (Ok x) mid) (after : ImageFile S) where
   fits : (k : ℕ) → k ≤ (x + n) * cluster_size mid.file.header.fields → k ≤ (x + (n - 1) + 1) * cluster_size mid.file.header.fields
@@ -130,7 +130,7 @@ module _ {S : Type 0} (state : S → StorageState) (n : ℕ) (some : 0 < n) (con
       run-written state n some content x c mid run after reach.header reach.place reach.bytes reach.low (fits (reach.place + length reach.bytes) reach.high) reach.put content
       (λ ready i lt. reach.same (keeps_on (storage state c) (storage state mid) run.rests.shape ready.keeps) (x * cluster_size c.file.header.fields + i) ∙ run.stored ready i lt)
 
-  -- or is given up.
+  -- The file doesn't reach the end, and the clusters leak.
   pub run-short : (fault : Fault) → ReachesRun state x n mid.file (Err fault) after → (held : ℕ) → held ≡ c.space.to_free.held → StoresRun state n content c (Err fault)
       (clusters_state after mid.caches (record { allocator = mid.space.allocator; to_free = record { entries = mid.space.to_free.entries; held = held } }))
   run-short fault reach =

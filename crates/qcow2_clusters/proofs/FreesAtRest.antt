@@ -1,4 +1,4 @@
--- What waits is freed, and that is settled.
+-- The clusters on the free list are freed, and the changed metadata is written.
 use Rattle.std.proofs.Common.{◌≡◌, [], refl, arith, subst, ◌∙◌, inl, inr, Result, Ok, Err}
 use Rattle.std.specs.Prelude.{IfErr, OnOk}
 use Rattle.imago_storage.specs.State.{StorageState}
@@ -41,7 +41,7 @@ module _ {S : Type 0} (state : S → StorageState) (c : Clusters S) (empty : Are
   all-quietly : PreservesGuest (HadNoResourceError result) (λ _. 0) (λ _. 0) (storage state c) (flushed_metadata state c) (storage state c') (flushed_metadata state c')
   all-quietly = settled-quietly state freed mid.file mid.caches result after new settles (table_of mid.space.allocator) mid.space.to_free.entries (storage state c) (flushed_metadata state c) (λ _. 0) freed-quietly
 
-  -- No cluster before the mark is free then, where none was.
+  -- If no cluster before the first-free hint was free, none is free there afterwards.
   marked-there : IsReady state c → HadNoResourceError result → NoneFreeBefore (flushed_metadata state c) (first_free_in c) → NoneFreeBefore (flushed_metadata state c') (first_free_in mid)
   marked-there ready done marked =
       let kept = ready-kept state c empty ready in

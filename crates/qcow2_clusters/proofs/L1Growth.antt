@@ -1,4 +1,4 @@
--- How a call lengthens the L1 table.
+-- A call that lengthens the L1 table.
 use Rattle.std.proofs.Common.{◌≡◌, ℕ, ◌+◌, ◌-◌, ◌*◌, ◌/◌, ◌^◌, ◌<◌, ◌≤◌, refl, arith, ap, sym, subst, ◌∙◌, inl, inr, length, List, [], ◌∷◌, ◌++◌, Ok, Err, Result}
 use Rattle.std.specs.Prelude.{◌==◌, if◌then◌else◌, IsErrOf, IsOkUnless, OnOk, EachIndex, max, min, replicate, slice_index}
 use Rattle.std.proofs.Math.Nat.{le-max_left, le-max_right, lt-div-mul-add}
@@ -41,7 +41,7 @@ use Rattle.qcow2_steps.specs.Advancing.{KeepsHeader}
 use Rattle.qcow2_steps.specs.LongerL1.{old_l1}
 use Rattle.qcow2_steps.proofs.Headers.{header-counts, header-l1, header-same, header-then}
 use Rattle.qcow2_steps.proofs.Steps.{put-off-advances, quiet-advances}
-use Rattle.qcow2_clusters.specs.Lengthening.{IsTooLong, IsTop, LengthensL1, LinksL1, StandsIn, clusters_for, l1_clusters, l1_run, lengthening, naming_l1}
+use Rattle.qcow2_clusters.specs.Lengthening.{IsTooLong, IsTop, LengthensL1, LinksL1, StandsIn, clusters_for, l1_clusters, l1_run, lengthening, linking_l1}
 use Rattle.qcow2_clusters.specs.MakingTables.{HasEntriesOf, PlacesL1}
 use Rattle.qcow2_clusters.specs.Progress.{Kind, Progresses, both, handing}
 use Rattle.qcow2_clusters.specs.Flushed.{AreEmpty, Clusters, IsReady, clusters_state, flushed_metadata, storage}
@@ -55,7 +55,7 @@ use Rattle.qcow2_clusters.proofs.TableCreation.{l1-placed, once-progresses}
 use Rattle.qcow2_clusters.proofs.TableNames.{l1-long, l1-same}
 use Rattle.qcow2_clusters.proofs.StartsAtRest.{begun-quiet, begun-quietly}
 
--- Words take clusters, and fit them.
+-- Entries fit their clusters.
 taken-by : (h : Fields) (n : ℕ) → 8 * n + (cluster_size h - 1) < clusters_for h n * cluster_size h + cluster_size h
 taken-by h n = lt-div-mul-add (pow_pos h.cluster_bits)
 
@@ -78,13 +78,13 @@ words-fit h ws =
     let long = words-length ws in
     omega (arith, all, size, long)
 
--- A table stands where it was stored, once that is settled.
+-- The table is in the same cluster after its metadata is written.
 pub stands-still : (h : Fields) (table : TableValue) (was result : Result ℕ Fault) (table' : TableValue) → OnOk result (result ≡ was)
     → StandsIn h table was table' → StandsIn h table result table'
 stands-still h table was (Ok first) table' same stands = subst (λ (r : Result ℕ Fault). StandsIn h table r table') (sym same) stands
 stands-still h table was (Err fault) table' same stands = record { layout = stands.layout; raw_entries = stands.raw_entries; placed = tt }
 
--- Why no longer table can be made: it would be too long, or there is no memory.
+-- No longer table can be made: it would be too long, or memory ran out.
 pub grow-refused : {T : Type 0} (ready : Type 0) (full : ℕ → Type 0) (at number faults : ℕ) (fault : Fault)
     → (2 ^ 22 < at + 1 → IsErrOf {T = T} (Err fault) (Limit number)) → (at + 1 ≤ 2 ^ 22 → IsOkUnless {T = T} (Err fault) Memory)
     → (2 ^ 22 < at + 1 → full number) → HasCause (storing_causes ready full faults faults) fault
@@ -100,7 +100,7 @@ module _ {S : Type 0} (state : S → StorageState) (top : TableValue) (i : ℕ) 
   abbrev Asked : Type 0
   Asked = IsTop state top c
 
-  -- The call is refused before it changes anything.
+  -- The call fails before it changes anything.
   pub l1-not-begun : (fault : Fault) (top' : TableValue) → AreEmpty c.caches → HasEntriesOf top top'
       → (IsReady state c → Asked → 2 ^ 22 < i + 1 → fault ≡ Limit (min (i + 1) (2 ^ 64 - 1)))
       → HasCause (storing_causes (IsReady state c × Asked) (IsTooLong state top i c c) (storage state c).faults (storage state c).faults) fault
@@ -125,7 +125,7 @@ module _ {S : Type 0} (state : S → StorageState) (top : TableValue) (i : ℕ) 
     cause = why;
   }
 
-  -- No table of this image can stand where the header says.
+  -- The header's offset isn't valid for a table of this image.
   pub l1-not-placed : (fault : Fault) (top' : TableValue) → AreEmpty c.caches → PlacesL1 c.file.header.fields top (Err fault) top'
       → LengthensL1 state top i c (Err fault) top' c
   l1-not-placed fault top' empty places =
@@ -163,14 +163,14 @@ module _ {S : Type 0} (state : S → StorageState) (top : TableValue) (i : ℕ) 
         stores.cause;
   }
 
--- Each place of a file has a byte.
+-- Each index of a file has a byte.
 each-byte : (bytes : List ℕ) → EachIndex bytes (λ k. slice_index bytes k < 256) → (k : ℕ) → slice_index bytes k < 256
 each-byte bytes fit k = elim (cases_lt k (length bytes)) [
   | inl below ↦ fit k below
   | inr behind ↦ let none = get_or_past bytes k 0 behind in omega (arith, none)
 ]
 
--- No range has more than one part in a cluster, and an empty one has none.
+-- A range meets a cluster at most once, and an empty range never.
 meets-most : (h : Fields) (d first long : ℕ) → meets h d first long ≤ 1
 meets-most h d first long = grind (arith, nat_tests)
 
@@ -181,7 +181,7 @@ pub padded-long : (ws : List ℕ) (n : ℕ) → length ws ≤ n → length (padd
 padded-long ws n longer =
     length-append ws (replicate (n - length ws) 0) ∙ (let zeroes = length-replicate {A = ℕ} (n - length ws) 0 in omega (arith, zeroes, longer))
 
--- Where the clusters of the old table may wait, they are put behind what does.
+-- The clusters of the old table are added to the free list.
 put-off-run : (m : Metadata) (bits place n : ℕ) (taken : ℕ → ℕ) → IsSound m → GuestUnchanged (λ _. 0) (λ _. 0) m m
     → ((d : ℕ) → taken d ≡ (if n == 0 then 0 else covers d (run_of (place / 2 ^ bits) ((8 * n + (2 ^ bits - 1)) / 2 ^ bits))))
     → ((d : ℕ) → referenced m d + waiting m d + taken d ≤ counted m d) → ((d : ℕ) → 0 < taken d → referenced_at_all m d ≡ 0)
@@ -204,14 +204,14 @@ put-off-run m bits place n taken sound guest_unchanged is enough not_referenced 
       (λ d there. not_referenced d (let same = here d in omega (arith, there, same)))))
 ]
 
--- The clusters that a longer table takes are told by how long it comes to be.
+-- The number of clusters of the longer table depends only on its length.
 pub clusters-taken : (h : Fields) (top placed grown : TableValue) (i : ℕ) → placed.raw_entries ≡ top.raw_entries → grown ≡ grown_l1 (layout_of h) placed i
     → clusters_for h (length grown.raw_entries) ≡ l1_clusters h top i
 clusters-taken h top placed grown i same grows = ap (clusters_for h)
     (ap (λ (t : TableValue). length t.raw_entries) grows ∙ padded-long placed.raw_entries (max (length placed.raw_entries) (i + 1)) (le-max_left (length placed.raw_entries) (i + 1))
     ∙ ap (λ (ws : List ℕ). max (length ws) (i + 1)) same)
 
--- The longer table is stored, and the header is to name it.
+-- The longer table is stored, and the header isn't yet written.
 module _ {S : Type 0} (state : S → StorageState) (top placed grown : TableValue) (i : ℕ) (c : Clusters S) (first : ℕ) (c1 : Clusters S)
     (places : PlacesL1 c.file.header.fields top (Ok tt) placed) (grows : grown ≡ grown_l1 (layout_of c.file.header.fields) placed i)
     (stores : StoresRun state (clusters_for c.file.header.fields (length grown.raw_entries)) (table_bytes grown.raw_entries) c (Ok first) c1)
@@ -244,7 +244,7 @@ module _ {S : Type 0} (state : S → StorageState) (top placed grown : TableValu
   moved : c1.file.header ≡ with_refcount_table c.file.header stores.rests.header.0 stores.rests.header.1
   moved = stores.rests.header.2
 
-  -- What is said of the header before is said of it now, but of its refcount table's place.
+  -- A property of the header before holds for the header now, whose refcount table may have moved.
   by-header : (P : Fields → Type 0) → P (with_reftable c.file.header.fields stores.rests.header.0 stores.rests.header.1) → P h1
   by-header P p = subst (λ (H : Header). P H.fields) (sym moved) p
 
@@ -268,12 +268,12 @@ module _ {S : Type 0} (state : S → StorageState) (top placed grown : TableValu
     sizes = names.sizes (sound-sizes m1 (stores.progress.holds ready.keeps ready.sound tt).sound);
   }
 
-  -- The request that names it.
+  -- The bytes of the request.
   abbrev bytes : List ℕ
-  bytes = first_bytes (naming_l1 c1.file.header table).fields
+  bytes = first_bytes (linking_l1 c1.file.header table).fields
 
   abbrev m2 : Metadata
-  m2 = record (flushed_metadata state c1) { file = bytes_of (state file.image).bytes; header = naming_l1 c1.file.header table }
+  m2 = record (flushed_metadata state c1) { file = bytes_of (state file.image).bytes; header = linking_l1 c1.file.header table }
 
   abbrev one : Kind
   one = handing (run_handed_by (clusters_for c.file.header.fields (length grown.raw_entries)) (Ok first)) (λ _. 0)
@@ -289,7 +289,7 @@ module _ {S : Type 0} (state : S → StorageState) (top placed grown : TableValu
       (ap (λ (ws : List ℕ). covers d (run_of first (clusters_for h (length ws)))) stands.raw_entries)
 
   named-step : IsReady state c → Given → IsSound m1
-      → AdvancesBy two m1 (record m1 { file = splice m1.file 0 bytes; header = naming_l1 c1.file.header table })
+      → AdvancesBy two m1 (record m1 { file = splice m1.file 0 bytes; header = linking_l1 c1.file.header table })
   named-step ready given sound =
       subst (λ (t : ℕ → ℕ). AdvancesBy (handing t run) m1 (later m1 table placed n first sound (stored-so ready given))) (fun_ext old-same)
       (subst (λ (t : ℕ → ℕ). AdvancesBy (handing (old_l1 m1) t) m1 (later m1 table placed n first sound (stored-so ready given))) (fun_ext run-same)
@@ -299,8 +299,8 @@ module _ {S : Type 0} (state : S → StorageState) (top placed grown : TableValu
   named-progress given =
       progresses-then-given (answer ≡ Ok tt) (HadNoResourceError {T = ℕ} (Ok first)) one two (storage state c) m
       (storage state c1) m1 (state file.image) m2 tt stores.progress names.put.put.shape names.put.put.counts_not_fallen
-      (λ keeps sound step. once-progresses m1 two 0 bytes (let long = length-first_bytes (naming_l1 c1.file.header table).fields in omega (arith, long)) (storage state c1) (state file.image) refl
-      (naming_l1 c1.file.header table) (named-step record { keeps = keeps; sound = sound } given) answer names.put)
+      (λ keeps sound step. once-progresses m1 two 0 bytes (let long = length-first_bytes (linking_l1 c1.file.header table).fields in omega (arith, long)) (storage state c1) (state file.image) refl
+      (linking_l1 c1.file.header table) (named-step record { keeps = keeps; sound = sound } given) answer names.put)
 
   shape-still : (state file.image).shape ≡ (storage state c).shape
   shape-still = names.put.put.shape ∙ stores.rests.shape
@@ -308,9 +308,9 @@ module _ {S : Type 0} (state : S → StorageState) (top placed grown : TableValu
   later-still : CountsNotFallen (storage state c) (state file.image)
   later-still = later_both (storage state c) (storage state c1) (state file.image) stores.rests.counts_not_fallen names.put.put.counts_not_fallen
 
-  -- The request was refused: so the call was cut off.
+  -- The request fails, which is a resource error.
   module _ (fault : Fault) (refused : answer ≡ Err fault) (space : Space) (held : space.to_free.held ≡ c.space.to_free.held)
-      (header : file.header ≡ naming_l1 c1.file.header placed) where
+      (header : file.header ≡ linking_l1 c1.file.header placed) where
     never : HadNoResourceError {T = Unit} (Err fault) → ⊥
     never whole =
         let same = subst (λ (r : Result Unit Fault). HadNoResourceError r) (sym refused) whole in
@@ -325,8 +325,8 @@ module _ {S : Type 0} (state : S → StorageState) (top placed grown : TableValu
     l1-not-named = record {
       progress = λ given. progresses-halted (answer ≡ Ok tt) (HadNoResourceError {T = Unit} (Err fault)) (both one two) (handing (λ _. 0) (λ _. 0))
           (storage state c) m (state file.image) m2 (flushed_metadata state (clusters_state file c1.caches space))
-          (wider-both one two (handing (λ _. 0) (λ _. 0)) (wider-handing one.newly_allocated one.taken (handing (λ _. 0) (λ _. 0)))
-          (wider-handing two.newly_allocated two.taken (handing (λ _. 0) (λ _. 0)))) (λ keeps sound whole. never whole) (named-progress given);
+          (wider-both one two (handing (λ _. 0) (λ _. 0)) (wider-handing one.excess_added one.taken (handing (λ _. 0) (λ _. 0)))
+          (wider-handing two.excess_added two.taken (handing (λ _. 0) (λ _. 0)))) (λ keeps sound whole. never whole) (named-progress given);
       empty = stores.rests.empty;
       room = stores.rests.room;
       header = header-then c.file.header c1.file.header file.header (header-counts c.file.header c1.file.header stores.rests.header)
@@ -345,8 +345,8 @@ module _ {S : Type 0} (state : S → StorageState) (top placed grown : TableValu
       cause = let same = (stores.rests.faults tt).0 in storage-cause _ _ _ (omega (arith, same)) (omega arith) fault (cause-of answer names.put refused);
     }
 
-  -- It was granted: the clusters of the old table are put behind what waits.
-  module _ (done : answer ≡ Ok tt) (header : file.header ≡ naming_l1 c1.file.header table) (held : ℕ) (one-less : held + 1 ≡ c1.space.to_free.held) where
+  -- The request succeeds, and the clusters of the old table are added to the free list.
+  module _ (done : answer ≡ Ok tt) (header : file.header ≡ linking_l1 c1.file.header table) (held : ℕ) (one-less : held + 1 ≡ c1.space.to_free.held) where
     abbrev waits : List FreeEntry
     waits = l1_run placed.layout.cluster_bits (table_start placed) (length placed.raw_entries)
 
@@ -368,7 +368,7 @@ module _ {S : Type 0} (state : S → StorageState) (top placed grown : TableValu
         places-bits : placed.layout.cluster_bits ≡ h.cluster_bits
         places-bits = ap (λ l. l.cluster_bits) places.same.layout ∙ places.bits
 
-    -- What the old table has of a cluster.
+    -- The old table's use of a cluster.
     old-is : IsReady state c → (d : ℕ)
         → old_l1 m d ≡ (if h.l1_entries == 0 then 0 else covers d (run_of (h.l1_offset / cluster_size h) (clusters_for h h.l1_entries)))
     old-is ready d = elim (cases_eq h.l1_entries 0) [
@@ -409,7 +409,7 @@ module _ {S : Type 0} (state : S → StorageState) (top placed grown : TableValu
         (λ keeps sound step. progresses-in-memory (HadNoResourceError {T = Unit} (Ok tt)) three (state file.image) m2 m3
         (λ sound2 whole. wait-step record { keeps = keeps; sound = sound } given step))
 
-    -- The new table has the clusters that were taken.
+    -- The new table uses the clusters that were taken.
     new-is : (d : ℕ) → old_l1 (flushed_metadata state c2) d ≡ run d
     new-is d =
         ap (λ (H : Header). meets H.fields d H.fields.l1_offset (H.fields.l1_entries * 8)) header
@@ -427,7 +427,7 @@ module _ {S : Type 0} (state : S → StorageState) (top placed grown : TableValu
     words-are : table.raw_entries ≡ padded placed.raw_entries n
     words-are = stands.raw_entries ∙ ap (λ (t : TableValue). t.raw_entries) grows
 
-    -- As much is counted as before.
+    -- The refcounts are the same as before.
     counts-still : IsReady state c → Given → (d : ℕ) → counted m2 d ≡ counted m1 d
     counts-still ready given d =
         let sound1 = (stores.progress.holds ready.keeps ready.sound tt).sound in
@@ -454,7 +454,7 @@ module _ {S : Type 0} (state : S → StorageState) (top placed grown : TableValu
     l1-named = record {
       progress = λ given. progresses-otherwise (HadNoResourceError {T = Unit} (Ok tt)) (HadNoResourceError {T = Unit} (Ok tt)) (both (both one two) three) kind
           (storage state c) m (storage state c2) (flushed_metadata state c2)
-          (wider-both (both one two) three kind (wider-both one two kind (wider-handing one.newly_allocated one.taken kind) (wider-handing two.newly_allocated two.taken kind)) (wider-handing three.newly_allocated three.taken kind))
+          (wider-both (both one two) three kind (wider-both one two kind (wider-handing one.excess_added one.taken kind) (wider-handing two.excess_added two.taken kind)) (wider-handing three.excess_added three.taken kind))
           (λ keeps sound whole. whole)
           (λ keeps sound whole d. let new = new-is d in omega (arith, new))
           (λ keeps sound whole d used none. let new = new-is d in omega (arith, new, none))

@@ -1,4 +1,4 @@
--- The header of an image at rest names a longer L1 table that was stored.
+-- The header of a flushed image references a longer L1 table that was stored.
 use Rattle.std.proofs.Common.{◌≡◌, ◌≢◌, ℕ, ◌+◌, ◌-◌, ◌*◌, ◌/◌, ◌^◌, ◌<◌, ◌≤◌, refl, arith, ap, sym, subst, ◌∙◌, inl, inr, length, List, [], ◌∷◌, Option, Some, None, Ok, true}
 use Rattle.std.specs.Prelude.{◌==◌, ◌&&◌, if◌then◌else◌, nat_lt, replicate, slice_index}
 use Rattle.std.proofs.Math.ListN.{get_or-append}
@@ -33,14 +33,14 @@ use Rattle.qcow2_alloc.specs.Opening.{IsL1Of}
 use Rattle.qcow2_alloc.specs.GuestView.{Metadata, IsSound, counted, referenced_at_all, waiting}
 use Rattle.qcow2_steps.specs.LongerL1.{IsReadyL1Table, NamesL1Table, new_l1, old_l1, with_longer_l1}
 use Rattle.qcow2_steps.proofs.LongerL1.{counts-there, longer-advances, old-unnamed}
-use Rattle.qcow2_clusters.specs.Lengthening.{clusters_for, l1_run, naming_l1}
+use Rattle.qcow2_clusters.specs.Lengthening.{clusters_for, l1_run, linking_l1}
 use Rattle.qcow2_clusters.specs.Progress.{handing}
 use Rattle.qcow2_clusters.specs.Flushed.{nothing_cached}
 use Rattle.qcow2_clusters.specs.Storing.{AreReserved}
 use Rattle.qcow2_clusters.proofs.ProgressSums.{AdvancesBy}
 use Rattle.qcow2_clusters.proofs.TableNames.{l1-long, l1-sound, l1-word, resting-memory}
 
--- The clusters of a table that has a cluster and words, as they wait to be freed.
+-- The clusters of a table with a cluster and entries, as an entry of the free list.
 pub run-of-some : (bits first taken n : ℕ) (cluster : Option ℕ) → cluster ≡ Some first → 0 < n → taken ≡ (8 * n + (2 ^ bits - 1)) / 2 ^ bits
     → l1_run bits (place_of bits cluster) n ≡ run_of first taken ∷ []
 run-of-some bits first taken n cluster is some long =
@@ -52,7 +52,7 @@ run-of-some bits first taken n cluster is some long =
     chosen : (n : ℕ) (l : List FreeEntry) → 0 < n → (if n == 0 then [] else l) ≡ l
     chosen n l some = rw (ne_eqb n 0 (λ none. absurd (omega (arith, some, none)))) refl
 
--- Words that begin with a cluster are in the clusters that they take.
+-- 1 if the entries of a table that starts at cluster `first` meet cluster `d`, otherwise 0.
 abbrev met : (s d first n : ℕ) → ℕ
 met s d first n = if nat_lt 0 (n * 8) && nat_lt (first * s) ((d + 1) * s) && nat_lt (d * s) (first * s + n * 8) then 1 else 0
 
@@ -89,7 +89,7 @@ part-meets h d first n =
       ]
     ]
 
--- Nothing is cached of the image. What is to be its L1 table was stored in reserved clusters: the words of the old one, and then 0.
+-- A flushed image. The new L1 table is stored in reserved clusters: the entries of the old one, followed by 0.
 pub record IsStoredL1 (m : Metadata) (table old : TableValue) (n first : ℕ) : Type 0 where
   pub rest : m.cached ≡ nothing_cached
   pub of : IsL1Of m.file m.header.fields old
@@ -103,7 +103,7 @@ pub record IsStoredL1 (m : Metadata) (table old : TableValue) (n first : ℕ) : 
       → m.file (first * cluster_size m.header.fields + k) ≡ slice_index (table_bytes table.raw_entries) k
   pub reserved : AreReserved (clusters_for m.header.fields (length table.raw_entries)) m first
   pub bytes : (p : ℕ) → m.file p < 256
-  pub sizes : first_fault (rules_of_size (naming_l1 m.header table).fields) ≡ None
+  pub sizes : first_fault (rules_of_size (linking_l1 m.header table).fields) ≡ None
 
 module _ (m : Metadata) (table old : TableValue) (n first : ℕ) (sound : IsSound m) (is : IsStoredL1 m table old n first) where
   abbrev h : Fields
@@ -113,10 +113,10 @@ module _ (m : Metadata) (table old : TableValue) (n first : ℕ) (sound : IsSoun
   more = n - m.header.fields.l1_entries
 
   abbrev H' : Header
-  H' = naming_l1 m.header table
+  H' = linking_l1 m.header table
 
   abbrev x : Bytes
-  x = splice m.file 0 (first_bytes (naming_l1 m.header table).fields)
+  x = splice m.file 0 (first_bytes (linking_l1 m.header table).fields)
 
   old-long : length old.raw_entries ≡ h.l1_entries
   old-long = l1-long m.file h old is.of
@@ -128,7 +128,7 @@ module _ (m : Metadata) (table old : TableValue) (n first : ℕ) (sound : IsSoun
   all-words : h.l1_entries + more ≡ length table.raw_entries
   all-words = let longer = is.longer in omega (arith, old-long, table-long, longer)
 
-  -- A word is what was stored of it.
+  -- A raw entry of the file is the stored one.
   word-there : (i : ℕ) → i < length table.raw_entries → raw_entry m.file (first * cluster_size h) i ≡ slice_index table.raw_entries i
   unfolding raw_entry
   word-there i lt =
@@ -165,7 +165,7 @@ module _ (m : Metadata) (table old : TableValue) (n first : ℕ) (sound : IsSoun
     ]
   ]
 
-  -- So it is ready to become the L1 table,
+  -- The stored table is ready to become the L1 table.
   ready : IsReadyL1Table m (table_start table) more
   ready = record {
     raw_entries = λ i lt. ap (λ p. raw_entry m.file p i) is.place ∙ word-there i (omega (arith, lt, all-words)) ∙ word-old i lt;
@@ -193,12 +193,12 @@ module _ (m : Metadata) (table old : TableValue) (n first : ℕ) (sound : IsSoun
   names = record { loads = subst (λ (K : Header). header_of true x ≡ Ok K) header-is loads; outside = outside }
 
   abbrev pub later : Metadata
-  later = record m { file = splice m.file 0 (first_bytes (naming_l1 m.header table).fields); header = naming_l1 m.header table }
+  later = record m { file = splice m.file 0 (first_bytes (linking_l1 m.header table).fields); header = linking_l1 m.header table }
 
   later-is : with_longer_l1 m (table_start table) more x ≡ later
   later-is = ap (λ (K : Header). record m { file = x; header = K }) (sym header-is)
 
-  -- and the image advances where the header names it.
+  -- If the header references it, the image advances.
   pub stored-advances : AdvancesBy (handing (old_l1 m) (λ d. covers d (run_of first (clusters_for m.header.fields (length table.raw_entries))))) m later
   stored-advances =
       subst (λ (taken : ℕ → ℕ). AdvancesBy (handing (old_l1 m) taken) m later) (fun_ext new-is)
@@ -208,7 +208,7 @@ module _ (m : Metadata) (table old : TableValue) (n first : ℕ) (sound : IsSoun
   pub stored-unnamed : (d : ℕ) → old_l1 m d ≡ 1 → referenced_at_all later d ≡ 0
   stored-unnamed d own = subst (λ (k : Metadata). referenced_at_all k d ≡ 0) later-is (old-unnamed m (table_start table) more x sound ready names d own)
 
-  -- and as much is counted.
+  -- The refcounts are the same.
   pub stored-counts : (d : ℕ) → counted later d ≡ counted m d
   stored-counts d = subst (λ (k : Metadata). counted k d ≡ counted m d) later-is (counts-there m (table_start table) more x sound ready names d)
 
@@ -224,7 +224,7 @@ module _ (m : Metadata) (table old : TableValue) (n first : ℕ) (sound : IsSoun
   word-still i = be-same x m.file (first * cluster_size h + 8 * i) (first * cluster_size h + 8 * i) 8
       (λ k less. outside (first * cluster_size h + 8 * i + k) (inr (omega (arith, far))))
 
-  -- The table in memory is the file's then.
+  -- The table in memory is the file's.
   pub stored-entered : IsL1Of later.file later.header.fields table
   stored-entered = record {
     layout = is.layout;

@@ -1,4 +1,4 @@
--- How guest clusters in a row come to name clusters in a row that were reserved, or kept for them.
+-- Linking consecutive guest clusters of a flushed image.
 use Rattle.std.proofs.Common.{◌≡◌, ◌≢◌, ℕ, ◌+◌, ◌-◌, ◌*◌, ◌/◌, ◌%◌, ◌<◌, ◌≤◌, refl, arith, ap, subst, inl, inr, true, Result, Ok, Err}
 use Rattle.std.specs.Prelude.{◌⊎◌, OnOk}
 use Rattle.imago_storage.specs.State.{StorageState}
@@ -25,7 +25,7 @@ use Rattle.qcow2_clusters.proofs.RunNames.{stands}
 use Rattle.qcow2_clusters.proofs.SettingAtRest as set
 use Rattle.qcow2_clusters.proofs.SettingAtRest.{Stood, sets-by}
 
--- What is to be named is used.
+-- A cluster that can be linked is in use.
 nameable-used : (m : Metadata) (table guest x : ℕ) → IsSound m → CanBeLinked m table guest x → IsUsed m x
 nameable-used m table guest x sound able = elim able.own [
   | inl reserved ↦ reserved.used
@@ -71,7 +71,7 @@ module _ {S : Type 0} (state : S → StorageState) (table guest x n : ℕ) (c c'
       → t ≡ table_in m0.file c.file.header.fields table (entries_of_cluster c.file.header.fields) → Does t (Ok tt) t'
       → let first = cached_alone m0 (order_of c.caches) table (listing t c.space.to_free) in
       IsSound first → GuestUnchanged (λ _. 0) (λ _. 0) m0 first
-      → Stood state table guest n c c' mid between done result able (naming_setting m0 guest x n) (λ can d less. (can d less).layers_below) (order_of c.caches) t t'
+      → Stood state table guest n c c' mid between done result able (naming_setting m0 guest x n) (λ can d less. (can d less).in_table) (order_of c.caches) t t'
   stood-so t t' sound can is does start guest_unchanged =
       let stood = stands m0 table guest x sound some (order_of c.caches) t is c.space.to_free start guest_unchanged n can near fits n (omega arith)
       (listing t' c'.space.to_free) does.ok.1 in
@@ -79,10 +79,10 @@ module _ {S : Type 0} (state : S → StorageState) (table guest x n : ℕ) (c c'
 
   module _ (used : UsesTable state table Does (cached_file c.caches c.file) done (cached_file mid between)) where
     set-so : SetsRun state guest n able (naming_setting m0 guest x n) c result c'
-    set-so = sets-by state table guest n c c' mid between done result able (naming_setting m0 guest x n) (λ can d less. (can d less).layers_below) rest room any
+    set-so = sets-by state table guest n c c' mid between done result able (naming_setting m0 guest x n) (λ can d less. (can d less).in_table) rest room any
         Does refused stood-so allocator held settles used
 
-    -- Their bytes are kept: they are used.
+    -- So its bytes are kept.
     bytes-kept : IsSound m0 → able → (r : Result Unit Fault)
         → OnOk r ((d : ℕ) → IsUsed m0 d → Same m0.file (flushed_metadata state c').file (d * cluster_size c.file.header.fields) (cluster_size c.file.header.fields))
         → OnOk r ((q : ℕ) → x ≤ q / cluster_size c.file.header.fields → q / cluster_size c.file.header.fields < x + n → (flushed_metadata state c').file q ≡ m0.file q)
@@ -115,6 +115,6 @@ module _ {S : Type 0} (state : S → StorageState) (table guest x n : ℕ) (c c'
       → LeavesTable state table guest x n c result (clusters_state c'.file new c'.space)
   keeps-by new kept used =
       let stays : StaysCached state table able c result (clusters_state c'.file new c'.space) =
-      set.keeps-by state table guest n c c' mid between done result able (naming_setting m0 guest x n) (λ can d less. (can d less).layers_below) rest room any
+      set.keeps-by state table guest n c c' mid between done result able (naming_setting m0 guest x n) (λ can d less. (can d less).in_table) rest room any
       Does refused stood-so allocator held settles new kept used in
       record { clean = stays.clean; unpinned = stays.unpinned; alone = stays.alone; one_table_cached = stays.one_table_cached; none = stays.none; fit = stays.fit }

@@ -1,4 +1,4 @@
--- What allocations leave of the room that an image has, and why there was none.
+-- The free space after allocations, and why it wasn't enough.
 use Rattle.std.proofs.Common.{◌≡◌, ℕ, ◌+◌, ◌-◌, ◌/◌, ◌<◌, ◌≤◌, refl, arith, sym, subst, ◌∙◌, inl, inr}
 use Rattle.std.specs.Prelude.{length}
 use Rattle.std.proofs.lemmas.Bool.{cases_eq, cases_lt, eq-eqb, ne_eqb}
@@ -23,7 +23,7 @@ use Rattle.qcow2_alloc.proofs.Handing.BlocksBeforeTables.{no-place-as}
 use Rattle.qcow2_clusters.specs.Room.{HasFreeClusters, IsFull, LeavesRoom}
 use Rattle.qcow2_clusters.specs.Storing.{storing_causes}
 
--- A cause stays one where less is ready, and what tells that there is no place may be said otherwise.
+-- A cause holds for a stronger condition, and with a weaker fact about the number of the limit.
 pub storing-as : {ready less : Type 0} (full full' : ℕ → Type 0) (before after : ℕ) → (less → ready) → (fault : Fault) → ((number : ℕ) → fault ≡ Limit number → less → full number → full' number)
     → HasCause (storing_causes ready full before after) fault → HasCause (storing_causes less full' before after) fault
 storing-as full full' before after from fault told why = cause-weaker (record {
@@ -35,11 +35,11 @@ storing-as full full' before after from fault told why = cause-weaker (record {
   limit = λ number at is. told number at.0 is (at.1 (from is));
 }) fault (cause-told _ fault why)
 
--- The same clusters are marked where as much is counted.
+-- With the same refcounts the same clusters are free before the hint.
 pub marked-as : (m m' : Metadata) (mark : ℕ) → ((c : ℕ) → counted m' c ≡ counted m c) → NoneFreeBefore m mark → NoneFreeBefore m' mark
 marked-as m m' mark same marked c below = subst (λ n. 0 < n) (sym (same c)) (marked c below)
 
--- As much is free where as much is counted.
+-- With the same refcounts the same clusters are free.
 pub room-as : (m m' : Metadata) (mark total : ℕ) → space m'.header.fields ≡ space m.header.fields → ((c : ℕ) → counted m' c ≡ counted m c)
     → HasFreeClusters m mark total → HasFreeClusters m' mark total
 room-as m m' mark total large same room = record {
@@ -49,7 +49,7 @@ room-as m m' mark total large same room = record {
   free = λ c from to. same c ∙ room.free c from to;
 }
 
--- So as much of it is left, before and behind.
+-- So the free space that is left is the same.
 pub leaves-as : (taken : ℕ) (m0 m m' m1 : Metadata) (mark mark' : ℕ) → space m.header.fields ≡ space m0.header.fields
     → ((c : ℕ) → counted m c ≡ counted m0 c) → space m1.header.fields ≡ space m'.header.fields → ((c : ℕ) → counted m1 c ≡ counted m' c)
     → LeavesRoom taken m mark m' mark' → LeavesRoom taken m0 mark m1 mark'
@@ -59,7 +59,7 @@ leaves-as taken m0 m m' m1 mark mark' large same large' same' leaves = record {
       room-as m' m1 mark' total large' same' (leaves.left total some (room-as m0 m mark (taken + total) large same room));
 }
 
--- What a number tells it tells where the header and the refcount table are the same, and as much is counted.
+-- With the same header, refcount table and refcounts a number means the same.
 pub told-as : (m m1 : Metadata) → m1.header ≡ m.header → m1.table ≡ m.table → ((c : ℕ) → counted m1 c ≡ counted m c)
     → (mark n number : ℕ) → IsRunTold m1 mark n number → IsRunTold m mark n number
 told-as m m1 header table same mark n number told = record {
@@ -85,13 +85,13 @@ full-as n m m' m1 mark mark' number header table same full = record {
   told = told-as m1 m' header table same mark' n number full.told;
 }
 
--- The image where a call begins, where the allocation begins, and once what waited is freed:
+-- The image at the start of a call, at the start of its allocation, and after the free list is processed.
 module _ (m0 : Metadata) (m mid : MetadataWithFirstFree) (n : ℕ) (begins : m.header ≡ m0.header)
     (same : (c : ℕ) → counted m.image c ≡ counted m0 c) (freed : IsFreed m mid) where
   header-is : mid.header ≡ m0.header
   header-is = freed.header ∙ begins
 
-  -- there is room where there was,
+  -- If the image had a long enough run, it still has one.
   roomy-there : (total : ℕ) → room_for m0.header.fields n ≤ total → HasFreeClusters m0 m.mark total → IsRoomy mid.image mid.mark n
   roomy-there total enough room = record {
     first = room.first;
@@ -106,7 +106,7 @@ module _ (m0 : Metadata) (m mid : MetadataWithFirstFree) (n : ℕ) (begins : m.h
     enough = subst (λ (H : Header). room_for H.fields n ≤ total) (sym header-is) enough;
   }
 
-  -- so that there was none where there isn't.
+  -- If it has none now, it had none before.
   pub crowded-there : IsCrowded mid.image mid.mark n → IsCrowded m0 m.mark n
   crowded-there none roomy = none (roomy-there roomy.total roomy.enough record {
     first = roomy.first;
@@ -115,7 +115,7 @@ module _ (m0 : Metadata) (m mid : MetadataWithFirstFree) (n : ℕ) (begins : m.h
     free = roomy.free;
   })
 
-  -- What is taken is little.
+  -- The allocation takes few clusters.
   module _ (m' : Metadata) (mark' : ℕ) (entry : FreeEntry) (large : space m'.header.fields ≡ space m0.header.fields)
       (little : TakesLittle mid.mark n mid.image m') (taken : IsRunCounted mid.mark n m' entry) (moved : mark' ≡ first_free_after mid.mark n entry.first) where
     module _ (total : ℕ) (some : 0 < total) (room : HasFreeClusters m0 m.mark (room_for m0.header.fields n + total)) where
@@ -130,7 +130,7 @@ module _ (m0 : Metadata) (m mid : MetadataWithFirstFree) (n : ℕ) (begins : m.h
       still-free c from to =
           little.early roomy c (subst (λ (H : Header). room.first + room_for H.fields n ≤ c) (sym header-is) from) to
 
-      -- The run that was taken lies before what is left.
+      -- The allocated run is before the free space that is left.
       early : n ≡ 1 → entry.first < room.first + need
       unfolding roomy roomy-there
       early one = elim (cases_lt entry.first (room.first + need)) [

@@ -1,5 +1,5 @@
--- Words of a table that is cached alone, of an image that rested, come to name clusters in a row, one behind the other: what that does to
--- its metadata.
+-- The effect on the metadata of a flushed image when entries of its only cached table are linked to consecutive
+-- clusters.
 use Rattle.std.proofs.Common.{◌≡◌, ◌≢◌, ℕ, zero, suc, ◌+◌, ◌-◌, ◌*◌, ◌/◌, ◌%◌, ◌^◌, ◌<◌, ◌≤◌, eq-eqb, refl, arith, ap, sym, subst, ◌∙◌, inl, inr, true, Some, Option, length}
 use Rattle.std.specs.Prelude.{◌++◌, nat_eq}
 use Rattle.std.specs.Option.{option_map}
@@ -24,13 +24,13 @@ use Rattle.qcow2_alloc.proofs.GuestView.QuietFlushes.{quiet-none}
 use Rattle.qcow2_steps.proofs.StepSums.{advances-then, advances-weaker, reserved-still}
 use Rattle.qcow2_steps.proofs.QuietValues.{quiet-entries}
 use Rattle.qcow2_steps.proofs.Steps.{quiet-advances}
-use Rattle.qcow2_clusters.specs.Linking.{CanAllBeLinked, CanBeLinked, IsUnder, Listed, LinksEntry, LinksEntries, given_for, given_for_run, given_in, listed_of, listing, naming, linking_run}
+use Rattle.qcow2_clusters.specs.Linking.{CanAllBeLinked, CanBeLinked, IsUnder, Listed, LinksEntry, LinksEntries, given_for, given_for_run, given_in, listed_of, listing, linking, linking_run}
 use Rattle.qcow2_clusters.specs.Progress.{Kind, both, handing}
 use Rattle.qcow2_clusters.proofs.ProgressSums.{AdvancesBy, IsWider, wider-both, wider-handing}
 use Rattle.qcow2_clusters.proofs.LoneTables.{lone-hit, lone_table}
 use Rattle.qcow2_clusters.proofs.ClusterNames.{WordNamed, freed-data, idle, names-data, old-entry, put-advances, stepping, word-named}
 
--- The table keeps its layout and its length, and the list its room.
+-- The table keeps its layout and its length, and the list its reserved slots.
 pub words-layout : (index x n : ℕ) (old new : Listed) → LinksEntries index x n old new → new.table.layout ≡ old.table.layout
 unfolding LinksEntries
 words-layout index x zero old new is = ap (λ (l : Listed). l.table.layout) is
@@ -42,13 +42,13 @@ words-length index x zero old new is = ap (λ (l : Listed). length l.table.raw_e
 words-length index x (suc n) old new is =
     ap (λ (t : TableValue). length t.raw_entries) is.2.set ∙ length-set is.0.table.raw_entries _ _ ∙ words-length index x n old is.0 is.1
 
--- Where words can name the last of clusters in a row, they can name each.
+-- If the last of consecutive clusters is addressable, each is.
 pub near-each : (bits x n : ℕ) → IsAddressable bits (x + (n - 1)) → (d : ℕ) → d < n → IsAddressable bits (x + d)
 near-each bits x n last d less =
     let le : (x + d) * 2 ^ bits ≤ (x + (n - 1)) * 2 ^ bits = mul-le-mul_right (2 ^ bits) (omega (arith, less)) in
     omega (arith, le, last)
 
--- No words have been set to begin with, and then one more.
+-- No entries are linked at first, and then one more.
 pub words-none : (index x : ℕ) (old : Listed) → LinksEntries index x 0 old old
 unfolding LinksEntries
 words-none index x old = refl
@@ -59,13 +59,13 @@ unfolding LinksEntries
 words-more index x n old between new first last =
     let more : suc n ≡ n + 1 = omega arith in subst (λ k. LinksEntries index x k old new) more (between, first, last)
 
--- A cluster isn't taken for another.
+-- Only the linked cluster can be newly referenced.
 newly-apart : (x c : ℕ) (taken : Option (ℕ × ℕ)) → c ≢ x → newly x taken c ≡ 0
 newly-apart x c taken apart = rw (ne_eqb c x apart) refl
 
--- What is given and set where clusters in a row come to be named is so at one of them.
+-- A value or setting of the run is one of its guest clusters.
 pub run-gives : (m : Metadata) (guest x n p : ℕ) (v : Option Value) → (linking_run m guest x n).gives p v
-    → (d : ℕ) × (d < n) × (naming m (guest + d) (x + d)).gives p v
+    → (d : ℕ) × (d < n) × (linking m (guest + d) (x + d)).gives p v
 unfolding linking_run
 run-gives m guest x zero p v none = absurd none
 run-gives m guest x (suc n) p v gave = elim gave [
@@ -73,7 +73,7 @@ run-gives m guest x (suc n) p v gave = elim gave [
   | inr here ↦ (n, omega arith, here)
 ]
 
-pub run-sets : (m : Metadata) (guest x n g : ℕ) → (linking_run m guest x n).set g → (d : ℕ) × (d < n) × (naming m (guest + d) (x + d)).set g
+pub run-sets : (m : Metadata) (guest x n g : ℕ) → (linking_run m guest x n).set g → (d : ℕ) × (d < n) × (linking m (guest + d) (x + d)).set g
 unfolding linking_run
 run-sets m guest x zero g none = absurd none
 run-sets m guest x (suc n) g set = elim set [
@@ -81,11 +81,11 @@ run-sets m guest x (suc n) g set = elim set [
   | inr here ↦ (n, omega arith, here)
 ]
 
--- Another word of a table means what it did.
+-- The other entries of the table keep their meanings.
 other-mapping : (t : TableValue) (a b w : ℕ) → b ≢ a → mapping_in (with_raw_entry t a w) b ≡ mapping_in t b
 other-mapping t a b w apart = ap (mapping_of t.layout) (get_or-set_other t.raw_entries a b w 0 apart)
 
--- The image at rest, and the L2 table as its file has it.
+-- The flushed image, and the L2 table as the file has it.
 module _ (m : Metadata) (table guest x : ℕ) (sound : IsSound m) (some : x ≢ 0) (order : CacheDependency) (t0 : TableValue)
     (is : t0 ≡ table_in m.file m.header.fields table (entries_of_cluster m.header.fields)) (list0 : FreeList) where
   abbrev h : Fields
@@ -97,7 +97,7 @@ module _ (m : Metadata) (table guest x : ℕ) (sound : IsSound m) (some : x ≢ 
   abbrev j : ℕ
   j = guest % entries_of_cluster h
 
-  -- the image with such a table cached alone, and such a list
+  -- The image with only this table cached, and with this free list.
   abbrev pub image : Listed → Metadata
   image s = record m { cached = lone_table table s.table; order = order; pending = s.list.entries }
 
@@ -120,7 +120,7 @@ module _ (m : Metadata) (table guest x : ℕ) (sound : IsSound m) (some : x ≢ 
     table_nonzero = under.table_nonzero;
   }
 
-  -- The first k words of n have been set, and the others can be.
+  -- The first `k` of `n` entries are linked, and the others can be.
   pub record Standing (n k : ℕ) (s : Listed) : Type 0 where
     pub step : AdvancesBy (linking_run m guest x k) found (image s)
     pub waits : s.list.entries ≡ list0.entries ++ given_for_run m guest x k
@@ -131,10 +131,10 @@ module _ (m : Metadata) (table guest x : ℕ) (sound : IsSound m) (some : x ≢ 
 
   module _ (start : IsSound found) (guest_unchanged : GuestUnchanged (λ _. 0) (λ _. 0) m found) (n : ℕ) (able : CanAllBeLinked n m table guest x)
       (near : (d : ℕ) → d < n → IsAddressable h.cluster_bits (x + d)) (fits : j + n ≤ entries_of_cluster h) where
-    -- None has been set.
+    -- No entry is linked yet.
     able-found : (d : ℕ) → d < n → CanBeLinked found table (guest + d) (x + d)
     able-found d to = record {
-      layers_below = under-still found (guest + d) refl refl (able d to).layers_below;
+      in_table = under-still found (guest + d) refl refl (able d to).in_table;
       own = elim (able d to).own [
         | inl reserved ↦ inl (reserved-still (λ p v. ⊥) (λ q. ⊥) (λ g. ⊥) (λ _. 0) (λ _. 0) m found
             (quiet-advances m found (λ _. 0) (λ _. 0) sound start guest_unchanged (λ c named. refl)) (x + d) reserved refl)
@@ -157,7 +157,7 @@ module _ (m : Metadata) (table guest x : ℕ) (sound : IsSound m) (some : x ≢ 
       layout = ap (λ (t : TableValue). t.layout) is;
     }
 
-    -- One more is set.
+    -- One more entry is linked.
     module _ (k : ℕ) (less : k < n) (s s' : Listed) (was : Standing n k s) (one : LinksEntry (j + k) (x + k) s s') where
       abbrev g : ℕ
       g = guest + k
@@ -236,8 +236,8 @@ module _ (m : Metadata) (table guest x : ℕ) (sound : IsSound m) (some : x ≢ 
       gives-up : before ≡ given_for m g y
       gives-up = facts.1 ∙ ap (λ (w : Mapping). freed (replaced y (allocation_of h.cluster_bits w))) meant
 
-      wider : IsWider (both step-kind put-kind) (naming m g y)
-      wider = wider-both step-kind put-kind (naming m g y) word-set.wider (wider-handing (λ _. 0) (λ c. holds c before) (naming m g y))
+      wider : IsWider (both step-kind put-kind) (linking m g y)
+      wider = wider-both step-kind put-kind (linking m g y) word-set.wider (wider-handing (λ _. 0) (λ c. holds c before) (linking m g y))
 
       given-same : (c : ℕ) → holds c (given_for m g y) ≡ holds c before
       given-same c = ap (holds c) (sym gives-up)
@@ -245,24 +245,24 @@ module _ (m : Metadata) (table guest x : ℕ) (sound : IsSound m) (some : x ≢ 
       newly-same : (c : ℕ) → newly y (allocation_of h.cluster_bits (entry m.file h g)) c ≡ newly y (allocation_of h.cluster_bits old) c
       newly-same c = ap (λ (w : Mapping). newly y (allocation_of h.cluster_bits w) c) (sym meant)
 
-      second : AdvancesBy (naming m g y) (image s) (image s')
-      second = subst (λ (z : Metadata). AdvancesBy (naming m g y) (image s) z) same-image
-          (advances-weaker (both step-kind put-kind).gives (naming m g y).gives (both step-kind put-kind).written (naming m g y).written
-          (both step-kind put-kind).set (naming m g y).set (both step-kind put-kind).newly_allocated (both step-kind put-kind).taken
-          (naming m g y).newly_allocated (naming m g y).taken (image s) put-image wider.gives wider.written wider.set
+      second : AdvancesBy (linking m g y) (image s) (image s')
+      second = subst (λ (z : Metadata). AdvancesBy (linking m g y) (image s) z) same-image
+          (advances-weaker (both step-kind put-kind).gives (linking m g y).gives (both step-kind put-kind).written (linking m g y).written
+          (both step-kind put-kind).set (linking m g y).set (both step-kind put-kind).excess_added (both step-kind put-kind).taken
+          (linking m g y).excess_added (linking m g y).taken (image s) put-image wider.gives wider.written wider.set
           (λ c. let same = given-same c in let anew = newly-same c in omega (arith, same, anew))
           (λ c used none. let same = given-same c in let anew = newly-same c in omega (arith, same, anew, none))
-          (advances-then step-kind.gives put-kind.gives step-kind.written step-kind.set step-kind.newly_allocated step-kind.taken (image s) set word-set.step
-          put-kind.written put-kind.set put-kind.newly_allocated put-kind.taken put-image put-step))
+          (advances-then step-kind.gives put-kind.gives step-kind.written step-kind.set step-kind.excess_added step-kind.taken (image s) set word-set.step
+          put-kind.written put-kind.set put-kind.excess_added put-kind.taken put-image put-step))
 
       next : AdvancesBy (linking_run m guest x (suc k)) found (image s')
       unfolding linking_run
       next =
           let first = linking_run m guest x k in
-          advances-then first.gives (naming m g y).gives first.written first.set first.newly_allocated first.taken found (image s) was.step
-          (naming m g y).written (naming m g y).set (naming m g y).newly_allocated (naming m g y).taken (image s') second
+          advances-then first.gives (linking m g y).gives first.written first.set first.excess_added first.taken found (image s) was.step
+          (linking m g y).written (linking m g y).set (linking m g y).excess_added (linking m g y).taken (image s') second
 
-      -- Another word of the row stays.
+      -- Another entry of the run is unchanged.
       word-stays : (d : ℕ) → d < n → d ≢ k → entry (in_memory (image s')) h (guest + d) ≡ entry (in_memory (image s)) h (guest + d)
       word-stays d to other = elim (second.raw_entries (guest + d)) [
         | inl same ↦ same
@@ -271,10 +271,10 @@ module _ (m : Metadata) (table guest x : ℕ) (sound : IsSound m) (some : x ≢ 
 
       able-next : (d : ℕ) → suc k ≤ d → d < n → CanBeLinked (image s') table (guest + d) (x + d)
       able-next d from to = record {
-        layers_below = under-still (image s') (guest + d) refl refl (able d to).layers_below;
+        in_table = under-still (image s') (guest + d) refl refl (able d to).in_table;
         own = elim (was.able d (omega (arith, from)) to).own [
-          | inl reserved ↦ inl (reserved-still (naming m g y).gives (naming m g y).written (naming m g y).set (naming m g y).newly_allocated
-              (naming m g y).taken (image s) (image s') second (x + d) reserved (
+          | inl reserved ↦ inl (reserved-still (linking m g y).gives (linking m g y).written (linking m g y).set (linking m g y).excess_added
+              (linking m g y).taken (image s) (image s') second (x + d) reserved (
               let apart : x + d ≢ y = λ same. omega (arith, same, from) in
               let none = newly-apart y (x + d) (allocation_of h.cluster_bits (entry m.file h g)) apart in
               let same = given-same (x + d) in

@@ -1,4 +1,4 @@
--- Bytes are written to clusters in a row that were allocated.
+-- Data is written to newly allocated consecutive clusters.
 use Rattle.std.proofs.Common.{◌≡◌, ℕ, ◌+◌, ◌-◌, ◌*◌, ◌<◌, ◌≤◌, refl, arith, ap, sym, subst, ◌∙◌, inl, inr, List, length, Result, Ok, Err, false}
 use Rattle.std.specs.Prelude.{⊤, slice_index}
 use Rattle.std.proofs.lemmas.Bool.{cases_lt}
@@ -36,7 +36,7 @@ use Rattle.qcow2_clusters.proofs.AllocationsAtRest.{run-leaves, run-marked, run-
 use Rattle.qcow2_clusters.proofs.EndsAtRest.{quiet-halted, lent_by}
 use Rattle.qcow2_clusters.proofs.RoomAfterAllocations.{leaves-as, marked-as}
 
--- The content of one cluster fits several.
+-- The data of one cluster fits several clusters.
 pub whole-fits : (content : List ℕ) (n size : ℕ) → 0 < n → length content ≡ size → length content ≤ n * size
 whole-fits content n size some whole =
     let le : 1 * size ≤ n * size = mul-le-mul_right size (omega (arith, some)) in
@@ -69,7 +69,7 @@ module _ {S : Type 0} (state : S → StorageState) (c : Clusters S) (empty : Are
   reserved : IsReady state c → AreReserved n m1 x
   reserved = run-reserved state c empty room n mid entry a
 
-  -- A cluster is one of these, or it isn't.
+  -- The clusters weren't in use.
   unused : IsReady state c → (d : ℕ) → IsUsed (flushed_metadata state c) d → run d ≡ 0
   unused ready d used = elim (cases_lt d x) [
     | inl before ↦ covers-before d x n before
@@ -87,7 +87,7 @@ module _ {S : Type 0} (state : S → StorageState) (c : Clusters S) (empty : Are
       rw whole (let fits : length content ≤ n * cluster_size mid.file.header.fields = subst (λ s. length content ≤ n * s) (sym size) long in omega (arith, parts, fits))
 
   module _ (done : Result Unit Fault) (put : WriteOutcome (storage state mid) (state after.image) place content done) where
-    -- The write takes the cluster, and hands it out again,
+    -- The write takes the clusters and allocates them again.
     write-quietly : IsReady state c → PreservesGuest (HadNoResourceError done) run run (storage state mid) m1 (state after.image) m2
     write-quietly ready =
         put-whole m1 m2 run run (storage state mid) (state after.image) place content done put
@@ -95,7 +95,7 @@ module _ {S : Type 0} (state : S → StorageState) (c : Clusters S) (empty : Are
         let inside : d < x + n = omega (arith, upto, some) in
         ((reserved ready d from inside).not_referenced, λ used. let one = covers-inside d x n from inside in omega (arith, one))) done put)
 
-    -- so that both hand it out.
+    -- So the call as a whole allocates them.
     pub both-quietly : PreservesGuest (HadNoResourceError done) run (λ _. 0) (storage state c) (flushed_metadata state c) (state after.image) m2
     both-quietly =
         quietly-given (HadNoResourceError done) run (λ _. 0) (storage state c) (flushed_metadata state c) (state after.image) m2 (put.shape ∙ first.shape)
@@ -106,7 +106,7 @@ module _ {S : Type 0} (state : S → StorageState) (c : Clusters S) (empty : Are
         (quietly-then ⊤ (HadNoResourceError done) run (λ _. 0) run run (storage state c) (flushed_metadata state c) (storage state mid) m1 (state after.image) m2
         tt (λ sound k some. refl) first (write-quietly ready)))
 
-  -- Where they are written they are reserved still, and have their bytes.
+  -- The write succeeds: the clusters are still reserved, and have their bytes.
   module _ (put : WriteOutcome {T = Unit} (storage state mid) (state after.image) place content (Ok tt)) where
     spliced : IsReady state c → Spliced (storage state mid).bytes place content (state after.image).bytes
     spliced ready = put.answer.content (keeps_on (storage state c) (storage state mid) first.shape ready.keeps)
@@ -159,7 +159,7 @@ module _ {S : Type 0} (state : S → StorageState) (c : Clusters S) (empty : Are
       cause = tt;
     }
 
-  -- Where they aren't, no room is held, and the clusters leak.
+  -- The write fails: no slot is reserved, and the clusters leak.
   pub stored-refused : (fault : Fault) → WriteOutcome {T = Unit} (storage state mid) (state after.image) place content (Err fault)
       → StoresRunUnsettled state n content c (Err fault)
       (clusters_state after mid.caches (record { allocator = mid.space.allocator; to_free = record { entries = mid.space.to_free.entries; held = c.space.to_free.held } }))

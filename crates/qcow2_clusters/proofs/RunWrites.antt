@@ -1,4 +1,4 @@
--- Bytes are written to clusters in a row that were reserved at rest.
+-- Data is written to consecutive clusters that were reserved in a flushed image.
 use Rattle.std.proofs.Common.{◌≡◌, ℕ, ◌+◌, ◌-◌, ◌*◌, ◌<◌, ◌≤◌, refl, arith, sym, subst, ◌∙◌, inl, inr, List, length, Result, Ok, Err}
 use Rattle.std.specs.Prelude.{slice_index}
 use Rattle.std.proofs.lemmas.Bool.{cases_lt}
@@ -53,7 +53,7 @@ module _ {S : Type 0} (state : S → StorageState) (n : ℕ) (some : 0 < n) (bef
     sound = (run.progress.holds ready.keeps ready.sound tt).sound;
   }
 
-  -- A cluster is one of these, or it isn't.
+  -- A cluster outside the run isn't allocated.
   apart : (d : ℕ) → (x ≤ d → d < x + n → ⊥) → given d ≡ 0
   apart d not = elim (cases_lt d x) [
     | inl lower ↦ covers-before d x n lower
@@ -73,7 +73,7 @@ module _ {S : Type 0} (state : S → StorageState) (n : ℕ) (some : 0 < n) (bef
       omega (arith, none, least, named))
 
   module _ (done : Result Unit Fault) (put : WriteOutcome (storage state mid) (state after.image) place bytes done) where
-    -- The write takes the clusters, and hands them out again,
+    -- The write takes the clusters and allocates them again.
     write-quietly : IsReady state c → PreservesGuest (HadNoResourceError done) given given (storage state mid) m1 (state after.image) m2
     write-quietly ready =
         put-whole m1 m2 given given (storage state mid) (state after.image) place bytes done put
@@ -81,7 +81,7 @@ module _ {S : Type 0} (state : S → StorageState) (n : ℕ) (some : 0 < n) (bef
         let inside : d < x + n = omega (arith, upto, some) in
         ((run.reserved ready d from inside).not_referenced, λ used. let one = covers-inside d x n from inside in omega (arith, one))) done put)
 
-    -- so that both calls hand them out.
+    -- So the call as a whole allocates them.
     both-progress : Progresses (HadNoResourceError done) (handing given (λ _. 0)) (storage state c) (flushed_metadata state c) (state after.image) m2
     both-progress =
         progresses-otherwise (HadNoResourceError done) (HadNoResourceError done) (both (handing given (λ _. 0)) (handing given given)) (handing given (λ _. 0))
@@ -95,7 +95,7 @@ module _ {S : Type 0} (state : S → StorageState) (n : ℕ) (some : 0 < n) (bef
         let ready : IsReady state c = record { keeps = keeps; sound = sound } in
         quiet-progresses (HadNoResourceError done) given given (storage state mid) m1 (state after.image) m2 (spared ready) (write-quietly ready)))
 
-  -- Where they are written they are reserved still.
+  -- The write succeeds: the clusters are still reserved.
   module _ (put : WriteOutcome {T = Unit} (storage state mid) (state after.image) place bytes (Ok tt)) where
     spliced : IsReady state c → Spliced (storage state mid).bytes place bytes (state after.image).bytes
     spliced ready = put.answer.content (ready-mid ready).keeps
@@ -153,7 +153,7 @@ module _ {S : Type 0} (state : S → StorageState) (n : ℕ) (some : 0 < n) (bef
       cause = tt;
     }
 
-  -- Where they aren't, no room is held, and the clusters leak.
+  -- The write fails: no slot is reserved, and the clusters leak.
   pub run-unwritten : (fault : Fault) → WriteOutcome {T = Unit} (storage state mid) (state after.image) place bytes (Err fault) → (content : List ℕ) (held : ℕ)
       → held ≡ c.space.to_free.held → StoresRun state n content c (Err fault)
       (clusters_state after mid.caches (record { allocator = mid.space.allocator; to_free = record { entries = mid.space.to_free.entries; held = held } }))

@@ -1,5 +1,5 @@
--- How the words of guest clusters in a row are set, whatever they come to mean: the search of their table, their words, and what is written
--- then.
+-- Setting the entries of consecutive guest clusters to any meaning: the search of their table, the changed entries, and
+-- the write.
 use Rattle.std.proofs.Common.{◌≡◌, ◌≢◌, ℕ, ◌+◌, ◌-◌, ◌*◌, ◌/◌, ◌%◌, ◌<◌, ◌≤◌, refl, arith, ap, sym, subst, ◌∙◌, true, List, length, Result, Ok, Err, inl, inr}
 use Rattle.std.specs.Prelude.{⊤, ◌⊎◌, ◌^◌, false, not, ◌++◌, IfErr, IsTrue, OnOk}
 use Rattle.std.specs.List.{AllByRecursion}
@@ -58,7 +58,7 @@ use Rattle.qcow2_clusters.proofs.RoomAfterAllocations.{marked-as}
 use Rattle.qcow2_clusters.proofs.FewerWaiting.{fewer-sound}
 use Rattle.qcow2_clusters.proofs.Settlement.{kept-count, kept-keys}
 
--- What is shown of a sound image in a storage that keeps what is written.
+-- Progress needs a proof only for a consistent image in a storage that keeps what is written.
 progresses-ready : (ok : Type 0) (kind : Kind) (s : StorageState) (m : Metadata) (s' : StorageState) (m' : Metadata) → s'.shape ≡ s.shape → CountsNotFallen s s'
     → (IsTrue s.shape.keeps → IsSound m → Progresses ok kind s m s' m') → Progresses ok kind s m s' m'
 progresses-ready ok kind s m s' m' shape later progress = record {
@@ -68,7 +68,7 @@ progresses-ready ok kind s m s' m' shape later progress = record {
   holds = λ keeps sound. (progress keeps sound).holds keeps sound;
 }
 
--- Where that was refused, and nothing is cached, no table is left.
+-- The call fails with empty caches, so no table stays cached.
 pub leaves-none : {S : Type 0} (state : S → StorageState) (table : ℕ) (able : Type 0) (c : Clusters S) (fault : Fault) (result : Result Unit Fault)
     (c' : Clusters S) → OnOk result (result ≡ Err fault) → AreEmpty c'.caches → StaysCached state table able c result c'
 leaves-none state table able c fault (Ok done) c' same empty = absurd (let bad : Ok done ≡ Err fault = same in cc)
@@ -81,7 +81,7 @@ leaves-none state table able c fault (Err e) c' same empty = record {
   fit = λ ready yes. tt;
 }
 
--- The table over a guest cluster, of a sound image, is one that words can name, and each of its words means something.
+-- The table of a guest cluster in a consistent image is addressable, and each of its entries is valid.
 module _ (m : Metadata) (table guest : ℕ) (sound : IsSound m) (under : IsUnder m table guest) where
   abbrev h : Fields
   h = m.header.fields
@@ -139,14 +139,14 @@ module _ {S : Type 0} (state : S → StorageState) (table guest n : ℕ) (c c' :
   abbrev m2 : Metadata
   m2 = flushed_metadata state c'
 
-  -- What is done to the table, cached alone, does that to the image.
+  -- The change of the table, as the only cached one, has this effect on the image.
   pub record Stood (order : CacheDependency) (t t' : TableValue) : Type 0 where
     pub step : AdvancesBy set-as.kind (cached_alone m0 order table (listing t c.space.to_free)) (cached_alone m0 order table (listing t' c'.space.to_free))
     pub waits : c'.space.to_free.entries ≡ c.space.to_free.entries ++ set-as.waiting
     pub named : (d : ℕ) → d < n → entry (in_memory (cached_alone m0 order table (listing t' c'.space.to_free))) c.file.header.fields (guest + d) ≡ set-as.means d
     pub layout : t'.layout ≡ layout_of c.file.header.fields
 
-  -- What came before the writes, and what holds then of a sound image.
+  -- The steps before the writes, and their effect on a consistent image.
   pub record Begun : Type 0 where
     pub shape : s1.shape ≡ s0.shape
     pub counts_not_fallen : CountsNotFallen s0 s1
@@ -221,7 +221,7 @@ module _ {S : Type 0} (state : S → StorageState) (table guest n : ℕ) (c c' :
         → length s1.bytes ≡ length s0.bytes
     read-long answer caches found = ap (λ (l : List ℕ). length l) (only-read state table c.caches c.file rest answer caches between found).bytes
 
-    -- It leaves the disk as it is.
+    -- The search preserves the guest.
     searched : (answer : Result Unit Fault) (caches : MetadataCaches S) → TableFound state table c.caches c.file answer caches between
         → PreservesGuest (HadNoResourceError answer) (λ _. 0) (λ _. 0) s0 m0 s1 (found-as caches)
     searched answer caches found =
@@ -229,7 +229,7 @@ module _ {S : Type 0} (state : S → StorageState) (table guest n : ℕ) (c c' :
         (begun-quietly ⊤ s0 awake rest)
         (going-quietly awake (HadNoResourceError answer) s0 s1 (cached_in caches) refl found.writes_back_cached)
 
-    -- It was refused.
+    -- The search fails.
     module _ (fault : Fault) (found : TableFound state table c.caches c.file (Err fault) mid between) (is : done ≡ Err fault)
         (held : c'.space.to_free.held ≡ c.space.to_free.held) (settles : WritesBack state done between mid result c'.file c'.caches) where
       refused-why : HasCause (writing_causes Ready s0.faults s1.faults) fault
@@ -279,7 +279,7 @@ module _ {S : Type 0} (state : S → StorageState) (table guest n : ℕ) (c c' :
         used = λ ready ok. absurd (refused-never ready ok);
       }
 
-    -- What is done to the table that is found, and what that does to the image.
+    -- The change of the table that is found, and its effect on the image.
     module _ (Does : TableValue → Result Unit Fault → TableValue → Type 0)
         (does-err : (t : TableValue) (fault : Fault) (t' : TableValue) → Does t (Err fault) t'
         → (fault ≡ Memory) ⊎ (t.layout ≡ layout_of c.file.header.fields → ⊥))
@@ -289,7 +289,7 @@ module _ {S : Type 0} (state : S → StorageState) (table guest n : ℕ) (c c' :
         → let first = cached_alone m0 (order_of c.caches) table (listing t c.space.to_free) in
         IsSound first → GuestUnchanged (λ _. 0) (λ _. 0) m0 first
         → Stood (order_of c.caches) t t') where
-      -- The table was found.
+      -- The table is found.
       module _ (answer : Result Unit Fault) (u : TableUsed state table Does (cached_file c.caches c.file) answer (cached_file mid between)) where
         abbrev read : TableValue
         read = table_in (bytes_of s1.bytes) c.file.header.fields table (entries_of_cluster c.file.header.fields)
@@ -312,7 +312,7 @@ module _ {S : Type 0} (state : S → StorageState) (table guest n : ℕ) (c c' :
           blocks = ap (λ (k : MetadataCaches S). k.rb.slots.cap) u.left ∙ u.found.room.1;
         }
 
-        -- There was no memory to have something wait.
+        -- Memory ran out for the free list.
         module _ (held : c'.space.to_free.held ≡ c.space.to_free.held) (is : done ≡ Err Memory)
             (settles : WritesBack state done between mid result c'.file c'.caches) where
           unput-cut : (result ≡ done) × (c'.file ≡ between)
@@ -347,7 +347,7 @@ module _ {S : Type 0} (state : S → StorageState) (table guest n : ℕ) (c c' :
             used = λ ready ok. absurd (unput-never ok);
           }
 
-        -- Its words were set.
+        -- The entries are set.
         module _ (held : c'.space.to_free.held ≡ c.space.to_free.held) (does : Does u.value (Ok tt) u.value')
             (allocator : c'.space.allocator ≡ c.space.allocator) (is : done ≡ Ok tt)
             (settles : WritesBack state done between mid result c'.file c'.caches) where
@@ -355,7 +355,7 @@ module _ {S : Type 0} (state : S → StorageState) (table guest n : ℕ) (c c' :
             abbrev m1 : Metadata
             m1 = metadata_of state between mid (table_of c'.space.allocator) c'.space.to_free.entries
 
-            -- the image with such a table cached alone, and such a list
+            -- The image with only this table cached, and with this free list.
             abbrev cached-as : Listed → Metadata
             cached-as = cached_alone m0 (order_of c.caches) table
 
@@ -401,7 +401,7 @@ module _ {S : Type 0} (state : S → StorageState) (table guest n : ℕ) (c c' :
             last : result ≡ Ok tt → IsSound m2 × GuestUnchanged (λ _. 0) (λ _. 0) m1 m2
             last ok = settled.holds (keeps_on s0 s1 u.found.writes_back_cached.shape ready.0.keeps) set-sound (subst HadNoResourceError (sym ok) tt)
 
-            -- The search, the words and what is written then, one behind the other.
+            -- The search, the changed entries and the write, one after another.
             set-progress : Progresses (result ≡ Ok tt) (set-as.kind) s0 m0 s2 m2
             set-progress =
                 let none : Kind = handing (λ _. 0) (λ _. 0) in
@@ -423,7 +423,7 @@ module _ {S : Type 0} (state : S → StorageState) (table guest n : ℕ) (c c' :
                 l1-stays m1.file m2.file m1.header m2.header l1 both.1.shows.moved both.1.shows.l1
                 (subst (λ (m : Metadata). IsL1Of m.file m.header.fields l1) last-same of)
 
-            -- As much is counted as before: no block is cached.
+            -- The refcounts are the same as before: no block is cached.
             counts-before : (d : ℕ) → counted m1 d ≡ counted m0 d
             counts-before d = subst (λ (m : Metadata). counted m d ≡ counted m0 d) last-same
                 (clean-counts at-last stood.step.sound tt d ∙ sym (clean-counts m0 ready.0.sound tt d))
@@ -434,7 +434,8 @@ module _ {S : Type 0} (state : S → StorageState) (table guest n : ℕ) (c c' :
                 (subst HadNoResourceError (sym ok) tt) d
                 ∙ counts-before d
 
-            -- What is written then leaves what was used: it would where nothing more waited, too.
+            -- The image with the free list of the start. Its write keeps the bytes of clusters in use, so the write of the longer
+            -- list does, too.
             abbrev spared : Metadata
             spared = metadata_of state between mid (table_of c'.space.allocator) c.space.to_free.entries
 
@@ -494,7 +495,7 @@ module _ {S : Type 0} (state : S → StorageState) (table guest n : ℕ) (c c' :
             used = set-used;
           }
 
-      -- Of the two calls.
+      -- Both steps together: the change of the table, and the write.
       module _ (allocator : c'.space.allocator ≡ c.space.allocator) (held : c'.space.to_free.held ≡ c.space.to_free.held)
           (settles : WritesBack state done between mid result c'.file c'.caches) where
         begun-by : (set : Result Unit Fault) → done ≡ set → UsesTable state table Does (cached_file c.caches c.file) set (cached_file mid between) → Begun
@@ -502,7 +503,7 @@ module _ {S : Type 0} (state : S → StorageState) (table guest n : ℕ) (c c' :
         begun-by (Ok v) is (inr u) = set-begun (Ok v) u held u.used allocator is settles
         begun-by (Err fault) is (inr u) = elim (does-err u.value fault u.value' u.used) [
           | inl memory ↦ unput-begun (Err fault) u held (is ∙ ap (λ e. Err e) memory) settles
-          -- The table that is found is one of this image.
+          -- The table that is found belongs to this image.
           | inr damaged ↦ absurd (damaged (ap (λ (t : TableValue). t.layout)
               (used-read state table c.caches c.file rest u.mid between u.found u.value u.value_cached)))
         ]
@@ -510,7 +511,7 @@ module _ {S : Type 0} (state : S → StorageState) (table guest n : ℕ) (c c' :
         pub sets-by : UsesTable state table Does (cached_file c.caches c.file) done (cached_file mid between) → SetsRun state guest n able set-as c result c'
         sets-by used = sets-begun settles (begun-by done refl used)
 
-        -- What is written in the end is a sound image, where that succeeds.
+        -- The image before the final write, which is consistent if that succeeds.
         abbrev to-write : Metadata
         to-write = metadata_of state between mid (table_of c'.space.allocator) c'.space.to_free.entries
 
@@ -527,7 +528,7 @@ module _ {S : Type 0} (state : S → StorageState) (table guest n : ℕ) (c c' :
               (used-read state table c.caches c.file rest u.mid between u.found u.value u.value_cached)))
         ]
 
-        -- So the table that stays cached then is the file's.
+        -- So the table that stays cached is the file's.
         pub keeps-by : (new : MetadataCaches S) → KeepsCachedTables state between mid result c'.file new
             → UsesTable state table Does (cached_file c.caches c.file) done (cached_file mid between)
             → StaysCached state table able c result (clusters_state c'.file new c'.space)

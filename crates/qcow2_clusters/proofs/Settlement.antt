@@ -1,4 +1,4 @@
--- What is cached is written, and then dropped.
+-- Dirty metadata is written, and the caches are emptied.
 use Rattle.std.proofs.Common.{◌≡◌, ℕ, refl, arith, ap, sym, subst, ◌∙◌, false, List, [], ◌∷◌, Result, Ok, Err, inl, inr}
 use Rattle.std.specs.Prelude.{⊤, IsTrue, MatchResult, OnOk, length, map}
 use Rattle.std.specs.List.{AllByRecursion}
@@ -40,12 +40,12 @@ use Rattle.qcow2_clusters.specs.WritingBack.{AreUnpinned, KeepsCachedTables, Wri
 abbrev pub Unpinned : {V : Type 0} → List (ℕ × Slot V) → Type 0
 Unpinned es = AllByRecursion (λ e. e.1.pins ≡ 0) es
 
--- So nothing of them stays where they are dropped,
+-- So emptying the cache removes them all.
 pub unpinned-dropped : {V : Type 0} (es : List (ℕ × Slot V)) → Unpinned es → kept_pinned es ≡ []
 unpinned-dropped [] none = refl
 unpinned-dropped (e ∷ es) none = rw none.0 (unpinned-dropped es none.1)
 
--- Where each was cached by one key before a change, each is behind it.
+-- If each entry had one key before a change, each has it afterwards.
 keys-same : (key : ℕ) (xs ys : List (ℕ × Slot TableValue)) → map written_table xs ≡ map written_table ys
     → AllByRecursion (λ e. e.0 ≡ key) ys → AllByRecursion (λ e. e.0 ≡ key) xs
 keys-same key [] ys same alone = tt
@@ -55,7 +55,7 @@ keys-same key (x ∷ xs) (y ∷ ys) same alone =
     let tail : map written_table xs ≡ map written_table ys = (let e = same in cc) in
     (ap (λ (e : ℕ × Slot TableValue). e.0) head ∙ alone.0, keys-same key xs ys tail alone.1)
 
--- and none is once they are written.
+-- No entry is pinned after the write.
 module _ {V Y : Type 0} (f : ℕ × Slot V → Y) (pins : Y → ℕ) (is : (e : ℕ × Slot V) → pins (f e) ≡ e.1.pins) where
   pub unpinned-same : (xs ys : List (ℕ × Slot V)) → map f xs ≡ map f ys → Unpinned ys → Unpinned xs
   unpinned-same [] ys same none = tt
@@ -71,7 +71,7 @@ unpinned-tables xs ys = unpinned-same written_table (λ e. e.1.pins) (λ e. refl
 pub unpinned-blocks : (xs ys : List (ℕ × Slot Block)) → map written_block xs ≡ map written_block ys → Unpinned ys → Unpinned xs
 unpinned-blocks xs ys = unpinned-same written_block (λ e. e.1.pins) (λ e. refl) xs ys
 
--- Where all is dropped, nothing is cached.
+-- Nothing is cached after the caches are emptied.
 pub dropped-empty : {S : Type 0} (old mid new : MetadataCaches S) → AreUnpinned old → (cached_in mid).tables ≡ kept_pinned (cached_in old).tables
     → (cached_in mid).blocks ≡ (cached_in old).blocks → (cached_in new).blocks ≡ kept_pinned (cached_in mid).blocks
     → (cached_in new).tables ≡ (cached_in mid).tables → AreEmpty new
@@ -80,7 +80,7 @@ dropped-empty old mid new loose tables stay blocks stay' =
     let none' : (cached_in new).blocks ≡ [] = blocks ∙ ap (λ (es : List (ℕ × Slot Block)). kept_pinned es) stay ∙ unpinned-dropped (cached_in old).blocks loose.blocks in
     λ i. record { tables = none i; blocks = none' i }
 
--- What was flushed whole is what is at rest then.
+-- After a complete flush the image on file is the one that was in memory.
 rest-quiet : (m : Metadata) (old new : List ℕ) (cached' : Cached) → m.file ≡ bytes_of old → IsSound m → IsSettled m.header m.order old m.cached new cached'
     → AreTablesClean cached' → AreBlocksClean cached'
     → IsSound (all_flushed (record m { file = bytes_of new })) × GuestUnchanged (λ _. 0) (λ _. 0) m (all_flushed (record m { file = bytes_of new }))
@@ -90,7 +90,7 @@ rest-quiet m old new cached' at sound settled tables blocks =
     (sym (clean-memory (bytes_of new) m.header.fields cached' tables blocks) ∙ settled.memory_same ∙ sym (ap (λ (f : Bytes). memory f m.header.fields m.cached) at))
     (subst (λ (f : Bytes). IsCrashImage f (memory f m.header.fields m.cached) m.header (bytes_of new)) (sym at) settled.left)
 
--- So a flush that wasn't cut off leaves the image at rest quietly, once all is dropped.
+-- So a flush without a resource error, and emptying the caches, preserve the guest.
 pub rests-quietly : (m : Metadata) (flushed : Result Unit Fault) (old new : StorageState) (cached' : Cached) → IsIn old m
     → WritesBackCached m.header m.order Always (flushed ≡ Ok tt) old m.cached new cached'
     → FailsFor (writing_causes (AreTablesAddressable m.cached × AreBlocksAddressable m.cached) old.faults new.faults) flushed
@@ -108,7 +108,7 @@ rests-quietly m flushed old new cached' at going counts tables blocks = record {
       (subst (λ (r : Result Unit Fault). OnOk r (AreTablesClean cached')) done tables) (subst (λ (r : Result Unit Fault). OnOk r (AreBlocksClean cached')) done blocks);
 }
 
--- Each cluster is counted as often then.
+-- The refcounts are the same.
 counts-kept : (m : Metadata) (old new : List ℕ) (cached' : Cached) → m.file ≡ bytes_of old → IsSettled m.header m.order old m.cached new cached'
     → AreTablesClean cached' → AreBlocksClean cached' → (c : ℕ) → counted (all_flushed (record m { file = bytes_of new })) c ≡ counted m c
 unfolding over
@@ -128,7 +128,7 @@ rests-counting m flushed old new cached' at going counts tables blocks keeps sou
     counts-kept m old.bytes new.bytes cached' at (going.holds keeps well_formed tt (inl done))
     (subst (λ (r : Result Unit Fault). OnOk r (AreTablesClean cached')) done tables) (subst (λ (r : Result Unit Fault). OnOk r (AreBlocksClean cached')) done blocks)
 
--- Where nothing was done before it was cut off, no request is made.
+-- Nothing was done before the resource error, so no request is made.
 pub cut-quietly : (ok : Type 0) (s : StorageState) (m m' : Metadata) → (ok → ⊥) → PreservesGuest ok (λ _. 0) (λ _. 0) s m s m'
 cut-quietly ok s m m' never = record {
   shape = refl;
@@ -137,7 +137,7 @@ cut-quietly ok s m m' never = record {
   holds = λ keeps sound done. absurd (never done);
 }
 
--- A flush of what isn't modified changes nothing.
+-- A flush without dirty data changes nothing.
 pub flushed-still : (order : CacheDependency) (a b : StorageState) (c c' : Cached) (flushed : Result Unit Fault)
     → (order ≡ L2DependsOnRb → InTurn WritesBlocks WritesTables a c flushed b c')
     → ((order ≡ L2DependsOnRb → ⊥) → InTurn WritesTables WritesBlocks a c flushed b c') → AreTablesClean c → AreBlocksClean c → UnchangedButFaults a b
@@ -154,21 +154,20 @@ flushed-still order a b c c' flushed blocks_first tables_first tables blocks = e
       subst (λ (s : StorageState). UnchangedButFaults a s) (sym (second.1 ∙ first.1)) (kept-same a)
 ]
 
--- the answers of a flush
+-- The results of a flush.
 abbrev pub done_so : Result Unit Fault
 done_so = Ok tt
 
 abbrev pub refused_so : Fault → Result Unit Fault
 refused_so fault = Err fault
 
--- an answer that isn't refused is itself
 ok-same : {T : Type 0} (r : Result T Fault) → OnOk r (r ≡ r)
 ok-same (Ok v) = refl
 ok-same (Err fault) = tt
 
 module _ {S T : Type 0} (state : S → StorageState) (given : Result T Fault) (before : ImageFile S) (old new : MetadataCaches S)
     (empty : AreEmpty new) (room : HasRoomOf old new) where
-  -- What was cut off is settled where nothing is cached any more,
+  -- After a resource error the caches are emptied.
   pub settled-cut : (HadNoResourceError given → ⊥) → WritesBack state given before old given before new
   settled-cut cut = record {
     empty = empty;
@@ -185,7 +184,7 @@ module _ {S T : Type 0} (state : S → StorageState) (given : Result T Fault) (b
     answer = inl refl;
   }
 
-  -- and what wasn't once it was flushed:
+  -- Otherwise they are flushed first.
   module _ (whole : HadNoResourceError given) (after : ImageFile S) (cached' : Cached) (header : after.header ≡ before.header)
       (long : IsNoShorter (state before.image) (state after.image))
       (has_no_dirty_data : AreTablesClean (cached_in old) → AreBlocksClean (cached_in old) → UnchangedButFaults (state before.image) (state after.image)) where
@@ -208,7 +207,7 @@ module _ {S T : Type 0} (state : S → StorageState) (given : Result T Fault) (b
           (sym header)
           (rests-counting (metadata_of state before old table pending) flushed (state before.image) (state after.image) cached' refl going counts tables blocks keeps sound done c)
 
-    -- with the same answer where that succeeded,
+    -- If the flush succeeds, the result stays.
     pub settled-whole : WritesBackCached before.header old.order Always (done_so ≡ done_so) (state before.image) (cached_in old) (state after.image) cached'
         → (state after.image).faults ≡ (state before.image).faults → AreTablesClean cached' → AreBlocksClean cached' → IsFaultless (state before.image) (state after.image)
         → WritesBack state given before old given after new
@@ -228,7 +227,7 @@ module _ {S T : Type 0} (state : S → StorageState) (given : Result T Fault) (b
       answer = inl refl;
     }
 
-    -- and else with the fault of that.
+    -- If the flush fails, its fault is the result.
     pub settled-refused : (fault : Fault) → WritesBackCached before.header old.order Always (refused_so fault ≡ done_so) (state before.image) (cached_in old) (state after.image) cached'
         → HasCause (writing_causes (AreTablesAddressable (cached_in old) × AreBlocksAddressable (cached_in old)) (state before.image).faults (state after.image).faults) fault
         → (IsNotResourceError fault → IsFaultless (state before.image) (state after.image)) → WritesBack state given before old (Err fault) after new
@@ -246,7 +245,7 @@ module _ {S T : Type 0} (state : S → StorageState) (given : Result T Fault) (b
       answer = inr (fault, refl, counts);
     }
 
-    -- Which of the two, the answer of the flush tells.
+    -- The result of the flush decides between both.
     pub settled-flushed : (flushed : Result Unit Fault) → WritesBackCached before.header old.order Always (flushed ≡ done_so) (state before.image) (cached_in old) (state after.image) cached'
         → FailsFor (writing_causes (AreTablesAddressable (cached_in old) × AreBlocksAddressable (cached_in old)) (state before.image).faults (state after.image).faults) flushed
         → OnOk flushed (AreTablesClean cached') → OnOk flushed (AreBlocksClean cached') → (HadNoResourceError flushed → IsFaultless (state before.image) (state after.image))
@@ -255,28 +254,28 @@ module _ {S T : Type 0} (state : S → StorageState) (given : Result T Fault) (b
     settled-flushed (Err fault) going counts tables blocks faultless = settled-refused fault going counts faultless
 
 module _ {S : Type 0} where
-  -- Nothing is pinned once all is written,
+  -- Nothing is pinned after the flush.
   pub loose-flushed : (old flushed : MetadataCaches S) → written (cached_in flushed) ≡ written (cached_in old) → AreUnpinned old → AreUnpinned flushed
   loose-flushed old flushed kept loose = record {
     tables = unpinned-tables (cached_in flushed).tables (cached_in old).tables (ap (λ (w : Cached). w.tables) kept) loose.tables;
     blocks = unpinned-blocks (cached_in flushed).blocks (cached_in old).blocks (ap (λ (w : Cached). w.blocks) kept) loose.blocks;
   }
 
-  -- so that no block stays where blocks are dropped:
+  -- So emptying the cache of blocks removes them all.
   pub blocks-dropped : (flushed new : MetadataCaches S) → AreUnpinned flushed → (cached_in new).blocks ≡ kept_pinned (cached_in flushed).blocks
       → (cached_in new).blocks ≡ []
   blocks-dropped flushed new loose dropped = dropped ∙ unpinned-dropped (cached_in flushed).blocks loose.blocks
 
-  -- then without its tables nothing is cached,
+  -- Without its tables nothing is cached.
   pub without-tables-empty : (new : MetadataCaches S) → (cached_in new).blocks ≡ [] → AreEmpty (without_tables new)
   without-tables-empty new none = ap (λ (es : List (ℕ × Slot Block)). record { tables = []; blocks = es }) none
 
-  -- and where no table is, that is the same.
+  -- If no table is cached, the caches are the same without tables.
   pub without-none : (caches : MetadataCaches S) → (cached_in caches).tables ≡ [] → caches ≡ without_tables caches
   without-none caches none = ap (with_tables caches) none
 
 module _ {S : Type 0} (state : S → StorageState) (before : ImageFile S) (old : MetadataCaches S) (after : ImageFile S) (new : MetadataCaches S) where
-  -- Where nothing is cached any more, no table is kept,
+  -- If nothing is cached, no table is kept.
   pub none-kept : (result : Result Unit Fault) → (result ≡ done_so → ⊥) → AreEmpty new → KeepsCachedTables state before old result after new
   none-kept (Ok done) refused empty = absurd (refused refl)
   none-kept (Err fault) refused empty = record {
@@ -287,20 +286,20 @@ module _ {S : Type 0} (state : S → StorageState) (before : ImageFile S) (old :
     fit = λ table pending keeps sound. tt;
   }
 
-  -- and no other is than was cached before,
+  -- No other table is cached than before.
   pub kept-keys : (key : ℕ) (result : Result Unit Fault) → KeepsCachedTables state before old result after new
       → AllByRecursion (λ e. e.0 ≡ key) (cached_in old).tables → AllByRecursion (λ e. e.0 ≡ key) (cached_in new).tables
   kept-keys key (Ok done) kept alone = keys-same key (cached_in new).tables (cached_in old).tables kept.same alone
   kept-keys key (Err fault) kept alone = subst (AllByRecursion (λ e. e.0 ≡ key)) (sym kept.none) tt
 
-  -- so many are, where a change succeeded,
+  -- On success as many tables are cached.
   pub kept-count : (result : Result Unit Fault) → KeepsCachedTables state before old result after new
       → OnOk result (length (cached_in new).tables ≡ length (cached_in old).tables)
   kept-count (Ok done) kept = sym (length-map (cached_in new).tables written_table)
       ∙ ap (λ (es : List (ℕ × Slot TableValue)). length es) kept.same ∙ length-map (cached_in old).tables written_table
   kept-count (Err fault) kept = tt
 
-  -- and where all was written, those that stay fit the file.
+  -- If the flush succeeds, the kept tables are those of the file.
   module _ (flushed : MetadataCaches S) (header : after.header ≡ before.header) (loose : AreUnpinned old)
       (written : map written_table (cached_in flushed).tables ≡ map written_table (cached_in old).tables)
       (stay : (cached_in new).tables ≡ (cached_in flushed).tables) (clean : AreTablesClean (cached_in flushed))

@@ -1,4 +1,4 @@
--- What begins at rest: with nothing cached, in whatever order.
+-- Changes that start with empty caches, with any dependency between them.
 use Rattle.std.proofs.Common.{◌≡◌, ℕ, ◌+◌, ◌<◌, refl, arith, ap, sym, subst, ◌∙◌, List, [], ◌∷◌, Bool, true, false, cond, inl, inr, eq-eqb, Result}
 use Rattle.std.specs.Prelude.{nat_eq, nat_lt, ◌&&◌}
 use Rattle.std.proofs.lemmas.Bool.{cases_lt, lt-ltb}
@@ -33,13 +33,13 @@ use Rattle.qcow2_clusters.specs.Flushed.{AreEmpty, Clusters, HasEntries, KeepsL1
 use Rattle.qcow2_clusters.specs.WritingBack.{AreUnpinned, all_flushed}
 use Rattle.qcow2_clusters.proofs.Settlement.{Unpinned, unpinned-tables}
 
--- What is in any order before one was announced is in each.
+-- A file that is ordered without a dependency is ordered with each one.
 ordered-any : (order : CacheDependency) (f g : Bytes) (h : Fields) → IsOrdered Unset f g h → IsOrdered order f g h
 ordered-any Unset f g h both = both
 ordered-any L2DependsOnRb f g h both = both.0
 ordered-any RbDependsOnL2 f g h both = both.1
 
--- An image that is sound at rest is so where nothing is cached, in whatever order: that is quiet.
+-- An image that is consistent when flushed is so with empty caches and any dependency. The guest reads the same.
 pub begun-quiet : (m : Metadata) → m.cached ≡ nothing_cached → IsSound (all_flushed m) → IsSound m × GuestUnchanged (λ _. 0) (λ _. 0) (all_flushed m) m
 begun-quiet m none sound =
     let was = sound.well_formed in
@@ -62,24 +62,24 @@ begun-sound m none sound = (begun-quiet m none sound).0
 pub begun-quietly : (ok : Type 0) (s : StorageState) (m : Metadata) → m.cached ≡ nothing_cached → PreservesGuest ok (λ _. 0) (λ _. 0) s (all_flushed m) s m
 begun-quietly ok s m none = memory-quietly ok (λ _. 0) (λ _. 0) s (all_flushed m) m (λ sound done. begun-quiet m none sound)
 
--- In it each cluster is counted as often.
+-- The refcounts are the same.
 pub begun-counts : {S : Type 0} (state : S → StorageState) (c : Clusters S) → AreEmpty c.caches → (d : ℕ)
     → counted (changed state c) d ≡ counted (flushed_metadata state c) d
 begun-counts state c empty d =
     ap (λ (cached : Cached). count (memory (flushed_metadata state c).file c.file.header.fields cached) c.file.header.fields d) empty
 
--- Of no entries none is pinned,
+-- In empty caches nothing is pinned.
 pub empty-unpinned : {S : Type 0} (caches : MetadataCaches S) → AreEmpty caches → AreUnpinned caches
 empty-unpinned caches none = record {
   tables = subst (λ (c : Cached). Unpinned c.tables) (sym none) tt;
   blocks = subst (λ (c : Cached). Unpinned c.blocks) (sym none) tt;
 }
 
--- and so there is room to spare.
+-- So the caches have space for unpinned entries.
 pub empty-loose : {S : Type 0} (table : TableValue) (caches : MetadataCaches S) → AreEmpty caches → HasEntries caches → HasUnpinnedRoom table caches false
 empty-loose table caches none room = loose-none table caches (ap (λ (c : Cached). pinned_in c.blocks) none) room.blocks
 
--- Where none is pinned under any key, none is;
+-- If no entry is pinned under any key, no entry is pinned.
 module _ {V : Type 0} where
   abbrev one_of : (ℕ → Bool) → ℕ × Slot V → ℕ
   one_of keys e = cond (keys e.0 && nat_lt 0 e.1.pins) 1 0
@@ -104,7 +104,7 @@ module _ {V : Type 0} where
         omega (arith, parts, all)),
   )
 
--- and none is once a call was made that keeps the tables and pins no block,
+-- Nothing is pinned after a call that keeps the tables and pins no block,
 pub kept-unpinned : {S : Type 0} (old new : MetadataCaches S) → AreEmpty old → KeepsTables old new
     → ((key : ℕ) → pinned_among (nat_eq key) (cached_in new).blocks ≡ 0) → AreUnpinned new
 kept-unpinned old new empty keeps none = record {
@@ -112,7 +112,7 @@ kept-unpinned old new empty keeps none = record {
   blocks = pinless (cached_in new).blocks none;
 }
 
--- as those do that free,
+-- such as a call that frees,
 pub freed-unpinned : {S : Type 0} (old new : MetadataCaches S) → AreEmpty old → KeepsTables old new
     → PinsNothing (cached_in old).blocks (cached_in new).blocks → AreUnpinned new
 freed-unpinned old new empty keeps pins = kept-unpinned old new empty keeps (λ key.
@@ -120,14 +120,14 @@ freed-unpinned old new empty keeps pins = kept-unpinned old new empty keeps (λ 
     let fewer = pins.among (nat_eq key) in
     omega (arith, were, fewer))
 
--- and those that allocate.
+-- or one that allocates.
 pub loose-unpinned : {S : Type 0} (table : TableValue) (old new : MetadataCaches S) → AreEmpty old → KeepsTables old new → HasUnpinnedRoom table new false → AreUnpinned new
 loose-unpinned table old new empty keeps loose = kept-unpinned old new empty keeps (λ key. elim (cases_lt 0 (pinned_among (nat_eq key) (cached_in new).blocks)) [
   | inl some ↦ absurd (let no = (loose.named key some).0 in cc)
   | inr none ↦ omega (arith, none)
 ])
 
--- The L1 table in memory is the file's still where words of that stay.
+-- The L1 table in memory is still the file's if the file's L1 entries are unchanged.
 sound-still : (f x : Bytes) (h : Fields) → ((i : ℕ) → i < h.l1_entries → raw_entry x h.l1_offset i ≡ raw_entry f h.l1_offset i) → l1_table_sound f h ≡ true → l1_table_sound x h ≡ true
 unfolding l1_table_sound
 sound-still f x h same sound = all-below-holds h.l1_entries (λ i. l1_entry_valid h.cluster_bits (raw_entry x h.l1_offset i)) (λ i lt.
@@ -142,7 +142,7 @@ l1-stays f x H H' l1 moved same of = subst (λ (K : Header). IsL1Of x K.fields l
   sound = sound-still f x H.fields same of.sound;
 })
 
--- So it is where the image stays quietly.
+-- So it is after a call that preserves the guest.
 pub l1-kept : {S T : Type 0} (state : S → StorageState) (c : Clusters S) (result : Result T Fault) (c' : Clusters S) (handed taken : ℕ → ℕ)
     → PreservesGuest (HadNoResourceError result) handed taken (storage state c) (flushed_metadata state c) (storage state c') (flushed_metadata state c') → KeepsL1 state c result c'
 l1-kept state c result c' handed taken guest_unchanged ready whole l1 of =

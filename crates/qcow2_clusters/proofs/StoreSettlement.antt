@@ -1,4 +1,4 @@
--- What was stored in clusters in a row is settled.
+-- The metadata of data that was stored in consecutive clusters is written.
 use Rattle.std.proofs.Common.{◌≡◌, ℕ, ◌+◌, ◌-◌, ◌*◌, ◌/◌, ◌%◌, ◌<◌, ◌≤◌, refl, arith, ap, sym, subst, ◌∙◌, inl, inr, List, length, Result, Ok, Err}
 use Rattle.std.specs.Prelude.{IfErr, IfOk, OnOk, slice_index}
 use Rattle.std.proofs.Math.Nat.{add-mul, div-lt_iff_lt-mul, div-mul-le_self, mod-eq-sub-div-mul}
@@ -36,7 +36,7 @@ use Rattle.qcow2_clusters.proofs.EndsAtRest.{quiet-halted, settled-cases, settle
 use Rattle.qcow2_clusters.proofs.RoomAfterAllocations.{full-as, leaves-as, marked-as, storing-as}
 use Rattle.qcow2_clusters.proofs.StartsAtRest.{l1-kept}
 
--- A cause that says so only of a call that wasn't cut off says so.
+-- A cause that holds except after resource errors is a cause.
 if-mild : (ready : Type 0) (full : ℕ → Type 0) (before after : ℕ) (r : Result ℕ Fault)
     → IfErr r (HasCause (storing_causes ready (λ number. HadNoResourceError r → full number) before after)) → IfErr r (HasCause (storing_causes ready full before after))
 if-mild ready full before after (Ok x) why = tt
@@ -55,12 +55,12 @@ module _ {S : Type 0} (state : S → StorageState) (n : ℕ) (content : List ℕ
   in-reach : IsReady state c → HadNoResourceError was → Reach
   in-reach ready whole = safe-reach (changed state mid).file mid.file.header (cached_in mid.caches) mid.caches.order (stored.guest_unchanged.holds ready.keeps ready.sound whole).0.well_formed
 
-  -- The image stays as it was to the disk, with what was handed out,
+  -- The guest is preserved, with the newly allocated clusters.
   as-was : PreservesGuest (HadNoResourceError result) (run_handed_by n was) (λ _. 0) (storage state c) (flushed_metadata state c) (storage state c') (flushed_metadata state c')
   as-was =
       settled-quietly state was mid.file mid.caches result after new settles (table_of mid.space.allocator) mid.space.to_free.entries (storage state c) (flushed_metadata state c) (run_handed_by n was) stored.guest_unchanged
 
-  -- which is nothing where it is refused.
+  -- If the call fails, no cluster counts as newly allocated.
   all-quietly : PreservesGuest (HadNoResourceError result) (run_handed_by n result) (λ _. 0) (storage state c) (flushed_metadata state c) (storage state c') (flushed_metadata state c')
   all-quietly = elim (settled-cases state was mid.file mid.caches result after new settles) [
     | inl same ↦
@@ -72,7 +72,7 @@ module _ {S : Type 0} (state : S → StorageState) (n : ℕ) (content : List ℕ
         (λ not_resource_error. never-refused Reach (storage state mid).faults (storage state c').faults refused.1 (in-reach (record { keeps = keeps; sound = sound }) refused.0) not_resource_error refused.3) as-was))
   ]
 
-  -- What is settled keeps what is reserved, with its bytes.
+  -- The write keeps the reserved clusters and their bytes.
   module _ (x : ℕ) (is : result ≡ Ok x) (ready : IsReady state c) where
     stays : result ≡ was
     stays = elim (settled-cases state was mid.file mid.caches result after new settles) [
@@ -110,7 +110,7 @@ module _ {S : Type 0} (state : S → StorageState) (n : ℕ) (content : List ℕ
         → Same (changed state mid).file (flushed_metadata state c').file (d * cluster_size c.file.header.fields) (cluster_size c.file.header.fields)
     kept d from to = subst (λ k. Same (changed state mid).file (flushed_metadata state c').file (d * k) k) size (step.1.used_bytes_unchanged d (reserved d from to).used refl)
 
-    -- Byte i of them is in cluster x + i / size.
+    -- Byte `i` of the data is in cluster `x + i / size`.
     bytes-there : (i : ℕ) → i < length content → (flushed_metadata state c').file (x * cluster_size c.file.header.fields + i) ≡ slice_index content i
     bytes-there i lt =
         let s : ℕ = cluster_size c.file.header.fields in
@@ -133,7 +133,7 @@ module _ {S : Type 0} (state : S → StorageState) (n : ℕ) (content : List ℕ
   bytes-if (Ok x) is ready = bytes-there x is ready
   bytes-if (Err fault) is ready = tt
 
-  -- As much is counted once it is settled.
+  -- The refcounts are the same after the write.
   counts-there : IsReady state c → HadNoResourceError was → HadNoResourceError result → (d : ℕ) → counted (flushed_metadata state c') d ≡ counted (changed state mid) d
   counts-there ready whole done d = settles.counts (table_of mid.space.allocator) mid.space.to_free.entries
       (keeps_on (storage state c) (storage state mid) stored.guest_unchanged.shape ready.keeps) (stored.guest_unchanged.holds ready.keeps ready.sound whole).0 done d
@@ -151,7 +151,7 @@ module _ {S : Type 0} (state : S → StorageState) (n : ℕ) (content : List ℕ
   leaves-if (Ok x) is ready = leaves-ok x is ready
   leaves-if (Err fault) is ready = tt
 
-  -- No cluster before the mark is free then, where none was.
+  -- If no cluster before the first-free hint was free, none is free there afterwards.
   marked-there : IsReady state c → HadNoResourceError result → NoneFreeBefore (flushed_metadata state c) (first_free_in c) → NoneFreeBefore (flushed_metadata state c') (first_free_in mid)
   marked-there ready done marked =
       let whole : HadNoResourceError was = elim (settled-cases state was mid.file mid.caches result after new settles) [
@@ -160,7 +160,7 @@ module _ {S : Type 0} (state : S → StorageState) (n : ℕ) (content : List ℕ
       ] in
       marked-as (changed state mid) (flushed_metadata state c') (first_free_in mid) (counts-there ready whole done) (stored.marked ready whole marked)
 
-  -- Where there was no place, and that is answered, a number tells the same.
+  -- If the fault is a limit, its number means the same.
   abbrev full-if : ℕ → Type 0
   full-if number = HadNoResourceError result → IsFull n (flushed_metadata state c) (first_free_in c) (flushed_metadata state c') (first_free_in mid) number
 
@@ -199,7 +199,7 @@ module _ {S : Type 0} (state : S → StorageState) (n : ℕ) (content : List ℕ
         cause-weaker (writing-implies _ stored.guest_unchanged.counts_not_fallen.faults (omega arith) (λ far ready. far (in-reach ready whole))) fault why));
   }
 
--- A run of one cluster is that one.
+-- A run of one cluster is that cluster.
 pub one-stored : {S : Type 0} (state : S → StorageState) (content : List ℕ) (c : Clusters S) (result : Result ℕ Fault) (c' : Clusters S)
     → StoresRun state 1 content c result c' → Stores state content c result c'
 one-stored state content c (Ok x) c' run = record {

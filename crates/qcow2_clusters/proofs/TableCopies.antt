@@ -1,4 +1,4 @@
--- How an L2 table is copied, or one is made where there was none.
+-- An L2 table is copied, or an empty one is made.
 use Rattle.std.proofs.Common.{◌≡◌, ◌≢◌, ℕ, ◌+◌, ◌*◌, ◌<◌, refl, arith, ap, sym, subst, ◌∙◌, inl, inr, List, [], ◌∷◌, ◌++◌, Ok, Err, Option, Result, Some, None, true}
 use Rattle.std.specs.Prelude.{◌^◌, ◌==◌, ◌&&◌, if◌then◌else◌, IfErr, IfOk, IsTrue, OnOk, replicate, slice_index, slice_set}
 use Rattle.std.proofs.lemmas.Bool.{and_parts, cases_eq, ne_eqb}
@@ -35,7 +35,7 @@ use Rattle.qcow2_alloc.proofs.Memory.Patches.{place-there}
 use Rattle.qcow2_steps.specs.NewTables.{old_table}
 use Rattle.qcow2_steps.proofs.TableCopySteps.{none-there, slot-there}
 use Rattle.qcow2_steps.proofs.Steps.{meets-one, put-off-advances}
-use Rattle.qcow2_clusters.specs.MakingTables.{CopiesTable, FindsTable, HasTable, IsClusterOf, IsContent, IsTableless, IsTopRawEntry, MakesTable, NamesNewTable, PlacesTable, copying, given_up, making, replacing, table_entry}
+use Rattle.qcow2_clusters.specs.MakingTables.{CopiesTable, FindsTable, HasTable, IsClusterOf, IsContent, IsTableless, IsTopRawEntry, MakesTable, NamesNewTable, PlacesTable, copying, replaced_table, making, replacing, table_entry}
 use Rattle.qcow2_clusters.specs.Progress.{Kind, Progresses, both, handing}
 use Rattle.qcow2_clusters.specs.Flushed.{AreEmpty, Clusters, IsReady, clusters_state, nothing_cached, flushed_metadata, storage}
 use Rattle.qcow2_clusters.specs.Room.{IsFull, LeavesRoom, first_free_in}
@@ -49,13 +49,13 @@ pub none-found : (found : Option ℕ) → ((t : ℕ) → found ≡ Some t → �
 none-found None none = refl
 none-found (Some t) none = absurd (none t refl)
 
--- What a read is refused for cuts a call off.
+-- The fault of a failed read is a resource error.
 cut-off : (before after : ℕ) (fault : Fault) → Cause before after fault → HadNoResourceError {T = ℕ} (Err fault) → ⊥
 cut-off before after Memory why whole = whole
 cut-off before after Storage why whole = whole
 cut-off before after fault why whole = absurd why
 
--- Where no table was named, one of zeroes takes the place of none.
+-- The L1 entry references no table, so a table of zeroes has the same meanings.
 module _ {S : Type 0} (state : S → StorageState) (l1 : TableValue) (i : ℕ) (c : Clusters S) where
   abbrev h : Fields
   h = c.file.header.fields
@@ -69,7 +69,7 @@ module _ {S : Type 0} (state : S → StorageState) (l1 : TableValue) (i : ℕ) (
         ∙ sym (none-there (flushed_metadata state c).file h i j is.none);
   }
 
-  nothing-given-up : IsTableless state l1 i c → (result : Result ℕ Fault) (d : ℕ) → given_up (flushed_metadata state c) i result d ≡ 0
+  nothing-given-up : IsTableless state l1 i c → (result : Result ℕ Fault) (d : ℕ) → replaced_table (flushed_metadata state c) i result d ≡ 0
   nothing-given-up is (Ok t) d = rw is.none refl
   nothing-given-up is (Err fault) d = refl
 
@@ -78,7 +78,7 @@ module _ {S : Type 0} (state : S → StorageState) (l1 : TableValue) (i : ℕ) (
       → NamesNewTable state (IsTableless state l1 i c) (making result) i c result l1' c'
   made-so result l1' c' = narrowed state (IsContent state (replicate (cluster_size h) 0) l1 i c) (IsTableless state l1 i c)
       (replacing (flushed_metadata state c) i result) (making result) i c result l1' c' blank-content
-      (wider-handing (λ d. handed_by result d + given_up (flushed_metadata state c) i result d) (handed_by result) (making result))
+      (wider-handing (λ d. handed_by result d + replaced_table (flushed_metadata state c) i result d) (handed_by result) (making result))
       (λ is d. let none = nothing-given-up is result d in omega (arith, none))
       (λ is d none. omega (arith, none))
 
@@ -93,7 +93,7 @@ module _ {S : Type 0} (state : S → StorageState) (l1 : TableValue) (i : ℕ) (
     held = let more = places.held in omega (arith, one, more);
   }
 
-  -- A call that is refused for want of memory before it begins.
+  -- Memory runs out before the call begins.
   pub not-filled : AreEmpty c.caches → MakesTable state l1 i c (Err Memory) l1 c
   not-filled empty = record {
     named = not-begun state (IsTableless state l1 i c) (making (Err Memory)) i c Memory l1 c empty (kept-itself state c)
@@ -101,7 +101,7 @@ module _ {S : Type 0} (state : S → StorageState) (l1 : TableValue) (i : ℕ) (
     held = refl;
   }
 
-  -- What the L1 table of the file names begins with a cluster.
+  -- The L1 entry of the file has a valid offset.
   placed : IsTopRawEntry state l1 i c → IsTrue (is_cluster_offset h.cluster_bits (table_offset (slice_index l1.raw_entries i)))
   unfolding l1_table_sound
   placed is =
@@ -112,7 +112,7 @@ module _ {S : Type 0} (state : S → StorageState) (l1 : TableValue) (i : ℕ) (
       let parts = and_parts ((bits_at w 0 9 == 0) && (bits_at w 56 7 == 0)) (is_cluster_offset h.cluster_bits (table_offset w)) here in
       subst (λ (x : ℕ). IsTrue (is_cluster_offset h.cluster_bits (table_offset x))) (sym (l1-word f h l1 is.l1 i is.inside)) parts.1
 
-  -- The L1 table names no table that there can be,
+  -- The L1 entry references no table with a valid offset.
   pub not-found : AreEmpty c.caches → FindsTable h.cluster_bits (slice_index l1.raw_entries i) None
       → CopiesTable state l1 i c (Err DamagedTable) l1 c
   not-found empty none = record {
@@ -126,7 +126,7 @@ module _ {S : Type 0} (state : S → StorageState) (l1 : TableValue) (i : ℕ) (
     never is = none
         (λ zero. is.table_exists (l1-table (flushed_metadata state c).file h l1 is.top_word.l1 i is.top_word.inside ∙ zero)) (placed is.top_word)
 
-  -- or one that can't be read.
+  -- The table can't be read.
   pub not-read : (fault : Fault) (c' : Clusters S) → AreEmpty c.caches → IsKept state c c'
       → c'.space.to_free.held ≡ c.space.to_free.held → Cause (storage state c).faults (storage state c').faults fault
       → CopiesTable state l1 i c (Err fault) l1 c'
@@ -178,7 +178,7 @@ module _ {S : Type 0} (state : S → StorageState) (l1 : TableValue) (i : ℕ) (
   not-copied fault l1' c' places = record {
     named = narrowed state (IsContent state content l1 i c) (HasTable state l1 i c) (replacing m i (Err fault))
         (copying m i (Err fault)) i c (Err fault) l1' c' copied-content
-        (wider-handing (λ d. handed_by (Err fault) d + given_up m i (Err fault) d) (handed_by (Err fault)) (copying m i (Err fault)))
+        (wider-handing (λ d. handed_by (Err fault) d + replaced_table m i (Err fault) d) (handed_by (Err fault)) (copying m i (Err fault)))
         (λ has d. refl) (λ has d none. refl) places.named;
     held = places.held;
     raw_entries = tt;
@@ -202,7 +202,7 @@ module _ {S : Type 0} (state : S → StorageState) (l1 : TableValue) (i : ℕ) (
     abbrev second : Kind
     second = handing (λ _. 0) (λ d. covers d (table_entry old))
 
-    -- Nothing names the old table, and it is counted beyond what is named: so it may wait.
+    -- Nothing references the old table, and its refcount is still above 0, so it can become pending.
     waits-soundly : IsReady state c → HasTable state l1 i c → AdvancesBy first m m1 → AdvancesBy second m1 (flushed_metadata state c2)
     waits-soundly ready has step = put-off-advances m1 (table_entry old) step.sound
         (λ d.
@@ -219,7 +219,7 @@ module _ {S : Type 0} (state : S → StorageState) (l1 : TableValue) (i : ℕ) (
 
     wider : IsWider (both first second) (copying m i (Ok t))
     wider = wider-both first second (copying m i (Ok t))
-        (wider-handing (λ d. handed_by (Ok t) d + given_up m i (Ok t) d) (handed_by (Ok t)) (copying m i (Ok t)))
+        (wider-handing (λ d. handed_by (Ok t) d + replaced_table m i (Ok t) d) (handed_by (Ok t)) (copying m i (Ok t)))
         (wider-handing (λ _. 0) (λ d. covers d (table_entry old)) (copying m i (Ok t)))
 
     progress : HasTable state l1 i c → Progresses (HadNoResourceError {T = ℕ} (Ok t)) (copying m i (Ok t)) (storage state c) m
@@ -259,7 +259,7 @@ module _ {S : Type 0} (state : S → StorageState) (l1 : TableValue) (i : ℕ) (
       waits = λ has. (old, c1.space.to_free.entries, table-at has, refl);
     }
 
--- A read before leaves all as it was.
+-- A read before the change preserves everything.
 module _ {S : Type 0} (state : S → StorageState) (c : Clusters S) (file : ImageFile S) (image : state file.image ≡ state c.file.image)
     (header : file.header ≡ c.file.header) (l1 : TableValue) (i : ℕ) where
   abbrev cr : Clusters S

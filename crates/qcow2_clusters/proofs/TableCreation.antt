@@ -1,4 +1,4 @@
--- How a word of the L1 table comes to name a new L2 table.
+-- Making the L1 entry reference a new L2 table.
 use Rattle.std.proofs.Common.{◌≡◌, ◌≢◌, ℕ, ◌+◌, ◌*◌, ◌^◌, ◌<◌, refl, arith, ap, sym, subst, ◌∙◌, inl, inr, length, List, Ok, Err, Result, true}
 use Rattle.std.specs.Prelude.{◌⊎◌, IfErr, IsTrue, slice_set}
 use Rattle.std.specs.Int.{w64, to_be_bytes}
@@ -41,7 +41,7 @@ use Rattle.qcow2_clusters.proofs.ProgressSums.{AdvancesBy, IsWider, LeftBy, prog
 use Rattle.qcow2_clusters.proofs.RoomAfterAllocations.{leaves-as, marked-as, storing-as}
 use Rattle.qcow2_clusters.proofs.TableNames.{IsReplacement, bytes-mean, from-zero, l1-moved, l1-same, l1-table, naming_word, replaced-advances, replaced-copied, replaced-counts, replaced-entered, replaced-named, replaced-unnamed, resting-memory, slots-kept}
 
--- By one request the image comes to be what its file then makes it.
+-- One request changes the file, and with it the image.
 module _ (m : Metadata) (kind : Kind) (at : ℕ) (bytes : List ℕ) (some : 0 < length bytes) (old new : StorageState) (is_in : IsIn old m) (H' : Header)
     (advances : IsSound m → AdvancesBy kind m (record m { file = splice m.file at bytes; header = H' })) where
   once-answer : (result : Result Unit Fault) → AtomicWriteOutcome old new at bytes result
@@ -77,16 +77,15 @@ module _ (m : Metadata) (kind : Kind) (at : ℕ) (bytes : List ℕ) (some : 0 < 
       → Progresses (result ≡ Ok tt) kind old m new (record m { file = bytes_of new.bytes; header = H' })
   once-progresses = once-answer
 
--- The L1 table of a sound image begins with a cluster that words can name.
+-- The L1 table of a consistent image has a valid offset.
 pub l1-placed : (m : Metadata) → IsSound m → IsTrue (is_cluster_offset m.header.fields.cluster_bits m.header.fields.l1_offset)
 l1-placed m sound = (header-limited true m.file m.header sound.well_formed.consistent.readable.loads).l1_place
 
--- In whatever the answer is refused, it is for a cause of that kind.
 pub if-refused : (result : Result ℕ Fault) (P Q : Fault → Type 0) → ((fault : Fault) → P fault → Q fault) → IfErr result P → IfErr result Q
 if-refused (Ok t) P Q from why = tt
 if-refused (Err fault) P Q from why = from fault why
 
--- Nothing was asked of the image but reads, and nothing has changed in memory.
+-- Only reads were made, and nothing has changed in memory.
 pub record IsKept {S : Type 0} (state : S → StorageState) (c c' : Clusters S) : Type 0 where
   pub kept : UnchangedButFaults (storage state c) (storage state c')
   pub counts_not_fallen : CountsNotFallen (storage state c) (storage state c')
@@ -101,7 +100,7 @@ kept-itself state c = record {
   caches = refl;
 }
 
--- A call is refused that was cut off before it changed anything, or of an image that isn't as it is asked.
+-- The call fails with a resource error before its first change, or the image isn't as `asked`.
 pub not-begun : {S : Type 0} (state : S → StorageState) (asked : Type 0) (kind : Kind) (i : ℕ) (c : Clusters S) (fault : Fault)
     (top' : TableValue) (c' : Clusters S) → AreEmpty c.caches → IsKept state c c'
     → (IsReady state c → asked → HadNoResourceError {T = ℕ} (Err fault) → ⊥)
@@ -137,10 +136,10 @@ not-begun {S} state asked kind i c fault top' c' empty is never faultless why = 
   cause = why;
 }
 
--- The answer of a call may be said for less that is asked, and of another kind that gives all that its own does.
+-- The condition can be strengthened, and the kind widened.
 pub narrowed : {S : Type 0} (state : S → StorageState) (asked asked' : Type 0) (kind kind' : Kind) (i : ℕ) (c : Clusters S)
     (result : Result ℕ Fault) (top' : TableValue) (c' : Clusters S) → (asked' → asked) → IsWider kind kind'
-    → (asked' → (d : ℕ) → kind.newly_allocated d + kind'.taken d ≡ kind'.newly_allocated d + kind.taken d)
+    → (asked' → (d : ℕ) → kind.excess_added d + kind'.taken d ≡ kind'.excess_added d + kind.taken d)
     → (asked' → (d : ℕ) → kind'.taken d ≡ 0 → kind.taken d ≡ 0)
     → NamesNewTable state asked kind i c result top' c' → NamesNewTable state asked' kind' i c result top' c'
 narrowed state asked asked' kind kind' i c result top' c' from wider same spared named = record {
@@ -156,7 +155,7 @@ narrowed state asked asked' kind kind' i c result top' c' from wider same spared
   cause = if-refused result _ _ (λ fault. storing-as _ _ _ _ (λ both. (both.0, from both.1)) fault (λ number at is told. told)) named.cause;
 }
 
--- How much room is held is no matter of the image.
+-- The number of reserved slots doesn't matter to the image.
 abbrev pub with_held : {S : Type 0} → Clusters S → ℕ → Clusters S
 with_held c n =
     clusters_state c.file c.caches (record { allocator = c.space.allocator; to_free = record { entries = c.space.to_free.entries; held = n } })
@@ -182,7 +181,7 @@ held-aside state asked kind i c result top' c' n named = record {
   cause = named.cause;
 }
 
--- Why nothing is begun: for want of memory, or since the L1 table can't stand where the header says.
+-- The call doesn't begin: memory ran out, or the L1 table's offset isn't valid.
 abbrev pub WhyNotBegun : Fields → TableValue → Fault → Type 0
 WhyNotBegun h l1 fault = (fault ≡ Memory)
     ⊎ ((fault ≡ DamagedTable) × (l1.layout ≡ layout_of h → IsTrue (is_cluster_offset h.cluster_bits h.l1_offset) → ⊥))
@@ -239,14 +238,14 @@ module _ {S : Type 0} (state : S → StorageState) (content : List ℕ) (l1 : Ta
     old = λ ready asked. tt;
   }
 
--- The word is written, and nothing else has changed in memory but the room that is held.
+-- The entry is written, and nothing else has changed in memory except the reserved slots.
 pub record IsWritten {S : Type 0} (c1 c2 : Clusters S) : Type 0 where
   pub header : c2.file.header ≡ c1.file.header
   pub caches : c2.caches ≡ c1.caches
   pub allocator : c2.space.allocator ≡ c1.space.allocator
   pub entries : c2.space.to_free.entries ≡ c1.space.to_free.entries
 
--- The content is stored, and the word is entered.
+-- The content is stored, and the entry is set in memory.
 module _ {S : Type 0} (state : S → StorageState) (content : List ℕ) (l1 : TableValue) (i : ℕ) (c : Clusters S) (t : ℕ) (c1 : Clusters S)
     (full : length content ≡ cluster_size c.file.header.fields) (stores : Stores state content c (Ok t) c1)
     (placed l1' table : TableValue) (answer : Result Unit Fault) (c2 : Clusters S) (same : HasEntriesOf l1 placed)
@@ -274,7 +273,7 @@ module _ {S : Type 0} (state : S → StorageState) (content : List ℕ) (l1 : Ta
   size-same : cluster_size h1 ≡ cluster_size h
   size-same = ap (λ (H : Header). cluster_size H.fields) moved
 
-  -- The word is written to its place.
+  -- The offset of the entry.
   abbrev at : ℕ
   at = c1.file.header.fields.l1_offset + 8 * i
 
@@ -298,7 +297,7 @@ module _ {S : Type 0} (state : S → StorageState) (content : List ℕ) (l1 : Ta
   resting-is : flushed_metadata state c2 ≡ m2
   resting-is = cc left.header
 
-  -- The L1 table stays where it is until then, and so do the tables that it names, which mean what they did.
+  -- The L1 table and its L2 tables are unchanged until then, with the same meanings.
   module _ (ready : IsReady state c) (given : Given) where
     of : IsL1Of m1.file h1 l1
     of = stores.l1 ready tt l1 given.top_word.l1
@@ -339,7 +338,7 @@ module _ {S : Type 0} (state : S → StorageState) (content : List ℕ) (l1 : Ta
         ∙ sym (slots-kept m.file m1.file h h1 i ready.sound.well_formed.consistent.readable.tables advanced.sound.well_formed.consistent.readable.tables
         long-same entries-still j less)
 
-    -- So what was reserved is ready to take the table's place.
+    -- So the reserved cluster can replace the table.
     replacement : IsReplacement m1 i t
     replacement = record {
       rest = refl;
@@ -369,7 +368,7 @@ module _ {S : Type 0} (state : S → StorageState) (content : List ℕ) (l1 : Ta
       (λ keeps sound step. once-progresses m1 two at bytes (omega arith) (storage state c1) (storage state c2) refl m1.header
       (λ sound1. replaced-advances m1 i t sound1 (replacement record { keeps = keeps; sound = sound } given)) answer put))
 
-  -- The word is named by the file and in memory.
+  -- The entry is linked in the file and in memory.
   module _ (done : answer ≡ Ok tt) (ready : IsReady state c) (given : Given) where
     sound1 : IsSound m1
     sound1 = (stores.progress.holds ready.keeps ready.sound tt).sound
@@ -405,7 +404,7 @@ module _ {S : Type 0} (state : S → StorageState) (content : List ℕ) (l1 : Ta
         subst (λ (x : Metadata). referenced_at_all x d ≡ 0) (sym resting-is)
         (subst (λ (x : Bytes). referenced_at_all (record m1 { file = x }) d ≡ 0) (sym file-is) is)
 
-    -- As much is counted as before.
+    -- The refcounts are the same as before.
     counts-still : (d : ℕ) → counted (flushed_metadata state c2) d ≡ counted m1 d
     counts-still d =
         let is = replaced-counts m1 i t sound1 (replacement ready given) d in
@@ -467,7 +466,7 @@ module _ {S : Type 0} (state : S → StorageState) (content : List ℕ) (l1 : Ta
     old = λ ready given. not_referenced done ready given;
   }
 
-  -- The write was cut off.
+  -- The write fails with a resource error.
   pub not-entered : (fault : Fault) → answer ≡ Err fault → c2.space.to_free.held ≡ c.space.to_free.held
       → PlacesTable state content l1 i c (Err fault) l1' c2
   not-entered fault refused held = record {

@@ -1,4 +1,4 @@
--- A word of the L1 table comes to name a table whose words mean what those of the old one do; where there was none, nothing is mapped.
+-- An L1 entry is linked to a table with the same meanings as the old one. Without an old table, nothing is mapped.
 use Rattle.std.proofs.Common.{◌≡◌, ◌≢◌, ℕ, ◌+◌, ◌*◌, ◌/◌, ◌^◌, ◌<◌, ◌≤◌, arith, ap, sym, subst, ◌∙◌, inl, inr, length, List}
 use Rattle.std.specs.Prelude.{◌%◌, IsTrue, slice_index, slice_set, true}
 use Rattle.std.specs.Int.{w64, to_be_bytes}
@@ -34,7 +34,7 @@ use Rattle.qcow2_clusters.specs.Progress.{handing}
 use Rattle.qcow2_clusters.specs.Flushed.{nothing_cached}
 use Rattle.qcow2_clusters.proofs.ProgressSums.{AdvancesBy}
 
--- The words of the L1 table in memory are the file's.
+-- The entries of the L1 table in memory are the file's.
 module _ (f : Bytes) (h : Fields) (l1 : TableValue) (of : IsL1Of f h l1) where
   pub l1-long : length l1.raw_entries ≡ h.l1_entries
   l1-long = ap length of.raw_entries ∙ words_long f h.l1_offset h.l1_entries
@@ -45,7 +45,7 @@ module _ (f : Bytes) (h : Fields) (l1 : TableValue) (of : IsL1Of f h l1) where
   pub l1-table : (i : ℕ) → i < h.l1_entries → l2_table f h i ≡ table_offset (slice_index l1.raw_entries i)
   l1-table i inside = rw (lt-ltb i h.l1_entries inside) (ap table_offset (sym (l1-word i inside)))
 
--- They are so of each table with these words, and where the refcount table has moved.
+-- So are those of each table with the same entries, also if the refcount table has moved.
 pub l1-same : (f : Bytes) (h : Fields) (l1 l1' : TableValue) → l1'.layout ≡ l1.layout → l1'.raw_entries ≡ l1.raw_entries → IsL1Of f h l1
     → IsL1Of f h l1'
 l1-same f h l1 l1' layout raw_entries of = record { layout = layout ∙ of.layout; raw_entries = raw_entries ∙ of.raw_entries; sound = of.sound }
@@ -57,12 +57,12 @@ l1-moved f H H' offset clusters l1 moved of =
     let there : IsL1Of f (with_reftable H.fields offset clusters) l1 = subst (λ (X : Header). IsL1Of f X.fields l1) moved of in
     record { layout = there.layout; raw_entries = there.raw_entries; sound = there.sound }
 
--- A sound L1 table is sound by its words.
+-- If all tables are valid, the L1 table is.
 pub l1-sound : (f : Bytes) (h : Fields) → IsTrue (tables_sound f h) → IsTrue (l1_table_sound f h)
 unfolding l1_table_sound
 l1-sound f h sound = all-below-holds h.l1_entries (λ i. l1_entry_valid h.cluster_bits (raw_entry f h.l1_offset i)) (sound-words f h sound).l1
 
--- A word is written that was set in memory.
+-- An entry that is set in memory is written.
 pub l1-entered : (f : Bytes) (h : Fields) (l1 l1' : TableValue) (i w : ℕ) → IsL1Of f h l1 → i < h.l1_entries → w < 2 ^ 64
     → l1'.layout ≡ l1.layout → l1'.raw_entries ≡ slice_set l1.raw_entries i w
     → IsTrue (tables_sound (splice f (h.l1_offset + 8 * i) (to_be_bytes w64 w)) h)
@@ -93,7 +93,7 @@ l1-entered f h l1 l1' i w of inside fits layout raw_entries sound = record {
             ∙ other-word f x h.l1_offset i k (splice-is-outside f (h.l1_offset + 8 * i) (to_be_bytes w64 w)) (λ e. apart (sym e)))
       ]
 
--- Words of the same bytes mean the same, wherever they are.
+-- Entries of the same bytes have the same meanings at any offset.
 pub bytes-mean : (f g : Bytes) (h : Fields) (at place : ℕ) → ((k : ℕ) → k < cluster_size h → f (at + k) ≡ g (place + k))
     → (j : ℕ) → j < entries_of_cluster h → l2_mapping f h at j ≡ l2_mapping g h place j
 unfolding raw_entry
@@ -103,11 +103,11 @@ bytes-mean f g h at place same j less = ap (mapping_of (layout_of h)) (be-same f
     let right : place + (8 * j + k) ≡ place + 8 * j + k = omega arith in
     ap f (sym left) ∙ same (8 * j + k) (omega (arith, fits, lt)) ∙ ap g right))
 
--- A list's bytes as a file begin at 0.
+-- The bytes of a list as a file start at 0.
 pub from-zero : (content : List ℕ) (k : ℕ) → bytes_of content (0 + k) ≡ slice_index content k
 from-zero content k = ap (slice_index content) (omega arith)
 
--- Of a word of 0 nothing is mapped.
+-- An entry of 0 maps nothing.
 pub zeroes-map : (f : Bytes) (h : Fields) (place : ℕ) → ((k : ℕ) → k < cluster_size h → f (place + k) ≡ 0)
     → (j : ℕ) → j < entries_of_cluster h → l2_mapping f h place j ≡ unmapped
 unfolding raw_entry
@@ -118,11 +118,11 @@ zeroes-map f h place zeroes j less =
     subst (λ p. f p ≡ 0) at (zeroes (8 * j + k) (omega (arith, fits, lt)))) in
     ap (mapping_of (layout_of h)) zero ∙ zero-word (layout_of h)
 
--- the word that names a table as one whose cluster is counted once
+-- The raw entry that references a table, with the COPIED flag.
 abbrev pub naming_word : Fields → ℕ → ℕ
 naming_word h t = 2 ^ 63 + t * cluster_size h
 
--- Nothing is cached of the image. Cluster t is reserved, and its words mean what those of the table do that word i of the L1 table names.
+-- A flushed image. Cluster `t` is reserved, and its entries have the meanings of the table of L1 entry `i`.
 pub record IsReplacement (m : Metadata) (i t : ℕ) : Type 0 where
   pub rest : m.cached ≡ nothing_cached
   pub inside : i < m.header.fields.l1_entries
@@ -132,7 +132,7 @@ pub record IsReplacement (m : Metadata) (i t : ℕ) : Type 0 where
   pub raw_entries : (j : ℕ) → j < entries_of_cluster m.header.fields
       → l2_mapping m.file m.header.fields (t * cluster_size m.header.fields) j ≡ slot_or_none m.file m.header.fields i j
 
--- At rest the words in memory are those of the file.
+-- In a flushed image the metadata in memory is that of the file.
 pub resting-memory : (m : Metadata) → m.cached ≡ nothing_cached → in_memory m ≡ m.file
 resting-memory m rest =
     subst (λ c. memory m.file m.header.fields c ≡ m.file) (sym rest) (clean-memory m.file m.header.fields nothing_cached tt tt)
@@ -167,34 +167,34 @@ module _ (m : Metadata) (i t : ℕ) (sound : IsSound m) (new : IsReplacement m i
     cached = rw new.rest tt;
   }
 
-  -- No word changes its meaning.
+  -- No entry changes its meaning.
   pub replaced-advances : AdvancesBy (handing (old_table m i) (one_at t)) m (with_l1_entry m i w)
   replaced-advances = table-advances m true i t w sound ready names
 
-  -- The word names the table then,
+  -- The entry references the table,
   pub replaced-named : l2_table (with_l1_entry m i w).file h i ≡ t * cluster_size h
   replaced-named = rw (lt-ltb i h.l1_entries new.inside) (ap table_offset (word-written m.file h.l1_offset i w names.fits) ∙ names.names)
 
-  -- as copied,
+  -- with the COPIED flag,
   pub replaced-copied : is_copied (raw_entry (with_l1_entry m i w).file h.l1_offset i) ≡ true
   replaced-copied = ap is_copied (word-written m.file h.l1_offset i w names.fits) ∙ fresh-copied h.cluster_bits t low new.reach
 
-  -- and so does the one in memory;
+  -- also in memory.
   pub replaced-entered : (l1 l1' : TableValue) → IsL1Of m.file h l1 → l1'.layout ≡ l1.layout → l1'.raw_entries ≡ slice_set l1.raw_entries i w
       → IsL1Of (with_l1_entry m i w).file h l1'
   replaced-entered l1 l1' of layout raw_entries =
       l1-entered m.file h l1 l1' i w of new.inside names.fits layout raw_entries
       (table-sound m true i t w sound ready names).well_formed.consistent.readable.tables
 
-  -- as much is counted;
+  -- The refcounts are the same.
   pub replaced-counts : (d : ℕ) → counted (with_l1_entry m i w) d ≡ counted m d
   replaced-counts d = counts-there m true i t w sound ready names d
 
-  -- and nothing names the old table.
+  -- Nothing references the old table.
   pub replaced-unnamed : (d : ℕ) → d ≢ 0 → l2_table m.file h i ≡ d * cluster_size h → referenced_at_all (with_l1_entry m i w) d ≡ 0
   replaced-unnamed d some place = old-unnamed m true i t w sound ready names d some place
 
--- Where words of guest clusters mean what they did, the words of tables do that are where they were.
+-- If the entries of guest clusters keep their meanings, so do those of the tables.
 pub slots-kept : (f x : Bytes) (h h' : Fields) (i : ℕ) → IsTrue (tables_sound f h) → IsTrue (tables_sound x h')
     → entries_of_cluster h' ≡ entries_of_cluster h → ((guest : ℕ) → entry x h' guest ≡ entry f h guest)
     → (j : ℕ) → j < entries_of_cluster h' → slot_or_none x h' i j ≡ slot_or_none f h i j

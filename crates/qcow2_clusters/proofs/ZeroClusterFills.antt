@@ -1,4 +1,4 @@
--- The content of a guest cluster is written to the cluster that it keeps for its zeroes.
+-- The data of a guest cluster is written to its preallocated zero cluster.
 use Rattle.std.proofs.Common.{◌≡◌, ℕ, ◌+◌, ◌-◌, ◌*◌, ◌<◌, refl, arith, ap, sym, subst, ◌∙◌, inl, inr, List, length, Result, Ok, Err}
 use Rattle.std.specs.Prelude.{IsTrue, IfErr, MatchResult, OnOk, slice_index}
 use Rattle.imago_storage.specs.State.{CrashImageIsBytes, HasRisen, StorageState, unit_of}
@@ -32,7 +32,7 @@ use Rattle.qcow2_clusters.proofs.ProgressSums.{AdvancesBy}
 use Rattle.qcow2_clusters.proofs.StartsAtRest.{l1-stays}
 use Rattle.qcow2_clusters.proofs.RoomAfterAllocations.{marked-as}
 
--- Where no change was refused the file is still what a stop leaves.
+-- If no change was refused, the file is a crash image of the call.
 put-in-step : (s t : StorageState) (place : ℕ) (bytes : List ℕ) (r : Result Unit Fault)
     → MatchResult r (λ _. WriteSucceeded s t place bytes) (PaddedWriteRefused (unit_of s.shape) s t place bytes) → (HasRisen s.refusals t.refusals → ⊥) → CrashImageIsBytes s → CrashImageIsBytes t
 put-in-step s t place bytes (Ok done) through no_change_refused = through.crash_image_is_bytes
@@ -69,7 +69,7 @@ module _ {S : Type 0} (state : S → StorageState) (guest x : ℕ) (content : Li
   same-image : there ≡ flushed_metadata state c'
   same-image = λ i. record there { header = sym header i }
 
-  -- A file with other bytes in the cluster alone, of an image that keeps it for zeroes.
+  -- A file that differs only in the preallocated cluster.
   module _ (sound : IsSound m) (kept : IsKeptFor m guest x) where
     hidden : IsHiddenIn m x
     hidden = kept-hidden m guest x sound kept

@@ -1,4 +1,4 @@
--- How the content of a guest cluster is written to the cluster that it keeps for its zeroes.
+-- Specifies how the data of a guest cluster is written to its preallocated zero cluster.
 use Rattle.std.specs.Prelude.{◌≡◌, ◌+◌, ◌*◌, ◌<◌, ℕ, List, length, slice_index, Result, OnOk, IfErr, IsTrue}
 use Rattle.imago_storage.specs.State.{StorageState}
 use Rattle.imago_storage.specs.Calls.{Cause}
@@ -15,17 +15,18 @@ use Rattle.qcow2_clusters.specs.Storing.{Rests}
 use Rattle.qcow2_clusters.specs.declared.space.Space.{Space}
 use Rattle.qcow2_clusters.specs.Room.{KeepsNoneFreeBefore}
 
--- Bytes of this cluster are written: nothing is given, set, handed out or taken.
+-- Only bytes of this cluster are written: nothing is allocated, taken or set.
 abbrev pub filling : Fields → ℕ → Kind
 filling h x = record {
   gives = λ p v. ⊥;
   written = IsIn (x * cluster_size h) (cluster_size h);
   set = λ guest. ⊥;
-  newly_allocated = λ c. 0;
+  excess_added = λ c. 0;
   taken = λ c. 0;
 }
 
--- Bytes are written to the cluster that a guest cluster keeps for its zeroes, as copied: it keeps that still, and the disk stays as it was.
+-- The data is written to the preallocated zero cluster, which keeps its COPIED entry. The guest reads the same bytes as
+-- before.
 pub record Fills {S : Type 0} (state : S → StorageState) (guest x : ℕ) (content : List ℕ) (c : Clusters S) (result : Result Unit Fault)
     (c' : Clusters S) : Type 0 where
   pub progress : IsKeptFor (flushed_metadata state c) guest x → Progresses (HadNoResourceError result) (filling c.file.header.fields x) (storage state c)
@@ -39,7 +40,7 @@ pub record Fills {S : Type 0} (state : S → StorageState) (guest x : ℕ) (cont
       → (flushed_metadata state c').file (x * cluster_size c.file.header.fields + i) ≡ slice_index content i)
   pub cause : IfErr result (Cause (storage state c).faults (storage state c').faults)
 
--- So they are in an image file of which nothing is cached, whatever is free.
+-- Like `Fills`, for an image file with empty caches and any free space.
 abbrev pub FillsFile : {S : Type 0} → (S → StorageState) → (x : ℕ) → List ℕ → ImageFile S → Result Unit Fault → ImageFile S → Type 0
 FillsFile {S} state x content before result after = (guest : ℕ) (caches : MetadataCaches S) (space : Space) → AreEmpty caches
     → Fills state guest x content (clusters_state before caches space) result (clusters_state after caches space)

@@ -1,4 +1,5 @@
--- An image at rest: nothing is cached of it, and nothing waits in memory to be written, so that its file says all but what is free.
+-- A flushed image: nothing is cached and nothing is dirty, so the file has all metadata except the list of clusters to
+-- free.
 use Rattle.std.specs.Prelude.{◌≡◌, ◌<◌, [], IsTrue, Result}
 use Rattle.imago_storage.specs.State.{StorageState}
 use Rattle.imago_storage.specs.declared.fault.Fault.{Fault}
@@ -15,7 +16,7 @@ use Rattle.qcow2_alloc.specs.Opening.{IsL1Of}
 use Rattle.qcow2_alloc.specs.GuestView.{Metadata, IsSound}
 use Rattle.qcow2_clusters.specs.declared.space.Space.{Space}
 
--- what a call is lent: the file with its header, the caches, and the free space
+-- The parameters of a call: the file with its header, the caches, and the free space.
 pub record Clusters (S : Type 0) : Type 0 where
   pub file : ImageFile S
   pub caches : MetadataCaches S
@@ -24,27 +25,27 @@ pub record Clusters (S : Type 0) : Type 0 where
 abbrev pub clusters_state : {S : Type 0} → ImageFile S → MetadataCaches S → Space → Clusters S
 clusters_state file caches space = record { file = file; caches = caches; space = space }
 
--- nothing is cached
+-- Nothing is cached.
 abbrev pub nothing_cached : Cached
 nothing_cached = record { tables = []; blocks = [] }
 
 abbrev pub AreEmpty : {S : Type 0} → MetadataCaches S → Type 0
 AreEmpty caches = cached_in caches ≡ nothing_cached
 
--- there is room for a table and for a block
+-- The caches have space for a table and for a block.
 pub record HasEntries {S : Type 0} (caches : MetadataCaches S) : Type 0 where
   pub tables : 0 < caches.l2.slots.cap
   pub blocks : 0 < caches.rb.slots.cap
 
--- the metadata of an image in a change, while something may be cached
+-- The metadata of an image during a change, while something may be cached.
 abbrev pub changed : {S : Type 0} → (S → StorageState) → Clusters S → Metadata
 changed state c = metadata_of state c.file c.caches (table_of c.space.allocator) c.space.to_free.entries
 
--- the state of the image's storage
+-- The state of the image's storage.
 abbrev pub storage : {S : Type 0} → (S → StorageState) → Clusters S → StorageState
 storage state c = state c.file.image
 
--- the metadata of an image at rest
+-- The metadata of a flushed image.
 abbrev pub flushed_metadata : {S : Type 0} → (S → StorageState) → Clusters S → Metadata
 flushed_metadata state c = record {
   file = bytes_of (storage state c).bytes;
@@ -55,12 +56,12 @@ flushed_metadata state c = record {
   pending = c.space.to_free.entries;
 }
 
--- It is sound, in a storage that keeps what is written.
+-- The flushed image is consistent, and its storage keeps what is written.
 pub record IsReady {S : Type 0} (state : S → StorageState) (c : Clusters S) : Type 0 where
   pub keeps : IsTrue (storage state c).shape.keeps
   pub sound : IsSound (flushed_metadata state c)
 
--- The words of the L1 table stay what they were.
+-- The L1 entries are unchanged.
 abbrev pub KeepsL1 : {S T : Type 0} → (S → StorageState) → Clusters S → Result T Fault → Clusters S → Type 0
 KeepsL1 state c result c' = IsReady state c → HadNoResourceError result → (l1 : TableValue)
     → IsL1Of (flushed_metadata state c).file c.file.header.fields l1 → IsL1Of (flushed_metadata state c').file c'.file.header.fields l1

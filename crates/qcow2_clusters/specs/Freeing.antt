@@ -1,4 +1,4 @@
--- How what waits to be freed is freed.
+-- Specifies how the clusters on the list of clusters to free are freed: their refcounts are decremented.
 use Rattle.std.specs.Prelude.{◌≡◌, [], ℕ, Result, OnOk, IfErr}
 use Rattle.imago_storage.specs.State.{StorageState}
 use Rattle.imago_storage.specs.declared.fault.Fault.{Fault}
@@ -9,13 +9,14 @@ use Rattle.qcow2_clusters.specs.Flushed.{Clusters, IsReady, KeepsL1, flushed_met
 use Rattle.qcow2_clusters.specs.Storing.{Rests}
 use Rattle.qcow2_clusters.specs.Room.{KeepsNoneFreeBefore}
 
--- Calls that free fail, but for want of memory or by a storage, as a damaged table or for a counter that can't change, only where the image
--- isn't ready.
+-- The faults of a call that frees, in addition to resource errors. Damaged tables and refcounts that can't change occur
+-- only if `ready` doesn't hold.
 abbrev pub releasing_causes : (ready : Type 0) → (before after : ℕ) → Causes
 releasing_causes ready before after =
     record { damaged = ready → ⊥; counter = ready → ⊥; full = ⊥; limit = λ number. ⊥; before = before; after = after }
 
--- What waits is freed: the disk stays as it was. Whatever is answered, the file gets no shorter.
+-- The clusters on the list are freed. The guest reads the same bytes as before, and the file gets no shorter in any
+-- case.
 pub record FreesPendingClusters {S : Type 0} (state : S → StorageState) (c : Clusters S) (result : Result Unit Fault)
     (c' : Clusters S) : Type 0 where
   pub progress : Progresses (HadNoResourceError result) (handing (λ _. 0) (λ _. 0)) (storage state c) (flushed_metadata state c)

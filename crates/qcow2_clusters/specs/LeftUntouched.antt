@@ -1,4 +1,4 @@
--- What a call leaves that was refused before it had begun to change anything, as a flag tells that it sets then.
+-- Specifies a call that fails before its first change: the flag `begun` isn't set, and nothing has changed.
 use Rattle.std.specs.Prelude.{◌≡◌, Bool, false, Result, OnOk}
 use Rattle.imago_storage.specs.State.{StorageState}
 use Rattle.imago_storage.specs.Calls.{UnchangedButFaults}
@@ -9,8 +9,7 @@ use Rattle.qcow2_alloc.specs.WellFormedness.{AreBlocksClean, AreTablesClean}
 use Rattle.qcow2_clusters.specs.MakingTables.{HasEntriesOf}
 use Rattle.qcow2_clusters.specs.Flushed.{Clusters, storage}
 
--- It was refused, and so it hadn't begun before the call: no byte of the file was changed, and the header and what is free are what they
--- were.
+-- The call failed before it had begun: no byte of the file has changed, and the header and the free space are unchanged.
 pub record IsLeftUntouched {S T : Type 0} (state : S → StorageState) (was : Bool) (c : Clusters S) (result : Result T Fault) (c' : Clusters S)
     : Type 0 where
   pub unbegun : was ≡ false
@@ -19,16 +18,16 @@ pub record IsLeftUntouched {S T : Type 0} (state : S → StorageState) (was : Bo
   pub header : c'.file.header ≡ c.file.header
   pub space : c'.space ≡ c.space
 
--- A call leaves that where it hasn't begun,
+-- If the call hasn't begun, it left everything untouched.
 abbrev pub LeavesUntouched : {S T : Type 0} → (S → StorageState) → (was : Bool) → Clusters S → Result T Fault → (now : Bool) → Clusters S → Type 0
 LeavesUntouched state was c result now c' = now ≡ false → IsLeftUntouched state was c result c'
 
--- with the words of the L1 table in memory;
+-- Like `LeavesUntouched`, and the L1 table in memory has the same entries.
 abbrev pub LeavesTopUntouched : {S T : Type 0} → (S → StorageState) → (was : Bool) → TableValue → Clusters S → Result T Fault → (now : Bool)
     → TableValue → Clusters S → Type 0
 LeavesTopUntouched state was top c result now top' c' = now ≡ false → IsLeftUntouched state was c result c' × HasEntriesOf top top'
 
--- and where what is cached isn't dropped yet, nothing of it waits to be written.
+-- Like `LeavesUntouched`, while the caches aren't emptied yet: nothing cached is dirty.
 abbrev pub LeavesUnsettledUntouched : {S T : Type 0} → (S → StorageState) → (was : Bool) → Clusters S → Result T Fault → (now : Bool) → Clusters S
     → Type 0
 LeavesUnsettledUntouched state was c result now c' = now ≡ false

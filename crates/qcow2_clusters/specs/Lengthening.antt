@@ -1,4 +1,4 @@
--- How the L1 table comes to be longer.
+-- Specifies how the L1 table becomes longer: a longer copy is written to new clusters, and the header references it.
 use Rattle.std.specs.Prelude.{◌≡◌, ◌+◌, ◌-◌, ◌*◌, ◌/◌, ◌^◌, ◌<◌, ◌≤◌, ◌⊎◌, ◌==◌, ℕ, List, length, [], ◌∷◌, ◌++◌, if◌then◌else◌}
 use Rattle.std.specs.Prelude.{max, min, slice_index, EachIndex, None, Result, Ok, Err, OnOk, OnErr, IfOk, IfErr}
 use Rattle.imago_storage.specs.State.{StorageState}
@@ -26,56 +26,59 @@ use Rattle.qcow2_clusters.specs.Flushed.{AreEmpty, Clusters, IsReady, flushed_me
 use Rattle.qcow2_clusters.specs.Room.{IsFull, KeepsNoneFreeBefore, LeavesRoom, first_free_in}
 use Rattle.qcow2_clusters.specs.Storing.{storing_causes}
 
--- how many clusters so many words take, of which the last may be filled in part
+-- The number of clusters of `n` entries. The last one may be filled in part.
 abbrev pub clusters_for : Fields → ℕ → ℕ
 clusters_for h n = (8 * n + (cluster_size h - 1)) / cluster_size h
 
--- the clusters of an L1 table of so many words at this place, as they wait to be freed: of no words it has none
+-- The clusters of an L1 table with `n` entries at this offset, as an entry of the free list. A table of 0 entries has no
+-- cluster.
 abbrev pub l1_run : (cluster_bits place n : ℕ) → List FreeEntry
 l1_run cluster_bits place n =
     if n == 0 then [] else run_of (place / 2 ^ cluster_bits) ((8 * n + (2 ^ cluster_bits - 1)) / 2 ^ cluster_bits) ∷ []
 
--- The same words stand in clusters from the one that was answered on.
+-- The table has the same entries, and starts at the cluster in `result`.
 pub record StandsIn (h : Fields) (table : TableValue) (result : Result ℕ Fault) (table' : TableValue) : Type 0 where
   pub layout : table'.layout ≡ table.layout
   pub raw_entries : table'.raw_entries ≡ table.raw_entries
   pub placed : IfOk result (λ first. IsPlacedTable table' × (table_start table' ≡ first * cluster_size h))
 
--- the header that names this L1 table
-abbrev pub naming_l1 : Header → TableValue → Header
-naming_l1 H table = with_l1_table H (table_start table) (length table.raw_entries)
+-- The header with the offset and length of this L1 table.
+abbrev pub linking_l1 : Header → TableValue → Header
+linking_l1 H table = with_l1_table H (table_start table) (length table.raw_entries)
 
--- The header comes to name an L1 table in place of an old one, in the file by one request; where that is refused it names the old one in
--- memory.
+-- The header references the L1 table, in the file in one request. If that fails, the header in memory references the old
+-- table.
 pub record LinksL1 {S : Type 0} (state : S → StorageState) (table old : TableValue) (before : ImageFile S) (result : Result Unit Fault)
     (after : ImageFile S) : Type 0 where
-  pub put : AtomicWriteOutcome (state before.image) (state after.image) 0 (first_bytes (naming_l1 before.header table).fields) result
-  pub ok : OnOk result (after.header ≡ naming_l1 before.header table)
-  pub err : OnErr result (after.header ≡ naming_l1 before.header old)
+  pub put : AtomicWriteOutcome (state before.image) (state after.image) 0 (first_bytes (linking_l1 before.header table).fields) result
+  pub ok : OnOk result (after.header ≡ linking_l1 before.header table)
+  pub err : OnErr result (after.header ≡ linking_l1 before.header old)
   pub bytes : EachIndex (state before.image).bytes (λ k. slice_index (state before.image).bytes k < 256)
   pub sizes : first_fault (rules_of_size before.header.fields) ≡ None
-      → first_fault (rules_of_size (naming_l1 before.header table).fields) ≡ None
+      → first_fault (rules_of_size (linking_l1 before.header table).fields) ≡ None
 
--- The clusters of the new L1 table are handed out and taken, and so are those of the old one, as they come to wait.
+-- The excess refcounts of the old and the new L1 table's clusters grow, as the old ones aren't referenced any more and
+-- the new ones are allocated. All are taken: the old ones become pending, and the new ones referenced.
 abbrev pub lengthening : Metadata → Metadata → Result Unit Fault → Kind
 lengthening m m' (Ok done) = handing (λ d. old_l1 m d + old_l1 m' d) (λ d. old_l1 m d + old_l1 m' d)
 lengthening m m' (Err fault) = handing (λ _. 0) (λ _. 0)
 
--- how many clusters the L1 table takes that comes to have a word at index i
+-- The number of clusters of an L1 table that has an entry at index `i`.
 abbrev pub l1_clusters : Fields → TableValue → (i : ℕ) → ℕ
 l1_clusters h top i = clusters_for h (max (length top.raw_entries) (i + 1))
 
--- It would have more than 2^22 words, of which the number is told, or there was no room for its clusters.
+-- The table would have more than 2^22 entries and `number` is how many, or no run of free clusters is long enough.
 abbrev pub IsTooLong : {S : Type 0} → (S → StorageState) → TableValue → (i : ℕ) → Clusters S → Clusters S → ℕ → Type 0
 IsTooLong state top i c c' number = ((2 ^ 22 < i + 1) × (number ≡ min (i + 1) (2 ^ 64 - 1)))
     ⊎ ((i + 1 ≤ 2 ^ 22)
     × IsFull (l1_clusters c.file.header.fields top i) (flushed_metadata state c) (first_free_in c) (flushed_metadata state c') (first_free_in c') number)
 
--- Where the L1 table in memory is the file's,
+-- The L1 table in memory is the file's.
 abbrev pub IsTop : {S : Type 0} → (S → StorageState) → TableValue → Clusters S → Type 0
 IsTop state top c = IsL1Of (flushed_metadata state c).file c.file.header.fields top
 
--- the header comes to name a longer one, with a word at this index: it has the words of the old one, and then 0. The disk stays as it was.
+-- If the L1 table in memory is the file's, the header references a longer table with an entry at index `i`: the old
+-- entries, followed by 0. The guest reads the same bytes as before.
 pub record LengthensL1 {S : Type 0} (state : S → StorageState) (top : TableValue) (i : ℕ) (c : Clusters S) (result : Result Unit Fault)
     (top' : TableValue) (c' : Clusters S) : Type 0 where
   pub progress : IsTop state top c → Progresses (HadNoResourceError result) (lengthening (flushed_metadata state c) (flushed_metadata state c') result)

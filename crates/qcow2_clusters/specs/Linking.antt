@@ -1,4 +1,5 @@
--- How guest clusters in a row come to name clusters in a row that were reserved, or that they kept for their zeroes.
+-- Specifies how the L2 entries of consecutive guest clusters are linked to consecutive host clusters, which are
+-- reserved (allocated, and not yet referenced) or are their preallocated zero clusters.
 use Rattle.std.specs.Prelude.{◌≡◌, ◌≢◌, ◌⊎◌, ⊤, ◌+◌, ◌*◌, ◌/◌, ◌%◌, ◌^◌, ◌<◌, ◌≤◌, ℕ, zero, suc, List, [], ◌∷◌, ◌++◌}
 use Rattle.std.specs.Prelude.{Option, Some, None, Result, Ok, Err, OnOk, OnErr, IfErr, length, true}
 use Rattle.std.specs.List.{AllByRecursion}
@@ -9,7 +10,7 @@ use Rattle.qcow2_types.specs.Entries.{entry, l2_table}
 use Rattle.qcow2_types.specs.Header.{cluster_size, entries_of_cluster}
 use Rattle.qcow2_types.specs.Pending.{FreeEntry}
 use Rattle.qcow2_types.specs.Words.{Mapping, data_at, mapping_of, zeroes}
-use Rattle.qcow2_types.specs.Words as raw_entries
+use Rattle.qcow2_types.specs.Words as mappings
 use Rattle.qcow2_types.specs.Frames.{Same}
 use Rattle.qcow2_metadata.specs.Allocations.{Conserves, allocation_of, freed, holds, newly, replaced}
 use Rattle.qcow2_metadata.specs.Tables.{TableValue, mapping_in, with_raw_entry}
@@ -26,28 +27,28 @@ use Rattle.qcow2_clusters.specs.Flushed.{Clusters, IsReady, KeepsL1, flushed_met
 use Rattle.qcow2_clusters.specs.Storing.{Rests}
 use Rattle.qcow2_clusters.specs.Room.{KeepsNoneFreeBefore}
 
--- nothing is allocated for a guest cluster that is mapped so
+-- The guest cluster has no host cluster.
 abbrev pub TakesNone : Mapping → Type 0
-TakesNone raw_entries.unmapped = ⊤
+TakesNone mappings.unmapped = ⊤
 TakesNone (zeroes None copied) = ⊤
 TakesNone mapping = ⊥
 
--- Of an image at rest, a guest cluster whose L2 table is in this cluster.
+-- The L2 table of the guest cluster is in this cluster, in a flushed image.
 pub record IsUnder (m : Metadata) (table guest : ℕ) : Type 0 where
   pub inside : guest / entries_of_cluster m.header.fields < m.header.fields.l1_entries
   pub table_linked : l2_table m.file m.header.fields (guest / entries_of_cluster m.header.fields) ≡ table * cluster_size m.header.fields
   pub table_nonzero : table ≢ 0
 
--- What it is to name is reserved, or is what it keeps for its zeroes, as copied.
+-- The host cluster is reserved, or is the guest cluster's preallocated zero cluster with the COPIED flag.
 pub record CanBeLinked (m : Metadata) (table guest x : ℕ) : Type 0 where
-  pub layers_below : IsUnder m table guest
+  pub in_table : IsUnder m table guest
   pub own : IsReserved m x ⊎ IsKeptFor m guest x
 
--- Each of n guest clusters in a row can come to name the one of n clusters in a row that lies as far behind x.
+-- Each of `n` consecutive guest clusters can be linked to its own of the host clusters from `x` on.
 abbrev pub CanAllBeLinked : ℕ → Metadata → (table guest x : ℕ) → Type 0
 CanAllBeLinked n m table guest x = (d : ℕ) → d < n → CanBeLinked m table (guest + d) (x + d)
 
--- an L2 table, and the list of clusters to free
+-- An L2 table, and the list of clusters to free.
 pub record Listed : Type 0 where
   pub table : TableValue
   pub list : FreeList
@@ -55,22 +56,22 @@ pub record Listed : Type 0 where
 abbrev pub listing : TableValue → FreeList → Listed
 listing table list = record { table = table; list = list }
 
--- the clusters of an entry, if there is one, as a list
+-- The clusters of an entry of the free list, if any, as a list.
 abbrev pub listed_of : Option FreeEntry → List FreeEntry
 listed_of None = []
 listed_of (Some entry) = entry ∷ []
 
--- what the word at an index of a table gives up where it comes to take cluster x
+-- The clusters to free when the entry at an index is linked to cluster `x`.
 abbrev pub given_in : TableValue → (index x : ℕ) → Option FreeEntry
 given_in table index x = freed (replaced x (allocation_of table.layout.cluster_bits (mapping_in table index)))
 
--- What a word named is put among what waits to be freed, if it named anything, or there is no memory for that.
+-- The clusters that an entry referenced, if any, are added to the list, or memory ran out.
 abbrev pub DefersFree : Option FreeEntry → FreeList → Result Unit Fault → FreeList → Type 0
 DefersFree (Some entry) list result list' = ((result ≡ Ok tt) × (list' ≡ record list { entries = list.entries ++ entry ∷ [] }))
     ⊎ ((result ≡ Err Memory) × (list' ≡ list))
 DefersFree None list result list' = (result ≡ Ok tt) × (list' ≡ list)
 
--- The word at an index of a table names a cluster, and what it named before waits to be freed.
+-- The entry at an index references a cluster, and what it referenced before is on the list of clusters to free.
 pub record LinksEntry (index x : ℕ) (old new : Listed) : Type 0 where
   pub set : new.table ≡ with_raw_entry old.table index (2 ^ 63 + x * 2 ^ old.table.layout.cluster_bits)
   pub put : new.list ≡ record old.list { entries = old.list.entries ++ listed_of (given_in old.table index x) }
@@ -78,48 +79,48 @@ pub record LinksEntry (index x : ℕ) (old new : Listed) : Type 0 where
       (mapping_of old.table.layout (2 ^ 63 + x * 2 ^ old.table.layout.cluster_bits)) (given_in old.table index x)
       (newly x (allocation_of old.table.layout.cluster_bits (mapping_in old.table index)))
 
--- So do the n words from an index on name n clusters in a row.
+-- The `n` entries from an index on reference `n` consecutive clusters.
 unfoldable pub LinksEntries : (index x n : ℕ) → Listed → Listed → Type 0
 LinksEntries index x zero old new = new ≡ old
 LinksEntries index x (suc n) old new = (between : Listed) × LinksEntries index x n old between × LinksEntry (index + n) (x + n) between new
 
--- They do, or the table is for clusters of another size, or there is no memory to have something wait.
+-- The entries are linked, or the table is for another cluster size, or memory ran out.
 pub record LinksIn (bits index x n : ℕ) (old : Listed) (result : Result Unit Fault) (new : Listed) : Type 0 where
   pub ok : OnOk result ((old.table.layout.cluster_bits ≡ bits) × LinksEntries index x n old new)
   pub err : IfErr result (λ fault. (fault ≡ Memory) ⊎ ((fault ≡ DamagedTable) × (old.table.layout.cluster_bits ≢ bits)))
 
--- what the word of a guest cluster takes
+-- The clusters that the entry of a guest cluster references.
 abbrev pub taken_before : Metadata → (guest : ℕ) → Option (ℕ × ℕ)
 taken_before m guest = allocation_of m.header.fields.cluster_bits (entry m.file m.header.fields guest)
 
--- what of that it gives up where it comes to take cluster x
+-- The clusters to free when the guest cluster is linked to cluster `x`.
 abbrev pub given_for : Metadata → (guest x : ℕ) → Option FreeEntry
 given_for m guest x = freed (replaced x (taken_before m guest))
 
--- What is given, set, handed out and taken where it comes to be named: what was named before is handed out, and waits to be freed. A
--- cluster that was kept for it is neither: it was named before.
-abbrev pub naming : Metadata → (guest x : ℕ) → Kind
-naming m guest x = let i = guest / entries_of_cluster m.header.fields in let j = guest % entries_of_cluster m.header.fields in record {
+-- The kind of a call that links one guest cluster. The excess refcount of the clusters to free grows, as the entry no
+-- longer references them. They are taken, as they become pending. A newly linked cluster is taken too. A preallocated
+-- cluster isn't, since the entry referenced it before.
+abbrev pub linking : Metadata → (guest x : ℕ) → Kind
+linking m guest x = let i = guest / entries_of_cluster m.header.fields in let j = guest % entries_of_cluster m.header.fields in record {
   gives = GivesEntry m i j (data_at x true);
   written = λ q. ⊥;
   set = IsOfEntry m.header.fields i j;
-  newly_allocated = λ c. holds c (given_for m guest x);
+  excess_added = λ c. holds c (given_for m guest x);
   taken = λ c. newly x (taken_before m guest) c + holds c (given_for m guest x);
 }
 
--- What n guest clusters in a row give up for n clusters in a row from x on, one behind the other,
+-- The clusters to free when `n` consecutive guest clusters are linked to the clusters from `x` on, in this order.
 unfoldable pub given_for_run : Metadata → (guest x n : ℕ) → List FreeEntry
 given_for_run m guest x zero = []
 given_for_run m guest x (suc n) = given_for_run m guest x n ++ listed_of (given_for m (guest + n) (x + n))
 
--- and what is given, set, handed out and taken where they come to be named.
+-- The kind of a call that links `n` consecutive guest clusters.
 unfoldable pub linking_run : Metadata → (guest x n : ℕ) → Kind
 linking_run m guest x zero = handing (λ _. 0) (λ _. 0)
-linking_run m guest x (suc n) = both (linking_run m guest x n) (naming m (guest + n) (x + n))
+linking_run m guest x (suc n) = both (linking_run m guest x n) (linking m (guest + n) (x + n))
 
--- Each of n guest clusters in a row comes to name its own of n clusters in a row as its data, as copied. Their bytes stay what they were,
--- and so do those of each cluster that was used, what comes to wait too. No other word changes. Whatever is answered, the file gets no
--- shorter.
+-- Each of `n` guest clusters references its own of `n` clusters as data, with the COPIED flag. Clusters in use keep
+-- their bytes, also those that become pending. No other entry changes, and the file gets no shorter in any case.
 pub record LinksRun {S : Type 0} (state : S → StorageState) (table guest x n : ℕ) (c : Clusters S) (result : Result Unit Fault)
     (c' : Clusters S) : Type 0 where
   pub progress : CanAllBeLinked n (flushed_metadata state c) table guest x → Progresses (result ≡ Ok tt)
@@ -143,7 +144,7 @@ pub record LinksRun {S : Type 0} (state : S → StorageState) (table guest x n :
   pub cause : IfErr result (HasCause (writing_causes (IsReady state c × CanAllBeLinked n (flushed_metadata state c) table guest x)
       (storage state c).faults (storage state c').faults))
 
--- The table stays cached where they come to name them, as the file has it then, and no other is. Refused, none is.
+-- On success only the table is cached, as the file has it. On error no table is cached.
 pub record LeavesTable {S : Type 0} (state : S → StorageState) (table guest x n : ℕ) (c : Clusters S) (result : Result Unit Fault)
     (c' : Clusters S) : Type 0 where
   pub clean : AreTablesClean (cached_in c'.caches)

@@ -1,4 +1,4 @@
--- How a word of the L1 table comes to name a new L2 table: one in which nothing is mapped, or a copy of the table that it names.
+-- Specifies how the L1 entry is made to reference a new L2 table: an empty table, or a copy of the old one.
 use Rattle.std.specs.Prelude.{◌≡◌, ◌≢◌, ◌+◌, ◌*◌, ◌^◌, ◌<◌, ℕ, List, length, [], ◌∷◌, ◌++◌, Option, Some, None, true}
 use Rattle.std.specs.Prelude.{Result, Ok, Err, OnOk, OnErr, IfOk, IfErr, IsTrue, slice_set}
 use Rattle.std.specs.Int.{w64, to_be_bytes}
@@ -26,47 +26,48 @@ use Rattle.qcow2_clusters.specs.Flushed.{Clusters, IsReady, flushed_metadata, st
 use Rattle.qcow2_clusters.specs.Room.{IsFull, KeepsNoneFreeBefore, LeavesRoom, first_free_in}
 use Rattle.qcow2_clusters.specs.Storing.{Rests, handed_by, held_by, storing_causes}
 
--- the cluster of the table that is replaced, which nothing names any more where it is
-abbrev pub given_up : Metadata → ℕ → Result ℕ Fault → ℕ → ℕ
-given_up m i (Ok t) c = old_table m i c
-given_up m i (Err fault) c = 0
+-- The cluster of the replaced table, which nothing references after success.
+abbrev pub replaced_table : Metadata → ℕ → Result ℕ Fault → ℕ → ℕ
+replaced_table m i (Ok t) c = old_table m i c
+replaced_table m i (Err fault) c = 0
 
--- A table is handed out and taken, and no word changes its meaning.
+-- The excess refcount of the new table's cluster grows when it is allocated. The cluster is taken when it is linked. No
+-- entry changes its meaning.
 abbrev pub making : Result ℕ Fault → Kind
 making result = handing (handed_by result) (handed_by result)
 
--- The same, and the cluster of the table that it replaces is handed out.
+-- Like `making`, and the excess refcount of the replaced table's cluster grows, as nothing references it any more.
 abbrev pub replacing : Metadata → ℕ → Result ℕ Fault → Kind
-replacing m i result = handing (λ c. handed_by result c + given_up m i result c) (handed_by result)
+replacing m i result = handing (λ c. handed_by result c + replaced_table m i result c) (handed_by result)
 
--- The same, and that cluster comes to wait.
+-- Like `replacing`, and the cluster of the replaced table is taken: it becomes pending.
 abbrev pub copying : Metadata → ℕ → Result ℕ Fault → Kind
 copying m i result =
-    handing (λ c. handed_by result c + given_up m i result c) (λ c. handed_by result c + given_up m i result c)
+    handing (λ c. handed_by result c + replaced_table m i result c) (λ c. handed_by result c + replaced_table m i result c)
 
--- Word i of the L1 table in memory is the file's,
+-- The L1 table in memory is the file's, and has an entry at index `i`.
 pub record IsTopRawEntry {S : Type 0} (state : S → StorageState) (top : TableValue) (i : ℕ) (c : Clusters S) : Type 0 where
   pub l1 : IsL1Of (flushed_metadata state c).file c.file.header.fields top
   pub inside : i < c.file.header.fields.l1_entries
 
--- and names no table,
+-- The L1 entry `i` in memory is the file's, and references no table.
 pub record IsTableless {S : Type 0} (state : S → StorageState) (top : TableValue) (i : ℕ) (c : Clusters S) : Type 0 where
   pub top_word : IsTopRawEntry state top i c
   pub none : l2_table (flushed_metadata state c).file c.file.header.fields i ≡ 0
 
--- or a table,
+-- The L1 entry `i` in memory is the file's, and references a table.
 pub record HasTable {S : Type 0} (state : S → StorageState) (top : TableValue) (i : ℕ) (c : Clusters S) : Type 0 where
   pub top_word : IsTopRawEntry state top i c
   pub table_exists : l2_table (flushed_metadata state c).file c.file.header.fields i ≢ 0
 
--- whose words mean what those in these bytes do; where there is none, nothing is mapped.
+-- The bytes decode to the same meanings as the table of entry `i`. Without a table, nothing is mapped.
 pub record IsContent {S : Type 0} (state : S → StorageState) (content : List ℕ) (top : TableValue) (i : ℕ) (c : Clusters S)
     : Type 0 where
   pub top_word : IsTopRawEntry state top i c
   pub raw_entries : let h = c.file.header.fields in (j : ℕ) → j < entries_of_cluster h
       → l2_mapping (bytes_of content) h 0 j ≡ slot_or_none (flushed_metadata state c).file h i j
 
--- Word w of an L1 table names a table that begins with this cluster, which words can name; or it names none.
+-- The raw L1 entry `w` references the table in an addressable cluster, or none with a valid offset.
 abbrev pub FindsTable : (cluster_bits w : ℕ) → Option ℕ → Type 0
 FindsTable cluster_bits w None = table_offset w ≢ 0 → IsTrue (is_cluster_offset cluster_bits (table_offset w)) → ⊥
 FindsTable cluster_bits w (Some t) = (t ≢ 0) × IsAddressable cluster_bits t × (table_offset w ≡ t * 2 ^ cluster_bits)
@@ -76,12 +77,13 @@ pub record IsClusterOf (file : List ℕ) (h : Fields) (cluster : ℕ) (bytes : L
   pub whole : length bytes ≡ cluster_size h
   pub reads : Reads file (cluster * cluster_size h) bytes
 
--- The same words.
+-- Both tables have the same layout and entries.
 pub record HasEntriesOf (l1 l1' : TableValue) : Type 0 where
   pub layout : l1'.layout ≡ l1.layout
   pub raw_entries : l1'.raw_entries ≡ l1.raw_entries
 
--- The L1 table in memory comes to stand where the header says. That is refused only where it isn't one of an image with this header.
+-- The L1 table in memory gets the cluster that the header gives. That fails only if the table doesn't belong to an image
+-- with this header.
 pub record PlacesL1 (h : Fields) (l1 : TableValue) (result : Result Unit Fault) (l1' : TableValue) : Type 0 where
   pub same : HasEntriesOf l1 l1'
   pub bits : OnOk result (l1.layout.cluster_bits ≡ h.cluster_bits)
@@ -90,7 +92,7 @@ pub record PlacesL1 (h : Fields) (l1 : TableValue) (result : Result Unit Fault) 
   pub err : OnErr result (result ≡ Err DamagedTable)
   pub cause : OnErr result (l1.layout ≡ layout_of h → IsTrue (is_cluster_offset h.cluster_bits h.l1_offset) → ⊥)
 
--- Word i of the L1 table comes to name a table as one whose cluster is counted once, in memory, and in the file by one request.
+-- The L1 entry `i` references the table, with the COPIED flag, in memory and, in one request, in the file.
 pub record EntersTable {S : Type 0} (state : S → StorageState) (i : ℕ) (table l1 : TableValue) (before : ImageFile S)
     (result : Result Unit Fault) (l1' : TableValue) (after : ImageFile S) : Type 0 where
   pub layout : l1'.layout ≡ l1.layout
@@ -99,8 +101,7 @@ pub record EntersTable {S : Type 0} (state : S → StorageState) (i : ℕ) (tabl
   pub put : AtomicWriteOutcome (state before.image) (state after.image) (table_start l1 + 8 * i) (to_be_bytes w64 (2 ^ 63 + table_start table))
       result
 
--- Where the image is as it is asked, word i of the L1 table comes to name a new table, as one whose cluster is counted once, in the file
--- and in memory.
+-- If the image is as `asked`, the L1 entry `i` references a new table, with the COPIED flag, in the file and in memory.
 pub record NamesNewTable {S : Type 0} (state : S → StorageState) (asked : Type 0) (kind : Kind) (i : ℕ) (c : Clusters S)
     (result : Result ℕ Fault) (top' : TableValue) (c' : Clusters S) : Type 0 where
   pub progress : asked → Progresses (HadNoResourceError result) kind (storage state c) (flushed_metadata state c) (storage state c') (flushed_metadata state c')
@@ -116,8 +117,8 @@ pub record NamesNewTable {S : Type 0} (state : S → StorageState) (asked : Type
   pub cause : IfErr result (HasCause (storing_causes (IsReady state c × asked)
       (IsFull 1 (flushed_metadata state c) (first_free_in c) (flushed_metadata state c') (first_free_in c')) (storage state c).faults (storage state c').faults))
 
--- A table of these bytes takes the place of the one that word i named, if it named one: nothing names that any more, and room is held for
--- an entry of it on the list of clusters to free.
+-- A table of these bytes replaces the table of entry `i`, if any. Nothing references the old table, and a slot of the
+-- free list is reserved for it.
 pub record PlacesTable {S : Type 0} (state : S → StorageState) (content : List ℕ) (top : TableValue) (i : ℕ) (c : Clusters S)
     (result : Result ℕ Fault) (top' : TableValue) (c' : Clusters S) : Type 0 where
   pub named : NamesNewTable state (IsContent state content top i c) (replacing (flushed_metadata state c) i result) i c result top' c'
@@ -126,18 +127,18 @@ pub record PlacesTable {S : Type 0} (state : S → StorageState) (content : List
   pub old : IsReady state c → IsContent state content top i c → IfOk result (λ t. let h = c.file.header.fields in
       (d : ℕ) → d ≢ 0 → l2_table (flushed_metadata state c).file h i ≡ d * cluster_size h → referenced_at_all (flushed_metadata state c') d ≡ 0)
 
--- An L2 table comes to be there in which nothing is mapped; the disk stays as it was.
+-- A new L2 table maps nothing, and the guest reads the same bytes as before.
 pub record MakesTable {S : Type 0} (state : S → StorageState) (top : TableValue) (i : ℕ) (c : Clusters S) (result : Result ℕ Fault)
     (top' : TableValue) (c' : Clusters S) : Type 0 where
   pub named : NamesNewTable state (IsTableless state top i c) (making result) i c result top' c'
   pub held : c'.space.to_free.held ≡ c.space.to_free.held
 
--- a table in this cluster, as it waits to be freed
+-- A table in this cluster, as an entry of the free list.
 abbrev pub table_entry : ℕ → FreeEntry
 table_entry cluster = record { first = cluster; count = 1; metadata = true }
 
--- A copy takes the place of the table that word i named: no word of a table changes its meaning or its mark, and no other word of the L1
--- table changes. The old table is put behind what waits to be freed.
+-- A copy replaces the table of entry `i`. No L2 entry changes its meaning or its COPIED flag, and no other L1 entry
+-- changes. The old table is at the end of the free list.
 pub record CopiesTable {S : Type 0} (state : S → StorageState) (top : TableValue) (i : ℕ) (c : Clusters S) (result : Result ℕ Fault)
     (top' : TableValue) (c' : Clusters S) : Type 0 where
   pub named : NamesNewTable state (HasTable state top i c) (copying (flushed_metadata state c) i result) i c result top' c'

@@ -1,4 +1,4 @@
--- How the words of guest clusters in a row are set, in one L2 table.
+-- Specifies how the entries of consecutive guest clusters of one L2 table are set.
 use Rattle.std.specs.Prelude.{◌≡◌, ◌≢◌, ◌+◌, ◌*◌, ◌<◌, ◌++◌, ℕ, List, Result, Ok, OnOk, OnErr, IfErr, ◌∷◌, [], length}
 use Rattle.std.specs.List.{AllByRecursion}
 use Rattle.qcow2_alloc.specs.Caches.{cached_in}
@@ -20,13 +20,15 @@ use Rattle.qcow2_clusters.specs.Flushed.{Clusters, IsReady, KeepsL1, flushed_met
 use Rattle.qcow2_clusters.specs.Room.{KeepsNoneFreeBefore}
 use Rattle.qcow2_clusters.specs.Storing.{Rests}
 
--- What is done to n guest clusters in a row: what is given, set, handed out and taken, what comes to wait, and what each word means then.
+-- The effect on `n` consecutive guest clusters: the kind of the call, the clusters that become pending, and the new
+-- meaning of each entry.
 pub record Setting : Type 1 where
   pub kind : Kind
   pub waiting : List FreeEntry
   pub means : ℕ → Mapping
 
--- Their words are set so, where that can be done. What was used keeps its bytes. Whatever is answered, the file gets no shorter.
+-- If the image is `able`, the entries are set. Clusters in use keep their bytes, and the file gets no shorter in any
+-- case.
 pub record SetsRun {S : Type 0} (state : S → StorageState) (guest n : ℕ) (able : Type 0) (s : Setting) (c : Clusters S)
     (result : Result Unit Fault) (c' : Clusters S) : Type 0 where
   pub progress : able → Progresses (result ≡ Ok tt) s.kind (storage state c) (flushed_metadata state c) (storage state c') (flushed_metadata state c')
@@ -44,7 +46,7 @@ pub record SetsRun {S : Type 0} (state : S → StorageState) (guest n : ℕ) (ab
       (d * cluster_size c.file.header.fields) (cluster_size c.file.header.fields))
   pub cause : IfErr result (HasCause (writing_causes (IsReady state c × able) (storage state c).faults (storage state c').faults))
 
--- the image with a table cached alone, and such a list
+-- The image with only this table cached, and with this free list.
 abbrev pub cached_alone : Metadata → CacheDependency → (table : ℕ) → Listed → Metadata
 cached_alone m order table s = record m {
   cached = record { tables = (table, record { value = s.table; pins = 0 }) ∷ []; blocks = [] };
@@ -52,7 +54,7 @@ cached_alone m order table s = record m {
   pending = s.list.entries;
 }
 
--- The table stays cached where they are set, as the file has it then, and no other is. Refused, none is.
+-- On success only the table is cached, as the file has it. On error no table is cached.
 pub record StaysCached {S : Type 0} (state : S → StorageState) (table : ℕ) (able : Type 0) (c : Clusters S) (result : Result Unit Fault)
     (c' : Clusters S) : Type 0 where
   pub clean : AreTablesClean (cached_in c'.caches)

@@ -1,4 +1,4 @@
--- How bytes are stored in a cluster that was free.
+-- Specifies how data is stored in newly allocated clusters, which no table references yet.
 use Rattle.std.specs.Prelude.{◌≡◌, ◌≢◌, ◌+◌, ◌-◌, ◌*◌, ◌<◌, ◌≤◌, ℕ, List, length, slice_index, Result, Ok, Err, IfOk, IfErr, IsTrue, OnOk}
 use Rattle.imago_storage.specs.State.{StorageState}
 use Rattle.imago_storage.specs.Calls.{IsFaultless, CountsNotFallen}
@@ -22,8 +22,8 @@ use Rattle.qcow2_clusters.specs.Flushed.{Clusters, AreEmpty, IsReady, KeepsL1, c
 use Rattle.qcow2_clusters.specs.Room.{IsFull, KeepsNoneFreeBefore, LeavesRoom, first_free_in}
 use Rattle.qcow2_clusters.specs.WritingBack.{AreUnpinned}
 
--- Calls that allocate fail, but for want of memory or by a storage, since there is no place left, of which `full` says what number tells it
--- where the image is ready; as a damaged table or for a counter that can't change only where it isn't.
+-- The faults of a call that allocates, in addition to resource errors. If the image is ready, `full` gives the number of
+-- a limit, and there are no damaged tables and no refcounts that can't change.
 abbrev pub storing_causes : (ready : Type 0) → (full : ℕ → Type 0) → (before after : ℕ) → Causes
 storing_causes ready full before after = record {
   damaged = ready → ⊥;
@@ -34,17 +34,17 @@ storing_causes ready full before after = record {
   after = after;
 }
 
--- what a call hands out that answers a cluster
+-- The cluster that a call newly allocates, from its result.
 abbrev pub handed_by : Result ℕ Fault → ℕ → ℕ
 handed_by (Ok cluster) c = one_at cluster c
 handed_by (Err fault) c = 0
 
--- room is held for its entry on the list of clusters to free
+-- The number of reserved slots after the call: one more on success.
 abbrev pub held_by : Result ℕ Fault → ℕ → ℕ
 held_by (Ok cluster) held = held + 1
 held_by (Err fault) held = held
 
--- What every call leaves that begins and ends at rest, whatever it answers.
+-- The outcome of every call that starts and ends with empty caches.
 pub record Rests {S T : Type 0} (state : S → StorageState) (c : Clusters S) (result : Result T Fault) (c' : Clusters S) : Type 0 where
   pub empty : AreEmpty c'.caches
   pub room : HasRoomOf c.caches c'.caches
@@ -53,20 +53,20 @@ pub record Rests {S T : Type 0} (state : S → StorageState) (c : Clusters S) (r
   pub counts_not_fallen : CountsNotFallen (storage state c) (storage state c')
   pub faults : HadNoResourceError result → IsFaultless (storage state c) (storage state c')
 
--- what a call hands out that answers the first of n clusters in a row
+-- The `n` consecutive clusters that a call newly allocates, from its result.
 abbrev pub run_handed_by : ℕ → Result ℕ Fault → ℕ → ℕ
 run_handed_by n (Ok first) c = covers c (run_of first n)
 run_handed_by n (Err fault) c = 0
 
--- Each of n clusters in a row is reserved.
+-- Each of `n` consecutive clusters is reserved.
 abbrev pub AreReserved : ℕ → Metadata → ℕ → Type 0
 AreReserved n m first = (d : ℕ) → first ≤ d → d < first + n → IsReserved m d
 
--- None of n clusters in a row is used.
+-- None of `n` consecutive clusters is in use.
 abbrev pub AreUnused : ℕ → Metadata → ℕ → Type 0
 AreUnused n m first = (d : ℕ) → first ≤ d → d < first + n → IsUsed m d → ⊥
 
--- Bytes are written to n clusters in a row that were free, and what is modified for that waits to be written.
+-- The data is written to `n` newly allocated clusters, and the metadata of that may still be dirty.
 pub record StoresRunUnsettled {S : Type 0} (state : S → StorageState) (n : ℕ) (content : List ℕ) (c : Clusters S)
     (result : Result ℕ Fault) (c' : Clusters S) : Type 0 where
   pub guest_unchanged : PreservesGuest (HadNoResourceError result) (run_handed_by n result) (λ _. 0) (storage state c) (flushed_metadata state c) (storage state c')
@@ -88,7 +88,8 @@ pub record StoresRunUnsettled {S : Type 0} (state : S → StorageState) (n : ℕ
   pub cause : IfErr result (HasCause (storing_causes (IsReady state c)
       (IsFull n (flushed_metadata state c) (first_free_in c) (changed state c') (first_free_in c')) (storage state c).faults (storage state c').faults))
 
--- The same once that is settled: they are reserved, nothing names them, and the disk stays as it was.
+-- Like `StoresRunUnsettled`, with the metadata written: the clusters are reserved, and the guest reads the same bytes as
+-- before.
 pub record StoresRun {S : Type 0} (state : S → StorageState) (n : ℕ) (content : List ℕ) (c : Clusters S) (result : Result ℕ Fault)
     (c' : Clusters S) : Type 0 where
   pub progress : Progresses (HadNoResourceError result) (handing (run_handed_by n result) (λ _. 0)) (storage state c)
@@ -107,7 +108,7 @@ pub record StoresRun {S : Type 0} (state : S → StorageState) (n : ℕ) (conten
   pub cause : IfErr result (HasCause (storing_causes (IsReady state c)
       (IsFull n (flushed_metadata state c) (first_free_in c) (flushed_metadata state c') (first_free_in c')) (storage state c).faults (storage state c').faults))
 
--- The same of one cluster.
+-- Like `StoresRun`, for one cluster.
 pub record Stores {S : Type 0} (state : S → StorageState) (content : List ℕ) (c : Clusters S) (result : Result ℕ Fault)
     (c' : Clusters S) : Type 0 where
   pub progress : Progresses (HadNoResourceError result) (handing (handed_by result) (λ _. 0)) (storage state c)
@@ -125,11 +126,11 @@ pub record Stores {S : Type 0} (state : S → StorageState) (content : List ℕ)
   pub cause : IfErr result (HasCause (storing_causes (IsReady state c)
       (IsFull 1 (flushed_metadata state c) (first_free_in c) (flushed_metadata state c') (first_free_in c')) (storage state c).faults (storage state c').faults))
 
--- The file is at least as long as the end of n clusters in a row.
+-- The file is at least as long as the end of `n` consecutive clusters.
 abbrev pub ReachesEnd : {S : Type 0} → (S → StorageState) → (x n : ℕ) → (before after : ImageFile S) → Type 0
 ReachesEnd state x n before after = (x + n) * cluster_size before.header.fields ≤ length (state after.image).bytes
 
--- It is made so long: bytes may be written in these clusters, and no byte of it changes.
+-- The file is made long enough. Only bytes in these clusters may be written, and no byte of the file changes.
 pub record ReachesRun {S : Type 0} (state : S → StorageState) (x n : ℕ) (before : ImageFile S) (result : Result Unit Fault)
     (after : ImageFile S) : Type 0 where
   pub place : ℕ

@@ -1,4 +1,4 @@
--- How changes end at rest.
+-- Specifies how a change ends: dirty metadata is written, and the caches are emptied.
 use Rattle.std.specs.Prelude.{◌≡◌, ◌⊎◌, ℕ, List, [], map, IsTrue, Result, Err, OnOk, OnErr}
 use Rattle.std.specs.List.{AllByRecursion}
 use Rattle.imago_storage.specs.State.{StorageState}
@@ -20,18 +20,18 @@ use Rattle.qcow2_alloc.specs.Memory.{written_table}
 use Rattle.qcow2_alloc.specs.WellFormedness.{AreBlocksClean, AreTablesClean, IsCachedTable}
 use Rattle.qcow2_clusters.specs.Flushed.{AreEmpty, nothing_cached}
 
--- nothing of the caches is pinned
+-- Nothing in the caches is pinned.
 pub record AreUnpinned {S : Type 0} (caches : MetadataCaches S) : Type 0 where
   pub tables : AllByRecursion (λ e. e.1.pins ≡ 0) (cached_in caches).tables
   pub blocks : AllByRecursion (λ e. e.1.pins ≡ 0) (cached_in caches).blocks
 
--- the image with nothing cached
+-- The image with nothing cached.
 abbrev pub all_flushed : Metadata → Metadata
 all_flushed m = record m { cached = nothing_cached; order = Unset }
 
--- A change that was answered so ends: unless it was cut off, what is modified is written, and a fault of that takes the place of the
--- answer; then nothing is cached. The disk stays as it was, each cluster is counted as often, and the file gets no shorter. Where nothing
--- is modified no byte changes.
+-- A change with the result `given` ends with empty caches. Without a resource error dirty metadata is written, and an
+-- error of that replaces `given`. The guest bytes and refcounts stay the same, and the file gets no shorter. If nothing
+-- is dirty, no byte changes.
 pub record WritesBack {S T : Type 0} (state : S → StorageState) (given : Result T Fault) (before : ImageFile S) (old : MetadataCaches S)
     (result : Result T Fault) (after : ImageFile S) (new : MetadataCaches S) : Type 0 where
   pub empty : AreEmpty new
@@ -51,11 +51,11 @@ pub record WritesBack {S T : Type 0} (state : S → StorageState) (given : Resul
       × HasCause (writing_causes (AreTablesAddressable (cached_in old) × AreBlocksAddressable (cached_in old)) (state before.image).faults
       (state after.image).faults) fault)
 
--- the caches without their L2 tables
+-- The caches without their L2 tables.
 abbrev pub without_tables : {S : Type 0} → MetadataCaches S → MetadataCaches S
 without_tables caches = with_tables caches []
 
--- The L2 tables that were cached stay so where a change succeeded, and are what the file has then; else none is cached.
+-- On success the cached L2 tables stay cached, as the file has them. On error no table is cached.
 pub record KeepsCachedTables {S : Type 0} (state : S → StorageState) (before : ImageFile S) (old : MetadataCaches S)
     (result : Result Unit Fault) (after : ImageFile S) (new : MetadataCaches S) : Type 0 where
   pub clean : AreTablesClean (cached_in new)

@@ -1,5 +1,4 @@
-// Guest clusters come to read as zeroes or to be unmapped. In qemu that is `zero_in_l2_slice` and `discard_in_l2_slice`, and in imago
-// `ensure_fixed_mapping`.
+// Clears guest clusters: they read as zeroes, or are unmapped. Definitions: specs/Clearing.antt.
 ghost use Rattle.std.specs.Prelude.{◌≡◌, ◌≢◌, ◌+◌, ◌<◌, ◌≤◌, ◌^◌, ◌⊎◌, ◌%◌, ◌++◌, IfErr, IfOk, OnOk, length, ℕ};
 ghost use Rattle.qcow2_types.specs.Header.{entries_of_cluster};
 ghost use Rattle.qcow2_types.specs.Entries.{entry};
@@ -25,18 +24,18 @@ use qcow2_alloc::{ClustersToFreeList, ImageFile, MetadataCaches};
 use qcow2_metadata::{L2Table, Table};
 use qcow2_types::{ClusterCount, ClustersToFreeEntry, GuestCluster, HostCluster};
 
-/// What becomes of guest clusters that are cleared.
+/// The ways to clear a guest cluster.
 #[derive(Clone, Copy, Debug, Drop, PartialEq, Eq)]
 pub enum Clearing {
-    /// They read as zeroes, and keep their host clusters for that.
+    /// The guest cluster reads as zeroes, and keeps its host cluster as a preallocated one. Compressed data is freed.
     Keep,
-    /// They read as zeroes, and their host clusters are given up.
+    /// The guest cluster reads as zeroes, and its host clusters are freed.
     GiveUp,
-    /// Nothing maps them, and their host clusters are given up.
+    /// The guest cluster is unmapped, and its host clusters are freed.
     Unmap,
 }
 
-// Clears the word at an index, and answers what it gives up.
+// Clears the entry at an index, and returns the clusters that it no longer references.
 fn clear_at(
     table: &mut L2Table,
     index: usize,
@@ -54,7 +53,7 @@ fn clear_at(
     }
 }
 
-// Clears it, and what it gives up waits to be freed then.
+// Clears the entry at an index, and adds the clusters that it no longer references to the list of clusters to free.
 fn clear_entry(
     table: &mut L2Table,
     to_free: &mut ClustersToFreeList,
@@ -70,7 +69,7 @@ fn clear_entry(
     defer_free(to_free, given)
 }
 
-// Clears the words from an index on.
+// Clears `count` entries from an index on.
 fn clear_entries(
     table: &mut L2Table,
     to_free: &mut ClustersToFreeList,
@@ -85,13 +84,14 @@ fn clear_entries(
     ensures held { to_free.new.held ≡ to_free.old.held }
 {
     for next in 0..count.0 {
-        let raw_entry = index + next as usize;
-        clear_entry(table, to_free, raw_entry, clearing)?;
+        let at = index + next as usize;
+        clear_entry(table, to_free, at, clearing)?;
     }
     Ok(())
 }
 
-// Clears the words of guest clusters in a row in a table. A table for clusters of another size is damaged.
+// Clears the entries of consecutive guest clusters in a table. If the table is for another cluster size, the fault is
+// `Fault::DamagedTable`.
 fn clear_in(
     table: &mut L2Table,
     to_free: &mut ClustersToFreeList,
@@ -112,7 +112,7 @@ fn clear_in(
     clear_entries(table, to_free, index, count, clearing)
 }
 
-// The same in the L2 table in a cluster.
+// Like `clear_in`, for the L2 table in a cluster.
 fn clear_in_table<S: Storage>(
     file: &mut ImageFile<S>,
     caches: &mut MetadataCaches<S>,
@@ -122,7 +122,7 @@ fn clear_in_table<S: Storage>(
     count: ClusterCount,
     clearing: Clearing,
 ) -> Result<(), Fault>
-    requires row { let raw_entries = l2_entries file.old.header.fields.cluster_bits in guest % raw_entries + count ≤ raw_entries }
+    requires row { let entries = l2_entries file.old.header.fields.cluster_bits in guest % entries + count ≤ entries }
     ensures cleared { let bits = file.old.header.fields.cluster_bits in UsesTable S.state table
         (λ t r t'. ClearsIn clearing bits (guest % l2_entries bits) count (listing t to_free.old) r (listing t' to_free.new))
         (cached_file caches.old file.old) result (cached_file caches.new file.new) }
@@ -133,7 +133,32 @@ fn clear_in_table<S: Storage>(
     clear_in(table, to_free, guest, count, clearing, cluster_bits)
 }
 
-/// Clears guest clusters in a row, of one L2 table, which is in this cluster. What they give up waits to be freed then.
+/// Clears `count` consecutive guest clusters.
+///
+/// All entries are in the L2 table at `table`. The clusters that they no longer reference are added to the list of
+/// clusters to free. After success only this table is cached, and it is clean.
+///
+/// # Preconditions
+///
+/// Nothing is cached, and the caches have space for a table and for a block. `count` is above 0, and all entries are in
+/// one table. `Clearing::Keep` and `Clearing::GiveUp` need an image of version 3.
+///
+/// # Errors
+///
+/// - `Fault::Memory`, `Fault::Storage`.
+/// - `Fault::DamagedTable` if the table has an invalid entry or its offset isn't valid. A consistent image has neither.
+///
+/// # On error
+///
+/// Nothing is cached. Each guest byte reads as before, or, in these guest clusters, as zero or as in the backing file.
+/// Reserved slots (memory for entries of the free list) stay reserved. Which entries were cleared, and what is on the
+/// free list, is unspecified, so the image must be opened again before another change. The file never gets shorter.
+///
+/// # Crash safety
+///
+/// If the image is consistent, and its storage keeps what is written and refuses no change, each crash image (the file
+/// after a crash between two requests) is consistent. Each of its guest bytes reads as before, or, in these guest
+/// clusters, as zero or as in the backing file.
 pub fn clear_run<S: Storage>(
     file: &mut ImageFile<S>,
     caches: &mut MetadataCaches<S>,
@@ -147,7 +172,7 @@ pub fn clear_run<S: Storage>(
     requires room { HasEntries caches.old }
     requires any { 0 < count }
     requires possible { IsPossible clearing file.old.header.fields.version }
-    requires row { let raw_entries = l2_entries file.old.header.fields.cluster_bits in guest % raw_entries + count ≤ raw_entries }
+    requires row { let entries = l2_entries file.old.header.fields.cluster_bits in guest % entries + count ≤ entries }
     ensures clears { let c = clusters_state file.old caches.old space.old in let m = flushed_metadata S.state c in
         SetsRun S.state guest count (AreUnder count m table guest) (clearing_setting clearing m guest count) c result
         (clusters_state file.new (without_tables caches.new) space.new) }
@@ -169,8 +194,12 @@ pub fn clear_run<S: Storage>(
     }
 }
 
-/// Words in a row of a table that is cached alone, of an image that rested, may be cleared: what they gave up waits to be freed, and each
-/// file that is left shows what it did or, in those guest clusters, zeroes or what is below.
+/// Law: if consecutive entries of an L2 table are cleared, and only this table is cached for a consistent image with
+/// nothing dirty, the image stays consistent, and only those guest clusters change.
+///
+/// The clusters that the entries referenced are on the list of clusters to free. In each crash image (the file after a
+/// crash between two requests) a guest byte reads as before, or, in these guest clusters, as zero or as in the backing
+/// file.
 pub fn clearing_entries()
     ensures cleared { (clearing : Clearing) (m : Metadata) (table guest n : ℕ) (order : CacheDependency) (t : TableValue) (list : FreeList)
         (after : Listed) → IsSound m → 0 < n → AreUnder n m table guest → IsPossible clearing m.header.fields.version
@@ -179,7 +208,7 @@ pub fn clearing_entries()
         → let found = cached_alone m order table (listing t list) in IsSound found → GuestUnchanged (λ _. 0) (λ _. 0) m found
         → ClearsEntries clearing (guest % entries_of_cluster m.header.fields) n (listing t list) after
         → let kind = clearing_run clearing m guest n in let set = cached_alone m order table after in
-        Advances kind.gives kind.written kind.set kind.newly_allocated kind.taken found set
+        Advances kind.gives kind.written kind.set kind.excess_added kind.taken found set
         × (after.list.entries ≡ list.entries ++ given_up_run clearing m guest n)
         × ((d : ℕ) → d < n → entry (in_memory set) m.header.fields (guest + d)
         ≡ cleared clearing (entry m.file m.header.fields (guest + d))) }

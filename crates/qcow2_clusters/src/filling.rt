@@ -1,5 +1,4 @@
-// The content of a guest cluster is written to the cluster that it keeps for its zeroes. qemu calls that a preallocated zero cluster
-// (`QCOW2_CLUSTER_ZERO_ALLOC`), and imago a zero mapping that retains its allocation.
+// Writes the data of a guest cluster to its preallocated zero cluster. Definitions: specs/Filling.antt.
 ghost use Rattle.std.specs.Prelude.{◌≡◌, OnOk, false, length};
 ghost use Rattle.imago_storage.specs.Calls.{UnchangedButFaults};
 ghost use Rattle.qcow2_types.specs.Header.{cluster_size};
@@ -13,12 +12,20 @@ use qcow2_alloc::ImageFile;
 use qcow2_types::HostCluster;
 use std::alloc::Global;
 
-/// Writes the content of a guest cluster to the host cluster that it keeps for its zeroes, as copied. It reads as zeroes still, until it
-/// comes to name the cluster as its data. Nothing is allocated, and no table is read or written. Nothing may be cached of the image. After
-/// success the file reaches at least the end of the host cluster.
+/// Writes the data of a guest cluster to its preallocated zero cluster. The guest cluster still reads as zeroes until
+/// its L2 entry references the host cluster as data.
 ///
-/// It refuses with `Fault::Memory` and `Fault::Storage`: a part may be written then, which no place shows. Before that it sets `begun`:
-/// refused without that, it leaves all as it was.
+/// The entry has the COPIED flag. Nothing is allocated, and no table is read or written. After success the file reaches
+/// at least the end of the host cluster.
+///
+/// # Preconditions
+///
+/// Nothing of the image is cached.
+///
+/// # Errors
+///
+/// - `Fault::Memory`, `Fault::Storage`. If `begun` is set, a part of the data may have been written; the guest can't see
+///   it. If `begun` isn't set, nothing has changed.
 pub fn fill<S: Storage>(
     alloc: Global,
     file: &mut ImageFile<S>,

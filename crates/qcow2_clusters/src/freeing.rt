@@ -1,4 +1,4 @@
-// What waits to be freed is freed. The call is imago's `process_clusters_to_free`. For qemu nothing waits, as its refcounts fall at once.
+// Frees the clusters on the list of clusters to free. Definitions: specs/Freeing.antt.
 ghost use Rattle.qcow2_clusters.specs.Freeing.{FreesPendingClusters};
 ghost use Rattle.qcow2_clusters.specs.Flushed.{AreEmpty, HasEntries, clusters_state};
 
@@ -7,10 +7,22 @@ use crate::writing_back::write_back;
 use imago_storage::{Fault, Storage};
 use qcow2_alloc::{ImageFile, MetadataCaches};
 
-/// Counts down what waits to be freed, and writes what that changed. Nothing may be cached before, and nothing is then.
+/// Frees the clusters on the list of clusters to free, and writes the changed metadata. Nothing is cached after the
+/// call.
 ///
-/// It refuses with `Fault::Memory` and `Fault::Storage`, and with `Fault::Counter` and `Fault::DamagedTable`, which no sound image has.
-/// Unless it was cut off, what wasn't counted down stays on the list. Whatever it answers, the file gets no shorter.
+/// # Preconditions
+///
+/// Nothing is cached.
+///
+/// # Errors
+///
+/// - `Fault::Memory`, `Fault::Storage`.
+/// - `Fault::Counter`, `Fault::DamagedTable`. A consistent image has neither. Clusters that weren't freed stay on the
+///   list.
+///
+/// # On error
+///
+/// The file never gets shorter.
 pub fn free_pending_clusters<S: Storage>(
     file: &mut ImageFile<S>,
     caches: &mut MetadataCaches<S>,

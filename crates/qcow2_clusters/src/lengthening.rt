@@ -1,4 +1,5 @@
-// The L1 table comes to be longer. It grows for qemu (`qcow2_grow_l1_table`) and imago (`grow_l1_table`).
+// Lengthens the L1 table: writes a longer copy to new clusters, and makes the header reference it. Definitions:
+// specs/Lengthening.antt.
 ghost use Rattle.std.specs.Prelude.{◌≡◌, ◌<◌, ◌++◌, ◌-◌, length};
 ghost use Rattle.qcow2_types.specs.TableBytes.{AreFit, table_bytes};
 ghost use Rattle.qcow2_metadata.specs.Tables.{IsPlacedTable, table_start};
@@ -16,7 +17,7 @@ use qcow2_metadata::{L1Table, Table};
 use qcow2_types::{ClustersToFreeEntry, PendingClusters};
 use std::alloc::Global;
 
-// Writes an L1 table to clusters in a row that it allocates.
+// Allocates consecutive clusters, and writes an L1 table to them.
 fn allocate_and_write<S: Storage>(
     alloc: Global,
     file: &mut ImageFile<S>,
@@ -54,7 +55,8 @@ fn allocate_and_write<S: Storage>(
     }
 }
 
-// Stores an L1 table in clusters in a row that were free, which nothing names yet. Room is held for them then.
+// Stores an L1 table in newly allocated consecutive clusters. Nothing references them yet, and a slot is reserved for
+// them.
 fn store_l1<S: Storage>(
     alloc: Global,
     file: &mut ImageFile<S>,
@@ -77,8 +79,8 @@ fn store_l1<S: Storage>(
     write_back_stored(file, caches, space, stored)
 }
 
-// Has the header name an L1 table, in memory and then in the file by one request. Where that is refused the header in memory names the old
-// one.
+// Makes the header reference an L1 table, in memory and then in the file in one request. If that fails, the header in
+// memory references the old table.
 fn link_l1<S: Storage>(
     alloc: Global,
     file: &mut ImageFile<S>,
@@ -91,7 +93,7 @@ fn link_l1<S: Storage>(
     requires old_placed { IsPlacedTable old.now }
     ensures { LinksL1 S.state table.now old.now file.old result file.new }
 {
-    // Its contract says that the file's bytes are bytes, so that the header's fields fit theirs.
+    // The contract of `size` shows that each byte of the file is below 256, so the header's fields fit.
     let _length = file.image.size();
     file.header.set_l1_table(table, None);
     match file.header.write_l1_table_pointer(alloc, &mut file.image) {
@@ -103,7 +105,8 @@ fn link_l1<S: Storage>(
     }
 }
 
-// Puts the clusters of an L1 table behind what waits to be freed, for which room is held: where it has none the room is let go.
+// Adds the clusters of an L1 table to the end of the free list, in the reserved slot. If the table has no clusters, the
+// slot is released.
 fn give_up_l1(to_free: &mut ClustersToFreeList, hold: ReservedSlot, l1: &L1Table)
     requires placed { IsPlacedTable l1.now }
     requires held { 0 < to_free.old.held }
@@ -122,13 +125,27 @@ fn give_up_l1(to_free: &mut ClustersToFreeList, hold: ReservedSlot, l1: &L1Table
     }
 }
 
-/// Has the header name a longer L1 table, in clusters that were free: it has a word at this index, the words of the old one, and else words
-/// that name nothing. The clusters of the old one, if it had any, wait to be freed then. Nothing may be cached before, and nothing is then.
-/// Before its first change it sets `begun`: refused without that, it leaves all as it was, but perhaps where the L1 table in memory stands.
+/// Makes the header reference a longer L1 table in newly allocated clusters.
 ///
-/// It refuses with `Fault::Limit` where the table would have more than 2^22 words, of which it tells the number, or, as `store_run` does,
-/// only where a sixteenth of the space and three times its clusters weren't free in a row; with `Fault::Memory` and `Fault::Storage`, after
-/// which the header in the file may name the new table; and with `Fault::Counter` and `Fault::DamagedTable`, which no sound image has.
+/// The new table has an entry at `index`. It has the entries of the old table, followed by zeroes. The clusters of the
+/// old table, if any, are added to the list of clusters to free. Nothing is cached after the call. The call sets `begun`
+/// before its first change.
+///
+/// # Preconditions
+///
+/// Nothing is cached.
+///
+/// # Errors
+///
+/// - `Fault::Limit(n)` if the table would have more than 2^22 entries. `n` is the number of entries.
+/// - `Fault::Limit` as in `store_run`, for the number of clusters of the new table.
+/// - `Fault::Memory`, `Fault::Storage`. The header in the file may reference the new table.
+/// - `Fault::Counter`, `Fault::DamagedTable`. A consistent image has neither.
+///
+/// # On error
+///
+/// If `begun` isn't set, nothing has changed, except that the L1 table in memory may now have the cluster that the
+/// header gives.
 pub fn lengthen_l1<S: Storage>(
     alloc: Global,
     file: &mut ImageFile<S>,

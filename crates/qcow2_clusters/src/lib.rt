@@ -1,8 +1,14 @@
-//! Single changes of an image's clusters, each begun and ended at rest: with nothing cached, but for the table behind `link_run`, and
-//! nothing that waits in memory to be written. What a word of a table names, its entry references for qemu and imago. A stop is a crash
-//! or a power cut.
+//! Single changes of a qcow2 image's clusters: store data, link or clear L2 entries, and make or replace tables. Terms
+//! are explained in docs/GLOSSARY.md.
 //!
-//! Each call says what the image becomes, and which files a stop of the machine may leave in it.
+//! Each call starts with empty caches and ends with empty caches, except that `link_run` and `clear_run` leave their L2
+//! table cached and clean. So no data is dirty between calls.
+//!
+//! # Crash safety
+//!
+//! If the image is consistent and its storage keeps what is written, each crash image of a call (the file after a crash
+//! between two requests) is consistent, and leaks clusters at worst. The guest reads each byte as before. In `link_run`
+//! and `clear_run`, bytes of their guest clusters may have the new values instead.
 #![tactic(auto)]
 
 mod clearing;

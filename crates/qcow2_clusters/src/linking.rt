@@ -1,5 +1,6 @@
-// Guest clusters in a row come to name clusters in a row that were reserved, or that they kept for their zeroes. qemu links L2 entries for
-// that (`qcow2_alloc_cluster_link_l2`), and imago maps clusters (`commit_data_mapping`).
+// Linking: makes the L2 entries of consecutive guest clusters reference consecutive host clusters, either newly
+// allocated ones or the preallocated zero clusters of the same entries. The table is written before the call returns.
+// Definitions: specs/Linking.antt.
 ghost use Rattle.std.specs.Prelude.{◌≡◌, ◌≤◌, ◌<◌, ◌+◌, ◌-◌, ◌%◌, ◌^◌, length, OnOk, IfErr};
 ghost use Rattle.qcow2_types.specs.Entries.{l2_entries};
 ghost use Rattle.qcow2_metadata.specs.Places.{IsAddressable};
@@ -16,7 +17,7 @@ use qcow2_alloc::{ClustersToFreeList, ImageFile, MetadataCaches};
 use qcow2_metadata::{L2Table, Table};
 use qcow2_types::{ClusterCount, ClustersToFreeEntry, GuestCluster, HostCluster};
 
-// Puts what a word named on the list of clusters to free. It is refused where there is no memory for it.
+// Adds the clusters that an entry referenced, if any, to the list of clusters to free. Fails with `Fault::Memory`.
 pub(crate) fn defer_free(
     to_free: &mut ClustersToFreeList,
     named: Option<ClustersToFreeEntry>,
@@ -35,7 +36,8 @@ pub(crate) fn defer_free(
     }
 }
 
-// Has the word at an index of a table name a host cluster. What it named before waits to be freed then.
+// Makes the entry at an index reference a host cluster. The clusters that it referenced before are added to the list of
+// clusters to free.
 fn link_entry(
     table: &mut L2Table,
     to_free: &mut ClustersToFreeList,
@@ -54,7 +56,7 @@ fn link_entry(
     defer_free(to_free, named)
 }
 
-// Has the words from an index on name host clusters in a row.
+// Links `count` entries from an index on to consecutive host clusters.
 fn link_entries(
     table: &mut L2Table,
     to_free: &mut ClustersToFreeList,
@@ -71,13 +73,14 @@ fn link_entries(
     ensures held { to_free.new.held ≡ to_free.old.held }
 {
     for next in 0..count.0 {
-        let raw_entry = index + next as usize;
-        link_entry(table, to_free, raw_entry, HostCluster(cluster.0 + next))?;
+        let at = index + next as usize;
+        link_entry(table, to_free, at, HostCluster(cluster.0 + next))?;
     }
     Ok(())
 }
 
-// Has the words of guest clusters in a row name host clusters in a row in a table. A table for clusters of another size is damaged.
+// Links the entries of consecutive guest clusters in a table. If the table is for another cluster size, the fault is
+// `Fault::DamagedTable`.
 fn link_in(
     table: &mut L2Table,
     to_free: &mut ClustersToFreeList,
@@ -100,7 +103,7 @@ fn link_in(
     link_entries(table, to_free, index, cluster, count)
 }
 
-// The same in the L2 table in a cluster.
+// Like `link_in`, for the L2 table in a cluster.
 fn link_in_table<S: Storage>(
     file: &mut ImageFile<S>,
     caches: &mut MetadataCaches<S>,
@@ -112,7 +115,7 @@ fn link_in_table<S: Storage>(
 ) -> Result<(), Fault>
     requires cluster_nonzero { 0 < cluster }
     requires reach { IsAddressable file.old.header.fields.cluster_bits (cluster + (count - 1)) }
-    requires row { let raw_entries = l2_entries file.old.header.fields.cluster_bits in guest % raw_entries + count ≤ raw_entries }
+    requires row { let entries = l2_entries file.old.header.fields.cluster_bits in guest % entries + count ≤ entries }
     ensures named { let bits = file.old.header.fields.cluster_bits in UsesTable S.state table
         (λ t r t'. LinksIn bits (guest % l2_entries bits) cluster count (listing t to_free.old) r (listing t' to_free.new))
         (cached_file caches.old file.old) result (cached_file caches.new file.new) }
@@ -123,15 +126,36 @@ fn link_in_table<S: Storage>(
     link_in(table, to_free, guest, cluster, count, cluster_bits)
 }
 
-/// Has guest clusters in a row, of one L2 table, which is in this cluster, each name its own of host clusters in a row as its data, as
-/// copied. What a word named before, if anything, waits to be freed then, but for the host cluster itself, which its guest cluster may have
-/// kept for its zeroes. The bytes of the host clusters stay what they are. Nothing may be cached before; then the table is, as it was
-/// written, and nothing else. Refused, nothing is.
+/// Makes the L2 entries of `count` consecutive guest clusters reference `count` consecutive host clusters, with the
+/// COPIED flag.
 ///
-/// It refuses with `Fault::Memory` and `Fault::Storage`, and with `Fault::DamagedTable` where the table has a word without meaning, or is
-/// out of reach, which no sound image has. A refusal leaves a file in which each place shows what it did or, in these guest clusters, the
-/// bytes of the host clusters. Room that was held stays held. Which words name them, and what waits to be freed, is open then, so that
-/// nothing may be changed before the image is opened anew. Whatever it answers, the file gets no shorter.
+/// All entries are in the L2 table at `table`. A cluster that an entry referenced before is added to the list of
+/// clusters to free, unless it is the entry's preallocated zero cluster and is linked now. The bytes of the host
+/// clusters don't change. After success only this table is cached, and it is clean.
+///
+/// # Preconditions
+///
+/// Nothing is cached, and the caches have space for a table and for a block. `count` is above 0, and all entries are in
+/// one table. `cluster` is above 0, and the offset of the last host cluster fits an entry.
+///
+/// # Errors
+///
+/// - `Fault::Memory`, `Fault::Storage`.
+/// - `Fault::DamagedTable` if the table has an invalid entry or its offset isn't valid. A consistent image has neither.
+///
+/// # On error
+///
+/// Nothing is cached. Each guest byte reads as before, or, in these guest clusters, as the byte of the new host
+/// cluster. Reserved slots (memory for entries of the free list) stay reserved. Which entries were linked, and what is
+/// on the free list, is unspecified, so the image must be opened again before another change. The file never gets
+/// shorter.
+///
+/// # Crash safety
+///
+/// If the image is consistent, and its storage keeps what is written and refuses no change, each crash image (the file
+/// after a crash between two requests) is consistent. Each of its guest bytes reads as before, or, in these guest
+/// clusters, as the byte of the new host cluster. Each host cluster must be allocated and not yet referenced, or be its
+/// guest cluster's preallocated zero cluster with the COPIED flag.
 pub fn link_run<S: Storage>(
     file: &mut ImageFile<S>,
     caches: &mut MetadataCaches<S>,
@@ -146,7 +170,7 @@ pub fn link_run<S: Storage>(
     requires cluster_nonzero { 0 < cluster }
     requires any { 0 < count }
     requires reach { IsAddressable file.old.header.fields.cluster_bits (cluster + (count - 1)) }
-    requires row { let raw_entries = l2_entries file.old.header.fields.cluster_bits in guest % raw_entries + count ≤ raw_entries }
+    requires row { let entries = l2_entries file.old.header.fields.cluster_bits in guest % entries + count ≤ entries }
     ensures names { LinksRun S.state table guest cluster count (clusters_state file.old caches.old space.old) result
         (clusters_state file.new (without_tables caches.new) space.new) }
     ensures leaves { LeavesTable S.state table guest cluster count (clusters_state file.old caches.old space.old) result

@@ -1,5 +1,5 @@
-// A word of the L1 table comes to name a new L2 table. The word is an L1 entry for qemu (`l2_allocate`) and imago (`ensure_l2`), which
-// comes to reference the table.
+// Makes a new L2 table and makes the L1 entry reference it: an empty table, or a copy of the old one. Definitions:
+// specs/MakingTables.antt.
 ghost use Rattle.std.specs.Prelude.{◌≡◌, ◌<◌, IfOk, IsOkUnless, length, replicate, slice_index};
 ghost use Rattle.imago_storage.specs.Calls.{CountsFaults, UnchangedButFaults, CountsNotFallen};
 ghost use Rattle.qcow2_types.specs.Header.{cluster_size};
@@ -17,8 +17,10 @@ use qcow2_metadata::{Header, L1Table, L2Table, Table};
 use qcow2_types::{ClusterCount, ClustersToFreeEntry, HostCluster, MAX_OFFSET, PendingClusters};
 use std::alloc::Global;
 
-// Has the L1 table in memory stand where the header says that it does, so that its words can be written there. It refuses with
-// `Fault::DamagedTable` where the table is of another image, or no cluster that words can name begins there, and changes nothing then.
+// Sets the cluster of the L1 table in memory to the one in the header, so that its entries can be written there.
+//
+// Fails with `Fault::DamagedTable` if the table is for another cluster size, or if the offset isn't valid. Nothing
+// changes then.
 pub(crate) fn place_l1(l1: &mut L1Table, header: &Header) -> Result<(), Fault>
     ensures { PlacesL1 header.now.fields l1.old result l1.new }
 {
@@ -34,7 +36,7 @@ pub(crate) fn place_l1(l1: &mut L1Table, header: &Header) -> Result<(), Fault>
     Ok(())
 }
 
-// The bytes of a cluster of zeroes.
+// Returns the bytes of a cluster of zeroes.
 fn clear_content(alloc: Global, header: &Header) -> Result<Vec<u8>, Fault>
     ensures ok { IfOk result (λ bytes. bytes.items ≡ replicate (cluster_size header.now.fields) 0) }
     ensures err { IsOkUnless result Fault.Memory }
@@ -43,7 +45,7 @@ fn clear_content(alloc: Global, header: &Header) -> Result<Vec<u8>, Fault>
     Ok(bytes)
 }
 
-// Has the word at an index of the L1 table name the table, as one whose cluster is counted once, in memory and then in the file.
+// Makes an L1 entry reference the table, with the COPIED flag, in memory and then in the file.
 fn enter_table<S: Storage>(
     alloc: Global,
     file: &mut ImageFile<S>,
@@ -61,8 +63,8 @@ fn enter_table<S: Storage>(
     l1.write_entry(alloc, &mut file.image, index)
 }
 
-// Stores the content of an L2 table in a cluster that was free, and has the word at an index of the L1 table name it. Room is held then for
-// an entry on the list of clusters to free: that of the table that the word named, if it named one.
+// Stores the content of an L2 table in a newly allocated cluster, and makes the L1 entry reference it. After success a
+// slot is reserved on the list of clusters to free, for the table that the entry referenced before, if any.
 fn place_table<S: Storage>(
     alloc: Global,
     file: &mut ImageFile<S>,
@@ -95,12 +97,27 @@ fn place_table<S: Storage>(
     }
 }
 
-/// Makes an L2 table in which nothing is mapped, in a cluster that was free, and has the word at an index of the L1 table name it, which
-/// named none. Nothing may be cached before, and nothing is then. Before its first change it sets `begun`: refused without that, it
-/// leaves all as it was, but perhaps where the L1 table in memory stands.
+/// Makes an L2 table in which nothing is mapped, in a newly allocated cluster, and makes the L1 entry at `index`
+/// reference it.
 ///
-/// It refuses with `Fault::Limit` as `store_run` does; with `Fault::Memory` and `Fault::Storage`, after which the L1 table in memory may
-/// not be the file's; and with `Fault::Counter` and `Fault::DamagedTable`, which no sound image has.
+/// The result is the cluster of the table. Nothing is cached after the call. The call sets `begun` before its first
+/// change.
+///
+/// # Preconditions
+///
+/// Nothing is cached, and the caches have space for a table and for a block. `index` is less than the number of L1
+/// entries in memory. The L1 table in memory is the file's, and its entry references no table.
+///
+/// # Errors
+///
+/// - `Fault::Limit` as in `store_run`, for one cluster.
+/// - `Fault::Memory`, `Fault::Storage`. The L1 table in memory may differ from the file.
+/// - `Fault::Counter`, `Fault::DamagedTable`. A consistent image has neither.
+///
+/// # On error
+///
+/// If `begun` isn't set, nothing has changed, except that the L1 table in memory may now have the cluster that the
+/// header gives.
 pub fn make_table<S: Storage>(
     alloc: Global,
     file: &mut ImageFile<S>,
@@ -126,7 +143,8 @@ pub fn make_table<S: Storage>(
     Ok(cluster)
 }
 
-// The cluster of the L2 table that the word at an index of the L1 table names, if it names one that there can be.
+// Returns the cluster of the L2 table that an L1 entry references, or `None` if it references none or its offset isn't
+// valid.
 fn table_at(l1: &L1Table, index: usize, header: &Header) -> Option<HostCluster>
     ensures { FindsTable header.now.fields.cluster_bits (slice_index l1.now.raw_entries index) result }
 {
@@ -139,7 +157,7 @@ fn table_at(l1: &L1Table, index: usize, header: &Header) -> Option<HostCluster>
     offset.checked_cluster(header.cluster_bits())
 }
 
-// The bytes of a cluster that words can name.
+// Reads the bytes of an addressable cluster.
 fn read_cluster<S: Storage>(
     alloc: Global,
     file: &mut ImageFile<S>,
@@ -158,10 +176,25 @@ fn read_cluster<S: Storage>(
     Ok(bytes)
 }
 
-/// Copies the L2 table that the word at an index of the L1 table names, word for word, to a cluster that was free, and has the word name
-/// the copy. The cluster of the old table waits to be freed then. Nothing may be cached before, and nothing is then.
+/// Copies the L2 table that the L1 entry at `index` references to a newly allocated cluster, and makes the entry
+/// reference the copy.
 ///
-/// It refuses as `make_table` does.
+/// The copy has the same entries. The cluster of the old table is added to the list of clusters to free. The result is
+/// the cluster of the copy. Nothing is cached after the call. The call sets `begun` before its first change.
+///
+/// # Preconditions
+///
+/// Nothing is cached, and the caches have space for a table and for a block. `index` is less than the number of L1
+/// entries in memory. The L1 table in memory is the file's, and its entry references a table.
+///
+/// # Errors
+///
+/// - The faults of `make_table`.
+///
+/// # On error
+///
+/// If `begun` isn't set, nothing has changed, except that the L1 table in memory may now have the cluster that the
+/// header gives.
 pub fn copy_table<S: Storage>(
     alloc: Global,
     file: &mut ImageFile<S>,

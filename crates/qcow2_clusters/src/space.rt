@@ -1,5 +1,4 @@
-// The free space of an image that is written. The search for free clusters begins at qemu's `free_cluster_index`, imago's
-// `first_free_cluster`. What waits is imago's `clusters_to_free`.
+// The free space of an image that is open for writing.
 ghost use Rattle.std.specs.Prelude.{◌≡◌, [], Ok, Err, MatchResult};
 ghost use Rattle.qcow2_alloc.specs.Allocators.{LoadsAllocator};
 
@@ -7,20 +6,21 @@ use imago_storage::{Fault, Storage};
 use qcow2_alloc::{Allocator, ClustersToFreeList, ImageFile};
 use std::alloc::Global;
 
-/// Which clusters of an image file are free: its refcount table in memory, where the search for free clusters begins, and which clusters
-/// wait to be counted down.
+/// The free space of an image file: the allocator with the refcount table in memory, and the list of clusters to free.
 #[derive(Drop)]
 pub struct Space {
-    /// The allocator, over the refcount table.
+    /// The allocator, with the refcount table and the first-free hint (where the search for free clusters starts).
     pub allocator: Allocator,
-    /// The clusters that nothing names any more and that are still counted.
+    /// The clusters to free: nothing references them any more, but their refcounts are above 0.
     pub to_free: ClustersToFreeList,
 }
 
 impl Space {
-    /// The free space of an image: its refcount table is loaded, the search for free clusters begins at cluster 0, and nothing waits.
+    /// Loads the refcount table. The search for free clusters starts at cluster 0, and the list of clusters to free is empty.
     ///
-    /// It refuses as `Allocator::new` does: with `Fault::DamagedTable`, `Fault::Limit`, `Fault::Memory` and `Fault::Storage`.
+    /// # Errors
+    ///
+    /// - The faults of `Allocator::new`: `Fault::DamagedTable`, `Fault::Limit`, `Fault::Memory`, `Fault::Storage`.
     pub fn load<S: Storage>(alloc: Global, file: &mut ImageFile<S>) -> Result<Space, Fault>
         ensures loads { MatchResult result
             (λ space. LoadsAllocator (S.state file.old.image) file.old.header.fields (Ok space.allocator) (S.state file.new.image))

@@ -1,5 +1,4 @@
-// Bytes are stored in clusters that were free. They are allocated for qemu (`qcow2_alloc_clusters`) and imago (`allocate_clusters`), and
-// pending until a word names them.
+// Stores data in newly allocated clusters, which no table references yet. Definitions: specs/Storing.antt.
 ghost use Rattle.std.specs.Prelude.{◌≡◌, ◌≤◌, ◌<◌, ◌+◌, ◌-◌, ◌*◌, ◌^◌, ℕ, Bool, List, IfOk, OnOk, false, length};
 ghost use Rattle.imago_storage.specs.Calls.{UnchangedButFaults};
 ghost use Rattle.imago_storage.specs.Through.{WriteOutcome};
@@ -18,15 +17,15 @@ use qcow2_types::{ClusterCount, HostCluster};
 use std::alloc::Global;
 use std::marker::Model;
 
-/// The first of clusters in a row in which something is stored, and room that is held for an entry on the list of clusters to free.
-/// Contracts see the cluster.
+/// The first of consecutive clusters that hold stored data, and a reserved slot on the list of clusters to free: memory
+/// for their entry, in case no table ever references them. In contracts the value is the cluster.
 ///
-/// It can't be dropped: the room is to be spent.
+/// It can't be dropped: the slot must be consumed (`give_back` or `release` of the list).
 #[derive(Debug)]
 pub struct Stored {
     /// The first of the clusters.
     pub cluster: HostCluster,
-    /// The room for an entry.
+    /// The reserved slot.
     pub hold: ReservedSlot,
 }
 
@@ -39,8 +38,8 @@ impl Model for Stored {
 }
 
 impl Stored {
-    /// The first of the clusters. The room is left to the list, where it stays held.
-    pub fn leave_room(self) -> HostCluster
+    /// Returns the first of the clusters. The slot stays reserved on the list.
+    pub fn leave_slot(self) -> HostCluster
         ensures { result ≡ self }
     {
         let Stored { cluster, hold } = self;
@@ -49,7 +48,8 @@ impl Stored {
     }
 }
 
-// Writes the content of a cluster that words can name. It sets `begun`, unless it is refused before any change is asked for.
+// Writes the data of an addressable cluster. Sets `begun`, unless the call fails before it makes a request that changes
+// anything.
 pub(crate) fn write_cluster<S: Storage>(
     alloc: Global,
     file: &mut ImageFile<S>,
@@ -79,7 +79,7 @@ pub(crate) fn write_cluster<S: Storage>(
     }
 }
 
-// Writes the content of a guest cluster to the first of host clusters in a row that it allocates.
+// Allocates consecutive clusters, and writes the data of a guest cluster to the first.
 fn allocate_and_write<S: Storage>(
     alloc: Global,
     file: &mut ImageFile<S>,
@@ -113,7 +113,8 @@ fn allocate_and_write<S: Storage>(
     }
 }
 
-// Ends what was stored so: what is modified is written, and then nothing is cached. Where that is refused no room is held.
+// Ends a call that stored data: writes dirty metadata and empties the caches. If that fails, the reserved slot is
+// released.
 pub(crate) fn write_back_stored<S: Storage>(
     file: &mut ImageFile<S>,
     caches: &mut MetadataCaches<S>,
@@ -141,7 +142,8 @@ pub(crate) fn write_back_stored<S: Storage>(
     }
 }
 
-// Has the file reach the end of clusters in a row: where it is shorter, zeroes are written behind its end, in the last of them.
+// Makes the file reach the end of consecutive clusters. If the file is shorter, zeroes are written past its end, only in
+// the last cluster.
 fn reach_end<S: Storage>(
     alloc: Global,
     file: &mut ImageFile<S>,
@@ -163,15 +165,28 @@ fn reach_end<S: Storage>(
     file.image.write_zeroes(alloc, from, end - from)
 }
 
-/// Stores the content of a guest cluster in the first of host clusters in a row that were free, which nothing names yet. The file reaches
-/// the end of the last one then, so that words may name each; what stands in those behind the first is left open. Room is held for them
-/// then on the list of clusters to free, as `ClustersToFreeList::hold` does. Nothing may be cached before, and nothing is then. Before its
-/// first change it sets `begun`: refused without that, it leaves all as it was.
+/// Allocates `count` consecutive clusters, and writes the data of a guest cluster to the first.
 ///
-/// It refuses with `Fault::Limit` only where a sixteenth of the space and three times as many clusters weren't free in a row as the call
-/// began, and tells why the first such run that is free by then can't be taken, as `Allocator::allocate_clusters` does; with
-/// `Fault::Memory` and `Fault::Storage`; and with `Fault::Counter` and `Fault::DamagedTable`, which no sound image has. No room is held
-/// then.
+/// No table references the clusters yet. The file reaches the end of the last one, so each can be linked. The bytes of
+/// the other clusters are unspecified. After success a slot (memory for an entry of the run) is reserved on the list of
+/// clusters to free, as by `ClustersToFreeList::reserve_slot`. Nothing is cached after the call. The call sets `begun`
+/// before its first change.
+///
+/// # Preconditions
+///
+/// Nothing is cached.
+///
+/// # Errors
+///
+/// - `Fault::Limit(n)` only if no run of free clusters was long enough when the call began. Long enough is a sixteenth
+///   of the space plus `3 * count`, from the first-free hint on. The space is the number of clusters that a file can
+///   have. `n` has the meaning that `Allocator::allocate_clusters` gives it.
+/// - `Fault::Memory`, `Fault::Storage`.
+/// - `Fault::Counter`, `Fault::DamagedTable`. A consistent image has neither.
+///
+/// # On error
+///
+/// No slot is reserved. If `begun` isn't set, nothing has changed.
 pub fn store_run<S: Storage>(
     alloc: Global,
     file: &mut ImageFile<S>,
@@ -201,7 +216,7 @@ pub fn store_run<S: Storage>(
     }
 }
 
-// Stores the content of a guest cluster in a host cluster that was free, as `store_run` does of one, and refuses as that does.
+// Like `store_run`, for one cluster.
 pub(crate) fn store<S: Storage>(
     alloc: Global,
     file: &mut ImageFile<S>,

@@ -1,5 +1,5 @@
-// Ends changes at rest: what is modified is written, and then nothing is cached, or L2 tables alone. A change is cut off by what qemu tells
-// as `-ENOMEM` or `-EIO`, and imago as an error of memory or of input and output.
+// Ends a change: writes dirty metadata, and empties the caches, or keeps only the L2 tables. After a resource error
+// (`Fault::Memory`, `Fault::Storage`) nothing is written.
 ghost use Rattle.std.specs.Prelude.{MatchBool, MatchResult, Ok, Err};
 ghost use Rattle.qcow2_alloc.specs.Caches.{HasRoomOf};
 ghost use Rattle.qcow2_alloc.specs.Going.{HadNoResourceError};
@@ -9,7 +9,7 @@ ghost use Rattle.qcow2_clusters.specs.WritingBack.{AreUnpinned, KeepsCachedTable
 use imago_storage::{Fault, Storage};
 use qcow2_alloc::{ImageFile, MetadataCaches};
 
-// Drops all that is cached: as nothing of it is pinned, nothing stays.
+// Empties the caches. Nothing is pinned, so nothing stays.
 fn drop_cached<S: Storage>(caches: &mut MetadataCaches<S>)
     requires unpinned { AreUnpinned caches.old }
     ensures empty { AreEmpty caches.new }
@@ -19,15 +19,15 @@ fn drop_cached<S: Storage>(caches: &mut MetadataCaches<S>)
     let _blocks = caches.invalidate_rb();
 }
 
-// Whether an answer is none of want of memory or of a storage that failed.
+// Returns true if the result isn't a resource error.
 fn had_no_resource_error<T>(answer: &Result<T, Fault>) -> bool
     ensures { MatchBool result (HadNoResourceError answer.now) (HadNoResourceError answer.now → ⊥) }
 {
     !matches!(answer, Err(Fault::Memory) | Err(Fault::Storage))
 }
 
-// Ends a change that was answered so: unless it was cut off, what is modified is written. Then nothing is cached. It answers the fault of
-// that write, where it was refused.
+// Ends a change with the result `given`. Writes dirty metadata, unless `given` is a resource error, and empties the
+// caches. Fails with the error of that write.
 pub(crate) fn end_change<S: Storage, T>(
     file: &mut ImageFile<S>,
     caches: &mut MetadataCaches<S>,
@@ -46,7 +46,7 @@ pub(crate) fn end_change<S: Storage, T>(
     flushed
 }
 
-// Ends a change as `end_change` does, and answers what refused that, or else what the change was answered.
+// Ends a change like `end_change`. Returns the error of the write, if any, and otherwise `given`.
 pub(crate) fn write_back<S: Storage>(
     file: &mut ImageFile<S>,
     caches: &mut MetadataCaches<S>,
@@ -59,7 +59,7 @@ pub(crate) fn write_back<S: Storage>(
     given
 }
 
-// Ends a change that succeeded as `settle` does, but that the L2 tables stay cached where all that is modified was written.
+// Ends a successful change like `write_back`, but keeps the L2 tables cached. If the write fails, the caches are empty.
 pub(crate) fn write_back_keeping_tables<S: Storage>(
     file: &mut ImageFile<S>,
     caches: &mut MetadataCaches<S>,

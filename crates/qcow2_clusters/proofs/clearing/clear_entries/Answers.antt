@@ -9,8 +9,8 @@ use Rattle.qcow2_clusters.proofs.clearing.clear_entries.Goals as goal
 pub loop-next-init : goal.loop-next-init
 loop-next-init c = (cleared-none c.args.clearing c.args.index (listing c.args.table.now c.args.to_free.now), refl)
 
-pub overflow_add-raw_entry : goal.overflow_add-raw_entry
-overflow_add-raw_entry c = let few = c.requires.end_bounded in let less = c.loop-next-test.true in omega (arith, few, less)
+pub overflow_add-at : goal.overflow_add-at
+overflow_add-at c = let few = c.requires.end_bounded in let less = c.loop-next-test.true in omega (arith, few, less)
 
 pub clear_entry-requires : goal.clear_entry-requires
 clear_entry-requires c =

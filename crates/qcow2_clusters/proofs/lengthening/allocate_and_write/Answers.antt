@@ -122,7 +122,7 @@ returns-in_err-pending-clause-untouched_unless_begun g c = rw (handed-on _ _ c.f
     run-spared g.S.Storage.state c.args.begun.now new.begun (clusters_state c.args.file.now c.args.caches.now c.args.space.now) c.in_err-pending.field-0.0 new.self
     new.caches new.file new.list c.requires.caches_empty c.in_err-pending.ensures.untouched_unless_begun c.in_err-pending.ensures.held)
 
--- Once clusters were handed out it has begun.
+-- The call has begun once clusters are allocated.
 pub returns-in-Ok-clause-untouched_unless_begun : goal.returns-in-Ok-clause-untouched_unless_begun
 returns-in-Ok-clause-untouched_unless_begun g c = λ not.
     let h = c.args.file.now.header.fields in

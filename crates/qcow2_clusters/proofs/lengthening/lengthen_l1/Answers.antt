@@ -90,7 +90,7 @@ returns-in_err-grown-clause-untouched_unless_begun g c = rw (handed-on _ _ c.fro
   c.place_l1.ensures.same,
 ))
 
--- Once the longer table is stored it has begun.
+-- The call has begun once the longer table is stored.
 pub returns-in_err-stored-clause-untouched_unless_begun : goal.returns-in_err-stored-clause-untouched_unless_begun
 returns-in_err-stored-clause-untouched_unless_begun g c = rw (handed-on _ _ c.from_residual-in_err-stored.ensures.1) (λ not.
     let spared = c.in_err-stored.ensures.untouched_unless_begun not in (

@@ -7,8 +7,8 @@ use Rattle.qcow2_clusters.proofs.linking.link_entries.Goals as goal
 pub loop-next-init : goal.loop-next-init
 loop-next-init c = (words-none c.args.index c.args.cluster (listing c.args.table.now c.args.to_free.now), refl)
 
-pub overflow_add-raw_entry : goal.overflow_add-raw_entry
-overflow_add-raw_entry c = let few = c.requires.end_bounded in let less = c.loop-next-test.true in omega (arith, few, less)
+pub overflow_add-at : goal.overflow_add-at
+overflow_add-at c = let few = c.requires.end_bounded in let less = c.loop-next-test.true in omega (arith, few, less)
 
 pub link_entry-requires-clause-reach : goal.link_entry-requires-clause-reach
 link_entry-requires-clause-reach c =

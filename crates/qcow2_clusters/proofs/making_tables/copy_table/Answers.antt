@@ -25,7 +25,7 @@ returns-in_err-content-clause-copies g c = rw (handed-on _ _ c.from_residual.ens
     (clusters_state c.read_cluster.new.file c.args.caches.now c.args.space.now) c.requires.caches_empty
     record { kept = read.unchanged_but_faults; counts_not_fallen = read.counts_not_fallen; header = read.header; caches = refl } refl c.in_err-content.ensures.faults)
 
--- the list with an entry in the room that was held for it
+-- The list with an entry in the reserved slot.
 abbrev given_back : FreeList → FreeEntry → FreeList
 given_back list entry = record { entries = list.entries ++ entry ∷ []; held = list.held - 1 }
 

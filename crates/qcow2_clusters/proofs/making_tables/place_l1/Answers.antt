@@ -6,7 +6,7 @@ use Rattle.qcow2_metadata.specs.Tables.{TableValue}
 use Rattle.qcow2_clusters.specs.MakingTables.{PlacesL1}
 use Rattle.qcow2_clusters.proofs.making_tables.place_l1.Goals as goal
 
--- the table with its cluster there
+-- The table with its cluster there.
 abbrev put_at : TableValue → ℕ → TableValue
 put_at l1 cluster = record { layout = l1.layout; raw_entries = l1.raw_entries; cluster = Some cluster; modified = true }
 

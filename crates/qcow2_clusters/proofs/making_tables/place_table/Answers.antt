@@ -32,7 +32,7 @@ returns-in_err-cluster-clause-places g c = rw (handed-on _ _ c.from_residual-in_
     (clusters_state c.args.file.now c.args.caches.now c.args.space.now) c.in_err-cluster.field-0.0 c.place_l1.new.l1
     (clusters_state new.file new.caches new.space) c.place_l1.ensures.same c.in_err-cluster.ensures.stores)
 
--- The table that is named begins with the cluster.
+-- The table starts at the cluster.
 begins : (h : Fields) (table table' : TableValue) (cluster : ℕ) → table.layout ≡ layout_of h
     → table' ≡ record { layout = table.layout; raw_entries = table.raw_entries; cluster = Some cluster; modified = true }
     → table_start table' ≡ cluster * cluster_size h
@@ -108,7 +108,7 @@ pub returns-in_err-cluster-clause-untouched_unless_begun : goal.returns-in_err-c
 returns-in_err-cluster-clause-untouched_unless_begun g c = rw (handed-on _ _ c.from_residual-in_err-cluster.ensures.1)
     (λ not. (c.in_err-cluster.ensures.untouched_unless_begun not, c.place_l1.ensures.same))
 
--- Once its bytes are stored it has begun.
+-- The call has begun once the content is stored.
 pub returns-in-Ok-clause-untouched_unless_begun : goal.returns-in-Ok-clause-untouched_unless_begun
 returns-in-Ok-clause-untouched_unless_begun g c = λ not. absurd (c.in_ok-cluster.ensures.untouched_unless_begun not).refused
 

@@ -66,7 +66,7 @@ returns-in_err-pending-clause-untouched_unless_begun g c = rw (handed-on _ _ c.f
 pub returns-in-Ok-clause-untouched_unless_begun : goal.returns-in-Ok-clause-untouched_unless_begun
 returns-in-Ok-clause-untouched_unless_begun g c = λ not. absurd (c.in-Ok.ensures.untouched_unless_begun not).1
 
--- Once clusters were handed out it has begun.
+-- The call has begun once clusters are allocated.
 pub returns-in-Err-clause-untouched_unless_begun : goal.returns-in-Err-clause-untouched_unless_begun
 returns-in-Err-clause-untouched_unless_begun g c = λ not.
     let unbegun = (c.in-Err.ensures.untouched_unless_begun not).0 in

@@ -9,7 +9,7 @@ returns-in-Ok-clause-stores g c = λ n content first long un.
     let ended = c.end_change.new in
     run-settled g.S.Storage.state n content first long c.args.stored mid un c.args.stored ended.file ended.caches c.in-Ok.ensures c.args.space.now.to_free.held un.held
 
--- Where the end is refused no room is held, whether some was
+-- If the final write fails, no slot is reserved: one was,
 pub returns-in-Ok-stored-clause-stores : goal.returns-in-Ok-stored-clause-stores
 returns-in-Ok-stored-clause-stores g c = λ n content first long un.
     let space = c.args.space.now in
@@ -20,7 +20,7 @@ returns-in-Ok-stored-clause-stores g c = λ n content first long un.
     rw (c.release.ensures) (run-settled g.S.Storage.state n content first long c.args.stored mid un (Err c.in-Err.fault) ended.file ended.caches
     c.in-Err.ensures (space.to_free.held - 1) held)
 
--- or none.
+-- or none was.
 pub returns-in-Err-stored-clause-stores : goal.returns-in-Err-stored-clause-stores
 returns-in-Err-stored-clause-stores g c = λ n content first long un.
     let mid = clusters_state c.args.file.now c.args.caches.now c.args.space.now in
