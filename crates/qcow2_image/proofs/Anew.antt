@@ -1,4 +1,4 @@
--- What reading the tables of an image anew leaves, and why it is refused.
+-- Lemmas on a reload of an image: what it leaves, and the reasons why it fails.
 use Rattle.std.proofs.Common.{◌≡◌, ◌≢◌, ℕ, ◌+◌, ◌≤◌, refl, arith, ap, subst, sym, ◌∙◌, Bool, true, false, cond, List, [], ◌∷◌, Result, Ok, Err, inl, inr}
 use Rattle.std.specs.Prelude.{IfErr, IsOk, OnOk, nat_lt}
 use Rattle.std.specs.List.{AllByRecursion}
@@ -27,7 +27,7 @@ use Rattle.qcow2_image.specs.declared.tables.Tables.{Tables}
 use Rattle.qcow2_image.specs.Steps.{DiffersElsewhere, IsFirstFault, WhyNotReloaded, reloaded_header}
 use Rattle.qcow2_image.proofs.OpenRefusals.{reading-refusal}
 
--- A storage that dropped what it has cached is the same.
+-- If the fault count is the same too, the storage is unchanged.
 pub same-state : (s s' : StorageState) → UnchangedButFaults s s' → s'.faults ≡ s.faults → s' ≡ s
 same-state s s' kept faults = λ i. record {
   shape = kept.shape i;
@@ -38,13 +38,13 @@ same-state s s' kept faults = λ i. record {
   past_crash_images = kept.past_crash_images i;
 }
 
--- Where it refuses, nothing is loaded for that.
+-- A resource error explains `NotLoaded` with any header.
 pub refused-why : (r : Result Header Fault) (s s' : StorageState) (fault : Fault) → Cause s.faults s'.faults fault → NotLoaded r s s' fault
 refused-why r s s' Memory why = why
 refused-why r s s' Storage why = why
 refused-why r s s' fault why = absurd why
 
--- What keeps a file from being opened for reading keeps it from being read anew, and so does a damaged refcount table, where it is written.
+-- A file that can't be opened read-only can't be reloaded. Neither can a writable image with a damaged refcount table.
 anew-refused : (w : Bool) (f : Bytes) (fault : Fault) → header_for false f ≡ Err fault → reloaded_header w f ≡ Err fault
 unfolding reloaded_header
 anew-refused w f fault is = rw is refl
@@ -54,7 +54,7 @@ counts-refused : (w : Bool) (f : Bytes) (H : Header) → header_for false f ≡ 
 unfolding reloaded_header
 counts-refused w f H opens is bad = rw (opens, is, bad) refl
 
--- Why the header isn't loaded,
+-- The reasons why the header isn't loaded.
 pub header-why : (w : Bool) (f : Bytes) (H : Header) (s s' : StorageState) (fault : Fault) → NotLoaded (header_for false f) s s' fault
     → fault ≢ DamagedTable → WhyNotReloaded w f H s.faults s'.faults fault
 header-why w f H s s' DamagedHeader why before = anew-refused w f DamagedHeader why.0
@@ -65,7 +65,7 @@ header-why w f H s s' Memory why before = tt
 header-why w f H s s' Storage why before = why
 header-why w f H s s' fault why before = absurd (reading-refusal false f fault why.0)
 
--- why one isn't taken over behind which something isn't loaded: first because it can't change so,
+-- The header was loaded, and then something else failed. A header that can't replace the open one comes first.
 module _ (w : Bool) (f : Bytes) (H H' : Header) (loads : header_of false f ≡ Ok H') where
   first-of : (a b : ℕ) (fault first : Fault) → IsFirstFault H' H fault first
       → (with_places_of H' H ≡ H' → WhyNotReloaded w f H a b fault) → WhyNotReloaded w f H a b first
@@ -76,7 +76,7 @@ module _ (w : Bool) (f : Bytes) (H H' : Header) (loads : header_of false f ≡ O
   alike : with_places_of H' H ≡ H' → DiffersElsewhere (header_of false f) H → ⊥
   alike same differs = subst (λ r. DiffersElsewhere r H) loads differs same
 
-  -- or else by what isn't loaded: the L1 table,
+  -- Otherwise the error is that of the L1 table.
   pub first-why : (s s' : StorageState) (fault first : Fault) → IsFirstFault H' H fault first → NotLoaded (header_for false f) s s' fault
       → WhyNotReloaded w f H s.faults s'.faults first
   first-why s s' fault first is why = first-of s.faults s'.faults fault first is (λ same. from same fault why) where
@@ -89,7 +89,7 @@ module _ (w : Bool) (f : Bytes) (H H' : Header) (loads : header_of false f ≡ O
     from same Storage why = why
     from same fault why = absurd (reading-refusal false f fault why.0)
 
-  -- or the free space,
+  -- Otherwise the error is that of the free space.
   pub first-counts : header_for false f ≡ Ok H' → (a b : ℕ) (fault first : Fault) → IsFirstFault H' H fault first
       → WhyNoSpace f H'.fields w a b fault → WhyNotReloaded w f H a b first
   first-counts opens a b fault first is why = first-of a b fault first is (λ same. from same fault why) where
@@ -99,13 +99,12 @@ module _ (w : Bool) (f : Bytes) (H H' : Header) (loads : header_of false f ≡ O
     from same Storage why = why
     from same fault why = absurd why
 
--- and why a header that was loaded isn't taken over.
+-- The reason why a loaded header can't replace the open one.
 pub updating-why : (w : Bool) (f : Bytes) (H H' : Header) (a b : ℕ) (fault : Fault) → header_of false f ≡ Ok H' → with_places_of H' H ≢ H'
     → fault ≡ Unsupported → WhyNotReloaded w f H a b fault
 updating-why w f H H' a b fault loads differs is =
     subst (WhyNotReloaded w f H a b) (sym is) (inr (subst (λ r. DiffersElsewhere r H) (sym loads) differs))
 
--- A refusal to load the free space leaves no fewer faults.
 pub counts-later : (f : Bytes) (H : Header) (w : Bool) (s s' : StorageState) (fault : Fault) → UnchangedButFaults s s' → WhyNoSpace f H.fields w s.faults s'.faults fault
     → CountsNotFallen s s'
 counts-later f H w s s' fault kept why = record { faults = more fault why; refusals = omega (arith, kept.refusals) } where
@@ -115,7 +114,7 @@ counts-later f H w s s' fault kept why = record { faults = more fault why; refus
   more DamagedTable why = let same = why.2 in omega (arith, same)
   more fault why = absurd why
 
--- Where what is in memory is the file's, and its refcount table isn't damaged, only memory and the storage refuse the free space.
+-- If memory was coherent and the refcount table isn't damaged, only resource errors keep the free space from being loaded.
 pub counts-fine : (f : Bytes) (H H' : Header) (w : Bool) (a b : ℕ) (fault first : Fault) → header_of false f ≡ Ok H → header_of false f ≡ Ok H'
     → (w ≡ true → refcount_table_sound f H.fields ≡ true) → IsFirstFault H' H fault first → WhyNoSpace f H'.fields w a b fault
     → Cause a b first
@@ -136,7 +135,7 @@ counts-fine f H H' w a b fault first was loads sound is why = of-first is where
   of-first (inl x) = subst (Cause a b) (sym x.1) (from fault why)
   of-first (inr x) = absurd (x.0 (subst (λ (y : Header). with_places_of y H ≡ y) (sym same) refl))
 
--- What was loaded is the file's, while nothing is cached.
+-- Memory is what the file says after a load, as nothing is cached.
 pub seen-anew : {S : Type 0} (g : Ghosts S) (t : Tables S g) (before : StorageState) (H : Header) → g.state t.file.image ≡ before → t.file.header ≡ H
     → cached_in t.caches ≡ record { tables = []; blocks = [] } → header_of false (bytes_of before.bytes) ≡ Ok H
     → has_external_data H.fields ≡ false → IsL1Of (bytes_of before.bytes) H.fields t.l1 → IsCacheCoherent g t
@@ -152,14 +151,13 @@ pub on-ok : {T : Type 0} (r : Result T Fault) (P : Type 0) → P → OnOk r P
 on-ok (Ok v) P p = p
 on-ok (Err e) P p = tt
 
--- What is in memory already is taken over.
+-- A header that is in memory already can replace itself.
 pub never-differs : (f : Bytes) (H H' : Header) → header_of false f ≡ Ok H → header_of false f ≡ Ok H' → with_places_of H' H ≢ H' → ⊥
 never-differs f H H' was loads differs =
     let same : H' ≡ H = cc (sym loads ∙ was) in
     differs (subst (λ x. with_places_of x H ≡ x) (sym same) refl)
 
 module _ {V : Type 0} where
-  -- Where nothing is pinned nothing is kept,
   none-kept : (es : List (ℕ × Slot V)) → pinned_in es ≡ 0 → kept_pinned es ≡ []
   none-kept [] none = refl
   none-kept (e ∷ es) none =
@@ -169,11 +167,11 @@ module _ {V : Type 0} where
         | inr free ↦ let rest = own ∙ ap (λ b. cond b 1 0 + pinned_in es) free in rw free (none-kept es (omega (arith, rest, none)))
       ]
 
-  -- so that all is dropped,
+  -- If nothing is pinned, everything is dropped.
   pub drops-all : (es es' : List (ℕ × Slot V)) (result : Result Unit Fault) → Dropped es result es' → pinned_in es ≡ 0 → es' ≡ []
   drops-all es es' result dropped none = dropped.keeps_pinned ∙ none-kept es none
 
-  -- and nothing refuses that.
+  -- If nothing is pinned, the drop succeeds.
   pub drops-ok : (es es' : List (ℕ × Slot V)) (result : Result Unit Fault) → Dropped es result es' → pinned_in es ≡ 0 → IsOk result
   drops-ok es es' result dropped none = from result dropped.err where
     from : (r : Result Unit Fault) → IfErr r (λ fault. (fault ≡ CacheFull) × (kept_pinned es ≡ [] → ⊥)) → IsOk r

@@ -1,4 +1,4 @@
--- What a call needs of the layers below, and how an image stays what it was as the call began.
+-- Lemmas on what a call needs of the layers below, and on the changes of an image since the call began.
 use Rattle.std.proofs.Common.{◌≡◌, ℕ, ◌+◌, ◌-◌, ◌*◌, ◌/◌, ◌%◌, ◌^◌, ◌<◌, ◌≤◌, refl, arith, ap, sym, subst, ◌∙◌, inl, inr, Some, List}
 use Rattle.std.specs.Prelude.{◌⊎◌, Bool, None, false, length, min, slice_index, true}
 use Rattle.std.proofs.lemmas.Bool.{cases_lt}
@@ -22,7 +22,6 @@ use Rattle.qcow2_image.specs.Writing.{ComesToBytes, IsNeeded, NeedsValue, Since}
 use Rattle.qcow2_image.specs.declared.qcow2.Qcow2.{Qcow2}
 use Rattle.qcow2_image.specs.Leaking.{KeepsLeaks}
 
--- Changes of places to bytes add up.
 bytes-then : (a b c : ℕ → Cell) → ComesToBytes a b → ComesToBytes b c → ComesToBytes a c
 bytes-then a b c first second p = elim (second p) [
   | inr given ↦ inr given
@@ -32,7 +31,7 @@ bytes-then a b c first second p = elim (second p) [
   ]
 ]
 
--- An image that has become another in which each place that can be written can be still, and shows what it did or a byte of its own.
+-- A step that keeps writable locations, gives bytes and keeps the leaks preserves `Since`.
 pub since-as : {S : Type 0} (g : Ghosts S) (d old new : Qcow2 S g) → ((p : ℕ) (at : ℕ × ℕ) → writable_locations_of g old p ≡ Some at → writable_locations_of g new p ≡ Some at)
     → ComesToBytes (layer_of g old).cell (layer_of g new).cell
     → new.tables.file.header.fields.size ≡ old.tables.file.header.fields.size
@@ -46,7 +45,7 @@ since-as g d old new writable_locations cells size bits leaks since = record {
   leaks = λ c. let first = since.leaks c in let second = leaks c in omega (arith, first, second);
 }
 
--- A place shows what it did, or a byte, behind a commit,
+-- After a commit a byte of the run has the same cell, or a byte of its own.
 pub settles-byte : (h : Held) (was is : Cell) → CommitsPlace h was is → (is ≡ was) ⊎ ((b : ℕ) × (is ≡ own (byte b)))
 settles-byte loose was is done = inl done
 settles-byte (beside b) was is done = inr (b, done)
@@ -63,7 +62,7 @@ takes-byte b loose h' was is done = inr (b, done.0)
 takes-byte b (beside x) h' was is done = inr (b, done.0)
 takes-byte b (inside copied written announced) h' was is done = inl done.0
 
--- and behind a write.
+-- The same holds for each byte after a write.
 pub wrote-byte : (old new : Layer) (guest : ℕ) (bytes : List ℕ) → Wrote old new guest bytes → ComesToBytes old.cell new.cell
 wrote-byte old new guest bytes w p = elim (cases_lt p guest) [
   | inl before ↦ inl (w.others p (inl before)).0
@@ -83,7 +82,6 @@ module _ (c size offset n : ℕ) (one : 0 < c) (some : 0 < n) (inside : offset +
   abbrev unit : ℕ
   unit = offset / c
 
-  -- A place in the cluster of another is of that unit.
   of-unit : (p : ℕ) → p / c ≡ unit → p < size → IsOfUnit c size unit p
   of-unit p same on =
       let here : p / c * c ≡ unit * c = ap (λ (x : ℕ). x * c) same in
@@ -94,7 +92,7 @@ module _ (c size offset n : ℕ) (one : 0 < c) (some : 0 < n) (inside : offset +
   first-of : IsOfUnit c size unit offset
   first-of = of-unit offset refl (omega (arith, some, inside))
 
-  -- Where a call covers the first cluster whole, so does a range that cuts none such, and its part in that cluster.
+  -- If a call covers the first cluster completely, so does the range's part in it, as the range cuts no such cluster.
   whole-part : (start length : ℕ) → IsUncutAt c size start length offset → IsUncutAt c size start length (offset + n)
       → IsWholeUnit c size start length unit → IsWholeUnit c size offset (min n (c - offset % c)) unit
   whole-part start length uncut-start uncut-end whole =
@@ -114,7 +112,7 @@ module _ (c size offset n : ℕ) (one : 0 < c) (some : 0 < n) (inside : offset +
 some-true : (b : Bool) → Some b ≡ Some true → b ≡ true
 some-true b is = cc is
 
--- A place that is needed for a part of a range is needed by the call that the range is a part of: it shows what it did as that began.
+-- A byte that is needed for a part of a range is needed by the whole call. It had the same value when the call began.
 module _ {S : Type 0} (g : Ghosts S) (old d : Qcow2 S g) (since : Since g d old) (below : List Layer) (asked : Asked) (call : Call)
     (some : 0 < asked.length) (inside : asked.offset + asked.length ≤ old.tables.file.header.fields.size)
     (uncut : IsUncutPart (layer_of g old) call asked.offset asked.length) (same : Some asked.overwrite ≡ announces call) where
@@ -138,7 +136,7 @@ module _ {S : Type 0} (g : Ghosts S) (old d : Qcow2 S g) (since : Since g d old)
         (whole-part c h.size asked.offset asked.length one some inside (offset_of call) (length_of call) uncut.start uncut.end whole);
   }
 
-  -- it shows the same, where that is no byte
+  -- If the value isn't a byte, it was the same when the call began.
   shown-since : (value : Value) → ((b : ℕ) → byte b ≡ value → ⊥) → (p : ℕ) → through ((layer_of g old).cell p) (at below p) ≡ value
       → through ((layer_of g d).cell p) (at below p) ≡ value
   shown-since value none p shows = elim (since.cells p) [

@@ -1,4 +1,4 @@
--- What calls leave that begin to change an image, or are refused before.
+-- Lemmas on `Begins`: calls that begin to change an image, or fail before.
 use Rattle.std.proofs.Common.{◌≡◌, refl, ap, sym, subst, ◌∙◌, inl, inr, ℕ, Bool, false, true, Option, Some, None, Result, Ok, Err}
 use Rattle.std.specs.Prelude.{IsSome, IsTrue, is_some, not}
 use Rattle.std.proofs.lemmas.Bool.{cases_Bool}
@@ -25,7 +25,7 @@ use Rattle.qcow2_image.specs.declared.qcow2.Qcow2.{Qcow2}
 use Rattle.qcow2_image.specs.declared.tables.Tables.{Tables}
 use Rattle.qcow2_image.proofs.Steps.{keeps-as, keeps-both, tables-same, unmarked}
 
--- A storage's fault marks an image in a change, as does want of memory once that has begun, and nothing takes a mark away.
+-- A failed image stays failed.
 pub still-cut : {T : Type 0} (r : Result T Fault) (begun f : Bool) → IsTrue f → IsTrue (failed_by_resource_error r begun f)
 still-cut (Ok v) begun f was = was
 still-cut (Err Memory) true f was = refl
@@ -39,26 +39,26 @@ whole-cut (Err Memory) begun f whole = absurd whole
 whole-cut (Err Storage) begun f whole = absurd whole
 whole-cut (Err fault) begun f whole = refl
 
--- Before it has begun a storage's fault alone does.
+-- Before a change has begun, only a storage fault sets the image to failed.
 unbegun-cut : {T : Type 0} (r : Result T Fault) (f : Bool) → failed_by_resource_error r false f ≡ failed_after failed_by r f
 unbegun-cut (Ok v) f = refl
 unbegun-cut (Err Memory) f = refl
 unbegun-cut (Err Storage) f = refl
 unbegun-cut (Err fault) f = refl
 
--- What there was no place for wasn't cut off.
+-- `Fault::Limit` isn't a resource error.
 pub full-whole : (r : Result ℕ Fault) → full_by r ≡ true → HadNoResourceError r
 full-whole (Err (Limit number)) full = tt
 full-whole (Ok v) full = absurd (cc full)
 full-whole (Err e) full = absurd (cc full)
 
--- the same whatever would have been answered
+-- The type of the result doesn't matter.
 cut-same : (T U : Type 0) (e : Fault) (f : Bool) → failed_by_resource_error {T = T} (Err e) true f ≡ failed_by_resource_error {T = U} (Err e) true f
 cut-same T U Memory f = refl
 cut-same T U Storage f = refl
 cut-same T U e f = refl
 
--- What was spared is seen still, with nothing cached and the same words of the L1 table.
+-- If only fault counts change and nothing is cached, memory stays coherent.
 seen-spared : {S : Type 0} (g : Ghosts S) (old new : Tables S g) → UnchangedButFaults (g.state old.file.image) (g.state new.file.image)
     → new.file.header ≡ old.file.header → HasEntriesOf old.l1 new.l1 → AreEmpty new.caches → IsCacheCoherent g old → IsCacheCoherent g new
 seen-spared g old new kept header raw_entries empty seen =
@@ -72,14 +72,14 @@ seen-spared g old new kept header raw_entries empty seen =
     }
 
 module _ {S : Type 0} (g : Ghosts S) where
-  -- A call that does nothing begins nothing,
+  -- A call that does nothing begins nothing.
   pub begins-same : {T : Type 0} (was : Bool) (d : Qcow2 S g) (r : Result T Fault) → HadNoResourceError r → Begins g was d r was d
   begins-same {T} was d r whole = record {
     left_untouched = λ not. (not, record { tables = tables-same g d r; mode = refl; number = refl; unspent = refl; failed = sym (unmarked r d.failed whole) });
     marked = λ is. sym (whole-cut r true d.failed whole);
   }
 
-  -- as does one of changes that hasn't begun.
+  -- A change of clusters that hasn't begun keeps the image.
   pub changed-begins : {T : Type 0} (was now : Bool) (old : Qcow2 S g) (mid : Tables S g) (space space' : Space) (caches : MetadataCaches S)
       (result : Result T Fault) → old.tables.space ≡ Some space → mid.space ≡ Some space'
       → CountsNotFallen (g.state old.tables.file.image) (g.state mid.file.image)
@@ -113,7 +113,7 @@ module _ {S : Type 0} (g : Ghosts S) where
     below (Err Storage) whole = absurd whole
     below (Err fault) whole = tt
 
-  -- Two calls, one behind the other, of which the first wasn't cut off.
+  -- Two calls one after another. The first had no resource error.
   pub begins-then : {T U : Type 0} (was between now : Bool) (old mid new : Qcow2 S g) (first : Result T Fault) (result : Result U Fault)
       → HadNoResourceError first → Begins g was old first between mid → Begins g between mid result now new → Begins g was old result now new
   begins-then {T} {U} was between now old mid new first result whole one two = record {
@@ -132,7 +132,7 @@ module _ {S : Type 0} (g : Ghosts S) where
       | inr has_no_dirty_data ↦ (one.left_untouched has_no_dirty_data).1.failed ∙ unmarked first old.failed whole
     ]
 
-  -- One that answers something else,
+  -- The call may return another value.
   pub begins-ok : {T U : Type 0} (was now : Bool) (old new : Qcow2 S g) (v : T) (w : U) → Begins g was old (Ok v) now new
       → Begins g was old (Ok w) now new
   begins-ok {T} {U} was now old new v w b = record {
@@ -140,7 +140,7 @@ module _ {S : Type 0} (g : Ghosts S) where
     marked = b.marked;
   }
 
-  -- or is refused.
+  -- The type of the result may be another, with the same error.
   pub begins-err : {T U : Type 0} (was now : Bool) (old new : Qcow2 S g) (e : Fault) → Begins {T = T} g was old (Err e) now new
       → Begins {T = U} g was old (Err e) now new
   begins-err {T} {U} was now old new e b = record {
@@ -155,7 +155,7 @@ module _ {S : Type 0} (g : Ghosts S) where
       begins-ok {T = ℕ} {U = Placed} was now old new host (record { host = host; count = n; is_kept = false }) b
   begins-placed n was now old new (Err e) b = begins-err {T = ℕ} {U = Placed} was now old new e b
 
-  -- That the free space comes to be known begins a call, and else nothing was done.
+  -- Loading the free space begins a call. If the free space was loaded before, nothing was done.
   pub begins-loaded : (old new : Qcow2 S g) (begun : Bool) → is_some old.tables.space ≡ not begun → LoadsSpace g old (Ok tt) new
       → Begins {T = Unit} g false old (Ok tt) begun new
   begins-loaded old new begun is loads = record {
@@ -170,13 +170,13 @@ module _ {S : Type 0} (g : Ghosts S) where
     known (Some space) some = refl
     known None some = absurd (cc some)
 
-  -- A refusal of a call that only looks leaves the image marked, or all as it was.
+  -- A resource error of a lookup leaves the image failed or unchanged.
   pub quiet-marked : {T : Type 0} (old new : Qcow2 S g) (e : Fault) → KeepsImage {T = T} g old (Err e) new → LeavesMarkedFailed g old new e
   quiet-marked {T} old new Storage k = k.failed
   quiet-marked {T} old new Memory k = inr (keeps-as {T = T} {U = Unit} g old new (Err Memory) (Err Memory) (λ w. w) (λ f. refl) k)
   quiet-marked {T} old new e k = tt
 
-  -- So does one of a change.
+  -- A resource error of a change leaves the image failed or unchanged.
   pub begins-marked : {T : Type 0} (now : Bool) (old new : Qcow2 S g) (e : Fault) → Begins {T = T} g false old (Err e) now new
       → LeavesMarkedFailed g old new e
   begins-marked {T} now old new e b = elim (cases_Bool now) [

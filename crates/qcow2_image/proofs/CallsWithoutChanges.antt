@@ -1,4 +1,4 @@
--- Calls of a driver that leave all as it was: it has failed, they have nothing to do, or it declines them.
+-- Lemmas on driver calls that change nothing: the image has failed, the range is empty, or the call is declined.
 use Rattle.std.proofs.Common.{◌≡◌, ℕ, ◌+◌, ◌<◌, ◌≤◌, Bool, true, false, List, Result, Ok, Err, Option, Some, None, refl, sym, ◌∙◌, inl, inr, arith}
 use Rattle.std.specs.Prelude.{⊤, ◌⊎◌, IsSome, eqb, zero, suc, length, max, IsFalse, if◌then◌else◌}
 use Rattle.imago_storage.specs.Disk.{Value}
@@ -23,14 +23,14 @@ use Rattle.imago_access.proofs.Stopping.{passes_none}
 use Rattle.imago_access.proofs.Untouched.{unchanged_same}
 use borrow.Author.Tests.{ne_eqb}
 
--- a layer that has failed refuses each call
+-- A layer that has failed refuses every call.
 pub failed-barrier : (layer : Layer) → layer.failed ≡ true → unusable_fault layer ≡ Some Failed
 failed-barrier layer failed = rw failed refl
 
 pub failed-refusal : (layer : Layer) (offset n : ℕ) → layer.failed ≡ true → own_refusal layer offset n ≡ Some Failed
 failed-refusal layer offset n failed = rw failed refl
 
--- one that runs, and has its storages, refuses none for itself, nor an empty range
+-- A layer that hasn't failed, and has its storages, refuses neither by itself nor for an empty range.
 pub runs-barrier : (layer : Layer) → layer.failed ≡ false → layer.fixed.missing ≡ false → unusable_fault layer ≡ None
 runs-barrier layer runs there = rw (runs, there) refl
 
@@ -41,7 +41,7 @@ empty-refusal layer offset n runs there none = rw (runs, there, none) refl
 pub failed-runs : (layer : Layer) → layer.failed ≡ true → unusable_fault layer ≡ None → ⊥
 failed-runs layer failed runs = absurd (cc (runs, failed-barrier layer failed))
 
--- Facts of a range that has nothing to do.
+-- Conditions on a range that can't hold together.
 pub not-inside : {a b : ℕ} → a < b → b ≤ a → ⊥
 not-inside inside past = omega (arith, inside, past)
 
@@ -78,7 +78,7 @@ module _ {D St : Type 0} (g : Ghosts D St) where
   stops-same below least most gives d =
       passes_none (Left below (g.layer d) (g.image d).bytes g.sound least most gives) (g.image d) (g.image d) refl (refl, refl, refl, refl)
 
-  -- What a call does at once: of a driver that has failed, and where it has nothing to do.
+  -- The early outcome of a failed driver, and of a call with nothing to do.
   pub failed-early_outcome : {T : Type 0} (refusal : Option Fault) (nothing : Type 0) (d : D) → unusable_fault (g.layer d) ≡ Some Failed
       → refusal ≡ Some Failed
       → EarlyOutcome {T = T} g refusal nothing (Err Failed) d d
@@ -104,7 +104,7 @@ module _ {D St : Type 0} (g : Ghosts D St) where
     unchanged = λ h. unchanged_same g d;
   }
 
-  -- a call that isn't refused at once and has something to do may do anything
+  -- A call that has no early error and something to do has no early outcome.
   pub busy-early_outcome : {T : Type 0} (refusal : Option Fault) (nothing : Type 0) (r : Result T Fault) (old new : D) → refusal ≡ None
       → (nothing → ⊥)
       → EarlyOutcome g refusal nothing r old new
@@ -117,7 +117,7 @@ module _ {D St : Type 0} (g : Ghosts D St) where
   pub busy-neither : (refusal : Option Fault) (nothing : Type 0) → refusal ≡ None → (nothing → ⊥) → nothing ⊎ IsSome refusal → ⊥
   busy-neither refusal nothing is busy h = elim h [ inl none ↦ busy none | inr some ↦ absurd (cc (some, is)) ]
 
-  -- What a resize does at once.
+  -- The early outcome of a resize.
   pub resizes-failed : (first second : ℕ) (d : D) → IsFree (g.layer d) → unusable_fault (g.layer d) ≡ Some Failed
       → Resizes g first second (Err Failed) d d
   resizes-failed first second d free barred = record {
@@ -149,7 +149,7 @@ module _ {D St : Type 0} (g : Ghosts D St) where
     read_only = λ _ _ closed. (rw (why closed) refl, unchanged_same g d);
   }
 
-  -- What a shrink does.
+  -- A shrink that has nothing to do, or fails.
   pub shrinks-idle : (size : ℕ) (d : D) → (g.layer d).size ≤ size → Shrinks g size (Ok tt) d d
   shrinks-idle size d high = record {
     ok = λ well_formed low. absurd (omega (arith, low, high));
@@ -166,7 +166,7 @@ module _ {D St : Type 0} (g : Ghosts D St) where
     mutating_call = went_same g (IsNotResourceError e) (IsNotResourceError e) d;
   }
 
-  -- Why it is refused.
+  -- The errors of a shrink.
   pub shrink-failed : (size : ℕ) (d : D) → unusable_fault (g.layer d) ≡ Some Failed → ShrinkRefused g size (Err Failed) d d
   shrink-failed size d barred = record { failed = tt; marks_failed = tt; cause = λ well_formed below. inl barred }
 
@@ -179,7 +179,7 @@ module _ {D St : Type 0} (g : Ghosts D St) where
   shrink-declined size true d is lt own = record { failed = tt; marks_failed = tt; cause = λ well_formed below. own below }
   shrink-declined size false d is lt own = record { failed = tt; marks_failed = tt; cause = λ well_formed below. (lt, is) }
 
-  -- What a write to a mapping does.
+  -- A write to a mapping that has nothing to do, or fails.
   pub writes-nothing : (guest place : ℕ) (bytes : List ℕ) (d : D) → length bytes ≡ 0 → WritesMapped g guest place bytes (Ok tt) d d
   writes-nothing guest place bytes d none = record {
     mapped = λ seen some. absurd (not-some some none);
@@ -211,7 +211,7 @@ module _ {D St : Type 0} (g : Ghosts D St) where
     stays_begun = λ e call begun. tt;
   }
 
-  -- Why it is refused.
+  -- The errors of a write to a mapping.
   pub writing-failed : (guest place n : ℕ) (d : D) → unusable_fault (g.layer d) ≡ Some Failed → WritingRefused g guest place n (Err Failed) d d
   writing-failed guest place n d barred = record { failed = tt; marks_failed = tt; cause = λ well_formed. inl barred }
 
@@ -223,7 +223,7 @@ module _ {D St : Type 0} (g : Ghosts D St) where
   writing-outdated guest place n old new some unmapped = record { failed = tt; marks_failed = tt; cause = λ well_formed. (some, unmapped well_formed) }
 
 module _ {D St B : Type 0} (g : Ghosts D St) (u : GhostsBelow B) where
-  -- What a preparation does of a driver that has failed.
+  -- A preparation by a driver that has failed.
   pub prepares-failed : (asked : Asked) (d : D) (b : B) → unusable_fault (g.layer d) ≡ Some Failed → Prepares g u asked (Err Failed) (d, b) (d, b)
   prepares-failed asked d b barred = record {
     ok = λ well_formed see. tt;
@@ -237,7 +237,7 @@ module _ {D St B : Type 0} (g : Ghosts D St) (u : GhostsBelow B) where
     refused = record { failed = tt; marks_failed = tt; cause = λ well_formed see e call begun part over. inl barred };
   }
 
-  -- What a growth does.
+  -- A growth that has nothing to do, or fails.
   pub grows-idle : (size : ℕ) (mode : PreallocateMode) (d : D) (b : B) → size ≤ (g.layer d).size → Grows g u size mode (Ok tt) (d, b) (d, b)
   grows-idle size mode d b low = record {
     ok = λ well_formed see high. absurd (omega (arith, low, high));
@@ -254,7 +254,7 @@ module _ {D St B : Type 0} (g : Ghosts D St) (u : GhostsBelow B) where
     mutating_call = went_same g (IsNotResourceError e) (IsNotResourceError e × u.coherent_below b) d;
   }
 
-  -- Why it is refused.
+  -- The errors of a growth.
   pub growth-failed : (size : ℕ) (mode : PreallocateMode) (d : D) (b : B) → unusable_fault (g.layer d) ≡ Some Failed
       → GrowthRefused g u size mode (Err Failed) (d, b) (d, b)
   growth-failed size mode d b barred = record { failed = tt; marks_failed = tt; cause = λ well_formed see. inl barred }

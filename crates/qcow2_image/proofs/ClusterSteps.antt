@@ -1,4 +1,4 @@
--- What single changes of its clusters leave of an image.
+-- Lemmas on single changes of clusters: what each call of `allocating.rt` leaves of an image.
 use Rattle.std.proofs.Common.{◌≡◌, ◌≢◌, ℕ, ◌+◌, ◌-◌, ◌*◌, ◌/◌, ◌^◌, ◌<◌, ◌≤◌, refl, arith, ap, sym, subst, ◌∙◌, inl, inr, Bool, true, false, List, [], length, Option, Some, None, Result, Ok, Err}
 use Rattle.std.proofs.Math.Nat.{le-max_left, le-max_right}
 use Rattle.std.proofs.lemmas.Bool.{cases_eq, cases_lt, le-ltb, ne_eqb}
@@ -37,7 +37,7 @@ use Rattle.qcow2_steps.specs.LongerL1.{old_l1}
 use Rattle.qcow2_steps.proofs.Headers.{header-counts}
 use Rattle.qcow2_clusters.specs.Freeing.{FreesPendingClusters}
 use Rattle.qcow2_clusters.specs.Lengthening.{IsTooLong, LengthensL1, clusters_for, l1_clusters}
-use Rattle.qcow2_clusters.specs.MakingTables.{CopiesTable, HasTable, IsTableless, IsTopRawEntry, MakesTable, NamesNewTable, given_up}
+use Rattle.qcow2_clusters.specs.MakingTables.{CopiesTable, HasTable, IsTableless, IsTopRawEntry, MakesTable, NamesNewTable, replaced_table}
 use Rattle.qcow2_clusters.specs.Progress.{Kind, Progresses, handing}
 use Rattle.qcow2_clusters.specs.Flushed.{Clusters, IsReady, clusters_state, flushed_metadata}
 use Rattle.qcow2_clusters.specs.Room as room
@@ -81,7 +81,7 @@ pub none-some : {A : Type 0} (o : Option Space) → o ≡ None → IsSome o → 
 none-some None is some = absurd (cc some)
 none-some (Some x) is some = absurd (cc is)
 
--- An image whose free space wasn't loaded: what was in memory is what was, and a storage's fault marks it.
+-- The free space couldn't be loaded: memory is unchanged, and a storage fault sets the image to failed.
 module _ {S : Type 0} (g : Ghosts S) (old new : Qcow2 S g) (fault : Fault) (mid : Tables S g)
     (is : new ≡ record old { tables = mid; failed = failed_by fault old.failed }) (none : old.tables.space ≡ None)
     (header : mid.file.header ≡ old.tables.file.header) (l1 : mid.l1 ≡ old.tables.l1) (caches : mid.caches ≡ old.tables.caches)
@@ -135,7 +135,7 @@ module _ {S : Type 0} (g : Ghosts S) (old new : Qcow2 S g) (fault : Fault) (mid 
     faults = tt;
   }
 
--- One whose free space was loaded.
+-- The free space was loaded.
 pub loaded : {S : Type 0} (g : Ghosts S) (old new : Qcow2 S g) (space : Space) → old.tables.space ≡ None → new.tables.space ≡ Some space
     → new.mode ≡ old.mode → new.number ≡ old.number → new.unspent ≡ old.unspent → new.failed ≡ old.failed → new.tables.l1 ≡ old.tables.l1
     → new.tables.caches ≡ old.tables.caches → new.tables.file.header ≡ old.tables.file.header
@@ -166,13 +166,13 @@ progresses-as ok ok' kind s s' m m' from p = record {
   holds = λ keeps sound whole. p.holds keeps sound (from whole);
 }
 
--- The words of an L1 table are those of the file also where the refcount table has moved.
+-- The L1 entries are those of the file also after the refcount table has moved.
 l1-moved : (f : Bytes) (H H' : Header) (top : TableValue) → MovedTable H H' → IsL1Of f H.fields top → IsL1Of f H'.fields top
 unfolding l1_table_sound
 l1-moved f H H' top moved of =
     subst (λ (K : Header). IsL1Of f K.fields top) (sym moved.2) (record { layout = of.layout; raw_entries = of.raw_entries; sound = of.sound })
 
--- Where the L1 table in memory names an L2 table, that is over the guest cluster;
+-- An L2 table that the L1 table in memory references is the one of the guest cluster.
 table-over : (f : Bytes) (h : Fields) (top : TableValue) → IsL1Of f h top → (guest table : ℕ) → place_of_table top.raw_entries h.cluster_bits guest ≡ Some table
     → (table ≢ 0) × (guest / entries_of_cluster h < h.l1_entries) × (l2_table f h (guest / entries_of_cluster h) ≡ table * cluster_size h)
 table-over f h top of guest table named = (
@@ -191,7 +191,7 @@ table-over f h top of guest table named = (
       let is : (table_offset (slice_index top.raw_entries (guest / entries_of_cluster h)) == 0) ≡ true = rw (place-named f h top of guest table named ∙ none) refl in
       cc (sym (some-offset f h top of guest table named) ∙ is)
 
--- and where it names none, there is none.
+-- If the L1 table in memory references none, the guest cluster has none.
 table-none : (f : Bytes) (h : Fields) (top : TableValue) → IsL1Of f h top → (guest : ℕ) → place_of_table top.raw_entries h.cluster_bits guest ≡ None
     → l2_table f h (guest / entries_of_cluster h) ≡ 0
 table-none f h top of guest none = place-in-file f h top of (guest / entries_of_cluster h) ∙ from _ none where
@@ -201,7 +201,7 @@ table-none f h top of guest none = place-in-file f h top of (guest / entries_of_
     | inr some ↦ absurd (let there : (if n == 0 then None else Some (n / 2 ^ h.cluster_bits)) ≡ Some (n / 2 ^ h.cluster_bits) = rw (ne_eqb n 0 some) refl in cc (sym is ∙ there))
   ]
 
--- A call of changes has left an image at rest again.
+-- After a call that changes clusters the image is flushed again.
 module _ {S T : Type 0} (g : Ghosts S) (old : Qcow2 S g) (begun : Bool) (mid : Tables S g) (space space' : Space) (caches : MetadataCaches S)
     (result : Result T Fault) (there : old.tables.space ≡ Some space) (there' : mid.space ≡ Some space')
     (rests : Rests g.state (clusters_state old.tables.file caches space) result (clusters_state mid.file mid.caches space')) where
@@ -211,7 +211,7 @@ module _ {S T : Type 0} (g : Ghosts S) (old : Qcow2 S g) (begun : Bool) (mid : T
   pub ready : IsWellFormed g old → IsReady g.state (clusters_state old.tables.file caches space)
   ready well_formed = record { keeps = well_formed.keeps; sound = safe-sound g old space there well_formed }
 
-  -- It gave and set nothing.
+  -- The call changed no value that the guest reads, and no entry of a guest cluster.
   pub advanced-by : (sure : Type 0) (kind : Kind) → (sure → IsWellFormed g old) → ((p : ℕ) (v : Option Value) → kind.gives p v → ⊥)
       → ((guest : ℕ) → kind.set guest → ⊥) → IfSome (holding_in g old.unspent) (LeavesUntouched g (HadNoResourceError result) kind old now space space')
       → (sure → HadNoResourceError result → IsL1Of (file_of g mid) mid.file.header.fields mid.l1)
@@ -244,7 +244,7 @@ module _ {S T : Type 0} (g : Ghosts S) (old : Qcow2 S g) (begun : Bool) (mid : T
         (g.state mid.file.image) (rest_of g old.tables space) (rest_of g mid space') (whole-below result) (progress known);
   })
 
-  -- Nor did it write anything of what was used.
+  -- It wrote to no cluster that was in use.
   pub advanced : (handed taken : ℕ → ℕ) → IfSome (holding_in g old.unspent) (LeavesUntouched g (HadNoResourceError result) (handing handed taken) old now space space')
       → (IsWellFormed g old → HadNoResourceError result → IsL1Of (file_of g mid) mid.file.header.fields mid.l1)
       → (IsWellFormed g old → KeepsNoneFreeBefore g.state (clusters_state old.tables.file caches space) result (clusters_state mid.file mid.caches space'))
@@ -253,14 +253,13 @@ module _ {S T : Type 0} (g : Ghosts S) (old : Qcow2 S g) (begun : Bool) (mid : T
       → KeepsDisk g (HadNoResourceError result) old now
   advanced handed taken = advanced-by (IsWellFormed g old) (handing handed taken) (λ well_formed. well_formed) (λ p v gave. gave) (λ guest is. is)
 
-  -- It leaks what it hands out and doesn't take.
-  pub leaks-by : (kind : Kind) (reserved : ℕ → ℕ) → ((c : ℕ) → kind.newly_allocated c ≡ kind.taken c + reserved c)
+  -- The call leaks the clusters that it allocates and doesn't link.
+  pub leaks-by : (kind : Kind) (reserved : ℕ → ℕ) → ((c : ℕ) → kind.excess_added c ≡ kind.taken c + reserved c)
       → Progresses (going.HadNoResourceError result) kind (g.state old.tables.file.image) (rest_of g old.tables space) (g.state mid.file.image)
       (rest_of g mid space') → IsWellFormed g old → HadNoResourceError result → KeepsLeaksBut g reserved old now
   leaks-by kind reserved given progress well_formed whole =
       advanced-leaks g old now space space' there there' (going.HadNoResourceError result) kind reserved refl given progress well_formed (whole-below result whole)
 
--- While nothing is prepared nothing has to be spared.
 none-spared : {S : Type 0} (g : Ghosts S) (old : Qcow2 S g) (P : PreparedMappingRun → Type 0) → old.unspent ≡ None → IfSome (holding_in g old.unspent) P
 none-spared g old P free = subst (λ u. IfSome (holding_in g u) P) (sym free) tt
 
@@ -283,7 +282,7 @@ if-err : {T : Type 0} (r : Result T Fault) (P Q : Fault → Type 0) → ((e : Fa
 if-err (Ok v) P Q each holds = tt
 if-err (Err e) P Q each holds = each e holds
 
--- Bytes were stored.
+-- Bytes were stored in new clusters.
 module _ {S : Type 0} (g : Ghosts S) (old : Qcow2 S g) (begun : Bool) (mid : Tables S g) (space space' : Space) (caches : MetadataCaches S) (n : ℕ)
     (bytes : List ℕ) (result : Result ℕ Fault) (there : old.tables.space ≡ Some space) (there' : mid.space ≡ Some space') (l1 : mid.l1 ≡ old.tables.l1)
     (free : old.unspent ≡ None) (some : 0 < n)
@@ -322,7 +321,7 @@ module _ {S : Type 0} (g : Ghosts S) (old : Qcow2 S g) (begun : Bool) (mid : Tab
         cause-weaker (storing-allocates g old stored_now (ready g old begun mid space space' caches result there there' stores.rests) (λ number well_formed full. full-in-run g old.tables mid space space' there there' well_formed.searched n number some full)) e) stores.cause;
   }
 
--- They were stored in as many clusters as were asked for, or in one alone, or nowhere.
+-- The bytes were stored in `n` clusters, in a single one, or nowhere.
 module _ {S : Type 0} (g : Ghosts S) (n : ℕ) (bytes : List ℕ) (old : Qcow2 S g) (some : 0 < n) where
   pub most-stored : (new : Qcow2 S g) (host : ℕ) → StoresContent g n bytes old (Ok host) new
       → StoresMost g n bytes old (Ok (record { host = host; count = n; is_kept = false })) new
@@ -369,7 +368,7 @@ module _ {S : Type 0} (g : Ghosts S) (n : ℕ) (bytes : List ℕ) (old : Qcow2 S
     cause = most-why new e is s.cause;
   }
 
-  -- Where one was taken for want of a run, the image was as it is but for what was made for that.
+  -- A failed attempt to allocate `n` clusters came first. It kept the disk.
   module _ (mid new : Qcow2 S g) (number : ℕ) (full : StoresContent g n bytes old (Err (Limit number)) mid) where
     top-then : (ok : Type 0) → KeepsTop g (IsWellFormed g mid × ok) mid new → KeepsTop g (IsWellFormed g old × ok) old new
     top-then ok second = record {
@@ -425,7 +424,7 @@ module _ {S : Type 0} (g : Ghosts S) (n : ℕ) (bytes : List ℕ) (old : Qcow2 S
       cause = cause-weaker alone-implies e s.cause;
     }
 
-  -- By what was answered first, and then.
+  -- Cases by the results of both attempts.
   pub most-behind : (mid new : Qcow2 S g) (stored one : Result ℕ Fault) → full_by stored ≡ true → StoresContent g n bytes old stored mid
       → StoresContent g 1 bytes mid one new → StoresMost g n bytes old (placed_by 1 one) new
   most-behind mid new (Err (Limit number)) (Ok host) is s t = most-alone mid new number s host t
@@ -441,7 +440,7 @@ module _ {S : Type 0} (g : Ghosts S) (n : ℕ) (bytes : List ℕ) (old : Qcow2 S
   most-done new (Ok host) is s = most-stored new host s
   most-done new (Err e) is s = most-unstored new e (inr is) s
 
--- Bytes were written to the cluster that a guest cluster keeps for its zeroes.
+-- Bytes were written to the preallocated zero cluster of a guest cluster.
 module _ {S : Type 0} (g : Ghosts S) (old : Qcow2 S g) (begun : Bool) (mid : Tables S g) (space : Space) (caches : MetadataCaches S) (guest host : ℕ)
     (bytes : List ℕ) (result : Result Unit Fault) (there : old.tables.space ≡ Some space) (there' : mid.space ≡ Some space)
     (l1 : mid.l1 ≡ old.tables.l1) (free : old.unspent ≡ None)
@@ -488,7 +487,7 @@ module _ {S : Type 0} (g : Ghosts S) (old : Qcow2 S g) (begun : Bool) (mid : Tab
     cause = if-err result _ (HasCause (filling_causes g old filled_now)) (λ e. storage-cause _ _ _ (omega arith) (omega arith) e) fills.cause;
   }
 
--- The content was put in what was kept, or in what was free, or nowhere.
+-- The data was put in a preallocated zero cluster, in new clusters, or nowhere.
 module _ {S : Type 0} (g : Ghosts S) (guest : ℕ) (bytes : List ℕ) (old new : Qcow2 S g) where
   own-kept : (host : ℕ) → FillsContent g guest host bytes old (Ok tt) new → HasKept g guest (Some host) old
       → (space : Space) × (new.tables.space ≡ Some space) × (host ≢ 0) × IsOwnAs true (rest_of g new.tables space) guest host
@@ -526,7 +525,7 @@ module _ {S : Type 0} (g : Ghosts S) (guest : ℕ) (bytes : List ℕ) (old new :
     cause = tt;
   }
 
-  -- No place is looked for beside a cluster that is kept.
+  -- If the guest cluster has a preallocated zero cluster, no free one is searched for.
   abbrev lacks-beside : ℕ → Option ℕ → ℕ → Type 0
   lacks-beside n kept number = (kept ≡ None) × LacksFreeRun g 1 (enough_for_run old.tables n) old.tables new.tables number
 
@@ -544,7 +543,7 @@ module _ {S : Type 0} (g : Ghosts S) (guest : ℕ) (bytes : List ℕ) (old new :
     cause = cause-weaker (writing-implies _ (omega arith) (omega arith) (λ wrong. wrong)) e f.cause;
   }
 
-  -- Clusters are stored in where none is kept.
+  -- Clusters are allocated if the guest cluster has no preallocated one.
   keeps-none : (ok : Type 0) → KeepsDisk g ok old new → KeepsDiskWhere g (HasKept g guest None old) ok old new
   keeps-none ok k = record {
     mode = k.mode;
@@ -598,7 +597,7 @@ module _ {S : Type 0} (g : Ghosts S) (guest : ℕ) (bytes : List ℕ) (old new :
     cause = cause-weaker (full-implies g old new (λ number well_formed full. (refl, full))) e s.cause;
   }
 
--- In a safe image the L1 table in memory is the file's, and what it names over a guest cluster, if anything, is a table.
+-- In a well-formed image the L1 table in memory is the file's, and an L2 table that it references is a table.
 module _ {S : Type 0} (g : Ghosts S) (old : Qcow2 S g) (space : Space) (caches : MetadataCaches S) (guest i : ℕ)
     (index : i ≡ guest / entries_of_cluster old.tables.file.header.fields) (inside : i < length old.tables.l1.raw_entries) where
   abbrev top_h : Fields
@@ -627,7 +626,7 @@ module _ {S : Type 0} (g : Ghosts S) (old : Qcow2 S g) (space : Space) (caches :
         (sym over.2 ∙ ap (l2_table (file_of g old.tables) top_h) (sym index) ∙ none);
   }
 
--- A new table was named.
+-- A new L2 table was linked.
 module _ {S : Type 0} (g : Ghosts S) (old : Qcow2 S g) (begun : Bool) (mid : Tables S g) (space space' : Space) (caches : MetadataCaches S) (guest i : ℕ)
     (result : Result ℕ Fault) (asked : Type 0) (handed taken : ℕ → ℕ) (even : (c : ℕ) → handed c ≡ taken c + 0) (there : old.tables.space ≡ Some space)
     (there' : mid.space ≡ Some space') (free : old.unspent ≡ None)
@@ -673,7 +672,7 @@ module _ {S : Type 0} (g : Ghosts S) (old : Qcow2 S g) (begun : Bool) (mid : Tab
   row-inside : IsWellFormed g old → guest / entries_of_cluster was < was.l1_entries
   row-inside well_formed = let long = top-long (file_of g old.tables) was old.tables.l1 well_formed.seen.l1 in omega (arith, inside, index, long)
 
-  -- The L1 table stays as long as it is,
+  -- The L1 table keeps its length.
   long-now : (r : Result ℕ Fault) → result ≡ r → IsWellFormed g old
       → OnOk r (length mid.l1.raw_entries ≡ max (length old.tables.l1.raw_entries) (guest / entries_of_cluster was + 1))
   long-now (Ok t) same well_formed =
@@ -685,7 +684,7 @@ module _ {S : Type 0} (g : Ghosts S) (old : Qcow2 S g) (begun : Bool) (mid : Tab
       omega (arith, new, long, row)
   long-now (Err fault) same well_formed = tt
 
-  -- and there was no room where no table could be made.
+  -- If no table could be made, no free run was long enough.
   no-place : (number : ℕ) → IsWellFormed g old
       → room.IsFull 1 (rest_of g old.tables space) (first_free_of space.allocator) (rest_of g mid space') (first_free_of space'.allocator) number
       → HasNoPlace g (IsForTable g guest old.tables) (guest / entries_of_cluster was) (enough_for_one old.tables) old.tables mid number
@@ -719,7 +718,7 @@ module _ {S : Type 0} (g : Ghosts S) (old : Qcow2 S g) (begun : Bool) (mid : Tab
         cause-weaker (storing-allocates g old made_now (λ well_formed. (is-ready well_formed, as-asked well_formed)) no-place) e) names.cause;
   }
 
--- It is a copy where there was a table, and else one in which nothing is mapped.
+-- The new table is a copy of the old one, or an empty table.
 module _ {S : Type 0} (g : Ghosts S) (old : Qcow2 S g) (begun : Bool) (mid : Tables S g) (space space' : Space) (caches : MetadataCaches S) (guest i : ℕ)
     (result : Result ℕ Fault) (there : old.tables.space ≡ Some space) (there' : mid.space ≡ Some space') (free : old.unspent ≡ None)
     (index : i ≡ guest / entries_of_cluster old.tables.file.header.fields) (inside : i < length old.tables.l1.raw_entries) where
@@ -730,7 +729,7 @@ module _ {S : Type 0} (g : Ghosts S) (old : Qcow2 S g) (begun : Bool) (mid : Tab
   after = clusters_state mid.file mid.caches space'
 
   abbrev taken_by : ℕ → ℕ
-  taken_by c = handed_by result c + given_up (flushed_metadata g.state before) i result c
+  taken_by c = handed_by result c + replaced_table (flushed_metadata g.state before) i result c
 
   lacks-shared : is_copied (slice_index old.tables.l1.raw_entries (guest / entries_of_cluster old.tables.file.header.fields)) ≡ false → IsWellFormed g old
       → LacksTable g guest old.tables
@@ -754,7 +753,7 @@ module _ {S : Type 0} (g : Ghosts S) (old : Qcow2 S g) (begun : Bool) (mid : Tab
       there there' free index inside (lacks-shared (shared table refl))
       (has-table g old space caches guest i index inside table is) (copies refl).named
 
--- There was one that nothing else names.
+-- The guest cluster has a table that nothing else references.
 module _ {S : Type 0} (g : Ghosts S) (d : Qcow2 S g) (guest table : ℕ)
     (named : place_of_table d.tables.l1.raw_entries d.tables.file.header.fields.cluster_bits guest ≡ Some table)
     (marked : is_copied (slice_index d.tables.l1.raw_entries (guest / entries_of_cluster d.tables.file.header.fields)) ≡ true) where
@@ -798,11 +797,10 @@ if-each : {A : Type 0} (o : Option A) (P : A → Type 0) → ((a : A) → P a) �
 if-each None P each = tt
 if-each (Some a) P each = each a
 
--- Nothing waited to be freed.
 pub none-freed : {S : Type 0} (g : Ghosts S) (d : Qcow2 S g) → waits_in d.tables.space ≡ false → FreesPending g d (Ok tt) d
 none-freed g d none = record { keeps = keeps-disk-same g ⊤ d; leaks = λ well_formed whole c. refl; marks_failed = refl; no_shorter = omega arith; idle = λ untouched. (refl, refl); emptied = none; cause = tt }
 
--- What waited was freed.
+-- The free list was emptied.
 module _ {S : Type 0} (g : Ghosts S) (old : Qcow2 S g) (mid : Tables S g) (space space' : Space) (caches : MetadataCaches S)
     (result : Result Unit Fault) (there : old.tables.space ≡ Some space) (there' : mid.space ≡ Some space') (l1 : mid.l1 ≡ old.tables.l1)
     (waits : waits_in old.tables.space ≡ true)
@@ -947,7 +945,7 @@ module _ {S : Type 0} (g : Ghosts S) (old : Qcow2 S g) (begun : Bool) (mid : Tab
     cause = cause-weaker (storing-allocates g old (with_l1 (Err fault)) (λ well_formed. (longer-ready well_formed, well_formed.seen.l1)) no-word) fault longer.cause;
   }
 
--- A table of its own is ensured once there is a word for it.
+-- The guest cluster gets a table of its own after its L1 entry exists.
 module _ {S : Type 0} (g : Ghosts S) (guest i : ℕ) (old mid new : Qcow2 S g) (index : i ≡ guest / entries_of_cluster old.tables.file.header.fields)
     (raw_entry : EnsuresEntry g i old (Ok tt) mid) where
   table-behind : {full full' : ℕ → Type 0} → ((number : ℕ) → IsWellFormed g old → full number → full' number) → Implies (allocation_causes g full mid new) (allocation_causes g full' old new)
@@ -969,7 +967,7 @@ module _ {S : Type 0} (g : Ghosts S) (guest i : ℕ) (old mid new : Qcow2 S g) (
   one-still : IsWellFormed g old → enough_for_one mid.tables ≡ enough_for_one old.tables
   one-still well_formed = ap (λ n. n / 16 + 3 * 1) (raw_entry.leaves well_formed).as_large
 
-  -- The same L2 table is lacking where it is to be made.
+  -- A table that is missing after that was missing before.
   lacks-before : IsWellFormed g old → LacksTable g guest mid.tables → LacksTable g guest old.tables
   lacks-before well_formed = lacks-as-words g guest old.tables mid.tables well_formed.seen.l1 (raw_entry.keeps.safely well_formed tt).seen.l1 row-still
       (λ k. ap (λ (ws : List ℕ). slice_index ws k) raw_entry.raw_entries ∙ padded_at old.tables.l1.raw_entries (max (length old.tables.l1.raw_entries) (i + 1)) k)
@@ -1034,7 +1032,7 @@ module _ {S : Type 0} (g : Ghosts S) (guest i : ℕ) (old mid new : Qcow2 S g) (
         table.cause;
   }
 
--- None is where there is no word for it.
+-- The L1 entry couldn't be made.
 module _ {S : Type 0} (g : Ghosts S) (guest i : ℕ) (old new : Qcow2 S g) (index : i ≡ guest / entries_of_cluster old.tables.file.header.fields)
     (e : Fault) (raw_entry : EnsuresEntry g i old (Err e) new) where
   more-needed : (number : ℕ) → HasNoPlace g (IsForRawEntry g i old.tables) i (enough_for_entry old.tables i) old.tables new.tables number

@@ -1,4 +1,4 @@
--- What commits and cancels leave of the leaks of an image: what was reserved is named then, or waits to be freed.
+-- Lemmas on the leaks of commits and cancels: reserved clusters are referenced afterwards, or are on the free list.
 use Rattle.std.proofs.Common.{◌≡◌, ◌≢◌, ℕ, zero, suc, ◌+◌, ◌*◌, ◌/◌, ◌%◌, ◌^◌, ◌<◌, ◌≤◌, mul-pos, refl, arith, ap, sym, subst, ◌∙◌, inl, inr, Bool, false, true, Option, Some, Result, Ok, Err}
 use Rattle.std.proofs.lemmas.Bool.{cases_lt}
 use Rattle.std.proofs.lemmas.Nat.{mod_below, pow_pos}
@@ -46,7 +46,7 @@ use Rattle.qcow2_image.proofs.Commits.{advances, after, before, free-now, hold, 
 use Rattle.qcow2_image.proofs.Leaks.{leaks-idle}
 use Rattle.qcow2_image.proofs.LeaksByFile.{leaks-same}
 
--- A guest cluster that has an L2 table, of a sound image, whose word doesn't name a cluster that is reserved.
+-- A guest cluster with an L2 table, in a consistent image, whose entry doesn't reference the reserved cluster `x`.
 module _ (m : Metadata) (table guest x : ℕ) (is-sound : IsSound m) (under : IsUnder m table guest) (some : x ≢ 0)
     (near : IsAddressable m.header.fields.cluster_bits x) where
   abbrev h : Fields
@@ -85,7 +85,7 @@ module _ (m : Metadata) (table guest x : ℕ) (is-sound : IsSound m) (under : Is
       let none = reserved.not_referenced in
       omega (arith, le, all, more, none)
 
-  -- It is newly named then, once,
+  -- Linking a reserved cluster references it once more.
   newly-reserved : IsReserved m x → (c : ℕ) → newly x (taken_before m guest) c ≡ one_at x c
   newly-reserved reserved c =
       let w = raw_entry m.file (l2_table m.file h i) j in
@@ -95,12 +95,11 @@ module _ (m : Metadata) (table guest x : ℕ) (is-sound : IsSound m) (under : Is
       (map_conserves (layout_of h) w x (consistent-shaped m.file m.header is-sound.well_formed.consistent).low near (inl (omega (arith, some))))
       (unnamed-slot reserved) c
 
-  -- as one that was kept isn't.
+  -- Linking a preallocated zero cluster adds no reference.
   newly-own : (is_kept : Bool) → IsOwnAs is_kept m guest x → (c : ℕ) → newly x (taken_before m guest) c ≡ reserved_as is_kept x 1 c
   newly-own true own c = ap (λ (o : Mapping). newly x (allocation_of h.cluster_bits o) c) own.file ∙ kept-newly x c
   newly-own false own c = newly-reserved own c ∙ sym (one-run x c)
 
--- One cluster more is reserved.
 covers-more : (x n c : ℕ) → covers c (run_of x (suc n)) ≡ covers c (run_of x n) + covers c (run_of (x + n) 1)
 covers-more x n c = elim (cases_lt c x) [
   | inl before ↦
@@ -143,22 +142,21 @@ reserved-none : (is_kept : Bool) (x c : ℕ) → reserved_as is_kept x 0 c ≡ 0
 reserved-none true x c = refl
 reserved-none false x c = covers-none x c
 
--- Guest clusters in a row take their host clusters beyond what they give up, unless those were kept.
+-- Consecutive guest clusters take their host clusters in addition to what they give back, except preallocated ones.
 taken-run : (m : Metadata) (hold : PreparedMappingRun) (is-sound : IsSound m) → IsHeld m hold → (c k : ℕ) → k ≤ hold.count
     → (linking_run m hold.guest hold.host k).taken c
-    ≡ (linking_run m hold.guest hold.host k).newly_allocated c + reserved_as hold.is_kept hold.host k c
+    ≡ (linking_run m hold.guest hold.host k).excess_added c + reserved_as hold.is_kept hold.host k c
 unfolding linking_run
 taken-run m hold is-sound held c zero most = let none = reserved-none hold.is_kept hold.host c in omega (arith, none)
 taken-run m hold is-sound held c (suc k) most =
     let before = taken-run m hold is-sound held c k (omega (arith, most)) in
     let less : k < hold.count = omega (arith, most) in
     let some = held.host_nonzero in
-    let anew = newly-own m hold.table (hold.guest + k) (hold.host + k) is-sound (held.layers_below k less) (λ none. some (omega (arith, none)))
+    let anew = newly-own m hold.table (hold.guest + k) (hold.host + k) is-sound (held.in_table k less) (λ none. some (omega (arith, none)))
     (near-each m.header.fields.cluster_bits hold.host hold.count held.reach k less) hold.is_kept (held.own k less) c in
     let more = reserved-more hold.is_kept hold.host k c in
     omega (arith, before, anew, more)
 
--- A commit.
 module _ {S : Type 0} (g : Ghosts S) (mapping_id : ℕ) (old new : Qcow2 S g)
     (result : Result Unit (Fault × Option (PreparedDataMapping PreparedMappingState))) where
   pub spent-leaks : (s : SpendsUnspent g mapping_id old result new) → IsWellFormed g old → s.named ≡ Ok tt → KeepsLeaks g old new
@@ -189,7 +187,6 @@ module _ {S : Type 0} (g : Ghosts S) (mapping_id : ℕ) (old new : Qcow2 S g)
         from (Err fault) is not_resource_error =
             absurd (refused-hard g mapping_id old new result s well_formed fault is (subst (λ r. IfErr (answer_of r) (λ e. IsNotResourceError e.0)) is not_resource_error))
 
--- A mapping is given up.
 module _ {S : Type 0} (g : Ghosts S) (mapping_id : ℕ) (old new : Qcow2 S g) where
   back-waits : (is_kept : Bool) (host n : ℕ) (space : Space) (o : Option Space) → (is_kept ≡ false → 0 < space.to_free.held)
       → GivesBack is_kept host n (Some space) o → (c : ℕ) → waiting_in o c ≡ listed space.to_free.entries c + reserved_as is_kept host n c

@@ -1,4 +1,4 @@
--- What a commit leaves of the image whose prepared mapping it spends.
+-- Lemmas on a commit: what it leaves of the image whose prepared mapping it spends.
 use Rattle.std.proofs.Common.{◌≡◌, ℕ, ◌+◌, ◌-◌, ◌*◌, ◌/◌, ◌%◌, ◌<◌, ◌≤◌, mul-pos, refl, arith, ap, sym, subst, ◌∙◌, inl, inr, Bool, true, false, cond, List, [], ◌∷◌, Option, Some, None, Result, Ok, Err}
 use Rattle.std.proofs.lemmas.Bool.{cases_Bool, cases_lt, le-ltb, lt-ltb}
 use Rattle.std.proofs.lemmas.Nat.{div-add-mod', pow_pos}
@@ -73,18 +73,16 @@ use Rattle.qcow2_alloc.specs.Freeing.{NoneFreeBefore}
 use Rattle.qcow2_alloc.specs.declared.allocation.Allocator.{Allocator}
 use Rattle.qcow2_image.proofs.SearchStart.{counted-at-rest, counted-in-file}
 
--- What is a guest cluster's own is reserved, or kept for it.
 own-either : (is_kept : Bool) (m : Metadata) (guest host : ℕ) → IsOwnAs is_kept m guest host → IsReserved m host ⊎ IsKeptFor m guest host
 own-either true m guest host mine = inr mine
 own-either false m guest host mine = inl mine
 
--- numbers with the same quotient and rest
 same-parts : (a b d : ℕ) → a / d ≡ b / d → a % d ≡ b % d → a ≡ b
 same-parts a b d rows columns =
     let product : a / d * d ≡ b / d * d = ap (λ x. x * d) rows in
     omega (arith, product, columns, div-add-mod' a d, div-add-mod' b d)
 
--- What stands in a host cluster is what was written or copied, or it was announced that all is going to be written.
+-- A byte of a host cluster was written or copied, unless it was announced that the whole run will be written.
 by-hold : (overwrite written : Bool) (copied there : ℕ) (was : Cell) → (written ≡ false → there ≡ copied) → there < 256
     → CommitsPlace (inside (if overwrite then None else Some copied) (if written then Some there else None) overwrite) was (own (byte there))
 by-hold true true copied there was same fits = refl
@@ -155,7 +153,7 @@ module _ {S : Type 0} (g : Ghosts S) (mapping_id : ℕ) (old new : Qcow2 S g)
   pub size-same : (layer_of g new).size ≡ (layer_of g old).size
   size-same = ap (λ (k : Fields). k.size) fields-same
 
-  -- Of a safe image.
+  -- The image was well-formed.
   module _ (well_formed : IsWellFormed g old) where
     pub holds : HoldsIn g old.tables hold
     holds = subst (λ o. IfSome o (HoldsIn g old.tables)) hold-is well_formed.held
@@ -168,7 +166,7 @@ module _ {S : Type 0} (g : Ghosts S) (mapping_id : ℕ) (old new : Qcow2 S g)
 
     able : CanAllBeLinked hold.count before hold.table hold.guest hold.host
     able d less = record {
-      layers_below = holds.held.layers_below d less;
+      in_table = holds.held.in_table d less;
       own = own-either hold.is_kept before (hold.guest + d) (hold.host + d) (holds.held.own d less);
     }
 
@@ -186,7 +184,7 @@ module _ {S : Type 0} (g : Ghosts S) (mapping_id : ℕ) (old new : Qcow2 S g)
     abbrev c' : Clusters S
     c' = clusters_state new.tables.file (without_tables new.tables.caches) with-space.between
 
-    -- what is given, set, handed out and taken
+    -- The changes that linking makes: values, references, allocations and clusters to free.
     abbrev pub kind : Kind
     kind = linking_run before hold.guest hold.host hold.count
 
@@ -197,7 +195,7 @@ module _ {S : Type 0} (g : Ghosts S) (mapping_id : ℕ) (old new : Qcow2 S g)
         (g.state new.tables.file.image) (flushed_metadata g.state c')
     progress = with-space.names.progress able
 
-    -- It is refused for want of memory or by a storage alone.
+    -- Linking fails only with a resource error.
     pub refused-hard : (fault : Fault) → s.named ≡ Err fault → IsNotResourceError fault → ⊥
     refused-hard fault is not_resource_error =
         never fault (subst (λ r. IfErr r (HasCause (writing_causes (IsReady g.state c × CanAllBeLinked hold.count before hold.table hold.guest hold.host)
@@ -209,11 +207,11 @@ module _ {S : Type 0} (g : Ghosts S) (mapping_id : ℕ) (old new : Qcow2 S g)
           never DamagedTable why not_resource_error = why (ready, able)
           never e why not_resource_error = why
 
-    -- a guest cluster of the run
+    -- The guest cluster is one of the mapping.
     abbrev pub IsOurs : ℕ → Type 0
     IsOurs x = (hold.guest ≤ x) × (x < hold.guest + hold.count)
 
-    -- What a place of the guest clusters shows then is what stands in its host cluster, which settles what is held of it.
+    -- Each byte of the guest clusters then reads as its byte in the host cluster, as the mapping promises.
     settled-byte : (p : ℕ) → IsOurs (p / cs) → p < h.size → (was : Cell)
         → CommitsPlace ((layer_of g old).held p) was (own (byte (f (held_place h hold p))))
     settled-byte p is low was =
@@ -237,7 +235,7 @@ module _ {S : Type 0} (g : Ghosts S) (mapping_id : ℕ) (old new : Qcow2 S g)
           from true bad = cc bad
           from false bad = cc bad
 
-    -- What is given and set is of one of them.
+    -- The changes are all in these guest clusters.
     given-at : (p : ℕ) (v : Option Value) → kind.gives p v
         → IsOurs (p / cs) × (v ≡ own_value_by f h p (data_at (hold.host + (p / cs - hold.guest)) true))
     given-at p v gave =
@@ -254,7 +252,7 @@ module _ {S : Type 0} (g : Ghosts S) (mapping_id : ℕ) (old new : Qcow2 S g)
         let same = same-parts x (hold.guest + one.0) (entries_of_cluster h) one.2.0 one.2.1 in
         (omega (arith, same), omega (arith, same, one.1))
 
-    -- A stop in it shows that too.
+    -- A crash image during linking also reads so.
     pub stops-settled : (below : List Layer) → UnrefusedCrashImages (Left below (layer_of g old) (g.state old.tables.file.image).bytes is_sound
         (layer_of g old).size (layer_of g old).size (GivesSettled below (layer_of g old)))
         (g.state old.tables.file.image) (g.state new.tables.file.image)
@@ -274,12 +272,12 @@ module _ {S : Type 0} (g : Ghosts S) (mapping_id : ℕ) (old new : Qcow2 S g)
                 ap (seen_as g old holds.space well_formed below p) here.1 ∙ rw (lt-ltb p h.size low) refl,
               ))
 
-    -- It succeeded.
+    -- Linking succeeded.
     module _ (ok : s.named ≡ Ok tt) where
       abbrev pub after : Metadata
       after = flushed_metadata g.state c'
 
-      pub advances : Advances kind.gives kind.written kind.set kind.newly_allocated kind.taken before after
+      pub advances : Advances kind.gives kind.written kind.set kind.excess_added kind.taken before after
       advances = progress.holds well_formed.keeps sound ok
 
       words-named : (d : ℕ) → d < hold.count → entry f' h (hold.guest + d) ≡ data_at (hold.host + d) true
@@ -331,13 +329,13 @@ module _ {S : Type 0} (g : Ghosts S) (mapping_id : ℕ) (old new : Qcow2 S g)
       cell-then : (p : ℕ) → (layer_of g old).cell p ≡ cells (blank_of old.mode.backing) f f h p
       cell-then p = λ i. cells (blank_of old.mode.backing) (memory-is g old.tables i) f h p
 
-      -- What a place says: in the guest clusters what stands in the host clusters,
+      -- In the guest clusters of the mapping the disk has the bytes of the host clusters.
       cell-there : (p : ℕ) → IsOurs (p / cs) → p < h.size → (layer_of g new).cell p ≡ own (byte (f (held_place h hold p)))
       cell-there p is low =
           cell-now p ∙ (rw (lt-ltb p h.size low) (ap (cell_by (blank_of old.mode.backing) f' h p) (word-named (p / cs) is)
           ∙ ap (λ b. own (byte b)) (byte-kept p is)))
 
-      -- and elsewhere what it did.
+      -- Elsewhere it is unchanged.
       cell-elsewhere : (p : ℕ) → (IsOurs (p / cs) → p < h.size → ⊥) → (layer_of g new).cell p ≡ (layer_of g old).cell p
       cell-elsewhere p out = cell-now p ∙ elim (cases_lt p h.size) [
         | inr behind ↦ rw (le-ltb p h.size behind) refl
@@ -366,7 +364,7 @@ module _ {S : Type 0} (g : Ghosts S) (mapping_id : ℕ) (old new : Qcow2 S g)
       home-then : (p : ℕ) → writable_locations_of g old p ≡ writable_locations old.mode.writable f h p
       home-then p = λ i. writable_locations old.mode.writable (memory-is g old.tables i) h p
 
-      -- A place that could be written by its word can be so still,
+      -- A byte that could be written in place still can.
       pub home-grows : (p : ℕ) (at : ℕ × ℕ) → writable_locations_of g old p ≡ Some at → writable_locations_of g new p ≡ Some at
       home-grows p at is = elim (word-is (p / cs)) [
         | inl guest ↦
@@ -375,7 +373,7 @@ module _ {S : Type 0} (g : Ghosts S) (mapping_id : ℕ) (old new : Qcow2 S g)
             home-now p ∙ ap (λ w. if old.mode.writable && ltb p h.size then writable_location_by h p w else None) same ∙ sym (home-then p) ∙ is
       ]
 
-      -- and so can one of the run, by its word now.
+      -- A byte of the run can now be written in place.
       home-held-now : (p : ℕ) (at : ℕ × ℕ) → held_writable_location hold p ≡ Some at → writable_locations_of g new p ≡ Some at
       home-held-now p at is =
           let there = run-home hold p at is in
@@ -398,7 +396,7 @@ module _ {S : Type 0} (g : Ghosts S) (mapping_id : ℕ) (old new : Qcow2 S g)
       pub committed : Committed (layer_of g old) (layer_of g new)
       committed = record { fixed = fixed-same; size = size-same; is_free = is-free; cell = cell-settles; writable_location = home-settles }
 
-      -- What is allocated stays so, and what isn't held stays vacant.
+      -- Allocated bytes stay allocated, and unallocated bytes outside the mapping stay unallocated.
       room-now : (P : Bytes → Fields → Type 0) → P f' h → P (memory_of g new.tables) h'
       room-now P is = subst (λ b. P b h') (sym (memory-is g new.tables)) (subst (P f') (sym fields-same) is)
 
@@ -436,9 +434,9 @@ module _ {S : Type 0} (g : Ghosts S) (mapping_id : ℕ) (old new : Qcow2 S g)
       l1-now : IsL1Of f' h' new.tables.l1
       l1-now = with-space.names.l1 able ready (subst HadNoResourceError (sym ok) tt) new.tables.l1 (subst (IsL1Of f h) (sym s.names.l1) well_formed.seen.l1)
 
-      -- The table is named as it was.
+      -- The L1 entry still references the table.
       table-there : IsTableAt f' h' (hold.table * cluster_size h')
-      table-there = by (holds.held.layers_below 0 holds.held.any) where
+      table-there = by (holds.held.in_table 0 holds.held.any) where
         row : ℕ
         row = (hold.guest + 0) / entries_of_cluster h
 
@@ -484,7 +482,7 @@ module _ {S : Type 0} (g : Ghosts S) (mapping_id : ℕ) (old new : Qcow2 S g)
         writable = λ some. absurd (cc (subst IsSome free-now some));
       }
 
--- What a commit is by its two calls: the mapping was taken out, and its cluster named.
+-- A commit as its two calls: the mapping is taken out, and its clusters are linked.
 pub spends-by : {S : Type 0} (g : Ghosts S) (mapping_id : ℕ) (old mid : Qcow2 S g) (u : Unspent S g)
     → (u.mapping_id ≡ mapping_id) × (old.unspent ≡ Some u) × (mid ≡ record old { unspent = None }) → (named : Result Unit Fault) (tables : Tables S g)
     → LinksHost g (reserved_of g u) u.guest mid.tables named tables → (new : Qcow2 S g)
@@ -508,7 +506,7 @@ spends-by g mapping_id old mid u taken named tables names new is result answer b
   tables-same : mid.tables ≡ old.tables
   tables-same = ap (λ (d : Qcow2 _ g). d.tables) taken.2
 
--- What is cached once a cluster is named waits for nothing, and isn't pinned.
+-- After linking nothing that is cached is dirty or pinned.
 none-pinned : {V : Type 0} (es : List (ℕ × Slot V)) → AllByRecursion (λ e. e.1.pins ≡ 0) es → pinned_in es ≡ 0
 none-pinned [] none = refl
 none-pinned (e ∷ es) none =
@@ -535,7 +533,7 @@ module _ {S : Type 0} (state : S → StorageState) (table guest x n : ℕ) (c : 
     subst (λ k. 0 < k) (sym (names.rests.room.blocks ∙ room.blocks)) free.3,
   )
 
--- What naming a host cluster is by the call that does it, where words can name the cluster.
+-- Linking as the call that does it, if entries can reference the clusters.
 module _ {S : Type 0} (g : Ghosts S) (r : Reserved) (guest : ℕ) (old new : Tables S g) (result : Result Unit Fault) (space : Space)
     (caches : MetadataCaches S) (between after : Space) (there : old.space ≡ Some space)
     (names : LinksRun g.state r.table guest r.host r.count (clusters_state old.file caches space) result (clusters_state new.file (without_tables new.caches) between))

@@ -1,4 +1,4 @@
--- Commits and cancels of prepared mappings in the words of the driver.
+-- Lemmas that state commits and cancels of prepared mappings by the relations of the driver.
 use Rattle.std.proofs.Common.{◌≡◌, ◌≢◌, ℕ, ◌+◌, ◌-◌, ◌≤◌, refl, arith, ap, sym, subst, ◌∙◌, inl, inr, Bool, false, true, [], ◌∷◌, ◌++◌, Option, Some, None, Result, Ok, Err}
 use Rattle.std.proofs.Math.Nat.{le_refl}
 use Rattle.std.proofs.lemmas.Bool.{cases_lt}
@@ -56,7 +56,7 @@ use Rattle.qcow2_image.proofs.LeaksByFile.{surplus-kept}
 abbrev Answer : Type 0
 Answer = Result Unit (Fault × Option (PreparedDataMapping PreparedMappingState))
 
--- the free space in which host clusters in a row wait to be freed for which room was held
+-- The free space after clusters with a reserved slot were added to the free list.
 abbrev with_waiting : Space → (host n : ℕ) → Space
 with_waiting space host n = record space {
   to_free = record {
@@ -65,7 +65,7 @@ with_waiting space host n = record space {
   };
 }
 
--- Host clusters in a row that are reserved may be put among what waits to be freed.
+-- Reserved clusters may be added to the free list.
 put-off-sound : (m : Metadata) (x n : ℕ) → in_memory m ≡ m.file → IsSound m → AreReserved n m x
     → IsSound (record m { pending = m.pending ++ record { first = x; count = n; metadata = false } ∷ [] })
 put-off-sound m x n clean sound reserved =
@@ -182,20 +182,20 @@ module _ (R : RattleType) (st : Ghosts R.Denot) (sd : mir.Syntax.Dict) (dd : mir
         stays_begun = λ d call begun mine. tt;
       }
 
-    -- What a commit does that isn't refused at once.
+    -- A commit without an early outcome.
     pub commits-by : (result : Answer) → CommitsUnspent st state.mapping_id old result new → Commits coherent (Some state) result old new
     commits-by result (inl another) =
         subst (λ r. Commits coherent (Some state) r old new) (sym another.1)
         (subst (Commits coherent (Some state) (Ok tt) old) (sym another.2) (another-commits another.0))
     commits-by result (inr s) = subst spent-with (sym s.answer) (spent-commits result s s.named refl)
 
-    -- It gives no mapping back.
+    -- An error gives no mapping back.
     module _ (mapping : PreparedDataMapping PreparedMappingState) (has : mapping.state ≡ Some state)
         (none : commit_refusal coherent (Some state) (layer_of st old) ≡ None) where
       no-refusal : commit_refusal coherent mapping.state (layer_of st old) ≡ None
       no-refusal = ap (λ s. commit_refusal coherent s (layer_of st old)) has ∙ none
 
-      -- What is known of a refusal: it has spent the mapping, and the image has failed.
+      -- After an error the mapping is spent, and the image has failed.
       abbrev Why : Answer → Type 0
       Why r = IfErr r (λ e. (e.1 ≡ None) × IsTrue new.failed × IsSpending e.0
           × Spends coherent (Some state) (layer_of st old) (layer_of st new) (IsFree (layer_of st new) × (IsWellFormed st old → IsNotResourceError e.0 → ⊥))
@@ -258,7 +258,7 @@ module _ (R : RattleType) (st : Ghosts R.Denot) (sd : mir.Syntax.Dict) (dd : mir
           caused fault why,
         )
 
--- What a cancel is by its two calls: the mapping was taken out, and its cluster given back.
+-- A cancel as its two calls: the mapping is taken out, and its clusters are given back.
 pub drops-by : {S : Type 0} (g : Ghosts S) (mapping_id : ℕ) (old mid : Qcow2 S g) (u : Unspent S g)
     → (u.mapping_id ≡ mapping_id) × (old.unspent ≡ Some u) × (mid ≡ record old { unspent = None }) → (space : Option Space)
     → GivesBack u.is_kept u.host u.count mid.tables.space space → (new : Qcow2 S g) → new ≡ record mid { tables = new.tables }
@@ -279,7 +279,6 @@ drops-by g mapping_id old mid u taken space gives new is file l1 caches known = 
   tables-same : mid.tables ≡ old.tables
   tables-same = ap (λ (d : Qcow2 _ g). d.tables) taken.2
 
--- A prepared mapping is given up.
 module _ {S : Type 0} (g : Ghosts S) (mapping_id : ℕ) (old new : Qcow2 S g) (s : DropsUnspent g mapping_id old new) where
   abbrev hold : PreparedMappingRun
   hold = prepared_mapping_run g s.spent
@@ -349,7 +348,7 @@ module _ {S : Type 0} (g : Ghosts S) (mapping_id : ℕ) (old new : Qcow2 S g) (s
     tables = rw (file-same, fields-same, s.caches) seen.tables;
   }
 
-  -- Its clusters wait to be freed then, or stay kept.
+  -- The clusters are on the free list afterwards, or stay preallocated.
   sound-still : HoldsIn g old.tables hold → ((space : Space) → old.tables.space ≡ Some space → IsSound (rest_of g old.tables space))
       → IfSome new.tables.space (λ space. IsSound (rest_of g new.tables space))
   sound-still holds sound =
@@ -370,7 +369,7 @@ module _ {S : Type 0} (g : Ghosts S) (mapping_id : ℕ) (old new : Qcow2 S g) (s
             (subst (λ b. IsOwnAs b (rest_of g old.tables holds.space) (hold.guest + i) (hold.host + i)) is
             (holds.held.own i (omega (arith, from, to)))))))
 
-  -- The search for free clusters begins where it did.
+  -- The search for free clusters starts at the same cluster.
   from-still : (is_kept : Bool) (host n : ℕ) (before after : Option Space) → GivesBack is_kept host n before after
       → searched_from after ≡ searched_from before
   from-still true host n before after given = ap searched_from given

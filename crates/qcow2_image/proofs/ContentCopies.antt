@@ -1,4 +1,4 @@
--- What a guest cluster shows is copied into the content of a host cluster.
+-- Lemmas on copy on write: the data that a guest cluster shows is copied to the bytes of a host cluster.
 use Rattle.std.proofs.Common.{◌≡◌, ℕ, ◌+◌, ◌-◌, ◌*◌, ◌/◌, ◌%◌, ◌^◌, ◌<◌, ◌≤◌, refl, arith, ap, sym, subst, ◌∙◌, inl, inr, false, List, length, Result, Ok, Err}
 use Rattle.std.specs.Prelude.{⊤, ◌⊎◌, ◌++◌, IfErr, OnOk, Vec, drop, replicate, slice_index, take}
 use Rattle.std.specs.declared.alloc.Global.{Global}
@@ -46,13 +46,11 @@ use Rattle.qcow2_image.proofs.Preparations.FreshRuns.{shown-says}
 use Rattle.qcow2_image.proofs.Preparations.RunPreparations.{never-damaged}
 use Rattle.qcow2_image.proofs.Steps.{keeps-as, keeps-both, keeps-same}
 
--- A place of a cluster is divided into its number.
 same-row : (c row p : ℕ) → row * c ≤ p → p < row * c + c → p / c ≡ row
 same-row c row p low high =
     let split : p ≡ row * c + (p - row * c) = omega (arith, low) in
     ap (λ (n : ℕ). n / c) split ∙ div-mul-add row c (p - row * c) (omega (arith, low, high))
 
--- The bytes that were put into a list.
 put-at : (a k i : ℕ) (xs ys : List ℕ) → a ≤ length xs → i < length ys → slice_index (put_mid a k xs ys) (a + i) ≡ slice_index ys i
 put-at a k i xs ys inside less =
     let front : length (take a xs) ≡ a = length-take-le a xs inside in
@@ -66,11 +64,10 @@ zero-at content zero i = ap (λ (l : List ℕ). slice_index l i) zero ∙ elim (
   | inr past ↦ get_or_past (replicate (length content) 0) i 0 (omega (arith, past, length-replicate {A = ℕ} (length content) 0))
 ]
 
--- A part of zeroes has zeroes.
 pub zero-part : (content : List ℕ) (a k i : ℕ) → content ≡ replicate (length content) 0 → i < k → slice_index (mid_of a k content) i ≡ 0
 zero-part content a k i zero less = get_or-take k (drop a content) i 0 less ∙ get_or-drop a content i 0 ∙ zero-at content zero (a + i)
 
--- A place that lies so far behind another in its row lies so far behind it in any other.
+-- An offset keeps its distance to another in the same cluster.
 row-at : (c first i n : ℕ) → first % c + n ≤ c → i < n → (first + i) % c ≡ first % c + i
 row-at c first i n inside less =
     let split = div-add-mod' first c in
@@ -79,7 +76,7 @@ row-at c first i n inside less =
     let here : (first + i) / c * c ≡ first / c * c = ap (λ (x : ℕ). x * c) same in
     omega (arith, here, split, split')
 
--- A part of a row lies in it.
+-- A part of a cluster starts and ends in that cluster.
 pub part-row : (c start first n : ℕ) → start % c ≡ 0 → start ≤ first → 0 < n → first - start + n ≤ c → first % c + n ≤ c
 part-row c start first n begins low some inside =
     let on : start + (first - start) ≡ first = omega (arith, low) in
@@ -88,7 +85,7 @@ part-row c start first n begins low some inside =
     omega (arith, here, begins, inside)
 
 module _ {S B : Type 0} (g : Ghosts S) (u : GhostsBelow B) where
-  -- Nothing is read of no places,
+  -- An empty part needs no read.
   pub nothing-copied : (shown : Shown) (part : ℕ × ℕ) (d : Qcow2 S g) (x : B) (bytes : ℕ → ℕ) → part.0 ≡ part.1
       → CopiesShown g u shown part (d, x) (Ok tt) (d, x) bytes
   nothing-copied shown part d x bytes none = record {
@@ -98,7 +95,7 @@ module _ {S B : Type 0} (g : Ghosts S) (u : GhostsBelow B) where
     err = tt;
   }
 
-  -- nor where zeroes are shown,
+  -- Zeroes need no read.
   pub zeroes-copied : (first : ℕ) (buf : List ℕ) (d : Qcow2 S g) (x : B) → ((i : ℕ) → i < length buf → slice_index buf i ≡ 0)
       → CopiesShown g u variant.Zeroes (first, first + length buf) (d, x) (Ok tt) (d, x) (λ p. slice_index buf (p - first))
   zeroes-copied first buf d x zero = record {
@@ -108,7 +105,7 @@ module _ {S B : Type 0} (g : Ghosts S) (u : GhostsBelow B) where
     err = tt;
   }
 
-  -- and what can't be read isn't.
+  -- Barred data can't be read.
   pub barred-copied : (first n : ℕ) (d : Qcow2 S g) (x : B) (bytes : ℕ → ℕ) → 0 < n
       → CopiesShown g u variant.Barred (first, first + n) (d, x) (Err Barred) (d, x) bytes
   barred-copied first n d x bytes some = record {
@@ -122,7 +119,7 @@ module _ {S B : Type 0} (g : Ghosts S) (u : GhostsBelow B) where
     });
   }
 
-  -- What is read of a cluster is its data.
+  -- Data was read from a cluster of the file.
   module _ (cluster first place : ℕ) (old new : Qcow2 S g) (x : B) (n : ℕ) (buf : List ℕ) (long : length buf ≡ n) where
     abbrev own-file : Bytes
     own-file = file_of g old.tables
@@ -153,7 +150,7 @@ module _ {S B : Type 0} (g : Ghosts S) (u : GhostsBelow B) where
     data-why s' (Err RangeOverflow) state near why = absurd (near why.0)
     data-why s' (Err e) state near why = inl (subst (λ (s : StorageState). Cause (g.state old.tables.file.image).faults s.faults e) (sym state) why)
 
-    -- it ends far below 2^63
+    -- The range ends at most 2^22 bytes after 2^63.
     data-near : place ≡ place_in own-fields cluster first → first % cluster_size own-fields + n ≤ cluster_size own-fields
         → own-fields.cluster_bits ≤ 21 → IsAddressable own-fields.cluster_bits cluster → place + n ≤ 2 ^ 63 + 2 ^ 22
     data-near there inside high reach =
@@ -173,7 +170,7 @@ module _ {S B : Type 0} (g : Ghosts S) (u : GhostsBelow B) where
           (overflows_late (unit_of (g.state old.tables.file.image).shape) place n aligned (data-near there inside high reach)) why;
     }
 
-  -- What was copied to a part of bytes is in them.
+  -- The bytes that were copied to a part are in the whole content.
   module _ (shown : Shown) (start : ℕ) (part : ℕ × ℕ) (content buf : List ℕ) (old new : Qcow2 S g × B) (low : start ≤ part.0)
       (order : part.0 ≤ part.1) (fits : part.1 - start ≤ length content) where
     abbrev a : ℕ
@@ -211,7 +208,7 @@ module _ {S B : Type 0} (g : Ghosts S) (u : GhostsBelow B) where
         }
 
 module _ {S : Type 0} (g : Ghosts S) where
-  -- A lookup of a safe image isn't refused since a word is damaged.
+  -- In a well-formed image a lookup doesn't fail for an invalid entry.
   pub why-looked : (full : ℕ → Type 0) (old new : Qcow2 S g) (guest : ℕ) (e : Fault)
       → (IsCacheCoherent g old.tables → HasCause (looking_causes (entry (file_of g old.tables) old.tables.file.header.fields guest ≡ damaged)
       (g.state old.tables.file.image).faults (g.state new.tables.file.image).faults) e)
@@ -222,7 +219,7 @@ module _ {S : Type 0} (g : Ghosts S) where
   why-looked full old new guest e known why = absurd why
 
   module _ {B : Type 0} (u : GhostsBelow B) (asked : Asked) (guest : ℕ) (old mid : Qcow2 S g) (x : B) where
-    -- No content is made where the word of the guest cluster can't be read,
+    -- No content is made if the lookup fails.
     pub content-unseen : (e : Fault) → TellsShown g guest old (Err e) mid → MakesContent g u asked (old, x) (Err e) (mid, x)
     content-unseen e t = record {
       below = looked_under_same u (HadNoResourceError {T = Vec ℕ Global} (Err e)) x;
@@ -231,7 +228,7 @@ module _ {S : Type 0} (g : Ghosts S) where
       err = inl (why-looked (λ number. ⊥) old mid guest e t.known_cause t.cause);
     }
 
-    -- and for want of memory.
+    -- No content is made if memory runs out.
     pub content-unmade : (shown : Shown) → TellsShown g guest old (Ok shown) mid → (e : Fault) → e ≡ Memory
         → MakesContent g u asked (old, x) (Err e) (mid, x)
     content-unmade shown t e is = subst (λ (f : Fault). MakesContent g u asked (old, x) (Err f) (mid, x)) (sym is) (record {
@@ -241,7 +238,7 @@ module _ {S : Type 0} (g : Ghosts S) where
       err = inl tt;
     })
 
-  -- The content of a guest cluster that shows this.
+  -- The content of a guest cluster that shows `shown`.
   module _ {B : Type 0} (u : GhostsBelow B) (asked : Asked) (old mid new : Qcow2 S g) (x y : B) (shown : Shown)
       (t : TellsShown g (asked.offset / cluster_size old.tables.file.header.fields) old (Ok shown) mid) where
     abbrev h : Fields
@@ -256,14 +253,14 @@ module _ {S : Type 0} (g : Ghosts S) where
     abbrev raw_entry : Mapping
     raw_entry = entry (file_of g old.tables) h (asked.offset / c)
 
-    -- Each of its places says what it shows.
+    -- Each byte of the guest cluster reads as `shown` says.
     shown-at : IsWellFormed g old → (p : ℕ) → IsInFirst h asked p → (layer_of g old).cell p ≡ shown_cell (file_of g old.tables) h p shown
     shown-at well_formed p first = rw (lt-ltb p h.size first.1)
         (ap (cell_by (blank_of old.mode.backing) (file_of g old.tables) h p)
         (ap (λ (m : Bytes). entry m h (p / c)) (memory_is g old.tables) ∙ ap (entry (file_of g old.tables) h) first.0)
         ∙ shown-says old.mode.backing shown (file_of g old.tables) h p raw_entry (sym (t.shown well_formed.seen)))
 
-    -- a lookup leaves it
+    -- The lookup doesn't change that.
     shown-then : (p : ℕ) → shown_over g u shown (mid, x) p ≡ shown_over g u shown (old, x) p
     shown-then p = λ i. through (shown_cell (bytes_of (t.keeps.tables.unchanged_but_faults.bytes i)) (t.keeps.tables.header i).fields p shown) (at (u.layers_below x) p)
 
@@ -273,7 +270,7 @@ module _ {S : Type 0} (g : Ghosts S) where
     abbrev places : ℕ × ℕ
     places = first_places h asked.offset
 
-    -- A place of it lies so far behind the first of them.
+    -- The offset in the cluster is the distance to the cluster's start.
     place-row : (p : ℕ) → p / c ≡ asked.offset / c → (places.0 ≤ p) × (p - places.0 ≡ p % c)
     place-row p same =
         let here : p / c * c ≡ asked.offset / c * c = ap (λ (n : ℕ). n * c) same in
@@ -308,7 +305,7 @@ module _ {S : Type 0} (g : Ghosts S) where
         err = tt;
       }
 
-      -- A place that is read is needed.
+      -- Each byte that is read is needed.
       first-at : (p : ℕ) → part.0 ≤ p → p < part.1 → IsInFirst h asked p
       first-at p from to =
           let low : asked.offset / c * c ≤ p = omega (arith, cut.low, from) in
@@ -321,7 +318,7 @@ module _ {S : Type 0} (g : Ghosts S) where
         part = λ all whole. omega (arith, cut.none all whole.start whole.end, from, to);
       }
 
-      -- That is refused as a read of it is.
+      -- An error of the copy is an error of a read.
       pub content-uncopied : (e : Fault) (bytes : ℕ → ℕ) → CopiesShown g u shown part (mid, x) (Err e) (new, y) bytes
           → MakesContent g u asked (old, x) (Err e) (new, y)
       content-uncopied e bytes done = record {

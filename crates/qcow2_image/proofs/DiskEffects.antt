@@ -1,4 +1,4 @@
--- What calls leave of an image that change its file, and its disk in nothing or in what they give.
+-- Lemmas on calls that change the file of an image: which bytes of the disk keep their value, and which get a new one.
 use Rattle.std.proofs.Common.{◌≡◌, ℕ, ◌+◌, ◌-◌, ◌/◌, ◌%◌, ◌^◌, ◌<◌, ◌≤◌, refl, arith, ap, sym, subst, ◌∙◌, inl, inr, Bool, true, false, List, [], ◌∷◌, Option, Some, None, Result, Ok, Err}
 use Rattle.std.proofs.Math.Nat.{le_refl}
 use Rattle.std.proofs.Math.Path.{fun_ext}
@@ -23,7 +23,7 @@ use Rattle.qcow2_types.specs.Bytes.{Bytes, bytes_of}
 use Rattle.qcow2_types.specs.Header.{Fields, Header, cluster_size, layout_of, refcount_table_entries, entries_of_cluster}
 use Rattle.qcow2_types.specs.Pending.{FreeEntry}
 use Rattle.qcow2_types.specs.Words.{Mapping, data_at, zeroes, packed, damaged, max_offset}
-use Rattle.qcow2_types.specs.Words as raw_entries
+use Rattle.qcow2_types.specs.Words as mappings
 use Rattle.qcow2_types.specs.Entries.{entry, l2_table}
 use Rattle.qcow2_types.specs.Consistency.{IsConsistent}
 use Rattle.qcow2_types.proofs.Counting.Consistent.{header-reading}
@@ -60,7 +60,7 @@ use Rattle.qcow2_image.proofs.RequestsWithoutChanges.{seen-same}
 use Rattle.qcow2_image.proofs.Steps.{layer-by, memory-is, still-marked, unmarked}
 use Rattle.qcow2_image.proofs.SearchStart.{counted-at-rest, counted-first, counted-in-file, counted-same}
 
--- A call that was cut off to the crates below was so to the driver, and none else.
+-- The crates below and the driver have the same resource errors.
 pub whole-below : {T : Type 0} (r : Result T Fault) → HadNoResourceError r → going.HadNoResourceError r
 whole-below (Ok v) whole = tt
 whole-below (Err Memory) whole = absurd whole
@@ -73,7 +73,7 @@ whole-above (Err Memory) whole = absurd whole
 whole-above (Err Storage) whole = absurd whole
 whole-above (Err fault) whole = tt
 
--- What a place says, by the value that its word and its byte show.
+-- The cell of a byte, by the value that its entry and its file give.
 abbrev pub cell_of : Cell → Option Value → Cell
 cell_of blank None = blank
 cell_of blank (Some v) = own v
@@ -82,19 +82,18 @@ pub cell-shown : (blank : Cell) (f : Bytes) (h : Fields) (p : ℕ) (w : Mapping)
 cell-shown blank f h p (data_at c copied) = refl
 cell-shown blank f h p (zeroes c copied) = refl
 cell-shown blank f h p (packed offset n) = refl
-cell-shown blank f h p raw_entries.unmapped = refl
+cell-shown blank f h p mappings.unmapped = refl
 cell-shown blank f h p damaged = refl
 
--- Places of guest clusters have their homes by the clusters' size alone.
 home-bits : (h h' : Fields) (p : ℕ) (w : Mapping) → h'.cluster_bits ≡ h.cluster_bits → writable_location_by h' p w ≡ writable_location_by h p w
 home-bits h h' p (data_at c true) bits = rw bits refl
 home-bits h h' p (data_at c false) bits = refl
 home-bits h h' p (zeroes c copied) bits = refl
 home-bits h h' p (packed offset n) bits = refl
-home-bits h h' p raw_entries.unmapped bits = refl
+home-bits h h' p mappings.unmapped bits = refl
 home-bits h h' p damaged bits = refl
 
--- Nothing is cached of an image at rest.
+-- Nothing is cached of a flushed image.
 pub rest-memory : {S : Type 0} (g : Ghosts S) (t : Tables S g) (space : Space) → in_memory (rest_of g t space) ≡ file_of g t
 rest-memory g t space = clean-memory (file_of g t) t.file.header.fields nothing_cached tt tt
 
@@ -102,11 +101,10 @@ pub rest-value : {S : Type 0} (g : Ghosts S) (t : Tables S g) (space : Space) (p
     → memory_value (rest_of g t space) p ≡ own_value (file_of g t) (file_of g t) t.file.header.fields p
 rest-value g t space p = ap (λ b. own_value b (file_of g t) t.file.header.fields p) (rest-memory g t space)
 
--- The free space of a safe image is sound.
 pub safe-sound : {S : Type 0} (g : Ghosts S) (d : Qcow2 S g) (space : Space) → d.tables.space ≡ Some space → IsWellFormed g d → IsSound (rest_of g d.tables space)
 safe-sound g d space there well_formed = subst (λ o. IfSome o (λ x. IsSound (rest_of g d.tables x))) there well_formed.sound
 
--- A file that a stop leaves in a call which was begun on a safe image: it shows what the disk did, or what the call gives.
+-- A crash image in a call on a well-formed image reads as the disk did, or as the call makes it read.
 module _ {S : Type 0} (g : Ghosts S) (d : Qcow2 S g) (space : Space) (well_formed : IsWellFormed g d) (below : List Layer) where
   abbrev H : Header
   H = d.tables.file.header
@@ -117,7 +115,7 @@ module _ {S : Type 0} (g : Ghosts S) (d : Qcow2 S g) (space : Space) (well_forme
   abbrev first : List ℕ
   first = (g.state d.tables.file.image).bytes
 
-  -- what is seen of a place that shows this
+  -- The value of a byte with this content.
   abbrev pub seen_as : ℕ → Option Value → Value
   seen_as p v = if ltb p H.fields.size then through (cell_of blank v) (at below p) else byte 0
 
@@ -172,13 +170,13 @@ if-both : {A : Type 0} (o : Option A) (P Q R : A → Type 0) → ((a : A) → P 
 if-both None P Q R each p q = tt
 if-both (Some a) P Q R each p q = each a p q
 
--- A guest cluster's own cluster is counted for it.
+-- The host cluster of a guest cluster of the mapping is in use.
 own-used : (is_kept : Bool) (m : Metadata) (guest host : ℕ) → IsSound m → IsOwnAs is_kept m guest host → IsUsed m host
 own-used true m guest host sound mine = kept-used m guest host sound mine
 own-used false m guest host sound mine = mine.used
 
--- What is held for a mapping has been kept by a change of this kind: it wasn't taken, nothing was written, room is held as there was, and
--- the L1 table is as long and names the L2 tables where they were.
+-- A change of this kind keeps what a mapping holds. It takes none of its clusters, writes nothing, and keeps a slot. The length of the L1
+-- table and the offsets of L2 tables are the same.
 pub record LeavesUntouched {S : Type 0} (g : Ghosts S) (ok : Type 0) (kind : Kind) (old new : Qcow2 S g) (space space' : Space) (hold : PreparedMappingRun) : Type 0 where
   pub left_untouched : (d : ℕ) → d < hold.count → kind.taken (hold.host + d) ≡ 0
   pub unwritten : (q : ℕ) → kind.written q → ⊥
@@ -187,8 +185,8 @@ pub record LeavesUntouched {S : Type 0} (g : Ghosts S) (ok : Type 0) (kind : Kin
   pub tables : IsWellFormed g old → ok → (i : ℕ)
       → l2_table (file_of g new.tables) new.tables.file.header.fields i ≡ l2_table (file_of g old.tables) old.tables.file.header.fields i
 
--- An image of known free space has become another, as a change of its clusters leaves it that gives and sets nothing. Where it was as
--- `sure` says it was safe.
+-- A change of clusters without effect on the disk has turned `old` into `new`. The free space was loaded, and `old` was well-formed if
+-- `sure` holds.
 pub record Advanced {S : Type 0} (g : Ghosts S) (sure ok : Type 0) (kind : Kind) (old new : Qcow2 S g) : Type 0 where
   pub well_formed : sure → IsWellFormed g old
   pub none : (p : ℕ) (v : Option Value) → kind.gives p v → ⊥
@@ -240,7 +238,7 @@ module _ {S : Type 0} (g : Ghosts S) (sure ok : Type 0) (kind : Kind) (old new :
     sound-before : IsSound (rest_of g old.tables a.space)
     sound-before = safe-sound g old a.space a.there well_formed
 
-    advances : Advances kind.gives kind.written kind.set kind.newly_allocated kind.taken (rest_of g old.tables a.space) (rest_of g new.tables a.space')
+    advances : Advances kind.gives kind.written kind.set kind.excess_added kind.taken (rest_of g old.tables a.space) (rest_of g new.tables a.space')
     advances = (a.progress known).holds well_formed.keeps sound-before whole
 
     consistent-now : IsConsistent f' new.tables.file.header
@@ -263,7 +261,7 @@ module _ {S : Type 0} (g : Ghosts S) (sure ok : Type 0) (kind : Kind) (old new :
           | inr set ↦ absurd (a.unset guest set)
         ]
 
-    -- What is held is held still: its clusters are the guest clusters' own, their table is there, and their bytes are what they were.
+    -- The mapping is still held: its clusters, its table and its bytes are the same.
     module _ (hold : PreparedMappingRun) (holds : HoldsIn g old.tables hold) (untouched_unless_begun : LeavesUntouched g ok kind old new a.space a.space' hold) where
       space-is : holds.space ≡ a.space
       space-is = let e : Some holds.space ≡ Some a.space = sym holds.space_known ∙ a.there in cc e
@@ -290,9 +288,9 @@ module _ {S : Type 0} (g : Ghosts S) (sure ok : Type 0) (kind : Kind) (old new :
 
       under-still : (d : ℕ) → d < hold.count → IsUnder (rest_of g new.tables a.space') hold.table (hold.guest + d)
       under-still d less = record {
-        inside = rw (bits-same, untouched_unless_begun.entries) (was.layers_below d less).inside;
-        table_linked = rw bits-same (untouched_unless_begun.tables well_formed whole ((hold.guest + d) / entries_of_cluster h) ∙ (was.layers_below d less).table_linked);
-        table_nonzero = (was.layers_below d less).table_nonzero;
+        inside = rw (bits-same, untouched_unless_begun.entries) (was.in_table d less).inside;
+        table_linked = rw bits-same (untouched_unless_begun.tables well_formed whole ((hold.guest + d) / entries_of_cluster h) ∙ (was.in_table d less).table_linked);
+        table_nonzero = (was.in_table d less).table_nonzero;
       }
 
       own-still : (is_kept : Bool) (d : ℕ) → d < hold.count → IsOwnAs is_kept (rest_of g old.tables a.space) (hold.guest + d) (hold.host + d)
@@ -302,7 +300,7 @@ module _ {S : Type 0} (g : Ghosts S) (sure ok : Type 0) (kind : Kind) (old new :
         memory = ap (λ b. entry b h' (hold.guest + d)) (rest-memory g new.tables a.space') ∙ words-same (hold.guest + d) ∙ mine.file;
       }
       own-still false d less mine =
-          reserved-still kind.gives kind.written kind.set kind.newly_allocated kind.taken (rest_of g old.tables a.space) (rest_of g new.tables a.space') advances
+          reserved-still kind.gives kind.written kind.set kind.excess_added kind.taken (rest_of g old.tables a.space) (rest_of g new.tables a.space') advances
           (hold.host + d) mine (untouched_unless_begun.left_untouched d less)
 
       held-still : HoldsIn g new.tables hold
@@ -312,7 +310,7 @@ module _ {S : Type 0} (g : Ghosts S) (sure ok : Type 0) (kind : Kind) (old new :
         held = record {
           any = was.any;
           row = rw bits-same was.row;
-          layers_below = under-still;
+          in_table = under-still;
           own = λ d less. own-still hold.is_kept d less (was.own d less);
           uncopied = λ d less. subst IsUncopied (sym (words-same (hold.guest + d))) (was.uncopied d less);
           host_nonzero = was.host_nonzero;
@@ -374,7 +372,7 @@ module _ {S : Type 0} (g : Ghosts S) (sure ok : Type 0) (kind : Kind) (old new :
     homes-same : (layer_of g new).writable_location ≡ (layer_of g old).writable_location
     homes-same = λ i. writable_locations_with (holding_in g (a.unspent i)) (fun_ext home-same i)
 
-    -- and what is held of each place is what it was.
+    -- The state of each byte of the mapping is the same.
     held-of-same : (hold : PreparedMappingRun) (p : ℕ) → HoldsIn g old.tables hold → LeavesUntouched g ok kind old new a.space a.space' hold
         → held_of h' f' hold p ≡ held_of h f hold p
     held-of-same hold p holds untouched_unless_begun = rw (bits-same, size-same) (elim (cases_Bool (in_clusters h hold p)) [
@@ -429,7 +427,7 @@ module _ {S : Type 0} (g : Ghosts S) (sure ok : Type 0) (kind : Kind) (old new :
     raw_entries = words-same;
   }
 
--- Two such calls, one behind the other: the second is made where the first wasn't cut off, and where it is as that needs.
+-- Two such calls one after another. The second one needs that the first had no resource error.
 module _ {S : Type 0} (g : Ghosts S) (sure first-sure second-sure first-ok ok : Type 0) (a b c : Qcow2 S g) (done : first-ok)
     (one : sure → first-sure) (two : sure → second-sure) (first : KeepsDiskWhere g first-sure first-ok a b)
     (second : KeepsDiskWhere g second-sure ok b c) where
@@ -471,13 +469,13 @@ module _ {S : Type 0} (g : Ghosts S) (sure first-sure second-sure first-ok ok : 
     raw_entries = λ known whole guest. second.raw_entries (two known) whole guest ∙ first.raw_entries (one known) done guest;
   }
 
--- A safe image is safe behind the first.
+-- Two calls that keep the disk. The image is well-formed after the first.
 pub keeps-disk-both : {S : Type 0} (g : Ghosts S) (first-ok ok : Type 0) (a b c : Qcow2 S g) → first-ok → KeepsDisk g first-ok a b
     → KeepsDisk g ok b c → KeepsDisk g ok a c
 keeps-disk-both g first-ok ok a b c done first second =
     keeps-disk-then g (IsWellFormed g a) (IsWellFormed g a) (IsWellFormed g b) first-ok ok a b c done (λ well_formed. well_formed) (λ well_formed. first.safely well_formed done) first second
 
--- A call that leaves the file as it was, the header and what is prepared.
+-- The call keeps the file, the header and the prepared mapping.
 module _ {S : Type 0} (g : Ghosts S) (ok : Type 0) (old new : Qcow2 S g) (kept : UnchangedButFaults (g.state old.tables.file.image) (g.state new.tables.file.image))
     (later : CountsNotFallen (g.state old.tables.file.image) (g.state new.tables.file.image)) (header : new.tables.file.header ≡ old.tables.file.header)
     (mode : new.mode ≡ old.mode) (number : new.number ≡ old.number) (unspent : new.unspent ≡ old.unspent)
@@ -513,14 +511,13 @@ module _ {S : Type 0} (g : Ghosts S) (ok : Type 0) (old new : Qcow2 S g) (kept :
     raw_entries = λ well_formed w guest. λ i. entry (bytes_of (kept.bytes i)) (fields i) guest;
   }
 
--- One that does nothing.
 pub keeps-disk-same : {S : Type 0} (g : Ghosts S) (ok : Type 0) (d : Qcow2 S g) → KeepsDisk g ok d d
 keeps-disk-same g ok d =
     kept-disk g ok d d (record { shape = refl; bytes = refl; refusals = refl; crash_image = refl; past_crash_images = refl })
     (record { faults = le_refl (g.state d.tables.file.image).faults; refusals = le_refl (g.state d.tables.file.image).refusals })
     refl refl refl refl (λ was. was) (λ w. refl) (λ w. (refl, refl)) (λ well_formed w. well_formed)
 
--- A call that only looks keeps the disk.
+-- A lookup keeps the disk.
 module _ {S T : Type 0} (g : Ghosts S) (old new : Qcow2 S g) (result : Result T Fault) (k : KeepsImage g old result new) where
   rest-kept : (space : Space) → rest_of g new.tables space ≡ rest_of g old.tables space
   rest-kept space = λ i. record (rest_of g old.tables space) { file = bytes_of (k.tables.unchanged_but_faults.bytes i); header = k.tables.header i }
@@ -554,7 +551,7 @@ module _ {S T : Type 0} (g : Ghosts S) (old new : Qcow2 S g) (result : Result T 
       (λ was. subst IsTrue (sym k.failed) (still-marked result old.failed was)) (λ w. k.failed ∙ unmarked result old.failed w) k.tables.faults
       (λ well_formed w. safe-kept (k.failed ∙ unmarked result old.failed w) well_formed)
 
--- Why the free space isn't loaded.
+-- The causes for which the free space isn't loaded.
 abbrev pub WhyNoSpace : (old new : ℕ) → Fault → Type 0
 WhyNoSpace old new Memory = new ≡ old
 WhyNoSpace old new Storage = HasRisen old new
@@ -602,7 +599,7 @@ module _ (s s' : StorageState) (h : Fields) where
   pub later-loaded : (a : Allocator) → LoadsAllocator s h (Ok a) s' → CountsNotFallen s s'
   later-loaded a loads = record { faults = omega (arith, (loads.faults tt).0); refusals = omega (arith, loads.unchanged_but_faults.refusals) }
 
--- An image whose free space was loaded is known to be sound, where it is consistent.
+-- An image whose free space was just loaded has consistent free space, if its file is consistent.
 module _ {S : Type 0} (g : Ghosts S) (old new : Qcow2 S g) (space : Space) (none : old.tables.space ≡ None) (there : new.tables.space ≡ Some space)
     (mode : new.mode ≡ old.mode) (number : new.number ≡ old.number) (unspent : new.unspent ≡ old.unspent) (failed : new.failed ≡ old.failed)
     (l1 : new.tables.l1 ≡ old.tables.l1) (caches : new.tables.caches ≡ old.tables.caches) (header : new.tables.file.header ≡ old.tables.file.header)

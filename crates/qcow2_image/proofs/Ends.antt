@@ -1,4 +1,4 @@
--- Where the runs end that lookups answer.
+-- Lemmas on where the runs of lookups end.
 use Rattle.std.proofs.Common.{◌≡◌, ◌⊎◌, ℕ, ◌+◌, ◌*◌, ◌/◌, ◌%◌, ◌<◌, ◌≤◌, arith, ap, subst, ◌∙◌, sym, inl, inr}
 use Rattle.std.specs.Prelude.{min, ◌-◌}
 use Rattle.std.proofs.lemmas.Nat.{div-add-mod', div-mul-add}
@@ -8,7 +8,6 @@ use Rattle.qcow2_types.specs.Words.{Mapping}
 use Rattle.qcow2_metadata.specs.declared.mapping.L2Mapping.{L2Mapping}
 use Rattle.qcow2_image.specs.Looking.{Follows, IsRunOf, IsCutAt}
 
--- A multiple of the cluster size is the begin of a cluster.
 at-cluster : (at k c : ℕ) → 0 < c → at ≡ k * c → (at % c ≡ 0) × (at / c ≡ k)
 at-cluster at k c some is =
     let more : at ≡ k * c + 0 = omega (arith, is) in
@@ -30,7 +29,7 @@ long-run h mapped offset asked n most run some is (inr (inr stop)) =
     let cut = at-cluster (offset + n) (offset / cluster_size h + run.1) (cluster_size h) some stop.1 in
     inr (record { cluster = cut.0; last = inr (subst (λ x. Follows (mapped (x - 1)) (mapped x) → ⊥) (sym cut.1) (is.ends stop.0)) })
 
--- The clusters of a run of so many that is found under one L2 table.
+-- The clusters of a run that was found in one L2 table.
 pub run-goes-on : (h : Fields) (mapped : ℕ → Mapping) (offset n most : ℕ) (run : L2Mapping × ℕ) → 0 < cluster_size h → 0 < entries_of_cluster h
     → IsRunOf (offset / cluster_size h) most mapped run → offset / cluster_size h % entries_of_cluster h + most ≤ entries_of_cluster h
     → offset + n ≤ (offset / cluster_size h + run.1) * cluster_size h

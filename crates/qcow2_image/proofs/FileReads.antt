@@ -1,4 +1,4 @@
--- Reads of an image file, as it stands.
+-- Lemmas on reads of the image file itself.
 use Rattle.std.proofs.Common.{◌≡◌, refl, Result, Err}
 use Rattle.std.specs.Borrow.{RattleType}
 use Rattle.imago_storage.specs.Calls.{UnchangedButFaults, CountsNotFallen, IsFaultless}
@@ -13,8 +13,7 @@ use Rattle.qcow2_image.proofs.RequestsWithoutChanges.{asked-keeps}
 use Rattle.qcow2_image.proofs.Steps.{layer-same, spared}
 use Rattle.qcow2_image.proofs.LeaksByFile.{leaks-kept, surplus-kept}
 
--- A request that only reads, and marks nothing: all but the count of faults is as it was. It keeps what one keeps that memory was wanting
--- for, which marks nothing, either.
+-- A request that only reads changes only the fault count. It never sets the image to failed.
 pub file-read : (R : RattleType) (st : Ghosts R.Denot) (sd : mir.Syntax.Dict) (dd : mir.Syntax.Dict) (old new : Qcow2 R.Denot st) (whole : Type 0)
     → UnchangedButFaults (st.state old.tables.file.image) (st.state new.tables.file.image) → CountsNotFallen (st.state old.tables.file.image) (st.state new.tables.file.image)
     → (whole → IsFaultless (st.state old.tables.file.image) (st.state new.tables.file.image))

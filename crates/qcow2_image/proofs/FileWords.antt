@@ -1,4 +1,4 @@
--- What the words of a file say, by the L1 table in memory and an L2 table of the file.
+-- Lemmas on the entries of a file, by the L1 table in memory and an L2 table of the file.
 use Rattle.std.proofs.Common.{◌≡◌, ◌≢◌, ℕ, ◌*◌, ◌/◌, ◌%◌, ◌^◌, ◌<◌, ◌≤◌, refl, arith, ap, sym, subst, ◌∙◌, true, false, Some, None, length, List, inl, inr}
 use Rattle.std.specs.Prelude.{IsTrue, slice_index, ◌==◌, ◌&&◌, not}
 use Rattle.std.proofs.lemmas.Bool.{cases_lt, lt-ltb, le-ltb, cases_Bool, and_parts}
@@ -18,7 +18,6 @@ use Rattle.qcow2_alloc.specs.Opening.{IsL1Of}
 use Rattle.qcow2_image.specs.Looking.{place_of_table}
 use Rattle.qcow2_image.specs.Seen.{IsTableAt}
 
--- The words of a file.
 module _ (f : Bytes) (h : Fields) (top : TableValue) (of : IsL1Of f h top) where
   pub top-long : length top.raw_entries ≡ h.l1_entries
   top-long = ap length of.raw_entries ∙ words_long f h.l1_offset h.l1_entries
@@ -26,19 +25,19 @@ module _ (f : Bytes) (h : Fields) (top : TableValue) (of : IsL1Of f h top) where
   pub top-word : (i : ℕ) → i < h.l1_entries → slice_index top.raw_entries i ≡ raw_entry f h.l1_offset i
   top-word i inside = ap (λ (ws : List ℕ). slice_index ws i) of.raw_entries ∙ words_at f h.l1_offset h.l1_entries i inside
 
-  -- The L1 table in memory says where the L2 tables are.
+  -- The L1 table in memory gives the offsets of the L2 tables.
   pub place-in-file : (i : ℕ) → l2_table f h i ≡ table_offset (slice_index top.raw_entries i)
   place-in-file i = elim (cases_lt i h.l1_entries) [
     | inl inside ↦ rw (lt-ltb i h.l1_entries inside) (ap table_offset (sym (top-word i inside)))
     | inr behind ↦ rw (le-ltb i h.l1_entries behind) (ap table_offset (sym (get_or_past top.raw_entries i 0 (omega (arith, top-long, behind)))))
   ]
 
-  -- So a guest cluster is what its word says.
+  -- So the mapping of a guest cluster is that of its entry.
   pub entry-in-file : (guest : ℕ) → entry f h guest ≡ entry_through f h (table_offset (slice_index top.raw_entries (guest / entries_of_cluster h))) (guest % entries_of_cluster h)
   unfolding entry
   entry-in-file guest = rw (of.sound, place-in-file (guest / entries_of_cluster h)) refl
 
-  -- A word of the L1 table in memory names the begin of a cluster that words can name.
+  -- An L1 entry in memory references the start of an addressable cluster.
   sound-word : (i : ℕ) → IsTrue (is_cluster_offset h.cluster_bits (table_offset (slice_index top.raw_entries i)))
   unfolding l1_table_sound
   sound-word i = elim (cases_lt i h.l1_entries) [
@@ -54,7 +53,7 @@ module _ (f : Bytes) (h : Fields) (top : TableValue) (of : IsL1Of f h top) where
     abbrev offset : ℕ
     offset = table_offset (slice_index top.raw_entries (guest / entries_of_cluster h))
 
-    -- Where no table is named nothing is mapped.
+    -- Without an L2 table a guest cluster is unallocated.
     pub entry-of-none : place_of_table top.raw_entries h.cluster_bits guest ≡ None → entry f h guest ≡ unmapped
     entry-of-none none = entry-in-file guest ∙ elim (cases_Bool (offset == 0)) [
       | inl zero ↦ rw zero refl
@@ -74,7 +73,7 @@ module _ (f : Bytes) (h : Fields) (top : TableValue) (of : IsL1Of f h top) where
       pub place-named : offset ≡ table * cluster_size h
       place-named = sym (place-whole h.cluster_bits offset (sound-word (guest / entries_of_cluster h))) ∙ ap (λ c. c * 2 ^ h.cluster_bits) cluster-named
 
-      -- The file names it, too.
+      -- The L1 table of the file references the same L2 table.
       pub table-named : IsTableAt f h (table * cluster_size h)
       table-named = record {
         row = guest / entries_of_cluster h;
@@ -93,25 +92,24 @@ module _ (f : Bytes) (h : Fields) (top : TableValue) (of : IsL1Of f h top) where
       pub named-in-reach : IsAddressable h.cluster_bits table
       named-in-reach = subst (λ x. x ≤ max_offset) place-named (place-near h.cluster_bits offset (sound-word (guest / entries_of_cluster h)))
 
-      -- Else it is a word of that table.
+      -- With an L2 table the mapping is that of the entry in the table.
       pub entry-of-named : entry f h guest ≡ entry_of_table f h (table * cluster_size h) (guest % entries_of_cluster h)
       entry-of-named = entry-in-file guest ∙ rw some-offset (ap (λ p. entry_of_table f h p (guest % entries_of_cluster h)) place-named)
 
--- The word of a table that is the file's.
 pub word-of-file : (f : Bytes) (h : Fields) (t : TableValue) (place j : ℕ) → t.layout ≡ layout_of h → t.raw_entries ≡ raw_entries_in f place (entries_of_cluster h) → j < entries_of_cluster h → mapping_in t j ≡ l2_mapping f h place j
 word-of-file f h t place j layout raw_entries inside =
     ap (λ l. mapping_of l (slice_index t.raw_entries j)) layout
     ∙ ap (λ (ws : List ℕ). mapping_of (layout_of h) (slice_index ws j)) raw_entries
     ∙ ap (mapping_of (layout_of h)) (words_at f place (entries_of_cluster h) j inside)
 
--- A table whose words are sound isn't damaged,
+-- A table with only valid entries isn't damaged.
 pub sound-table : (f : Bytes) (h : Fields) (t : TableValue) (place : ℕ) → IsTable l2_table_kind t → t.layout ≡ layout_of h → t.raw_entries ≡ raw_entries_in f place (entries_of_cluster h) → l2_table_sound f h place ≡ true
 unfolding l2_table_sound
 sound-table f h t place fits layout raw_entries = all-below-holds (entries_of_cluster h) (λ i. not (is_damaged (l2_mapping f h place i))) (λ k lt.
     let long : length t.raw_entries ≡ entries_of_cluster h = ap length raw_entries ∙ words_long f place (entries_of_cluster h) in
     subst (λ (m : Mapping). not (is_damaged m) ≡ true) (word-of-file f h t place k layout raw_entries lt) (fits.sound k (omega (arith, long, lt))))
 
--- and one of whose words one isn't sound is.
+-- A table with an invalid entry is damaged.
 pub unsound-table : (f : Bytes) (h : Fields) (place : ℕ) → ((HasUnsound l2_table_kind (layout_of h) (raw_entries_in f place (entries_of_cluster h)) → ⊥) → ⊥) → l2_table_sound f h place ≡ false
 unfolding l2_table_sound
 unsound-table f h place some = elim (cases_Bool (l2_table_sound f h place)) [
@@ -124,18 +122,18 @@ unsound-table f h place some = elim (cases_Bool (l2_table_sound f h place)) [
   | inr broken ↦ broken
 ]
 
--- A guest cluster is mapped as the word of its table says, where the table is the file's,
+-- If a table is the file's, a guest cluster has the mapping of its entry.
 pub entry-of-file : (f : Bytes) (h : Fields) (top t : TableValue) (guest table : ℕ) → IsL1Of f h top → place_of_table top.raw_entries h.cluster_bits guest ≡ Some table
     → IsTable l2_table_kind t → t.layout ≡ layout_of h → t.raw_entries ≡ raw_entries_in f (table * cluster_size h) (entries_of_cluster h) → guest % entries_of_cluster h < entries_of_cluster h → mapping_in t (guest % entries_of_cluster h) ≡ entry f h guest
 entry-of-file f h top t guest table of named fits layout raw_entries below =
     let through : entry_of_table f h (table * cluster_size h) (guest % entries_of_cluster h) ≡ l2_mapping f h (table * cluster_size h) (guest % entries_of_cluster h) = rw (sound-table f h t (table * cluster_size h) fits layout raw_entries) refl in
     word-of-file f h t (table * cluster_size h) (guest % entries_of_cluster h) layout raw_entries below ∙ sym (entry-of-named f h top of guest table named ∙ through)
 
--- and is damaged where a word of the table isn't sound.
+-- If an entry of the table isn't valid, the guest cluster is damaged.
 pub entry-of-unsound : (f : Bytes) (h : Fields) (top : TableValue) (guest table : ℕ) → IsL1Of f h top → place_of_table top.raw_entries h.cluster_bits guest ≡ Some table
     → ((HasUnsound l2_table_kind (layout_of h) (raw_entries_in f (table * cluster_size h) (entries_of_cluster h)) → ⊥) → ⊥) → entry f h guest ≡ damaged
 entry-of-unsound f h top guest table of named some = entry-of-named f h top of guest table named ∙ rw (unsound-table f h (table * cluster_size h) some) refl
 
--- The words of one L1 table say where the L2 tables are, of both files.
+-- Two files with the same L1 entries have their L2 tables at the same offsets.
 pub tables-same : (f f' : Bytes) (h h' : Fields) (top : TableValue) → IsL1Of f h top → IsL1Of f' h' top → (i : ℕ) → l2_table f' h' i ≡ l2_table f h i
 tables-same f f' h h' top one two i = place-in-file f' h' top two i ∙ sym (place-in-file f h top one i)

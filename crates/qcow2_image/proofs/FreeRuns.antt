@@ -1,4 +1,4 @@
--- What calls leave of the runs that are free in an image, and why there is none.
+-- Lemmas on runs of free clusters: what calls leave of them, and when none is long enough.
 use Rattle.std.proofs.Common.{◌≡◌, ℕ, ◌+◌, ◌-◌, ◌*◌, ◌/◌, ◌^◌, ◌<◌, ◌≤◌, refl, arith, ap, sym, subst, ◌∙◌, inl, inr, length, Option, Some, false}
 use Rattle.std.proofs.Math.Nat.{div-mul-le_self, lt-div-mul-add, mul-le-mul_right}
 use Rattle.std.proofs.Math.Pow.{pow_mono}
@@ -33,21 +33,19 @@ use Rattle.qcow2_image.specs.declared.qcow2.Qcow2.{Qcow2}
 use Rattle.qcow2_image.specs.declared.tables.Tables.{Tables}
 use Rattle.qcow2_image.proofs.FileWords.{place-in-file, top-long, top-word}
 
--- An allocation needs some room.
 pub some-enough : {S : Type 0} {g : Ghosts S} (t : Tables S g) → 0 < enough_for_one t
 some-enough t = omega arith
 
--- The word of an L1 table names no L2 table, or one that may have other names.
+-- The L1 entry references no L2 table, or one that may be shared.
 abbrev LacksOwn : ℕ → Type 0
 LacksOwn w = (table_offset w ≡ 0) ⊎ (is_copied w ≡ false)
 
--- By the L1 table in memory, where that is the file's:
+-- The L1 table in memory is the file's.
 module _ (f : Bytes) (h : Fields) (top : TableValue) (of : IsL1Of f h top) (i : ℕ) where
-  -- none is named where there is no word,
   wordless : h.l1_entries ≤ i → l2_table f h i ≡ 0
   wordless behind = rw (le-ltb i h.l1_entries behind) refl
 
-  -- and else the words are the file's.
+  -- The same holds for the entry of the file.
   pub lacks-in-file : LacksOwn (slice_index top.raw_entries i) → (l2_table f h i ≡ 0) ⊎ (is_copied (raw_entry f h.l1_offset i) ≡ false)
   lacks-in-file (inl none) = inl (place-in-file f h top of i ∙ none)
   lacks-in-file (inr shared) = elim (cases_lt i h.l1_entries) [
@@ -63,7 +61,7 @@ module _ (f : Bytes) (h : Fields) (top : TableValue) (of : IsL1Of f h top) (i : 
   ]
 
 module _ {S : Type 0} (g : Ghosts S) where
-  -- Where the L1 table has the same words, the same L2 tables are lacking,
+  -- With the same L1 entries, the same L2 tables are missing.
   pub lacks-as-words : (guest : ℕ) (old mid : Tables S g) → IsL1Of (file_of g old) old.file.header.fields old.l1
       → IsL1Of (file_of g mid) mid.file.header.fields mid.l1
       → guest / entries_of_cluster mid.file.header.fields ≡ guest / entries_of_cluster old.file.header.fields
@@ -75,7 +73,7 @@ module _ {S : Type 0} (g : Ghosts S) where
       (subst (λ k. LacksOwn (slice_index old.l1.raw_entries k)) row
       (subst LacksOwn (raw_entries is) (lacks-in-memory (file_of g mid) mid.file.header.fields mid.l1 of' is lacks)))
 
-  -- as where the file and its header are the same.
+  -- With the same file and header, the same L2 tables are missing.
   pub lacks-as-file : (guest : ℕ) (old mid : Tables S g) → file_of g mid ≡ file_of g old → mid.file.header ≡ old.file.header
       → LacksTable g guest mid → LacksTable g guest old
   lacks-as-file guest old mid file header lacks =
@@ -84,7 +82,7 @@ module _ {S : Type 0} (g : Ghosts S) where
         LacksBy f H = let i = guest / entries_of_cluster H.fields in
             (l2_table f H.fields i ≡ 0) ⊎ (is_copied (raw_entry f H.fields.l1_offset i) ≡ false)
 
-  -- So the same is asked for, for a guest cluster.
+  -- So the same allocations are needed for a guest cluster.
   pub asked-as : (guest asked : ℕ) (kept : Option ℕ) (old mid : Tables S g) → mid.file.header ≡ old.file.header
       → (LacksTable g guest mid → LacksTable g guest old) → IsForCluster g guest kept mid asked → IsForCluster g guest kept old asked
   asked-as guest asked kept old mid header told (inl (inl raw_entry)) = inl (inl (subst (λ (H : Header).
@@ -92,7 +90,6 @@ module _ {S : Type 0} (g : Ghosts S) where
   asked-as guest asked kept old mid header told (inl (inr table)) = inl (inr (told table.0, table.1))
   asked-as guest asked kept old mid header told (inr none) = inr none
 
-  -- Where a run is free, each shorter one is.
   pub run-fewer : (t : Tables S g) (few many : ℕ) → few ≤ many → HasFreeRun g t many → HasFreeRun g t few
   run-fewer t few many le run = record {
     first = run.first;
@@ -101,19 +98,19 @@ module _ {S : Type 0} (g : Ghosts S) where
     free = λ c from to. run.free c from (omega (arith, to, le));
   }
 
-  -- The same counts: as much is free.
+  -- With the same refcounts, the same runs are free.
   pub run-same : (t t' : Tables S g) (total : ℕ) → file_of g t' ≡ file_of g t → t'.file.header ≡ t.file.header → HasFreeRun g t total
       → HasFreeRun g t' total
   run-same t t' total file header run =
       subst (λ (f : Bytes). HasFree (count f t'.file.header.fields) 0 (space t'.file.header.fields) total) (sym file)
       (subst (λ (H : Header). HasFree (count (file_of g t) H.fields) 0 (space H.fields) total) (sym header) run)
 
-  -- Of an image at rest, with its free space:
+  -- A flushed image with its free space.
   module _ (t : Tables S g) (free : Space) (there : t.space ≡ Some free) where
     counts-at-rest : (c : ℕ) → counted (rest_of g t free) c ≡ count (file_of g t) t.file.header.fields c
     counts-at-rest c = ap (λ (f : Bytes). count f t.file.header.fields c) (resting-memory (rest_of g t free) refl)
 
-    -- It is searched where none is free before.
+    -- A free run of the file is one after the first-free hint.
     pub run-in-rest : AreCountedBefore g t → (total : ℕ) → 0 < total → HasFreeRun g t total
         → HasFreeClusters (rest_of g t free) (first_free_of free.allocator) total
     run-in-rest counted total some run = record {
@@ -137,7 +134,7 @@ module _ {S : Type 0} (g : Ghosts S) where
       free = λ c from to. sym (counts-at-rest c) ∙ run.free c from to;
     }
 
-  -- What a change of clusters says of its room it says of the image.
+  -- The statement on free space of a change of clusters holds for the image.
   module _ (old new : Tables S g) (free free' : Space) (there : old.space ≡ Some free) (there' : new.space ≡ Some free')
       (counted : AreCountedBefore g old) where
     pub leaves-in-run : (taken : ℕ)
@@ -167,7 +164,7 @@ module _ {S : Type 0} (g : Ghosts S) where
       told = full.told;
     }
 
-  -- Calls that leave free runs leave them together,
+  -- Calls that leave free runs leave them together.
   pub leaves-none : (t : Tables S g) → LeavesFree g 0 t t
   leaves-none t = record { as_large = refl; left = λ total some run. run-fewer t total (0 + total) (omega arith) run }
 
@@ -184,7 +181,7 @@ module _ {S : Type 0} (g : Ghosts S) where
         (first.left (more + total) (omega (arith, some)) (run-fewer old (taken + (more + total)) (taken + more + total) (omega arith) run));
   }
 
-  -- and there was no run for the second where it finds none.
+  -- If the second call finds no run, there was none before the first that suffices for both.
   pub full-behind : (asked taken enough number : ℕ) (old mid new : Tables S g) → 0 < enough → LeavesFree g taken old mid
       → LacksFreeRun g asked enough mid new number → LacksFreeRun g asked (taken + enough) old new number
   full-behind asked taken enough number old mid new some leaves full = record {
@@ -212,12 +209,11 @@ module _ {S : Type 0} (g : Ghosts S) where
     told = full.told;
   }
 
-  -- What a number tells may be said otherwise where there is no place.
   pub full-implies : {full full' : ℕ → Type 0} (old new : Qcow2 S g) → ((number : ℕ) → IsWellFormed g old → full number → full' number)
       → Implies (allocation_causes g full old new) (allocation_causes g full' old new)
   full-implies old new told = record { before = omega arith; after = omega arith; damaged = λ wrong. wrong; counter = λ wrong. wrong; full = absurd; limit = λ number at well_formed. told number well_formed (at well_formed) }
 
-  -- The L1 table of a safe image has at most 2^22 words,
+  -- The L1 table of a well-formed image has at most 2^22 entries.
   pub safe-few : (d : Qcow2 S g) → IsWellFormed g d → d.tables.file.header.fields.l1_entries ≤ 2 ^ 22
   safe-few d well_formed = (header-limited false (file_of g d.tables) d.tables.file.header well_formed.seen.loads).l1_entries
 
@@ -243,7 +239,7 @@ module _ {S : Type 0} (g : Ghosts S) where
       let quarter : space d.tables.file.header.fields < space d.tables.file.header.fields / 4 * 4 + 4 = lt-div-mul-add (omega arith) in
       omega (arith, large, quarter)
 
-  -- which take few clusters.
+  -- Such an L1 table needs few clusters.
   few-clusters : (h : Fields) (n : ℕ) → 512 ≤ cluster_size h → n ≤ 2 ^ 22 → clusters_for h n ≤ 2 ^ 16
   few-clusters h n large few = elim (cases_lt (2 ^ 16) (clusters_for h n)) [
     | inl many ↦
@@ -263,7 +259,7 @@ module _ {S : Type 0} (g : Ghosts S) where
       few-clusters h (max (length d.tables.l1.raw_entries) (i + 1)) (least-cluster false (file_of g d.tables) d.tables.file.header well_formed.seen.loads)
       (omega (arith, few, long, near))
 
-  -- A cluster holds some words, and at most 2^18.
+  -- A cluster holds at most 2^18 entries.
   words-few : (d : Qcow2 S g) → IsWellFormed g d → entries_of_cluster d.tables.file.header.fields ≤ 2 ^ 18
   words-few d well_formed =
       let h : Fields = d.tables.file.header.fields in
@@ -276,11 +272,10 @@ module _ {S : Type 0} (g : Ghosts S) where
       let least = least-cluster false (file_of g d.tables) d.tables.file.header well_formed.seen.loads in
       omega (arith, least)
 
-  -- An allocation needs some room.
   pub run-enough : (d : Qcow2 S g) (n : ℕ) → IsWellFormed g d → 0 < enough_for_run d.tables n
   run-enough d n well_formed = let large = space-large d well_formed in omega (arith, large)
 
-  -- So a quarter of the space is enough for it, an L2 table and as many clusters as stand in one.
+  -- So a quarter of the space suffices for the L1 table, an L2 table, and as many clusters as one L2 table references.
   pub quarter-enough : (d : Qcow2 S g) (guest n : ℕ) → IsWellFormed g d → n ≤ entries_of_cluster d.tables.file.header.fields
       → guest / entries_of_cluster d.tables.file.header.fields + 1 ≤ 2 ^ 22
       → enough_for_table d.tables guest + enough_for_run d.tables n ≤ space d.tables.file.header.fields / 4

@@ -1,4 +1,4 @@
--- What a flush leaves, behind what waited to be freed.
+-- Lemmas on a flush, after the free list was emptied.
 use Rattle.std.proofs.Common.{◌≡◌, arith, ap, sym, subst, ◌∙◌, true, false, Result, Ok, Err, inl, inr}
 use Rattle.std.specs.Prelude.{⊤, IfErr, OnOk}
 use Rattle.std.specs.Borrow.{RattleType}
@@ -34,7 +34,6 @@ use Rattle.qcow2_image.proofs.RequestsWithoutChanges.{asked-keeps, meant, ok-who
 use Rattle.qcow2_image.proofs.LeaksByFile.{surplus-kept}
 use Rattle.qcow2_image.proofs.LeaksWithNothingPending.{counted-idle}
 
--- An image that was safe but for a failure is safe where it didn't fail.
 pub safe-again : {S : Type 0} (g : Ghosts S) (d : Qcow2 S g) → d.failed ≡ false → WasWellFormed g d → IsWellFormed g d
 safe-again g d runs was = record {
   runs = runs;
@@ -47,7 +46,7 @@ safe-again g d runs was = record {
   writable = was.writable;
 }
 
--- A request that changes nothing, whose answer marked the image also behind want of memory.
+-- A request that changes nothing, where `Fault::Memory` also sets the image to failed.
 module _ {S : Type 0} (g : Ghosts S) (old new : Qcow2 S g) (s' : StorageState) (kept : UnchangedButFaults (g.state old.tables.file.image) s') (later : CountsNotFallen (g.state old.tables.file.image) s')
     (state : g.state new.tables.file.image ≡ s') (header : new.tables.file.header ≡ old.tables.file.header) (l1 : new.tables.l1 ≡ old.tables.l1)
     (caches : new.tables.caches ≡ old.tables.caches) (space : new.tables.space ≡ old.tables.space) (mode : new.mode ≡ old.mode) (number : new.number ≡ old.number)
@@ -66,7 +65,7 @@ module _ {S : Type 0} (g : Ghosts S) (old new : Qcow2 S g) (s' : StorageState) (
   requested (Err Storage) counts failed = cut-off ⊥ (λ w. w) failed
   requested (Err fault) counts failed = absurd counts
 
--- What waited was freed, and the file was flushed.
+-- The free list was emptied, and the file was flushed.
 pub flushes-freed : {S : Type 0} (g : Ghosts S) (old mid new : Qcow2 S g) (result : Result Unit Fault) → FreesPending g old (Ok tt) mid
     → KeepsDisk g (HadNoResourceError result) mid new → KeepsLeaks g mid new → CountsFaults (g.state mid.tables.file.image).faults (g.state new.tables.file.image).faults result
     → new.failed ≡ failed_by_resource_error result true mid.failed → new.tables.space ≡ mid.tables.space
@@ -89,7 +88,7 @@ module _ (R : RattleType) (st : Ghosts R.Denot) (sd : mir.Syntax.Dict) (dd : mir
   abbrev coherent : SeenGhosts (Qcow2 R.Denot st) PreparedMappingState
   coherent = ghosts R st sd dd
 
-  -- What keeps the disk went as the driver's calls go.
+  -- A call that keeps the disk is a call as the driver's contract needs it.
   module _ (ok : Type 0) (k : KeepsDisk st ok old new) where
     pub fixed-kept : (layer_of st new).fixed ≡ (layer_of st old).fixed
     fixed-kept = λ i. qcow2_fixed (k.shape i)
@@ -115,7 +114,7 @@ module _ (R : RattleType) (st : Ghosts R.Denot) (sd : mir.Syntax.Dict) (dd : mir
       excess_refcount = λ whole well_formed. surplus-kept st old new (leaks well_formed whole);
     }
 
--- What a flush leaves of an image of which something waited to be freed.
+-- A flush of an image whose free list wasn't empty.
 module _ (R : RattleType) (st : Ghosts R.Denot) (sd : mir.Syntax.Dict) (dd : mir.Syntax.Dict) (old new : Qcow2 R.Denot st) (result : Result Unit Fault)
     (freed : FlushesFreed st old result new) (runs : old.failed ≡ false) (waits : waits_in old.tables.space ≡ true) where
   abbrev driver : SeenGhosts (Qcow2 R.Denot st) PreparedMappingState

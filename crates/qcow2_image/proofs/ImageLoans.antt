@@ -1,4 +1,4 @@
--- An image whose file is lent.
+-- A lemma on a borrow of the image file.
 use Rattle.std.proofs.Common.{◌≡◌, ap, ◌∙◌}
 use Rattle.std.proofs.Props.{props}
 use Rattle.imago_storage.specs.declared.storage.Storage.{Ghosts}
@@ -15,7 +15,7 @@ clean-prop c = Prim.hlevel props
 loose-prop : {S : Type 0} (c : MetadataCaches S) → IsProp (IsUnpinned c)
 loose-prop c = Prim.hlevel props
 
--- Whatever it is left as, nothing waits to be written, and nothing is pinned.
+-- After the borrow nothing that is cached is dirty or pinned.
 pub image-lent : {S : Type 0} {g : Ghosts S} (d : Qcow2 S g) (w : S) (k : IsClean (cached_in d.tables.caches)) (l : IsUnpinned d.tables.caches)
     → record d { tables = record d.tables { file = record d.tables.file { image = w }; clean = k; unpinned = l } } ≡ with_image d w
 image-lent d w k l =

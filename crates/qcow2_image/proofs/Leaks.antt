@@ -1,4 +1,4 @@
--- What calls leave of the leaks of an image.
+-- Lemmas on the leaks of an image after calls.
 use Rattle.std.proofs.Common.{◌≡◌, ℕ, ◌+◌, arith, ap, sym, ◌∙◌, [], Option, Some, None}
 use Rattle.imago_storage.specs.State.{StorageState}
 use Rattle.imago_storage.specs.Calls.{UnchangedButFaults}
@@ -25,40 +25,37 @@ use Rattle.qcow2_image.specs.declared.tables.Tables.{Tables}
 use Rattle.qcow2_image.proofs.DiskEffects.{rest-memory, safe-sound}
 use Rattle.qcow2_image.proofs.LeaksByFile.{leaks-same}
 
--- What was noted of a mapping is reserved as it was.
+-- A note of a write doesn't change what is reserved.
 pub noted-reserved : (at n : ℕ) (old new : Option PreparedMappingRun) → Notes at n old new → (c : ℕ) → reserved_in new c ≡ reserved_in old c
 noted-reserved at n None new notes c = ap (λ o. reserved_in o c) notes
 noted-reserved at n (Some hold) new notes c = ap (λ o. reserved_in o c) notes.1
 
 module _ {S : Type 0} (g : Ghosts S) where
-  -- They add up,
   pub leaks-both : (a b c : Qcow2 S g) → KeepsLeaks g a b → KeepsLeaks g b c → KeepsLeaks g a c
   leaks-both a b c first second d = let one = first d in let two = second d in omega (arith, one, two)
 
   pub leaks-then : (reserved : ℕ → ℕ) (a b c : Qcow2 S g) → KeepsLeaks g a b → KeepsLeaksBut g reserved b c → KeepsLeaksBut g reserved a c
   leaks-then reserved a b c first second d = let one = first d in let two = second d in omega (arith, one, two)
 
-  -- also where nothing is reserved.
   pub leaks-but : (old new : Qcow2 S g) → KeepsLeaks g old new → KeepsLeaksBut g (λ c. 0) old new
   leaks-but old new keeps c = let one = keeps c in omega (arith, one)
 
   pub leaks-all : (old new : Qcow2 S g) → KeepsLeaksBut g (λ c. 0) old new → KeepsLeaks g old new
   leaks-all old new keeps c = let one = keeps c in omega (arith, one)
 
-  -- Nothing was done.
   pub leaks-idle : (old new : Qcow2 S g) → new ≡ old → KeepsLeaks g old new
   leaks-idle old new is c =
       ap (λ (d : Qcow2 S g). counts_in g d c + names_in g old c + pending g old c) is
       ∙ sym (ap (λ (d : Qcow2 S g). counts_in g old c + names_in g d c + pending g d c) is)
 
-  -- A request that changes nothing leaks no more.
+  -- A request that changes no byte keeps the leaks.
   pub leaks-asked : (old new : Qcow2 S g) (s' : StorageState) → UnchangedButFaults (g.state old.tables.file.image) s' → g.state new.tables.file.image ≡ s'
       → new.tables.file.header ≡ old.tables.file.header → new.tables.space ≡ old.tables.space → new.unspent ≡ old.unspent → KeepsLeaks g old new
   leaks-asked old new s' kept state header space unspent =
       leaks-same g old new (ap (λ (s : StorageState). bytes_of s.bytes) state ∙ ap bytes_of kept.bytes) header
       (λ c. λ i. waiting_in (space i) c + reserved_in (holding_in g (unspent i)) c)
 
-  -- Free space that is loaded has nothing that waits.
+  -- Loading the free space keeps the leaks, as its free list is empty.
   pub leaks-loaded : (old new : Qcow2 S g) (space : Space) → old.tables.space ≡ None → new.tables.space ≡ Some space
       → UnchangedButFaults (g.state old.tables.file.image) (g.state new.tables.file.image) → new.tables.file.header ≡ old.tables.file.header
       → new.unspent ≡ old.unspent → space.to_free.entries ≡ [] → KeepsLeaks g old new
@@ -69,7 +66,7 @@ module _ {S : Type 0} (g : Ghosts S) where
       let held : reserved_in (holding_in g new.unspent) c ≡ reserved_in (holding_in g old.unspent) c = ap (λ u. reserved_in (holding_in g u) c) unspent in
       omega (arith, before, after, held))
 
-  -- A change of the clusters leaks what it hands out and doesn't take.
+  -- A change of clusters leaks what it allocates and doesn't link.
   module _ (old new : Qcow2 S g) (space space' : Space) (there : old.tables.space ≡ Some space) (there' : new.tables.space ≡ Some space') where
     abbrev now : Bytes
     now = file_of g new.tables
@@ -84,7 +81,7 @@ module _ {S : Type 0} (g : Ghosts S) where
     waits-new c = ap (λ o. waiting_in o c) there'
 
     pub advanced-leaks : (ok : Type 0) (kind : Kind) (reserved : ℕ → ℕ) → new.unspent ≡ old.unspent
-        → ((c : ℕ) → kind.newly_allocated c ≡ kind.taken c + reserved c)
+        → ((c : ℕ) → kind.excess_added c ≡ kind.taken c + reserved c)
         → Progresses ok kind (g.state old.tables.file.image) (rest_of g old.tables space) (g.state new.tables.file.image) (rest_of g new.tables space')
         → IsWellFormed g old → ok → KeepsLeaksBut g reserved old new
     advanced-leaks ok kind reserved unspent given progress well_formed whole c =
@@ -101,7 +98,7 @@ module _ {S : Type 0} (g : Ghosts S) where
         let more = given c in
         omega (arith, law, counts, counts', names, names', waits, waits', held, more)
 
-  -- What was reserved is held by the mapping that is prepared.
+  -- The reserved clusters are held by the prepared mapping.
   pub held-leaks : (asked : Asked) (clusters : Reserved) (old new : Qcow2 S g) (mapping : PreparedDataMapping PreparedMappingState)
       → KeepsMapping g asked clusters old mapping new → old.unspent ≡ None → (c : ℕ)
       → (counts_in g new c ≡ counts_in g old c) × (names_in g new c ≡ names_in g old c)

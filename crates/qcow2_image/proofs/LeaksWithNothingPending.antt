@@ -1,4 +1,4 @@
--- When nothing of an image is pending, and what calls leave of its leaks together.
+-- Lemmas on images with nothing pending: when that is so, and what calls then leave of the leaks.
 use Rattle.std.proofs.Common.{◌≡◌, ℕ, ◌+◌, ◌-◌, refl, arith, ap, sym, ◌∙◌, Bool, true, false, List, [], ◌∷◌, length, Option, Some, None}
 use Rattle.std.proofs.lemmas.Bool.{ne_eqb}
 use Rattle.std.specs.Prelude.{not, ◌==◌, Ok}
@@ -35,25 +35,25 @@ none-reserved None free c = refl
 none-reserved (Some hold) free c = absurd (cc free)
 
 module _ {S : Type 0} (g : Ghosts S) where
-  -- Nothing is where nothing waits to be freed and nothing is prepared,
+  -- Nothing is pending if the free list is empty and no mapping is prepared.
   pub none-pending : (d : Qcow2 S g) → waits_in d.tables.space ≡ false → IsFree (layer_of g d) → (c : ℕ) → pending g d c ≡ 0
   none-pending d none free c =
       let waits = none-waiting d.tables.space none c in
       let held = none-reserved (holding_in g d.unspent) free c in
       omega (arith, waits, held)
 
-  -- as right after it was opened.
+  -- Nothing is pending right after opening.
   pub opened-pending : (before : StorageState) (writable : Bool) (backing : Option Bool) (number tables blocks : ℕ) (d : Qcow2 S g)
       → IsOpenedAs g before writable backing number tables blocks d → (c : ℕ) → pending g d c ≡ 0
   opened-pending before writable backing number tables blocks d opened =
       none-pending d (idle-waits d.tables.space opened.tables.space.idle) (ap (λ u. mapping_id_held (holding_in g u)) opened.free)
 
-  -- Where nothing is, it leaks what it did.
+  -- With nothing pending, the excess refcounts are the same.
   pub leaks-alike : (old new : Qcow2 S g) → KeepsLeaks g old new → ((c : ℕ) → pending g old c ≡ 0) → ((c : ℕ) → pending g new c ≡ 0)
       → (c : ℕ) → counts_in g new c + names_in g old c ≡ counts_in g old c + names_in g new c
   leaks-alike old new keeps none none' c = let all = keeps c in let was = none c in let is = none' c in omega (arith, all, was, is)
 
-  -- Where nothing is, its file leaks what is counted beyond names.
+  -- With nothing pending, the leaks of the file are its excess refcounts.
   pub counted-idle : (d : Qcow2 S g) → header_of false (file_of g d.tables) ≡ Ok d.tables.file.header → waits_in d.tables.space ≡ false
       → IsFree (layer_of g d) → (c : ℕ) → excess_refcount_of g d c ≡ qcow2_leaks (g.state d.tables.file.image).bytes c
   counted-idle d loads none free c =

@@ -1,4 +1,4 @@
--- From a look at words to what a lookup of the driver answers.
+-- Lemmas from the entries that a lookup finds to the answer of the driver.
 use Rattle.std.proofs.Common.{◌≡◌, ℕ, ◌+◌, ◌-◌, ◌*◌, ◌/◌, ◌%◌, ◌^◌, ◌<◌, ◌≤◌, refl, arith, ap, sym, subst, ◌∙◌, List, ◌∷◌, Bool, true, false, Some, None, Option, inl, inr}
 use Rattle.std.specs.Prelude.{⊤, ◌⊎◌, slice_index, max, zero, suc, Option}
 use Rattle.std.proofs.lemmas.Bool.{and_parts, lt-ltb}
@@ -17,7 +17,7 @@ use Rattle.imago_access.proofs.Units.{overflows_late, alignment_max}
 use Rattle.qcow2_types.specs.Bytes.{Bytes, bytes_of}
 use Rattle.qcow2_types.specs.Header.{Fields, cluster_size}
 use Rattle.qcow2_types.specs.Words.{Mapping, data_at, zeroes, packed, damaged, max_offset}
-use Rattle.qcow2_types.specs.Words as raw_entries
+use Rattle.qcow2_types.specs.Words as mappings
 use Rattle.qcow2_types.specs.Entries.{entry}
 use Rattle.qcow2_metadata.specs.MappingView.{mapping_seen, IsHostAddressable}
 use Rattle.qcow2_metadata.specs.declared.mapping.L2Mapping.{L2Mapping}
@@ -33,11 +33,11 @@ use Rattle.qcow2_image.specs.Rooms.{ReadsNone, MapsExplicitZero, IsExplicitZero,
 use Rattle.qcow2_image.specs.Homes.{home-there}
 use Rattle.qcow2_image.proofs.Ranges.{cluster-of, in-run, byte-place}
 
--- The mapping of the guest cluster so many behind another of its run.
+-- The mapping of a guest cluster that is `k` clusters after another of the same run.
 abbrev IsOn : Mapping → ℕ → Mapping → Type 0
 IsOn (data_at c mark) k (data_at c' mark') = (c' ≡ c + k) × (mark' ≡ mark)
 IsOn (zeroes c mark) k (zeroes c' mark') = ⊤
-IsOn raw_entries.unmapped k raw_entries.unmapped = ⊤
+IsOn mappings.unmapped k mappings.unmapped = ⊤
 IsOn (packed o n) k (packed o' n') = ⊤
 IsOn m k m' = ⊥
 
@@ -58,19 +58,19 @@ on-zeroes (zeroes c x) b None y k on next = absurd next
 on-zeroes (zeroes c x) b (Some d) y k on next = absurd next
 on-zeroes m b d y k on next = absurd on
 
-on-unmapped : (m b : Mapping) (k : ℕ) → IsOn m k raw_entries.unmapped → Follows raw_entries.unmapped b → IsOn m (k + 1) b
-on-unmapped raw_entries.unmapped raw_entries.unmapped k on next = tt
-on-unmapped raw_entries.unmapped b k on next = absurd next
+on-unmapped : (m b : Mapping) (k : ℕ) → IsOn m k mappings.unmapped → Follows mappings.unmapped b → IsOn m (k + 1) b
+on-unmapped mappings.unmapped mappings.unmapped k on next = tt
+on-unmapped mappings.unmapped b k on next = absurd next
 on-unmapped m b k on next = absurd on
 
 on-next : (m a b : Mapping) (k : ℕ) → IsOn m k a → Follows a b → IsOn m (k + 1) b
 on-next m (data_at d y) b k on next = on-data m b d y k on next
 on-next m (zeroes d y) b k on next = on-zeroes m b d y k on next
-on-next m raw_entries.unmapped b k on next = on-unmapped m b k on next
+on-next m mappings.unmapped b k on next = on-unmapped m b k on next
 on-next m (packed o n) b k on next = absurd next
 on-next m damaged b k on next = absurd next
 
--- Each mapping of a run goes on from the first.
+-- Each mapping of a run follows from the first.
 pub on-run : (guest most : ℕ) (mapped : ℕ → Mapping) (run : L2Mapping × ℕ) → IsRunOf guest most mapped run → (k : ℕ) → k < run.1 → IsOn (mapping_seen run.0) k (mapped (guest + k))
 on-run guest most mapped run is zero lt = subst (IsOn (mapping_seen run.0) 0) (is.first ∙ ap mapped here) (on-first run.0) where
   here : guest ≡ guest + 0
@@ -83,26 +83,26 @@ on-run guest most mapped run is (suc k) lt =
     let two : guest + k + 1 ≡ guest + suc k = omega arith in
     subst (λ x. IsOn (mapping_seen run.0) (suc k) (mapped x)) two (subst (λ x. IsOn (mapping_seen run.0) x (mapped (guest + k + 1))) one on)
 
--- What a place says whose mapping goes on from another.
+-- The cell of a byte whose mapping follows from another.
 abbrev cell_on : Cell → Bytes → Fields → ℕ → ℕ → Mapping → Cell
 cell_on blank f h k p (data_at c mark) = own (byte (f ((c + k) * cluster_size h + p % cluster_size h)))
 cell_on blank f h k p (zeroes c mark) = own (byte 0)
 cell_on blank f h k p (packed o n) = own barred
-cell_on blank f h k p raw_entries.unmapped = blank
+cell_on blank f h k p mappings.unmapped = blank
 cell_on blank f h k p damaged = own damaged_place
 
 says-on : (blank : Cell) (f : Bytes) (h : Fields) (k p : ℕ) (m m' : Mapping) → IsOn m k m' → cell_by blank f h p m' ≡ cell_on blank f h k p m
 says-on blank f h k p (data_at c x) (data_at d y) on = ap (λ x. own (byte (f (x * cluster_size h + p % cluster_size h)))) on.0
 says-on blank f h k p (zeroes c x) (zeroes d y) on = refl
 says-on blank f h k p (packed o n) (packed o' n') on = refl
-says-on blank f h k p raw_entries.unmapped raw_entries.unmapped on = refl
+says-on blank f h k p mappings.unmapped mappings.unmapped on = refl
 says-on blank f h k p (data_at c x) m' on = absurd on
 says-on blank f h k p (zeroes c x) m' on = absurd on
 says-on blank f h k p (packed o n) m' on = absurd on
-says-on blank f h k p raw_entries.unmapped m' on = absurd on
+says-on blank f h k p mappings.unmapped m' on = absurd on
 says-on blank f h k p damaged m' on = absurd on
 
--- Where a place can be written whose mapping goes on from copied data.
+-- The location of a byte whose mapping follows from data with the COPIED flag.
 home-on : (h : Fields) (c : ℕ) (mark : Bool) (k p : ℕ) (m : Mapping) → mark ≡ true → IsOn (data_at c mark) k m
     → writable_location_by h p m ≡ Some (0, (c + k) * cluster_size h + p % cluster_size h)
 home-on h c mark k p (data_at d y) marked on =
@@ -110,7 +110,7 @@ home-on h c mark k p (data_at d y) marked on =
     rw copied (ap (λ x. Some (0, x * cluster_size h + p % cluster_size h)) on.0)
 home-on h c mark k p m marked on = absurd on
 
--- A place that can be written is answered as such.
+-- A byte that can be written in place gets such an answer.
 home-named : (mode : OpenMode) (h : Fields) (p storage place : ℕ) (m : Mapping) → mode.writable ≡ true → writable_location_by h p m ≡ Some (storage, place)
     → shallow_of mode h.cluster_bits p (p % cluster_size h) m ≡ shallow.Raw storage place true
 home-named mode h p storage place (data_at c true) writable is =
@@ -119,22 +119,22 @@ home-named mode h p storage place (data_at c true) writable is =
 home-named mode h p storage place (data_at c false) writable is = absurd (cc is)
 home-named mode h p storage place (zeroes c x) writable is = absurd (cc is)
 home-named mode h p storage place (packed o n) writable is = absurd (cc is)
-home-named mode h p storage place raw_entries.unmapped writable is = absurd (cc is)
+home-named mode h p storage place mappings.unmapped writable is = absurd (cc is)
 home-named mode h p storage place damaged writable is = absurd (cc is)
 
--- Data isn't vacant, nor zeroed.
+-- Data is neither unallocated nor zero.
 data-taken : (c k : ℕ) (mark : Bool) (m : Mapping) → IsOn (data_at c mark) k m → (TakesNone m ⊎ ReadsNone m) → ⊥
 data-taken c k mark (data_at d y) on (inl none) = none
 data-taken c k mark (data_at d y) on (inr none) = none
 data-taken c k mark m on which = absurd on
 
--- Nor is what is compressed.
+-- Compressed data is neither.
 packed-taken : (o l k : ℕ) (m : Mapping) → IsOn (packed o l) k m → (TakesNone m ⊎ ReadsNone m) → ⊥
 packed-taken o l k (packed o' l') on (inl none) = none
 packed-taken o l k (packed o' l') on (inr none) = none
 packed-taken o l k m on which = absurd on
 
--- All of a run say themselves that they are 0, or none does.
+-- Either all mappings of a run are explicit zeroes, or none is.
 zero-first : (m m' : Mapping) (k : ℕ) → IsOn m k m' → MapsExplicitZero m' → MapsExplicitZero m
 zero-first (zeroes c x) m' k on says = tt
 zero-first m (zeroes d y) k on says = absurd on
@@ -145,7 +145,7 @@ zero-on (zeroes c x) (zeroes d y) k on says = tt
 zero-on (zeroes c x) m' k on says = absurd on
 zero-on m m' k on says = absurd says
 
--- What a lookup answers is a run.
+-- The answer of a lookup is a run.
 pub is-run : (layer : Layer) (mode : OpenMode) (bits offset within n asked : ℕ) (m : L2Mapping) → offset < layer.size → n ≤ asked → offset + n ≤ layer.size → (0 < asked → 0 < n) → IsRun layer offset asked (shallow_of mode bits offset within (mapping_seen m)) n
 is-run layer mode bits offset within n asked (DataFile c mark) lt few inside one = (lt, few, inside, one)
 is-run layer mode bits offset within n asked (Zero c mark) lt few inside one = (lt, few, inside, one)
@@ -155,7 +155,6 @@ is-run layer mode bits offset within n asked (Backing o) lt few inside one = by 
   by true = (lt, few, inside, one)
   by false = (lt, few, inside, one)
 
--- It names the one storage that there is.
 pub names-one : (mode : OpenMode) (bits offset within : ℕ) (m : L2Mapping) → IsOneOf 1 (shallow_of mode bits offset within (mapping_seen m))
 names-one mode bits offset within (DataFile c mark) = omega arith
 names-one mode bits offset within (Zero c mark) = tt
@@ -165,7 +164,6 @@ names-one mode bits offset within (Backing o) = by mode.backing where
   by true = tt
   by false = tt
 
--- It ends far below 2^64.
 pub ends-near : (mode : OpenMode) (bits offset within n : ℕ) (m : L2Mapping) → within < 2 ^ bits → IsHostAddressable bits m → n ≤ 2 ^ 42 → bits ≤ 21
     → EndsNear (shallow_of mode bits offset within (mapping_seen m)) n
 ends-near mode bits offset within n (DataFile c mark) inside near few small =
@@ -178,7 +176,7 @@ ends-near mode bits offset within n (Backing o) inside near few small = by mode.
   by true = tt
   by false = tt
 
--- The answer of a lookup, over the places from an offset on in some clusters of a run.
+-- The answer of a lookup, for a range inside a run of clusters.
 module _ (s : StorageState) (words-there : Bytes) (h : Fields) (mode : OpenMode) (number : ℕ) (failed : Bool) (hold : Option PreparedMappingRun) (offset n most : ℕ) (run : L2Mapping × ℕ)
     (clean : words-there ≡ bytes_of s.bytes) (inside : offset + n ≤ h.size) (short : n ≤ run.1 * cluster_size h - offset % cluster_size h)
     (is : IsRunOf (offset / cluster_size h) most (entry (bytes_of s.bytes) h) run) where
@@ -194,7 +192,7 @@ module _ (s : StorageState) (words-there : Bytes) (h : Fields) (mode : OpenMode)
   some : 0 < cluster_size h
   some = pow_pos h.cluster_bits
 
-  -- The mapping at each place is on the run.
+  -- The mapping of each byte follows from the first of the run.
   on-place : (i : ℕ) → i < n → IsOn (mapping_seen run.0) ((within + i) / cluster_size h) (entry f h ((offset + i) / cluster_size h))
   on-place i lt = subst (λ x. IsOn (mapping_seen run.0) ((within + i) / cluster_size h) (entry f h x)) (sym (cluster-of (cluster_size h) offset i some))
       (on-run (offset / cluster_size h) most (entry f h) run is ((within + i) / cluster_size h) (in-run (cluster_size h) offset i some run.1 n short lt))
@@ -204,7 +202,7 @@ module _ (s : StorageState) (words-there : Bytes) (h : Fields) (mode : OpenMode)
       let there = lt-ltb (offset + i) h.size (omega (arith, inside, lt)) in
       rw there (rw clean (says-on (blank_of mode.backing) f h ((within + i) / cluster_size h) (offset + i) (mapping_seen run.0) (entry f h ((offset + i) / cluster_size h)) (on-place i lt)))
 
-  -- it names what each place says,
+  -- The answer says what each byte reads.
   pub names-run : (ss : List StorageState) (s' : StorageState) → s'.bytes ≡ s.bytes → Names layer (byte_in (s' ∷ ss)) offset n (shallow_of mode h.cluster_bits offset within (mapping_seen run.0))
   names-run ss s' bytes = from run.0 cell-at on-place where
     backing : (b : Bool) → ((i : ℕ) → i < n → layer.cell (offset + i) ≡ blank_of b) → blank_of b ≡ layer.fixed.blank → Names layer (byte_in (s' ∷ ss)) offset n (unmapped_answer b offset)
@@ -228,7 +226,7 @@ module _ (s : StorageState) (words-there : Bytes) (h : Fields) (mode : OpenMode)
     from (Compressed o l) each on = (each, refl)
     from (Backing o) each on = backing mode.backing each refl
 
-  -- and no vacant or zeroed place as one of the file or as compressed.
+  -- No unallocated or zero byte is answered as data or as compressed.
   pub room-run : ReportsAllocation layer (IsUnallocated words-there h) (IsZeroed words-there h) offset n (shallow_of mode h.cluster_bits offset within (mapping_seen run.0))
   room-run = from run.0 on-place where
     backing : (b : Bool) → ReportsAllocation layer (IsUnallocated words-there h) (IsZeroed words-there h) offset n (unmapped_answer b offset)
@@ -247,7 +245,7 @@ module _ (s : StorageState) (words-there : Bytes) (h : Fields) (mode : OpenMode)
     from (Compressed o l) each = roomy (λ i lt. packed-taken o l ((within + i) / cluster_size h) (entry f h ((offset + i) / cluster_size h)) (each i lt))
     from (Backing o) each = backing mode.backing
 
-  -- It is an explicit zero exactly where the words say so.
+  -- The answer is an explicit zero exactly if the entries say so.
   pub states-run : ReportsExplicitZero (IsExplicitZero words-there h) offset (shallow_of mode h.cluster_bits offset within (mapping_seen run.0), n)
   states-run = from run.0 on-place where
     none : (m : L2Mapping) → ((i : ℕ) → i < n → IsOn (mapping_seen m) ((within + i) / cluster_size h) (entry f h ((offset + i) / cluster_size h)))
@@ -265,7 +263,7 @@ module _ (s : StorageState) (words-there : Bytes) (h : Fields) (mode : OpenMode)
     from (Compressed o l) each = none (Compressed o l) each (λ is. is)
     from (Backing o) each = backing mode.backing (none (Backing o) each (λ is. is))
 
-  -- Places that words can name are in reach of requests.
+  -- Requests can reach the offsets of addressable clusters.
   pub reach-run : IsAlignment s.shape.req_align → IsAlignment s.shape.mem_align → IsHostAddressable h.cluster_bits run.0 → n ≤ 2 ^ 42 → cluster_size h ≤ 2 ^ 21 → IsAddressable layer offset (shallow_of mode h.cluster_bits offset within (mapping_seen run.0)) n
   reach-run requests memory named few small = from run.0 named where
     backing : (b : Bool) → IsAddressable layer offset (unmapped_answer b offset) n
@@ -280,7 +278,7 @@ module _ (s : StorageState) (words-there : Bytes) (h : Fields) (mode : OpenMode)
     from (Compressed o l) near = tt
     from (Backing o) near = backing mode.backing
 
-  -- So it is what a lookup answers.
+  -- So it is the answer of a lookup.
   pub looks-run : (asked : ℕ) (ss : List StorageState) (s' : StorageState) → s'.bytes ≡ s.bytes → IsAlignment s.shape.req_align → IsAlignment s.shape.mem_align → IsHostAddressable h.cluster_bits run.0 → n ≤ 2 ^ 42 → cluster_size h ≤ 2 ^ 21
       → Looks layer (byte_in (s' ∷ ss)) offset asked (shallow_of mode h.cluster_bits offset within (mapping_seen run.0)) n
   looks-run asked ss s' bytes requests memory named few small = record {
@@ -294,7 +292,7 @@ module _ (s : StorageState) (words-there : Bytes) (h : Fields) (mode : OpenMode)
         home-named mode h offset storage place (mapping_seen run.0) there.0 here;
   }
 
--- Why a lookup is refused.
+-- The causes of a failed lookup.
 pub look-cause : (s s' : StorageState) (ss ss' : List StorageState) (words-there : Bytes) (h : Fields) (mode : OpenMode) (number : ℕ) (failed : Bool) (hold : Option PreparedMappingRun) (offset asked : ℕ) (fault : Fault) → words-there ≡ bytes_of s.bytes → offset < h.size → 0 < asked
     → HasCause (looking_causes (entry (bytes_of s.bytes) h (offset / cluster_size h) ≡ damaged) s.faults s'.faults) fault → LookCause (qcow2_layer s words-there h mode number failed hold) offset asked (s ∷ ss) (s' ∷ ss') fault
 look-cause s s' ss ss' words-there h mode number failed hold offset asked DamagedTable clean lt some why =

@@ -1,4 +1,4 @@
--- Which rule keeps a file from being opened, and what is loaded where none does.
+-- Lemmas on the rule that keeps a file from being opened, and on what is loaded if none does.
 use Rattle.std.proofs.Common.{◌≡◌, ◌≢◌, ℕ, ◌*◌, ◌/◌, ◌<◌, ◌≤◌, refl, arith, ap, sym, subst, ◌∙◌, Bool, true, false, Result, Ok, Err, List, [], ◌∷◌, length, inl, inr}
 use Rattle.std.specs.Prelude.{⊤, not, ◌&&◌, slice_index, IfOk, OnOk}
 use Rattle.std.proofs.Math.Nat.{div-add-mod}
@@ -27,7 +27,7 @@ use Rattle.qcow2_alloc.specs.Opening.{IsL1Of}
 use Rattle.qcow2_alloc.specs.declared.allocation.Allocator.{Allocator}
 use Rattle.qcow2_image.specs.Opening.{WhyNotOpened, WhyNoSpace, header_for, rules_of_opening}
 
--- the refusals of a header by its bytes, and of an L1 table
+-- The errors of a header by its bytes, and of an L1 table.
 abbrev pub IsReadingRefusal : Fault → Type 0
 IsReadingRefusal DamagedTable = ⊤
 IsReadingRefusal fault = IsRefusal fault
@@ -52,18 +52,16 @@ only-reading writable f (Ok H) only =
       from false true true = tt
       from false true false = tt
 
--- By its bytes a file isn't opened for nothing else.
 pub reading-refusal : (writable : Bool) (f : Bytes) (fault : Fault) → header_for writable f ≡ Err fault → IsReadingRefusal fault
 unfolding header_for
 reading-refusal writable f fault is =
     subst OnlyReading is (only-reading writable f (header_of writable f) (λ why same. header-refusal writable f why same))
 
--- A file that loads for writing loads for reading.
 pub reads-too : (writable : Bool) (f : Bytes) (H : Header) → header_of writable f ≡ Ok H → header_of false f ≡ Ok H
 reads-too true f H loads = header-reading f H loads
 reads-too false f H loads = loads
 
--- Of the words of a table in a file one without a meaning damages all of it,
+-- An invalid entry damages the whole table.
 module _ (f : Bytes) (kind : Kind) (layout : Layout) (place n : ℕ) where
   abbrev are-sound : Bool
   are-sound = all_below n (λ i. raw_entry_valid kind layout (raw_entry f place i))
@@ -81,32 +79,32 @@ module _ (f : Bytes) (kind : Kind) (layout : Layout) (place n : ℕ) where
         absurd (let e = sym good ∙ no in cc)
   ]
 
-  -- and with none it is sound.
+  -- Without one the table isn't damaged.
   sound-table : AreSound kind layout (raw_entries_in f place n) → are-sound ≡ true
   sound-table sound = all-below-holds n (λ i. raw_entry_valid kind layout (raw_entry f place i))
       (λ i inside. subst (λ w. raw_entry_valid kind layout w ≡ true) (words_at f place n i inside) (sound i (omega (arith, long-so, inside))))
 
 module _ (writable : Bool) (f : Bytes) where
-  -- Where the file says why, that is why; else memory was wanting, or the storage failed.
+  -- If the file breaks a rule, that is the error. Otherwise it is a resource error.
   pub not-opened : {S : Type 0} (state : S → StorageState) (old new : S) (fault : Fault)
       → NotLoaded (header_for writable f) (state old) (state new) fault → WhyNotOpened state writable f fault
   not-opened state old new Memory why = tt
   not-opened state old new Storage why = may-fail state old new why
   not-opened state old new fault why = why.0
 
-  -- The header's rules come first,
+  -- The header's rules come first.
   pub header-refused : (old new : StorageState) (fault : Fault) → NotLoaded (header_of writable f) old new fault → NotLoaded (header_for writable f) old new fault
   unfolding header_for
   header-refused old new Memory why = why
   header-refused old new Storage why = why
   header-refused old new fault why = (rw why.0 refl, why.1)
 
-  -- and know no L1 table,
+  -- They don't depend on the L1 table.
   pub before-table : (old new : StorageState) (fault : Fault) → NotLoaded (header_of writable f) old new fault → fault ≢ DamagedTable
   before-table old new fault why is = absurd (header-refusal writable f DamagedTable (subst (NotLoaded (header_of writable f) old new) is why).0)
 
   module _ (H : Header) (loads : header_of writable f ≡ Ok H) where
-    -- then that on the data's place,
+    -- Then the external data file is checked.
     pub external-refused : has_external_data H.fields ≡ true → header_for writable f ≡ Err Unsupported
     unfolding header_for
     external-refused is = rw (loads, is) refl
@@ -114,7 +112,7 @@ module _ (writable : Bool) (f : Bytes) where
     limited : Limited H.fields
     limited = header-limited writable f H loads
 
-    -- The refcount table stands where words can name it, too.
+    -- The refcount table is in addressable clusters.
     counts-placed : IsTablePlaced H.fields
     counts-placed = record {
       aligned =
@@ -124,7 +122,7 @@ module _ (writable : Bool) (f : Bytes) where
     }
 
     module _ (old new : StorageState) (same : bytes_of old.bytes ≡ f) where
-      -- Where it is loaded each of its words has a meaning,
+      -- If the refcount table is loaded, each entry is valid.
       pub space-sound : (a : Allocator) → LoadsAllocator old H.fields (Ok a) new → refcount_table_sound f H.fields ≡ true
       unfolding refcount_table_sound
       space-sound a loaded = sound-table f refcount_table_kind (layout_of H.fields) H.fields.refcount_table_offset (refcount_table_entries H.fields)
@@ -151,7 +149,7 @@ module _ (writable : Bool) (f : Bytes) where
             absurd (omega (arith, same, more, few, long))
         counts-why fault why = absurd why
 
-        -- and else that is why.
+        -- Otherwise an invalid entry or a resource error is the cause.
         pub space-not-loaded : (fault : Fault) → LoadsAllocator old H.fields (Err fault) new
             → WhyNoSpace f H.fields written old.faults new.faults fault
         space-not-loaded fault loaded = counts-why fault
@@ -159,12 +157,12 @@ module _ (writable : Bool) (f : Bytes) where
             (raw_entries_in x H.fields.refcount_table_offset (refcount_table_entries H.fields)) old.faults new.faults fault) same (loaded.err counts-placed))
 
     module _ (inside : has_external_data H.fields ≡ false) where
-      -- and then that on the L1 table.
+      -- Then the L1 table is checked.
       pub table-refused : l1_table_sound f H.fields ≡ false → header_for writable f ≡ Err DamagedTable
       unfolding header_for
       table-refused bad = rw (loads, inside, bad) refl
 
-      -- To be read no more is asked,
+      -- If the L1 table is valid, and for writing the refcount table too, the file opens.
       pub none-refused : l1_table_sound f H.fields ≡ true → (writable ≡ true → refcount_table_sound f H.fields ≡ true)
           → header_for writable f ≡ Ok H
       unfolding header_for
@@ -173,7 +171,7 @@ module _ (writable : Bool) (f : Bytes) where
         | inr not ↦ rw (loads, inside, sound, not) refl
       ]
 
-      -- and to be written, the rule on the refcount table.
+      -- For writing the refcount table is checked last.
       counts-refused : l1_table_sound f H.fields ≡ true → writable ≡ true → refcount_table_sound f H.fields ≡ false
           → header_for writable f ≡ Err DamagedTable
       unfolding header_for
@@ -186,7 +184,7 @@ module _ (writable : Bool) (f : Bytes) where
         place : cluster * cluster_size H.fields ≡ H.fields.l1_offset
         place = ap (λ k. k * cluster_size H.fields) at ∙ whole
 
-        -- That stands where words can name it.
+        -- The L1 table is in addressable clusters.
         pub table-in-reach : IsAddressable H.fields.cluster_bits cluster
         table-in-reach = subst (λ (p : ℕ). p ≤ max_offset) (sym place) (place-near H.fields.cluster_bits H.fields.l1_offset limited.l1_place)
 
@@ -199,7 +197,7 @@ module _ (writable : Bool) (f : Bytes) where
         long : length raw_entries ≡ H.fields.l1_entries
         long = words_long f (cluster * cluster_size H.fields) H.fields.l1_entries
 
-        -- What is loaded is the file's.
+        -- The loaded L1 table is the file's.
         pub table-loaded : (r : Result TableValue Fault) → IfOk r (λ table. table ≡ table_in f H.fields cluster H.fields.l1_entries)
             → OnOk r (AreSound l1_table_kind (layout_of H.fields) raw_entries) → IfOk r (IsL1Of f H.fields)
         unfolding l1_table_sound
@@ -211,7 +209,6 @@ module _ (writable : Bool) (f : Bytes) where
         }
         table-loaded (Err fault) is sound = tt
 
-        -- One of its words without a meaning damages all of it.
         unsound : HasUnsound l1_table_kind (layout_of H.fields) raw_entries → l1_table_sound f H.fields ≡ false
         unfolding l1_table_sound
         unsound bad = damaged-word f l1_table_kind (layout_of H.fields) H.fields.l1_offset H.fields.l1_entries
@@ -225,7 +222,7 @@ module _ (writable : Bool) (f : Bytes) where
         table-not-loaded old new (Limit n) why = let same = why.0 in let more = why.1 in let few = limited.l1_entries in absurd (omega (arith, same, more, few, long))
         table-not-loaded old new fault why = absurd why
 
-      -- What keeps the free space from being loaded keeps the file from being opened.
+      -- An error of loading the free space is an error of opening the file.
       pub space-refused : l1_table_sound f H.fields ≡ true → (old new : StorageState) (fault : Fault)
           → WhyNoSpace f H.fields writable old.faults new.faults fault → NotLoaded (header_for writable f) old new fault
       space-refused sound old new Memory why = why

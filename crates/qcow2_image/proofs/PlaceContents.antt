@@ -1,4 +1,4 @@
--- What a layer shows of a place by the mapping of its cluster, in the words of the format.
+-- A lemma on what a layer reads by the mapping of a cluster, in the definitions of the format.
 use Rattle.std.proofs.Common.{◌≡◌, ◌∙◌, ℕ, ◌<◌, ◌/◌, ap, refl, false, List, Result, Ok, Err}
 use Rattle.std.proofs.lemmas.Bool.{lt-ltb}
 use Rattle.imago_storage.specs.Disk.{Value}
@@ -9,7 +9,7 @@ use Rattle.qcow2_types.specs.Disk.{in_qcow2, shown_by, host_byte, size_in_header
 use Rattle.qcow2_types.specs.Entries.{entry}
 use Rattle.qcow2_types.specs.Header.{Fields, Header, cluster_size, has_external_data, header_of}
 use Rattle.qcow2_types.specs.Words.{Mapping, data_at, zeroes, packed, damaged}
-use Rattle.qcow2_types.specs.Words as raw_entries
+use Rattle.qcow2_types.specs.Words as mappings
 use Rattle.qcow2_image.specs.ImageLayer.{cell_by, cells, meaning_of, qcow2_meaning}
 
 by-mapping : (blank : Cell) (f e : Bytes) (h : Fields) (p : ℕ) (below : Value) (m : Mapping) → has_external_data h ≡ false
@@ -17,7 +17,7 @@ by-mapping : (blank : Cell) (f e : Bytes) (h : Fields) (p : ℕ) (below : Value)
 by-mapping blank f e h p below (data_at cluster mark) inside = rw inside refl
 by-mapping blank f e h p below (zeroes cluster mark) inside = refl
 by-mapping blank f e h p below (packed offset n) inside = refl
-by-mapping blank f e h p below raw_entries.unmapped inside = refl
+by-mapping blank f e h p below mappings.unmapped inside = refl
 by-mapping blank f e h p below damaged inside = refl
 
 shown-in : (blank : Cell) (f e : Bytes) (H : Header) (p : ℕ) (below : Value) → has_external_data H.fields ≡ false → p < H.fields.size

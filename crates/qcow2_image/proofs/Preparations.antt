@@ -1,4 +1,4 @@
--- How mappings are prepared: which guest clusters a range covers, what is reserved for them, and what is held then.
+-- Lemmas on preparations: the guest clusters that a range covers, the clusters that are reserved, and the mapping that is held.
 pub mod RunPreparations
 pub mod FreshRuns
 pub mod RangeRuns

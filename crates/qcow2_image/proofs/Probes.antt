@@ -1,4 +1,4 @@
--- Whether a file begins as an image does, by its first 72 bytes.
+-- Lemmas on `probe`: the first 72 bytes of a file say if it starts as an image does.
 use Rattle.std.proofs.Common.{◌≡◌, ℕ, ◌+◌, ◌<◌, ◌≤◌, ◌^◌, refl, arith, subst, List, [], length, true, false, None, Ok}
 use Rattle.std.specs.Prelude.{◌&&◌, ◌||◌, ◌==◌, not, slice_index}
 use Rattle.std.proofs.lemmas.Bool.Decides.{nat_tests}
@@ -18,18 +18,16 @@ module _ (file start : List ℕ) (reads : Reads file 0 start) (long : length sta
   same-number i n inside = be-same (bytes_of start) (bytes_of file) i i n (λ k lt. let none : 0 + (i + k) ≡ i + k = omega arith in
       subst (λ (p : ℕ). slice_index start (i + k) ≡ slice_index file p) none (reads (i + k) (omega arith)))
 
-  -- They are those of the file.
   pub start-begins : is_qcow2 (bytes_of start) ≡ is_qcow2 (bytes_of file)
   start-begins = rw (same-number 0 4 (omega arith), same-number 4 4 (omega arith)) refl
 
--- The fields in them say it.
+-- The fields in the 72 bytes give the answer.
 pub fields-begin : (bytes : List ℕ) (h : V2Header) → v2_bytes h ≡ bytes → h.magic < 2 ^ 32 → h.version < 2 ^ 32
     → is_qcow2 (bytes_of bytes) ≡ ((h.magic == 0x5146_49fb) && ((h.version == 2) || (h.version == 3)))
 fields-begin bytes h is magic version =
     let held = holds-same bytes (v2_bytes h) is in
     rw (v2-magic (bytes_of bytes) h held magic, v2-version (bytes_of bytes) h held version) refl
 
--- What loads begins so.
 pub header-begins : (f : Bytes) (H : Header) → header_of false f ≡ Ok H → is_qcow2 f ≡ true
 unfolding header_of
 header-begins f H loads =

@@ -1,4 +1,4 @@
--- What lookups of the runs of a range say of all of it.
+-- Lemmas on lookups of the runs of a range, and what they say of the whole range.
 use Rattle.std.proofs.Common.{◌≡◌, ◌≢◌, ℕ, zero, suc, ◌+◌, ◌-◌, ◌*◌, ◌/◌, ◌<◌, ◌≤◌, refl, arith, ap, sym, subst, ◌∙◌, inl, inr, Option, Some, None, [], ◌∷◌, Ok}
 use Rattle.std.proofs.lemmas.Bool.{cases_lt, cases_Bool}
 use Rattle.std.proofs.lemmas.Nat.{le-div, pow_pos}
@@ -17,7 +17,7 @@ use Rattle.qcow2_types.specs.Bytes.{Bytes, bytes_of}
 use Rattle.qcow2_types.specs.Entries.{entry}
 use Rattle.qcow2_types.specs.Header.{Fields, Header, cluster_size}
 use Rattle.qcow2_types.specs.Words.{Mapping, data_at, zeroes, packed, damaged}
-use Rattle.qcow2_types.specs.Words as raw_entries
+use Rattle.qcow2_types.specs.Words as mappings
 use Rattle.qcow2_alloc.specs.Causes.{HasCause}
 use Rattle.qcow2_image.specs.HeldHomes.{run-from, run-guest}
 use Rattle.qcow2_image.specs.Holding.{PreparedMappingRun, HoldsRun, IsUncopied, mapping_id_held, held_writable_location, writable_location_or, writable_locations_with, in_run}
@@ -36,7 +36,6 @@ use Rattle.qcow2_image.proofs.WritePlaces.{in-range, range-in}
 use Rattle.qcow2_image.proofs.Steps.{layer-by, memory-is}
 
 module _ (layer : Layer) (guest place : ℕ) where
-  -- A range and the one behind it, from the place behind on.
   pub home-both : (n m at : ℕ) → at ≡ place + n → IsWritableAt layer guest place n → IsWritableAt layer (guest + n) at m → IsWritableAt layer guest place (n + m)
   home-both n m at behind first second i lt = elim (cases_lt i n) [
     | inl low ↦ first i low
@@ -47,17 +46,17 @@ module _ (layer : Layer) (guest place : ℕ) where
         ap layer.writable_location (sym from) ∙ second k (omega (arith, lt, high)) ∙ ap (λ x. Some (0, x)) to
   ]
 
-  -- A place without a home is in no range that is mapped,
+  -- A range with a byte that has no location isn't mapped.
   pub homeless-unmapped : (n k : ℕ) → k < n → layer.writable_location (guest + k) ≡ None → IsMappedAt layer guest place n → ⊥
   homeless-unmapped n k lt none mapped = cc (sym none ∙ mapped.1 k lt)
 
-  -- nor one whose home is another.
+  -- Neither is a range with a byte that has another location.
   pub elsewhere-unmapped : (n k at : ℕ) → k < n → layer.writable_location (guest + k) ≡ Some (0, at) → at ≢ place + k → IsMappedAt layer guest place n → ⊥
   elsewhere-unmapped n k at lt home other mapped =
       let same : ◌≡◌ {A = ℕ × ℕ} (0, at) (mapped.0, place + k) = cc (sym home ∙ mapped.1 k lt) in
       other (ap (λ (x : ℕ × ℕ). x.1) same)
 
--- Why a range can't be looked at, where that was told of a part of it.
+-- An error of a part is an error of the whole range.
 pub why-told : {S : Type 0} (g : Ghosts S) (entry now new : Qcow2 S g) (offset n : ℕ) (fault : Fault) → layer_of g now ≡ layer_of g entry
     → now.failed ≡ false → (g.state now.tables.file.image).faults ≡ (g.state entry.tables.file.image).faults
     → LookCause (layer_of g now) offset n (g.state now.tables.file.image ∷ []) (g.state new.tables.file.image ∷ []) fault
@@ -77,7 +76,6 @@ why-told g entry now new offset n MissingData same runs faults why =
     let none : unusable_fault (layer_of g now) ≡ None = rw runs refl in absurd (cc (sym none ∙ why))
 why-told g entry now new offset n fault same runs faults why = absurd why
 
--- Lookups that succeed leave the layer, and all that was seen.
 pub kept-seen : {S : Type 0} (g : Ghosts S) (old new : Qcow2 S g) → KeepsImage {T = Unit} g old (Ok tt) new → IsCacheCoherent g old.tables
     → (layer_of g new ≡ layer_of g old) × IsCacheCoherent g new.tables
 kept-seen g old new k seen = (
@@ -88,21 +86,21 @@ kept-seen g old new k seen = (
   k.tables.seen seen,
 )
 
--- no place of a guest cluster that is mapped so can be written by its word
+-- No byte of a guest cluster with this mapping can be written in place.
 abbrev IsHomeless : Fields → Mapping → Type 0
 IsHomeless h m = (p : ℕ) → writable_location_by h p m ≡ None
 
--- So it is where a lookup doesn't answer that it can be, of an image that was opened for writing,
+-- That is so if a lookup in a writable image doesn't answer a writable run.
 answer-homeless : (h : Fields) (mode : OpenMode) (bits offset within : ℕ) (m : Mapping) → mode.writable ≡ true
     → writable_place_of (shallow_of mode bits offset within m) ≡ None → IsHomeless h m
 answer-homeless h mode bits offset within (data_at c false) on none p = refl
 answer-homeless h mode bits offset within (data_at c true) on none p = absurd (cc (rw on at none))
 answer-homeless h mode bits offset within (zeroes c copied) on none p = refl
 answer-homeless h mode bits offset within (packed at n) on none p = refl
-answer-homeless h mode bits offset within raw_entries.unmapped on none p = refl
+answer-homeless h mode bits offset within mappings.unmapped on none p = refl
 answer-homeless h mode bits offset within damaged on none p = refl
 
--- and where the mapping goes on from one that is so,
+-- That is so for data that follows such data.
 unmarked-homeless : (h : Fields) (p c c' : ℕ) (mark mark' : Bool) → mark' ≡ mark → writable_location_by h p (data_at c mark) ≡ None → writable_location_by h p (data_at c' mark') ≡ None
 unmarked-homeless h p c c' mark false same none = refl
 unmarked-homeless h p c c' false true same none = absurd (cc same)
@@ -113,14 +111,14 @@ follows-homeless h (data_at c mark) (data_at c' mark') follows none p = unmarked
 follows-homeless h (zeroes None mark) (data_at c' mark') follows none p = absurd follows
 follows-homeless h (zeroes (Some c) mark) (data_at c' mark') follows none p = absurd follows
 follows-homeless h (packed at n) (data_at c' mark') follows none p = absurd follows
-follows-homeless h raw_entries.unmapped (data_at c' mark') follows none p = absurd follows
+follows-homeless h mappings.unmapped (data_at c' mark') follows none p = absurd follows
 follows-homeless h damaged (data_at c' mark') follows none p = absurd follows
 follows-homeless h m (zeroes c copied) follows none p = refl
 follows-homeless h m (packed at n) follows none p = refl
-follows-homeless h m raw_entries.unmapped follows none p = refl
+follows-homeless h m mappings.unmapped follows none p = refl
 follows-homeless h m damaged follows none p = refl
 
--- so at each place of the run.
+-- That is so for each byte of the run.
 module _ (h : Fields) (mapping : ℕ → Mapping) (offset asked n : ℕ) (run : IsWholeRun h mapping offset asked n)
     (first : IsHomeless h (mapping (offset / cluster_size h))) where
   abbrev begin : ℕ
@@ -144,12 +142,11 @@ module _ (h : Fields) (mapping : ℕ → Mapping) (offset asked n : ℕ) (run : 
       let same : (begin + ((offset + i) / cluster_size h - begin)) * cluster_size h ≡ (offset + i) / cluster_size h * cluster_size h = ap (λ x. x * cluster_size h) is in
       subst (λ x. IsHomeless h (mapping x)) is (cluster-homeless ((offset + i) / cluster_size h - begin) (omega (arith, same, high, lt)))
 
--- what can't be written by its word has no home there
 no-homes : (writable : Bool) (m : Bytes) (h : Fields) (p : ℕ) → (writable ≡ true → writable_location_by h p (mapped m h p) ≡ None) → writable_locations writable m h p ≡ None
 no-homes false m h p none = refl
 no-homes true m h p none = elim (cases_Bool (ltb p h.size)) [ inl t ↦ rw t (none refl) | inr t ↦ rw t refl ]
 
--- A run that isn't answered as one that can be written can't be by its words.
+-- If a run isn't answered as writable, no byte of it can be written in place by its entry.
 module _ {S : Type 0} (g : Ghosts S) (d : Qcow2 S g) (offset asked n : ℕ) (answer : ShallowMapping)
     (is : answer ≡ answer_at g d.tables d.mode offset) (none : writable_place_of answer ≡ None) where
   abbrev h : Fields
@@ -167,7 +164,7 @@ module _ {S : Type 0} (g : Ghosts S) (d : Qcow2 S g) (offset asked n : ℕ) (ans
   pub words-none : IsWholeRunIn g d.tables offset asked n → (i : ℕ) → i < n → writable_locations_of g d (offset + i) ≡ None
   words-none run i lt = in-file (offset + i) (λ on. run-homeless h (entry (file_of g d.tables) h) offset asked n run (first-homeless on) i lt (offset + i))
 
--- Where a place of the run of a mapping lies:
+-- The bytes of a run of a mapping.
 module _ (hold : PreparedMappingRun) (offset most : ℕ) where
   abbrev found : ℕ × ℕ
   found = (hold.place + (offset - hold.offset), min most (hold.length - (offset - hold.offset)))
@@ -184,7 +181,7 @@ module _ (hold : PreparedMappingRun) (offset most : ℕ) where
       let same : hold.place + (offset + i - hold.offset) ≡ hold.place + (offset - hold.offset) + i = omega (arith, run.0) in
       rw (run-in is i lt) (ap (λ a. Some (0, a)) same)
 
--- the run goes on there,
+-- The run continues in the file.
 abbrev GoesOn : PreparedMappingRun → (ℕ → Option (ℕ × ℕ)) → ℕ → ℕ × ℕ → Type 0
 GoesOn hold home offset r = (i : ℕ) → i < r.1 → writable_locations_with (Some hold) home (offset + i) ≡ Some (0, r.0 + i)
 
@@ -196,7 +193,7 @@ held-goes-on (Some hold) home offset most answer is none = subst (λ o. IfSome o
   | inl so ↦ rw so (λ i lt. ap (λ o. writable_location_or o (held_writable_location hold (offset + i))) (none i (omega (arith, lt))) ∙ run-on hold offset most so i lt)
 ])
 
--- for so many bytes as are asked for and more than none,
+-- It has at most `most` bytes, and at least 1.
 pub held-some : (hold : Option PreparedMappingRun) (offset most : ℕ) (answer : Option (ℕ × ℕ)) → HoldsRun hold offset most answer
     → IfSome answer (λ r. (r.1 ≤ most) × (0 < most → 0 < r.1))
 held-some None offset most answer is = subst (λ o. IfSome o (λ r. (r.1 ≤ most) × (0 < most → 0 < r.1))) (sym is) tt
@@ -205,7 +202,7 @@ held-some (Some hold) offset most answer is = subst (λ o. IfSome o (λ r. (r.1 
   | inl so ↦ let run = run-from hold offset so in rw so (omega arith, λ some. omega (arith, some, run.0, run.1))
 ])
 
--- and a place that isn't in the run has no home there.
+-- A byte outside the run has no location there.
 pub held-nowhere : (hold : Option PreparedMappingRun) (home : ℕ → Option (ℕ × ℕ)) (offset most : ℕ) (answer : Option (ℕ × ℕ)) → HoldsRun hold offset most answer
     → home offset ≡ None → answer ≡ None → writable_locations_with hold home offset ≡ None
 held-nowhere None home offset most answer is none nowhere = none
@@ -216,13 +213,13 @@ held-nowhere (Some hold) home offset most answer is none nowhere = elim (cases_B
       absurd (cc (sym nowhere ∙ there))
 ]
 
--- Where nothing is prepared none is found.
+-- If no mapping is prepared, no byte is found.
 pub free-nowhere : (hold : Option PreparedMappingRun) (offset most : ℕ) (answer : Option (ℕ × ℕ)) (P : ℕ × ℕ → Type 0) → mapping_id_held hold ≡ None → HoldsRun hold offset most answer
     → IfSome answer P
 free-nowhere None offset most answer P free is = subst (λ o. IfSome o P) (sym is) tt
 free-nowhere (Some hold) offset most answer P free is = absurd (cc free)
 
--- A place of the run of a mapping can't be written by its word,
+-- No entry makes a byte of the run of a mapping writable.
 run-wordless : {S : Type 0} (g : Ghosts S) (d : Qcow2 S g) (hold : PreparedMappingRun) → HoldsIn g d.tables hold → (p : ℕ) → in_run hold p ≡ true
     → writable_locations_of g d p ≡ None
 run-wordless g d hold holds p is =
@@ -234,7 +231,7 @@ run-wordless g d hold holds p is =
     uncopied-homeless d.mode.writable (memory_of g d.tables) h p
     (subst (λ m. IsUncopied (entry m h (p / cluster_size h))) (sym (memory-is g d.tables)) raw_entry)
 
--- so that a range is mapped where all of it is held.
+-- So a range that is held completely is mapped.
 module _ {S : Type 0} (g : Ghosts S) (d : Qcow2 S g) (guest place n : ℕ) where
   abbrev IsHeldWhole : Option PreparedMappingRun → Type 0
   IsHeldWhole hold = HoldsRun hold guest n (Some (place, n))

@@ -1,4 +1,4 @@
--- What a write leaves that goes where a range of the disk is.
+-- Lemmas on a write of bytes to where a range of the disk is: what it leaves of the image and of crash images.
 use Rattle.std.proofs.Common.{◌≡◌, ℕ, ◌+◌, ◌-◌, ◌/◌, ◌<◌, refl, arith, ap, sym, subst, ◌∙◌, inl, inr, Bool, true, false, List, [], ◌∷◌, length, Option, Some, None, Result, Ok, Err}
 use Rattle.std.specs.Prelude.{⊤, ◌⊎◌, ◌++◌, ◌&&◌, ◌||◌, ltb, nat_le, if◌then◌else◌, slice_index, is_err, IsTrue, IsSome, IfSome, IfErr, OnOk, MatchResult}
 use Rattle.std.specs.List.{AllByRecursion}
@@ -69,7 +69,7 @@ use Rattle.qcow2_image.proofs.WritesInPlace.{IsWrittenAt, written-beside, rewrit
 use Rattle.qcow2_image.proofs.SearchStart.{counted-still}
 use Rattle.qcow2_image.proofs.LeaksByFile.{surplus-kept}
 
--- What a call leaves of each stop, of a storage of which nothing but the count of faults was another before.
+-- A lookup before the call changes only fault counts, so crash images are the same.
 pub passes-kept : (P : List ℕ → Type 0) (s t u : StorageState) → KeptStorage s t → UnrefusedCrashImages P t u → UnrefusedCrashImages P s u
 passes-kept P s t u kept passes no_change_refused = (
   λ same. now.0 (in-step same),
@@ -84,7 +84,7 @@ passes-kept P s t u kept passes no_change_refused = (
   in-step same tells keeps =
       kept.crash_image ∙ same (subst (λ (x : Shape). IsTrue x.tells) kept.shape tells) (subst (λ (x : Shape). IsTrue x.keeps) kept.shape keeps) ∙ sym kept.bytes
 
--- A write that was put somewhere keeps each stop, whatever it answered.
+-- Each crash image of a write has old or new bytes in the range, also if the write fails.
 pub passes-put : (P : List ℕ → Type 0) (t u : StorageState) (place : ℕ) (bytes : List ℕ) (result : Result Unit Fault) → WriteOutcome t u place bytes result
     → ((f : List ℕ) → OldOrNewBytes t.bytes place bytes f → P f) → UnrefusedCrashImages P t u
 passes-put P t u place bytes result put each no_change_refused = (
@@ -98,7 +98,7 @@ passes-put P t u place bytes result put each no_change_refused = (
     | inr same ↦ same
   ]
 
--- The bytes of a file by their places.
+-- The bytes of the file outside the range are unchanged.
 mixed-outside : (old : List ℕ) (place : ℕ) (bytes new : List ℕ) → OldOrNewBytes old place bytes new → Outside (bytes_of old) (bytes_of new) place (length bytes)
 mixed-outside old place bytes new mixed p (inl before) = mixed.before p before
 mixed-outside old place bytes new mixed p (inr behind) = mixed.after p behind
@@ -107,25 +107,25 @@ spliced-outside : (old : List ℕ) (place : ℕ) (bytes new : List ℕ) → Spli
 spliced-outside old place bytes new spliced p (inl before) = spliced.before p before
 spliced-outside old place bytes new spliced p (inr behind) = spliced.after p behind
 
--- A consistent image, a range of its disk that can be written from a place of the file on, and a file that was written there.
+-- A consistent image, a range of its disk with its location in the file, and a file that was written there.
 module _ (f : Bytes) (H : Header) (was : IsConsistent f H) (guest place n : ℕ)
     (each : (i : ℕ) → i < n → IsWrittenAt f H.fields (guest + i) (place + i))
     (x : Bytes) (out : Outside f x place n) where
   abbrev h : Fields
   h = H.fields
 
-  -- It is the same image,
+  -- The header is the same.
   loads-still : header_of false x ≡ Ok H
   loads-still = header-reading x H (rewritten-consistent f H was guest place n each x out).readable.loads
 
-  -- each place beside the range says what it did, and one that no word says to be written,
+  -- A byte outside the range, or without a location by its entry, has the same cell.
   cell-beside : (blank : Cell) (p : ℕ) → IsOut guest n p ⊎ (writable_location_by h p (mapped f h p) ≡ None) → cells blank x x h p ≡ cells blank f f h p
   cell-beside blank p beside = elim (cases_Bool (ltb p h.size)) [
     | inl t ↦ rw t (rewritten-others f H was guest place n each x out blank p beside)
     | inr t ↦ rw t refl
   ]
 
-  -- and each that a word does its byte.
+  -- A byte of the range with a location by its entry has the written byte.
   cell-within : (blank : Cell) (i : ℕ) → writable_location_by h (guest + i) (mapped f h (guest + i)) ≡ Some (0, place + i) → guest + i < h.size
       → cells blank x x h (guest + i) ≡ own (byte (x (place + i)))
   cell-within blank i home inside = rw (lt-ltb (guest + i) h.size inside) (rewritten-range f H was guest place n each x out blank i home)
@@ -162,7 +162,7 @@ module _ (f : Bytes) (H : Header) (was : IsConsistent f H) (guest place n : ℕ)
           raw_entries = all.0.raw_entries ∙ sym (subst (λ p. raw_entries_in x p (entries_of_cluster h) ≡ raw_entries_in f p (entries_of_cluster h)) all.0.named.at raw_entries);
         }
 
--- A file that a stop may leave: it is sound, as long, and shows at each place what the layer's file did, or a byte that is written.
+-- A crash image of the write. It is consistent, and each byte of its disk is old or written.
 module _ (f : List ℕ) (H : Header) (was : IsConsistent (bytes_of f) H) (guest place : ℕ) (bytes : List ℕ)
     (each : (i : ℕ) → i < length bytes → IsWrittenAt (bytes_of f) H.fields (guest + i) (place + i))
     (y : List ℕ) (mixed : OldOrNewBytes f place bytes y) (entry : Layer) (below : List Layer) (blank : Cell)
@@ -232,7 +232,7 @@ module _ (f : List ℕ) (H : Header) (was : IsConsistent (bytes_of f) H) (guest 
     ];
   }
 
--- What a write leaves once it is noted to what is prepared.
+-- The state after a write that is noted in the prepared mapping.
 pub record WritesNoting {S : Type 0} (g : Ghosts S) (guest place : ℕ) (bytes : List ℕ) (old : Qcow2 S g) (result : Result Unit Fault)
     (new : Qcow2 S g) : Type 0 where
   pub put : WriteOutcome (g.state old.tables.file.image) (g.state new.tables.file.image) place bytes result
@@ -246,7 +246,7 @@ pub record WritesNoting {S : Type 0} (g : Ghosts S) (guest place : ℕ) (bytes :
   pub mapping_id : mapping_id_held (holding_in g new.unspent) ≡ mapping_id_held (holding_in g old.unspent)
   pub notes : OnOk result (Notes guest (length bytes) (holding_in g old.unspent) (holding_in g new.unspent))
 
--- It is noted where the bytes were written,
+-- A write that succeeded is noted.
 pub noted : {S : Type 0} (g : Ghosts S) (guest place : ℕ) (bytes : List ℕ) (old wrote new : Qcow2 S g) → WritesAt g place bytes old (Ok tt) wrote
     → Notes guest (length bytes) (holding_in g wrote.unspent) (holding_in g new.unspent) → new ≡ record wrote { unspent = new.unspent }
     → WritesNoting g guest place bytes old (Ok tt) new
@@ -267,7 +267,7 @@ noted g guest place bytes old wrote new w notes rest =
       notes = was;
     }
 
--- and not where they weren't, and that marked the image.
+-- A write that failed isn't noted, and sets the image to failed.
 pub unnoted : {S : Type 0} (g : Ghosts S) (guest place : ℕ) (bytes : List ℕ) (old new : Qcow2 S g) (e : Fault) → WritesAt g place bytes old (Err e) new
     → new.failed ≡ true → WritesNoting g guest place bytes old (Err e) new
 unnoted g guest place bytes old new e w failed = record {
@@ -283,7 +283,7 @@ unnoted g guest place bytes old new e w failed = record {
   notes = tt;
 }
 
--- A write that was refused for want of memory, and marked nothing, keeps the image.
+-- A write that fails with `Fault::Memory` and doesn't set the image to failed changes nothing.
 keeps-unbegun : {S : Type 0} (g : Ghosts S) (place : ℕ) (bytes : List ℕ) (old new : Qcow2 S g) → WritesAt g place bytes old (Err Memory) new
     → old.failed ≡ false → (new.failed ≡ false) × KeptStorage (g.state old.tables.file.image) (g.state new.tables.file.image)
     → KeepsImage {T = Bool} g old (Err Memory) new
@@ -302,7 +302,7 @@ keeps-unbegun g place bytes old new w runs spared = record {
   failed = spared.0 ∙ sym runs;
 }
 
--- A write behind a lookup that was refused: the image is marked, or want of memory has kept it.
+-- If the write after a lookup fails, the image has failed, or memory ran out and nothing changed.
 pub marked-or-kept : {S : Type 0} (g : Ghosts S) (place : ℕ) (bytes : List ℕ) (old mid new : Qcow2 S g) (e : Fault) → KeepsImage {T = Bool} g old (Ok true) mid
     → WritesAt g place bytes mid (Err e) new → old.failed ≡ false → (new.failed ≡ true) ⊎ ((e ≡ Memory) × KeepsImage {T = Bool} g old (Err e) new)
 marked-or-kept g place bytes old mid new Memory looked w runs = elim w.failed [
@@ -315,12 +315,12 @@ marked-or-kept g place bytes old mid new Memory looked w runs = elim w.failed [
 ]
 marked-or-kept g place bytes old mid new e looked w runs = inl w.failed
 
--- Want of memory in a lookup marks nothing,
+-- If memory runs out in a lookup, the image doesn't fail.
 pub spared-looking : {S : Type 0} (g : Ghosts S) (old new : Qcow2 S g) (e : Fault) → KeepsImage {T = Bool} g old (Err e) new → OutOfMemoryLeavesUntouched g old new e
 spared-looking g old new Memory looked is = inl looked.failed
 spared-looking g old new e looked is = absurd (cc is)
 
--- and in a write where the storage refused a change.
+-- If memory runs out in a write, the image fails only if the storage refused a change.
 pub spared-unless : {S : Type 0} (g : Ghosts S) (place : ℕ) (bytes : List ℕ) (old mid new : Qcow2 S g) (e : Fault) → KeepsImage {T = Bool} g old (Ok true) mid
     → WritesAt g place bytes mid (Err e) new → old.failed ≡ false → OutOfMemoryLeavesUntouched g old new e
 spared-unless g place bytes old mid new Memory looked w runs is = elim w.failed [
@@ -329,7 +329,7 @@ spared-unless g place bytes old mid new Memory looked w runs is = elim w.failed 
 ]
 spared-unless g place bytes old mid new e looked w runs is = absurd (cc is)
 
--- An image that looked where a range is, and then wrote bytes there.
+-- The image looked up the range, and then wrote bytes there.
 module _ (R : RattleType) (st : Ghosts R.Denot) (sd : mir.Syntax.Dict) (dd : mir.Syntax.Dict) (old mid new : Qcow2 R.Denot st) (guest place : ℕ)
     (bytes : List ℕ) (result : Result Unit Fault) (looked : KeepsImage {T = Bool} st old (Ok true) mid)
     (w : WritesNoting st guest place bytes mid result new) (runs : old.failed ≡ false) (some : length bytes ≡ 0 → ⊥)
@@ -378,7 +378,7 @@ module _ (R : RattleType) (st : Ghosts R.Denot) (sd : mir.Syntax.Dict) (dd : mir
     failed = λ was. absurd (cc (sym was ∙ runs));
   }
 
-  -- Each place of the range is written where it is, by the words of the file or in the run.
+  -- Each byte of the range is written at its location, by its entry or in the run.
   in-of : IsWellFormed st old → (i : ℕ) → i < length bytes → (guest + i < H.fields.size) × IsWrittenIn (file_of st old.tables) H.fields hold (guest + i) (place + i)
   in-of well_formed i lt =
       written-in st old well_formed (guest + i) (place + i) (yes (record { seen = well_formed.seen; sure = inr (was_well_formed st old well_formed) }) i lt)
@@ -386,7 +386,7 @@ module _ (R : RattleType) (st : Ghosts R.Denot) (sd : mir.Syntax.Dict) (dd : mir
   each-of : IsWellFormed st old → (i : ℕ) → i < length bytes → IsWrittenAt (file_of st old.tables) H.fields (guest + i) (place + i)
   each-of well_formed i lt = written-at (file_of st old.tables) H.fields hold (guest + i) (place + i) (unshown-in st old well_formed) (in-of well_formed i lt).1
 
-  -- Each stop shows what the disk did, or bytes that are written.
+  -- Each crash image has the old or the written bytes.
   pub stops-written : IsWellFormed st old → (below : List Layer) → KeepsCrashImages coherent below (GivesBytes guest bytes) old new
   stops-written well_formed below =
       passes-kept (Left below (layer_of st old) s.bytes is_sound H.fields.size H.fields.size (GivesBytes guest bytes)) s t u looked.tables.unchanged_but_faults
@@ -394,7 +394,7 @@ module _ (R : RattleType) (st : Ghosts R.Denot) (sd : mir.Syntax.Dict) (dd : mir
       (λ y mixed. stop-left s.bytes H well_formed.consistent guest place bytes (each-of well_formed) y (subst (λ (b : List ℕ). OldOrNewBytes b place bytes y) looked.tables.unchanged_but_faults.bytes mixed)
       (layer_of st old) below (blank_of old.mode.backing) refl refl refl))
 
-  -- Where the bytes are written:
+  -- The write succeeded.
   module _ (done : WriteSucceeded t u place bytes) (well_formed : IsWellFormed st old) (failed : new.failed ≡ false)
       (notes' : Notes guest (length bytes) (holding_in st mid.unspent) hold') where
     abbrev x : Bytes
@@ -418,14 +418,14 @@ module _ (R : RattleType) (st : Ghosts R.Denot) (sd : mir.Syntax.Dict) (dd : mir
     entries : (g : ℕ) → entry x H.fields g ≡ entry (file_of st old.tables) H.fields g
     entries = rewritten-entries (file_of st old.tables) H well_formed.consistent guest place (length bytes) (each-of well_formed) x off
 
-    -- what is in memory is then what the file is,
+    -- Memory is what the new file says.
     cells-new : (layer_of st new).cell ≡ cells (blank_of old.mode.backing) x x H.fields
     cells-new = (λ i. cells (blank_of (mode-same i).backing) (memory_is st new.tables i) x (header-same i).fields)
 
     cells-old : (layer_of st old).cell ≡ cells (blank_of old.mode.backing) (file_of st old.tables) (file_of st old.tables) H.fields
     cells-old = λ i. cells (blank_of old.mode.backing) (memory_is st old.tables i) (file_of st old.tables) H.fields
 
-    -- each place can be written where it could,
+    -- Each byte can be written in place where it could.
     words-written : writable_locations_of st new ≡ writable_locations_of st old
     words-written =
         (λ i. writable_locations (mode-same i).writable (memory_is st new.tables i) (header-same i).fields)
@@ -435,7 +435,7 @@ module _ (R : RattleType) (st : Ghosts R.Denot) (sd : mir.Syntax.Dict) (dd : mir
     homes-written : (layer_of st new).writable_location ≡ (layer_of st old).writable_location
     homes-written = ap (writable_locations_with hold') words-written ∙ noted-homes guest (length bytes) hold hold' notes (writable_locations_of st old)
 
-    -- and where it isn't written by its word, says what it did.
+    -- A byte without a location by its entry has the same cell.
     cell-same : (p : ℕ) → IsOut guest (length bytes) p ⊎ (writable_location_by H.fields p (mapped (file_of st old.tables) H.fields p) ≡ None)
         → (layer_of st new).cell p ≡ (layer_of st old).cell p
     cell-same p beside =
@@ -450,7 +450,7 @@ module _ (R : RattleType) (st : Ghosts R.Denot) (sd : mir.Syntax.Dict) (dd : mir
         ∙ cell-within (file_of st old.tables) H well_formed.consistent guest place (length bytes) (each-of well_formed) x off (blank_of old.mode.backing) i home (in-of well_formed i lt).0
         ∙ ap (λ b. own (byte b)) (byte-there i lt)
 
-    -- What is held is over the new file what was noted makes it.
+    -- The state of each byte of the mapping follows from the new file and the note.
     held-now : (p : ℕ) → (layer_of st new).held p ≡ held_with H.fields x hold' p
     held-now p = λ i. held_with (header-same i).fields x hold' p
 
@@ -458,7 +458,7 @@ module _ (R : RattleType) (st : Ghosts R.Denot) (sd : mir.Syntax.Dict) (dd : mir
     Taken i old-hold new-hold = TakesByte (slice_index bytes i) (held_with H.fields (file_of st old.tables) old-hold (guest + i)) ((layer_of st old).cell (guest + i))
         (held_with H.fields x new-hold (guest + i)) ((layer_of st new).cell (guest + i))
 
-    -- The clusters of the image are at rest what they were, but for its file.
+    -- The flushed metadata is the same, except for the file.
     rest-new : (space : Space) → rest_of st new.tables space ≡ record (rest_of st old.tables space) { file = x }
     rest-new space = λ i. record (rest_of st old.tables space) { file = x; header = header-same i }
 
@@ -527,7 +527,7 @@ module _ (R : RattleType) (st : Ghosts R.Denot) (sd : mir.Syntax.Dict) (dd : mir
       from None b is holds more = subst (λ o. IfSome o (HoldsIn st new.tables)) (sym more) tt
       from (Some one) b is holds more = subst (λ o. IfSome o (HoldsIn st new.tables)) (sym more.1) (one-holds one is holds more.0 more.2)
 
-    -- the bytes are there, and nothing else has changed,
+    -- The bytes are there, and nothing else has changed.
     pub wrote : Wrote (layer_of st old) (layer_of st new) guest bytes
     wrote = record {
       keeps_layer_state = like-written;
@@ -550,7 +550,7 @@ module _ (R : RattleType) (st : Ghosts R.Denot) (sd : mir.Syntax.Dict) (dd : mir
       unheld None some = some
       unheld (Some o) some = refl
 
-    -- and it is safe still.
+    -- The image is still well-formed.
     pub safe-written : IsWellFormed st new
     safe-written = record {
       runs = failed;
@@ -574,7 +574,7 @@ module _ (R : RattleType) (st : Ghosts R.Denot) (sd : mir.Syntax.Dict) (dd : mir
       writable = λ some. subst IsTrue (sym (ap (λ (m : OpenMode). m.writable) mode-same)) (well_formed.writable (some-old some));
     }
 
-    -- What is counted and named is what was.
+    -- Refcounts and references are the same.
     pub leaks-written : KeepsLeaks st old new
     leaks-written c =
         let h = H.fields in
@@ -586,7 +586,7 @@ module _ (R : RattleType) (st : Ghosts R.Denot) (sd : mir.Syntax.Dict) (dd : mir
         let held = noted-reserved guest (length bytes) hold hold' notes c in
         omega (arith, counts, names, waits, held)
 
-    -- What is allocated is what was.
+    -- The same bytes are allocated.
     as-was : (P : Mapping → Type 0) (p : ℕ) → P (entry (memory_of st old.tables) H.fields (p / cluster_size H.fields))
         → P (entry (memory_of st new.tables) new.tables.file.header.fields (p / cluster_size new.tables.file.header.fields))
     as-was P p was = rw (memory_is st new.tables, header-same, entries (p / cluster_size H.fields)) (rw (memory_is st old.tables) at was)
@@ -604,7 +604,7 @@ module _ (R : RattleType) (st : Ghosts R.Denot) (sd : mir.Syntax.Dict) (dd : mir
       ];
     }
 
-  -- Want of memory and a storage's fault are all that keeps bytes from being written.
+  -- Only a resource error makes the write fail.
   never-mild : (a b : ℕ) (e : Fault) → Cause a b e → IsNotResourceError e → ⊥
   never-mild a b Memory cause not_resource_error = not_resource_error
   never-mild a b Storage cause not_resource_error = not_resource_error
@@ -691,7 +691,7 @@ module _ (R : RattleType) (st : Ghosts R.Denot) (sd : mir.Syntax.Dict) (dd : mir
     from (Err Storage) answer failed = record { failed = inl (rose-written answer.cause); marks_failed = λ marks. failed; cause = λ well_formed. inl (rose-written answer.cause) }
     from (Err e) answer failed = absurd answer.cause
 
--- One that wasn't written, as the range isn't mapped there or a lookup was refused.
+-- The write didn't happen, as the range isn't mapped there or a lookup failed.
 module _ (R : RattleType) (st : Ghosts R.Denot) (sd : mir.Syntax.Dict) (dd : mir.Syntax.Dict) (old new : Qcow2 R.Denot st) (guest place : ℕ)
     (bytes : List ℕ) (e : Fault) (k : KeepsImage {T = Bool} st old (Err e) new) where
   pub unwritten : (length bytes ≡ 0 → ⊥) → WritesMapped (ghosts R st sd dd) guest place bytes (Err e) old new
@@ -710,7 +710,7 @@ module _ (R : RattleType) (st : Ghosts R.Denot) (sd : mir.Syntax.Dict) (dd : mir
         stays_begun = λ d call begun. tt;
       }
 
-  -- why, in the words of a write, where it was in those of a lookup
+  -- The cause of a failed lookup as the cause of a write.
   pub told-why : (cause : IsWellFormed st old → HasCause (telling_causes st old new) e) → IsWellFormed st old
       → MappedCause (layer_of st old) guest place (length bytes) (st.state old.tables.file.image ∷ []) (st.state new.tables.file.image ∷ []) e
   told-why cause well_formed = from e (cause well_formed) where
@@ -720,7 +720,7 @@ module _ (R : RattleType) (st : Ghosts R.Denot) (sd : mir.Syntax.Dict) (dd : mir
     from Storage why = inl why
     from e why = absurd why
 
-  -- want of memory that kept the image
+  -- Memory ran out, and the image is unchanged.
   pub spared-writing : e ≡ Memory → WritingRefused (ghosts R st sd dd) guest place (length bytes) (Err e) old new
   spared-writing is = record {
     failed = subst (ImageCause (st.state old.tables.file.image ∷ []) (st.state new.tables.file.image ∷ [])) (sym is) tt;

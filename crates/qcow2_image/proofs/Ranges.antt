@@ -1,4 +1,4 @@
--- Ranges of a disk by the clusters that they meet under one L2 table.
+-- Lemmas on ranges of a disk, and the clusters that they touch in one L2 table.
 use Rattle.std.proofs.Common.{◌≡◌, ℕ, min, ◌⊎◌, inl, inr, ◌+◌, ◌-◌, ◌*◌, ◌/◌, ◌%◌, ◌^◌, ◌<◌, ◌≤◌, arith, ap, ◌∙◌}
 use Rattle.std.proofs.lemmas.Bool.{cases_lt}
 use Rattle.std.proofs.lemmas.Nat.{div-add-mod', mod_below, pow_pos}
@@ -7,14 +7,14 @@ use Rattle.std.proofs.Math.Nat.{div-lt_iff_lt-mul, lt-div-mul-add, div-mul-le_se
 use Rattle.qcow2_types.specs.Header.{Fields, Shaped}
 use Rattle.qcow2_types.specs.Entries.{l2_entries}
 
--- The widths of a header.
+-- Bounds of the cluster bits of a header.
 pub low-bits : (b : ℕ) (h : Fields) → b ≡ h.cluster_bits → Shaped h → 9 ≤ b
 low-bits b h is shaped = omega (arith, is, shaped.low)
 
 pub high-bits : (b : ℕ) (h : Fields) → b ≡ h.cluster_bits → Shaped h → b ≤ 21
 high-bits b h is shaped = omega (arith, is, shaped.high)
 
--- A table has some words, and its clusters are less than 2^42 bytes.
+-- A table has entries, and its guest clusters have at most 2^42 bytes together.
 module _ (bits : ℕ) (low : 9 ≤ bits) (high : bits ≤ 21) where
   pub large : 2 ^ 9 ≤ 2 ^ bits
   large = pow-le-pow_right (omega arith) low
@@ -28,7 +28,7 @@ module _ (bits : ℕ) (low : 9 ≤ bits) (high : bits ≤ 21) where
       let raw_entries : l2_entries bits ≤ 2 ^ 21 = omega (arith, few) in
       mul-le-mul raw_entries few
 
--- A range that isn't empty and ends with a table at the latest, with e words for clusters of c bytes.
+-- A nonempty range in one table of `e` entries, with clusters of `c` bytes.
 module _ (c e offset n : ℕ) (some : 0 < c) (raw_entries : 0 < e) (positive : 0 < n) (row : offset % (e * c) + n ≤ e * c) where
   abbrev w : ℕ
   w = offset % c
@@ -55,7 +55,7 @@ module _ (c e offset n : ℕ) (some : 0 < c) (raw_entries : 0 < e) (positive : 0
       let product : (offset / c + (q + 1)) * c ≡ offset / c * c + q * c + c = omega arith in
       omega (arith, le, place, product, near, positive)
 
-  -- So many of its clusters are less than 2^64 bytes.
+  -- Its clusters have less than 2^64 bytes together.
   pub fits-word : (count : ℕ) → count ≤ q + 1 → e * c ≤ 2 ^ 42 → count * c < 2 ^ 64
   fits-word count few small =
       let le : count ≤ e = omega (arith, few, one-table) in
@@ -70,7 +70,7 @@ module _ (c e offset n : ℕ) (some : 0 < c) (raw_entries : 0 < e) (positive : 0
       let below : w < c = mod_below offset c some in
       omega (arith, product, below)
 
--- Where a place of a run lies: in which of its clusters, and where in that.
+-- The cluster of a byte of the range, and its offset there.
 module _ (c offset i : ℕ) (some : 0 < c) where
   pub cluster-of : (offset + i) / c ≡ offset / c + (offset % c + i) / c
   cluster-of = ap (λ x. x / c) (omega (arith, div-add-mod' offset c)) ∙ mul-add-div_right some (offset / c) (offset % c + i)
@@ -81,14 +81,14 @@ module _ (c offset i : ℕ) (some : 0 < c) where
   pub in-run : (count n : ℕ) → n ≤ count * c - offset % c → i < n → (offset % c + i) / c < count
   in-run count n few lt = (div-lt_iff_lt-mul some).1 (omega (arith, few, lt))
 
-  -- The byte there, where the clusters of the run lie in a row.
+  -- The offset of the byte if the clusters of the range are consecutive.
   pub byte-place : (k : ℕ) → (k + (offset % c + i) / c) * c + (offset + i) % c ≡ k * c + offset % c + i
   byte-place k =
       let rest = div-add-mod' (offset % c + i) c in
       let product : (k + (offset % c + i) / c) * c ≡ k * c + (offset % c + i) / c * c = omega arith in
       omega (arith, rest, product, place-of)
 
--- The range of a lookup, of at most so many bytes: it ends with the disk and with the table.
+-- The range of a lookup of at most `asked` bytes. It ends with the disk and with the table at the latest.
 module _ (b offset size asked rem rest n w most : ℕ) (low : 9 ≤ b) (high : b ≤ 21) (rem-is : rem ≡ l2_entries b * 2 ^ b - offset % (l2_entries b * 2 ^ b)) (rest-is : rest ≡ min rem (size - offset)) (n-is : n ≡ min asked rest)
     (w-is : w ≡ offset % 2 ^ b) (most-is : most ≡ (w + n - 1) / 2 ^ b + 1) (inside : offset < size) (some : 0 < asked) where
   one : 0 < 2 ^ b
@@ -133,7 +133,7 @@ module _ (b offset size asked rem rest n w most : ℕ) (low : 9 ≤ b) (high : b
   pub range-word : (count : ℕ) → count ≤ most → count * 2 ^ b < 2 ^ 64
   range-word count few = fits-word (2 ^ b) (l2_entries b) offset n one rows range-some range-row count (omega (arith, few, met)) (small-table b low high)
 
-  -- Where so many clusters of it end: with the range and the disk, with the table, or with fewer clusters than it meets.
+  -- The first `count` clusters end with the range on the disk, with the table, or at the end of a cluster before the last.
   pub range-ends : (count m : ℕ) → 0 < count → count ≤ most → m ≡ min n (count * 2 ^ b - w)
       → (m ≡ min asked (size - offset)) ⊎ ((offset % (l2_entries b * 2 ^ b) + m ≡ l2_entries b * 2 ^ b) ⊎ ((count < most) × (offset + m ≡ (offset / 2 ^ b + count) * 2 ^ b)))
   range-ends count m positive few m-is = elim (cases_lt (count * 2 ^ b - w) n) [

@@ -1,4 +1,4 @@
--- What requests that change nothing do to an image.
+-- Lemmas on requests to the storage that change nothing, and on reloads.
 use Rattle.std.proofs.Common.{◌≡◌, ℕ, ◌≤◌, arith, ap, sym, subst, ◌∙◌, Bool, List, Some, None, Result, Ok, Err, inl}
 use Rattle.std.specs.Prelude.{[], IsTrue, IsOk, IsSome, IfSome, OnOk, OnErr, IfErr, Option}
 use Rattle.std.specs.Borrow.{RattleType}
@@ -39,12 +39,11 @@ use Rattle.qcow2_image.proofs.StateAfterOpening.{opened-space}
 use Rattle.qcow2_image.proofs.Steps.{layer-by, marks-kept, memory-is}
 use Rattle.qcow2_image.proofs.SearchStart.{counted-first, opened-first}
 
--- What a call keeps that wasn't cut off is kept by one that succeeded.
 pub ok-whole : {T : Type 0} (r : Result T Fault) (P : Type 0) → (HadNoResourceError r → P) → OnOk r P
 ok-whole (Ok v) P p = p tt
 ok-whole (Err e) P p = tt
 
--- A request that only reads leaves all seen.
+-- Memory stays coherent after a request that only reads.
 module _ {S : Type 0} (g : Ghosts S) (old new : Tables S g) (kept : UnchangedButFaults (g.state old.file.image) (g.state new.file.image)) (later : CountsNotFallen (g.state old.file.image) (g.state new.file.image))
     (header : new.file.header ≡ old.file.header) (l1 : new.l1 ≡ old.l1) (caches : new.caches ≡ old.caches) where
   pub seen-same : IsCacheCoherent g old → IsCacheCoherent g new
@@ -57,7 +56,7 @@ module _ {S : Type 0} (g : Ghosts S) (old new : Tables S g) (kept : UnchangedBut
         tables = rw (bytes, header, caches) seen.tables;
       }
 
--- A read that wasn't cut off met no fault,
+-- A read without a resource error had no fault.
 pub read-faultless : (s s' : StorageState) (at n : ℕ) (r : Result Unit Fault) → UnchangedButFaults s s' → OnOk r (s'.faults ≡ s.faults) → IfErr r (NotRead s s' at n)
     → HadNoResourceError r → IsFaultless s s'
 read-faultless s s' at n (Ok done) kept ok err whole = (ok, kept.refusals)
@@ -66,14 +65,14 @@ read-faultless s s' at n (Err Memory) kept ok err whole = absurd whole
 read-faultless s s' at n (Err Storage) kept ok err whole = absurd whole
 read-faultless s s' at n (Err fault) kept ok err whole = absurd err
 
--- and so did a request that is counted.
+-- A request whose faults are counted had none either.
 pub counted-faultless : (s s' : StorageState) (r : Result Unit Fault) → UnchangedButFaults s s' → CountsFaults s.faults s'.faults r → HadNoResourceError r → IsFaultless s s'
 counted-faultless s s' (Ok done) kept counts whole = (counts, kept.refusals)
 counted-faultless s s' (Err Memory) kept counts whole = absurd whole
 counted-faultless s s' (Err Storage) kept counts whole = absurd whole
 counted-faultless s s' (Err fault) kept counts whole = absurd counts
 
--- A request that changes nothing, whose answer marked the image.
+-- A request that changes nothing, and whose error may set the image to failed.
 pub asked-keeps : {S : Type 0} (g : Ghosts S) (old new : Qcow2 S g) (s' : StorageState) (result : Result Unit Fault)
     → UnchangedButFaults (g.state old.tables.file.image) s' → CountsNotFallen (g.state old.tables.file.image) s' → (HadNoResourceError result → IsFaultless (g.state old.tables.file.image) s')
     → g.state new.tables.file.image ≡ s' → new.tables.file.header ≡ old.tables.file.header → new.tables.l1 ≡ old.tables.l1 → new.tables.caches ≡ old.tables.caches
@@ -96,7 +95,7 @@ asked-keeps g old new s' result kept later faults state header l1 caches space m
       failed = failed;
     }
 
--- The same of one whose answer was settled: but for its mark the image is as it was, with the storage as the request left it.
+-- Like `asked-keeps`, for a call that changes only the storage and the failed flag.
 pub settled-keeps : {S : Type 0} (g : Ghosts S) (old new : Qcow2 S g) {tables : Tables S g} (answer result : Result Unit Fault)
     → new ≡ record old { tables = tables; failed = failed_after failed_by answer old.failed } → result ≡ answer
     → (tables.file.header ≡ old.tables.file.header) × (tables.l1 ≡ old.tables.l1)
@@ -111,7 +110,7 @@ settled-keeps {S} g old new {tables} answer result is same rest kept later fault
     (ap (λ (d : Qcow2 S g). d.number) is) (ap (λ (d : Qcow2 S g). d.unspent) is)
     (ap (λ (d : Qcow2 S g). d.failed) is ∙ ap (λ r. failed_after failed_by r old.failed) (sym same))
 
--- Where nothing waits, the file by itself means the disk.
+-- With nothing dirty, the file itself means the disk.
 pub meant : {S : Type 0} (g : Ghosts S) (t : Tables S g) (mode : OpenMode) (failed : Bool) (number : ℕ) (hold : Option PreparedMappingRun) → IsCacheCoherent g t → IsMeant (qcow2_layer (g.state t.file.image) (memory_of g t) t.file.header.fields mode number failed hold) (g.state t.file.image).bytes
 meant g t mode failed number hold seen =
     let is = ap (meaning_of (blank_of mode.backing) (file_of g t)) seen.loads in record {
@@ -120,7 +119,7 @@ meant g t mode failed number hold seen =
       cell = λ p lt. ap (λ (x : Meaning). x.cell p) is ∙ ap (λ b. cells (blank_of mode.backing) b (file_of g t) t.file.header.fields p) (sym (memory-is g t));
     }
 
--- What a call answered that read all anew, once that has marked the image.
+-- The result of a reload, after it may have set the image to failed.
 pub reloads-settled : {S : Type 0} (g : Ghosts S) (old new : Qcow2 S g) (mid : Tables S g) (answer result : Result Unit Fault) → Reloads g old.mode.writable old.tables answer mid → result ≡ answer → new ≡ record old { tables = mid; failed = failed_after failed_on_reload answer old.failed }
     → Reloads g old.mode.writable old.tables result new.tables × (new.mode ≡ old.mode) × (new.number ≡ old.number) × (new.unspent ≡ old.unspent) × (new.failed ≡ failed_after failed_on_reload result old.failed)
 reloads-settled g old new mid answer result all same is = (
@@ -131,7 +130,7 @@ reloads-settled g old new mid answer result all same is = (
   ap (λ (x : Qcow2 _ g). x.failed) is ∙ ap (λ r. failed_after failed_on_reload r old.failed) (sym same),
 )
 
--- All is read anew, while nothing is prepared.
+-- A reload, while no mapping is prepared.
 module _ (R : RattleType) (st : Ghosts R.Denot) (sd : mir.Syntax.Dict) (dd : mir.Syntax.Dict) (old new : Qcow2 R.Denot st) (result : Result Unit Fault) (all : Reloads st old.mode.writable old.tables result new.tables)
     (mode : new.mode ≡ old.mode) (number : new.number ≡ old.number) (unspent : new.unspent ≡ old.unspent) (free : IsFree (layer_of st old))
     (failed : new.failed ≡ failed_after failed_on_reload result old.failed) where
@@ -241,7 +240,7 @@ module _ (R : RattleType) (st : Ghosts R.Denot) (sd : mir.Syntax.Dict) (dd : mir
     from (Err Storage) is left = λ marks. is
     from (Err fault) is left = tt
 
--- A part of a range that was declined, in the words of the driver.
+-- A call that was declined, by the relations of the driver.
 pub declined : (R : RattleType) (st : Ghosts R.Denot) (sd : mir.Syntax.Dict) (dd : mir.Syntax.Dict) (call : PartCall) (d : Qcow2 R.Denot st) (offset n : ℕ) (result : Result (ℕ × ℕ) Fault)
     → IfErr result IsNotResourceError → ((olds news : List StorageState) → IfErr result (ImageCause olds news))
     → ((below : List Layer) (e : Qcow2 R.Denot st) (whole : Call) (olds news : List StorageState)

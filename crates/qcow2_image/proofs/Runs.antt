@@ -1,4 +1,4 @@
--- Runs of guest clusters in a table.
+-- Lemmas on runs of guest clusters in a table.
 use Rattle.std.proofs.Common.{◌≡◌, ℕ, ◌+◌, ◌-◌, ◌*◌, ◌^◌, ◌<◌, refl, arith, ap, sym, subst, ◌∙◌, true, false, Some, None, inl, inr}
 use Rattle.std.specs.Prelude.{Bool, ◌&&◌, ◌==◌}
 use Rattle.std.proofs.lemmas.Bool.{cases_lt, and_parts, and_from, eqb-true, eq-eqb}
@@ -28,7 +28,7 @@ next-mark a b x y is =
 mark-next : (a b : ℕ) (x y : Bool) → (b ≡ a + 1) × (y ≡ x) → ((b == a + 1) && same_copied x y) ≡ true
 mark-next a b x y is = and_from (b == a + 1) (same_copied x y) (eq-eqb b (a + 1) is.0) (marks-same x y is.1)
 
--- What the program finds consecutive goes on,
+-- Mappings that the code finds consecutive follow each other.
 pub goes-on : (bits : ℕ) (a b : L2Mapping) → follows bits a b ≡ true → Follows (mapping_seen a) (mapping_seen b)
 goes-on bits (DataFile a x) (DataFile b y) is = next-mark a b x y is
 goes-on bits (Backing a) (Backing b) is = tt
@@ -50,7 +50,7 @@ goes-on bits (Zero None x) (Compressed b y) is = absurd (cc is)
 goes-on bits (Zero (Some a) x) (Compressed b y) is = absurd (cc is)
 goes-on bits (Compressed a x) b is = absurd (cc is)
 
--- and nothing else does.
+-- Other mappings don't.
 pub stops-there : (bits place : ℕ) (a b : L2Mapping) → BacksAt place a → BacksAt (place + 2 ^ bits) b → follows bits a b ≡ false → Follows (mapping_seen a) (mapping_seen b) → ⊥
 stops-there bits place (DataFile a x) (DataFile b y) at at' is on = let yes = mark-next a b x y on in cc (sym yes ∙ is)
 stops-there bits place (Backing a) (Backing b) at at' is on =
@@ -61,7 +61,6 @@ stops-there bits place (Zero None x) (Zero None y) at at' is on = cc is
 stops-there bits place (Zero (Some a) x) (Zero (Some b) y) at at' is on = let yes = mark-next a b x y on in cc (sym yes ∙ is)
 stops-there bits place a b at at' is on = absurd on
 
--- The run of words that are the same is the same.
 pub run-same : (guest most : ℕ) (a b : ℕ → Mapping) (r : L2Mapping × ℕ) → ((k : ℕ) → k < most → a (guest + k) ≡ b (guest + k)) → IsRunOf guest most a r → IsRunOf guest most b r
 run-same guest most a b r same run =
     let one : a guest ≡ b guest = subst (λ x. a x ≡ b x) (omega arith) (same 0 (omega (arith, run.nonempty, run.length_bounded))) in
@@ -79,7 +78,7 @@ run-same guest most a b r same run =
           run.ends lt (subst (λ m. Follows m (a (guest + r.1))) (sym last) (subst (λ m. Follows (b (guest + r.1 - 1)) m) (sym behind) on));
     }
 
--- One that is longer by one.
+-- A run that is longer by one cluster.
 pub run-more : (guest next : ℕ) (mapped : ℕ → Mapping) → 0 < next → ((k : ℕ) → k + 1 < next → Follows (mapped (guest + k)) (mapped (guest + k + 1))) → Follows (mapped (guest + next - 1)) (mapped (guest + next))
     → (k : ℕ) → k + 1 < next + 1 → Follows (mapped (guest + k)) (mapped (guest + k + 1))
 run-more guest next mapped some each last k lt = elim (cases_lt (k + 1) next) [
@@ -91,7 +90,7 @@ run-more guest next mapped some each last k lt = elim (cases_lt (k + 1) next) [
       subst (λ x. Follows (mapped (guest + k)) (mapped x)) two (subst (λ x. Follows (mapped x) (mapped (guest + next))) one last)
 ]
 
--- A cluster of a range that ends within 64 bits begins there.
+-- A cluster of a range that ends within 64 bits starts within 64 bits.
 pub within-word : (g n m p : ℕ) → n < m → (g + m) * p < 2 ^ 64 + p → (g + n) * p < 2 ^ 64
 within-word g n m p lt fits =
     let d : ℕ = m - n - 1 in
@@ -99,7 +98,7 @@ within-word g n m p lt fits =
     let product : (g + m) * p ≡ (g + n) * p + p + d * p = ap (λ x. x * p) split ∙ omega arith in
     omega (arith, product, fits)
 
--- So its number does.
+-- So its number has at most 64 bits.
 pub number-word : (g p : ℕ) → 0 < p → g * p < 2 ^ 64 → g < 2 ^ 64
 number-word g p some fits =
     let q : ℕ = p - 1 in

@@ -1,4 +1,4 @@
--- Files that are counted as often beyond what names them leak the same clusters, by whatever headers.
+-- Lemmas that files with the same excess refcounts leak the same clusters, also with different headers.
 use Rattle.std.proofs.Common.{◌≡◌, ℕ, zero, suc, ◌+◌, ◌-◌, ◌*◌, ◌<◌, ◌≤◌, add-suc, arith, refl, ap, sym, ◌∙◌, inl, inr, [], ◌∷◌, ◌++◌, List, true, false}
 use Rattle.std.specs.Prelude.{Bool, Ok, if◌then◌else◌}
 use Rattle.std.proofs.lemmas.Bool.{cases_lt, lt-ltb, le-ltb}
@@ -19,7 +19,6 @@ use Rattle.qcow2_image.specs.Seen.{file_of}
 use Rattle.qcow2_image.specs.declared.qcow2.Qcow2.{Qcow2}
 use Rattle.qcow2_image.proofs.LeaksWithNothingPending.{leaks-alike}
 
--- Clusters that don't leak add nothing.
 skipped : (f : Bytes) (h : Fields) (n k : ℕ) → ((c : ℕ) → n ≤ c → leak_at f h c ≡ []) → leaks_below f h (n + k) ≡ leaks_below f h n
 unfolding leaks_below
 skipped f h n zero none = let same : n + 0 ≡ n = omega arith in ap (leaks_below f h) same
@@ -67,7 +66,7 @@ module _ (f g : Bytes) (h h' : Fields) (same : (c : ℕ) → count g h' c - refs
         ∙ (skipped g h' reach (reach' - reach) (λ c low. leak-same c ∙ no-leak f h c (count-beyond f h c some low)) ∙ below-same reach)
   ]
 
--- So do images of which nothing is pending, behind calls that keep their leaks.
+-- Calls that keep the leaks of an image list the same leaks, if nothing is pending.
 pub leaks-listed : {S : Type 0} (g : Ghosts S) (old new : Qcow2 S g) → IsWellFormed g old → IsWellFormed g new → KeepsLeaks g old new
     → ((c : ℕ) → pending g old c ≡ 0) → ((c : ℕ) → pending g new c ≡ 0) → leaks_of g new ≡ leaks_of g old
 leaks-listed g old new well_formed safe' keeps none none' =
@@ -76,7 +75,7 @@ leaks-listed g old new well_formed safe' keeps none none' =
     (some-counters old.tables.file.header.fields (consistent-shaped (file_of g old.tables) old.tables.file.header well_formed.consistent))
     (some-counters new.tables.file.header.fields (consistent-shaped (file_of g new.tables) new.tables.file.header safe'.consistent))
 
--- So do consistent files.
+-- Consistent files with the same excess refcounts list the same leaks.
 pub files-alike : (one other : List ℕ) (H K : Header) → IsConsistent (bytes_of one) H → IsConsistent (bytes_of other) K
     → ((c : ℕ) → qcow2_leaks other c ≡ qcow2_leaks one c) → leaks (bytes_of other) K.fields ≡ leaks (bytes_of one) H.fields
 files-alike one other H K was is same =

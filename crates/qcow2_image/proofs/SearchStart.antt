@@ -1,4 +1,4 @@
--- That no cluster is free before the one where the search for free ones begins.
+-- Lemmas that no cluster is free before the one where the search for free clusters starts.
 use Rattle.std.proofs.Common.{◌≡◌, ℕ, ◌<◌, refl, arith, ap, sym, subst, Bool, Option, Some, None}
 use Rattle.imago_storage.specs.State.{StorageState}
 use Rattle.imago_storage.specs.declared.storage.Storage.{Ghosts}
@@ -16,7 +16,7 @@ use Rattle.qcow2_image.specs.Seen.{file_of}
 use Rattle.qcow2_image.specs.declared.tables.Tables.{Tables}
 
 module _ {S : Type 0} (g : Ghosts S) where
-  -- The file's counts are those of the image at rest,
+  -- The refcounts of the file are those of the flushed metadata.
   module _ (t : Tables S g) (free : Space) (there : t.space ≡ Some free) where
     counts-same : (c : ℕ) → count (file_of g t) t.file.header.fields c ≡ count (in_memory (rest_of g t free)) t.file.header.fields c
     counts-same c = ap (λ (f : Bytes). count f t.file.header.fields c) (sym (resting-memory (rest_of g t free) refl))
@@ -29,7 +29,7 @@ module _ {S : Type 0} (g : Ghosts S) where
     counted-in-file marked c below =
         subst (λ n. 0 < n) (sym (counts-same c)) (marked c (subst (λ o. c < searched_from o) there below))
 
-  -- and stay what they were.
+  -- With the same refcounts and start the statement stays true.
   pub counted-still : (old new : Tables S g)
       → ((c : ℕ) → count (file_of g new) new.file.header.fields c ≡ count (file_of g old) old.file.header.fields c)
       → searched_from new.space ≡ searched_from old.space → AreCountedBefore g old → AreCountedBefore g new
@@ -41,11 +41,10 @@ module _ {S : Type 0} (g : Ghosts S) where
   counted-same old new file header from =
       counted-still old new (λ c i. count (file i) (header i).fields c) from
 
-  -- Where it begins with the file nothing is before.
   pub counted-first : (t : Tables S g) → searched_from t.space ≡ 0 → AreCountedBefore g t
   counted-first t first c below = absurd (omega (arith, below, first))
 
--- So it does where an image was just opened.
+-- After opening the search starts at cluster 0.
 pub opened-first : (s : StorageState) (h : Fields) (writable : Bool) (o : Option Space) → IsSpaceOpened s h writable o
     → searched_from o ≡ 0
 opened-first s h writable None opened = refl

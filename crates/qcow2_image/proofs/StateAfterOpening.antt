@@ -1,4 +1,4 @@
--- What is in memory of an image right after it was opened.
+-- Lemmas on the state of an image right after it was opened.
 use Rattle.std.proofs.Common.{◌≡◌, ℕ, ◌≤◌, refl, sym, subst, ap, [], List, false, Ok, Option, Some, None}
 use Rattle.std.specs.Prelude.{Bool, IfSome, IsTrue, IsSome}
 use Rattle.std.specs.List.{AllByRecursion}
@@ -36,7 +36,7 @@ module _ {S : Type 0} (g : Ghosts S) (before : StorageState) (writable : Bool) (
     (empty : cached_in t.caches ≡ record { tables = []; blocks = [] }) (unordered : order_of t.caches ≡ Unset)
     (space : IsSpaceOpened before t.file.header.fields writable t.space)
     (tables : t.caches.l2.slots.cap ≡ l2_tables) (blocks : t.caches.rb.slots.cap ≡ refcount_blocks) where
-  -- The metadata, by what was loaded of the file.
+  -- The metadata, from what was loaded of the file.
   pub just-opened : IsJustOpened g before writable l2_tables refcount_blocks t
   just-opened = record {
     same = same;
@@ -55,12 +55,11 @@ module _ {S : Type 0} (g : Ghosts S) (before : StorageState) (writable : Bool) (
     blocks = blocks;
   }
 
--- Nothing of an empty cache stands over the file.
 memory-empty : (f : Bytes) (h : Fields) (cached : Cached) → cached ≡ record { tables = []; blocks = [] } → memory f h cached ≡ f
 unfolding over
 memory-empty f h cached empty = ap (λ (c : Cached). memory f h c) empty
 
--- The free space of a consistent image is sound, as it was just loaded.
+-- The free space of a consistent image is consistent when it was just loaded.
 pub opened-space : {S : Type 0} (g : Ghosts S) (t : Tables S g) → IsConsistent (file_of g t) t.file.header → (writable : Bool) (o : Option Space)
     → IsSpaceOpened (g.state t.file.image) t.file.header.fields writable o → IfSome o (λ space. IsSound (rest_of g t space))
 opened-space g t consistent writable None opened = tt
@@ -77,11 +76,11 @@ module _ {S : Type 0} (g : Ghosts S) (before : StorageState) (writable : Bool) (
   abbrev H : Header
   H = d.tables.file.header
 
-  -- Nothing was asked of the file but reads.
+  -- The file only got reads.
   pub opened-kept : UnchangedButMoreFaults before state
   opened-kept = subst (λ (s : StorageState). UnchangedButMoreFaults before s) (sym now.same) (record { shape = refl; bytes = refl; refusals = refl; crash_image = refl; past_crash_images = refl }, le_refl before.faults)
 
-  -- It means the disk,
+  -- The file means the disk.
   pub opened-meant : IsMeant (qcow2_layer state (memory_of g d.tables) H.fields d.mode d.number d.failed (holding_in g d.unspent)) state.bytes
   opened-meant = subst (λ (m : Bytes). IsMeant (qcow2_layer state m H.fields d.mode d.number d.failed (holding_in g d.unspent)) state.bytes) (sym (memory-empty (bytes_of state.bytes) H.fields (cached_in d.tables.caches) now.empty))
       record {
@@ -90,11 +89,11 @@ module _ {S : Type 0} (g : Ghosts S) (before : StorageState) (writable : Bool) (
         cell = λ p low. ap (λ r. (meaning_of (blank_of d.mode.backing) (bytes_of state.bytes) r).cell p) now.seen.loads;
       }
 
-  -- of which nothing waits to be written,
+  -- Nothing is dirty.
   pub opened-still : AreTablesClean (cached_in d.tables.caches) × AreBlocksClean (cached_in d.tables.caches)
   opened-still = subst (λ (c : Cached). AreTablesClean c × AreBlocksClean c) (sym now.empty) (tt, tt)
 
-  -- and which is safe where the file is consistent, by whatever header.
+  -- The file is consistent, by some header.
   module _ (sound : Consistent (bytes_of state.bytes)) where
     consistent : IsConsistent (bytes_of state.bytes) H
     consistent = verdict-consistent (bytes_of state.bytes) (leaks (bytes_of state.bytes) sound.0.fields) false H (sound.0, sound.1, refl)
@@ -113,6 +112,6 @@ module _ {S : Type 0} (g : Ghosts S) (before : StorageState) (writable : Bool) (
     writable = λ some. absurd (Prim.cc (subst IsSome free some));
   }
 
-  -- Its file begins as an image does.
+  -- The file starts as an image does.
   pub opened-begins : IsTrue (is_qcow2 (bytes_of before.bytes))
   opened-begins = header-begins (bytes_of before.bytes) H (subst (λ (s : StorageState). header_of false (bytes_of s.bytes) ≡ Ok H) now.same now.seen.loads)

@@ -1,4 +1,4 @@
--- What calls that write nothing leave of an image, in the words of the driver.
+-- Lemmas that state calls without writes by the relations of the driver.
 use Rattle.std.proofs.Common.{◌≡◌, ℕ, refl, ap, sym, subst, ◌∙◌, Bool, false, Some, None, Result, Ok, Err, inl, inr}
 use Rattle.std.proofs.Math.Nat.{le_refl}
 use Rattle.std.specs.Prelude.{⊤, ◌⊎◌, IsTrue, IfErr, Option, IfSome, IsSome, []}
@@ -37,7 +37,7 @@ use Rattle.qcow2_image.proofs.CallNeeds.{since-as}
 use Rattle.qcow2_image.proofs.SearchStart.{counted-same}
 use Rattle.qcow2_image.proofs.LeaksByFile.{leaks-kept, surplus-kept}
 
--- The layer is what its parts make it.
+-- Equal parts make equal layers.
 pub layer-by : (s s' : StorageState) (m m' : Bytes) (h h' : Fields) (b b' : OpenMode) (n n' : ℕ) (f f' : Bool) (k k' : Option PreparedMappingRun) → s'.shape ≡ s.shape → s'.bytes ≡ s.bytes → m' ≡ m → h' ≡ h → b' ≡ b → n' ≡ n → f' ≡ f → k' ≡ k
     → qcow2_layer s' m' h' b' n' f' k' ≡ qcow2_layer s m h b n f k
 layer-by s s' m m' h h' b b' n n' f f' k k' shape bytes raw_entries fields mode number failed hold = λ i. record {
@@ -50,7 +50,7 @@ layer-by s s' m m' h h' b b' n n' f f' k k' shape bytes raw_entries fields mode 
   unspent = mapping_id_held (hold i);
 }
 
--- Nothing waits in memory, so that it is what the file is.
+-- Nothing in memory is dirty, so it is what the file says.
 pub memory-is : {S : Type 0} (g : Ghosts S) (t : Tables S g) → memory_of g t ≡ file_of g t
 memory-is g t = clean-memory (file_of g t) t.file.header.fields (cached_in t.caches) t.clean.0 t.clean.1
 
@@ -58,7 +58,7 @@ some-same : {A : Type 0} (a b : A) → Some b ≡ Some a → b ≡ a
 some-same a b is = cc is
 
 module _ {T : Type 0} where
-  -- A call that wasn't cut off marks nothing, and none takes a mark away.
+  -- A call without a resource error doesn't set the image to failed, and a failed image stays failed.
   pub unmarked : (r : Result T Fault) (f : Bool) → HadNoResourceError r → failed_after failed_by r f ≡ f
   unmarked (Ok v) f whole = refl
   unmarked (Err Memory) f whole = absurd whole
@@ -75,7 +75,7 @@ module _ {T : Type 0} where
   marked-or-not (Err Storage) f = inl refl
   marked-or-not (Err fault) f = inr refl
 
--- A call whose answer marked the image, if a storage failed.
+-- A storage fault of the call sets the image to failed.
 pub keeps-marked : {S T : Type 0} (g : Ghosts S) (old new : Qcow2 S g) (mid : Tables S g) (result : Result T Fault) → KeepsTables g old.tables result mid → new ≡ record old { tables = mid; failed = failed_after failed_by result old.failed } → KeepsImage g old result new
 keeps-marked g old new mid result kept is = record {
   tables = subst (KeepsTables g old.tables result) (sym (ap (λ (x : Qcow2 _ g). x.tables) is)) kept;
@@ -85,7 +85,7 @@ keeps-marked g old new mid result kept is = record {
   failed = ap (λ (x : Qcow2 _ g). x.failed) is;
 }
 
--- Two such calls, one behind the other.
+-- Two such calls one after another.
 pub keeps-both : {S T : Type 0} (g : Ghosts S) (a b c : Qcow2 S g) (r : Result T Fault) → KeepsImage {T = Unit} g a (Ok tt) b → KeepsImage g b r c
     → KeepsImage g a r c
 keeps-both g a b c r first second = record {
@@ -112,7 +112,7 @@ keeps-both g a b c r first second = record {
   failed = second.failed ∙ ap (failed_after failed_by r) first.failed;
 }
 
--- One that answers something else, and is cut off by no less.
+-- The call may return another value, if its resource errors are the same.
 pub keeps-as : {S T U : Type 0} (g : Ghosts S) (a b : Qcow2 S g) (r : Result T Fault) (r' : Result U Fault) → (HadNoResourceError r' → HadNoResourceError r)
     → ((f : Bool) → failed_after failed_by r f ≡ failed_after failed_by r' f) → KeepsImage g a r b → KeepsImage g a r' b
 keeps-as g a b r r' whole marks k = record {
@@ -130,7 +130,6 @@ keeps-as g a b r r' whole marks k = record {
   failed = k.failed ∙ marks a.failed;
 }
 
--- One that does nothing.
 pub tables-same : {S T : Type 0} (g : Ghosts S) (d : Qcow2 S g) (r : Result T Fault) → KeepsTables g d.tables r d.tables
 tables-same g d r = record {
   unchanged_but_faults = record { shape = refl; bytes = refl; refusals = refl; crash_image = refl; past_crash_images = refl };
@@ -176,7 +175,7 @@ module _ (R : RattleType) (st : Ghosts R.Denot) (sd : mir.Syntax.Dict) (dd : mir
   pub layer-same : new.failed ≡ old.failed → layer_of st new ≡ layer_of st old
   layer-same failed = layer-by s s' (memory_of st old.tables) (memory_of st new.tables) old.tables.file.header.fields new.tables.file.header.fields old.mode new.mode old.number new.number old.failed new.failed (holding_in st old.unspent) (holding_in st new.unspent) k.tables.unchanged_but_faults.shape k.tables.unchanged_but_faults.bytes memory-same (ap (λ (H : Header). H.fields) k.tables.header) k.mode k.number failed (ap (holding_in st) k.unspent)
 
-  -- Its clusters are at rest what they were.
+  -- The flushed metadata is the same.
   rest-same : (space : Space) → rest_of st new.tables space ≡ rest_of st old.tables space
   rest-same space = λ i. record (rest_of st old.tables space) { file = bytes_of (k.tables.unchanged_but_faults.bytes i); header = k.tables.header i }
 
@@ -222,7 +221,7 @@ module _ (R : RattleType) (st : Ghosts R.Denot) (sd : mir.Syntax.Dict) (dd : mir
   untouched-same : IsUntouched st old → IsUntouched st new
   untouched-same was = (k.unspent ∙ was.0, subst (λ space. IfSome space (λ x. x.to_free.entries ≡ [])) (sym k.tables.space) was.1)
 
-  -- What is in memory is what the file says, where it was.
+  -- Coherent memory stays coherent.
   pub sees-same : IsCoherent st old → IsCoherent st new
   sees-same was = record {
     seen = k.tables.seen was.seen;
@@ -235,7 +234,7 @@ module _ (R : RattleType) (st : Ghosts R.Denot) (sd : mir.Syntax.Dict) (dd : mir
   known : new.failed ≡ old.failed → IsKnown coherent old new
   known failed = record { seen = λ seen. (layer-same failed, sees-same seen); safely = safe-same failed }
 
-  -- What is allocated is what was.
+  -- The same bytes are allocated.
   as-was : (P : Bytes → Fields → Type 0) → P (memory_of st old.tables) old.tables.file.header.fields → P (memory_of st new.tables) new.tables.file.header.fields
   as-was P was = subst (λ m. P m new.tables.file.header.fields) (sym memory-same) (subst (λ (H : Header). P (memory_of st old.tables) H.fields) (sym k.tables.header) was)
 
@@ -246,7 +245,7 @@ module _ (R : RattleType) (st : Ghosts R.Denot) (sd : mir.Syntax.Dict) (dd : mir
     zeroes = λ p left free. as-was (λ m h. IsZeroed m h p);
   }
 
-  -- Each place can be written where it could.
+  -- Each byte can be written in place where it could.
   homes-same : (p : ℕ) → writable_locations_of st new p ≡ writable_locations_of st old p
   homes-same p = λ i. writable_locations (k.mode i).writable (memory-same i) (k.tables.header i).fields p
 

@@ -1,4 +1,4 @@
--- What a search of a table, and its use, leave of what is true of each cached table.
+-- Lemmas on the cache: a property of every cached table stays true after a search of a table and its use.
 use Rattle.std.proofs.Common.{◌≡◌, ◌≢◌, ℕ, ◌*◌, refl, ap, sym, subst, ◌∙◌, List, [], ◌∷◌, ◌++◌, length, Some, None, Result, Ok, Err, inl, inr}
 use Rattle.std.specs.Prelude.{◌⊎◌, OnOk, OnErr, IsSome, Bool, Option, false, map, nat_eq, nat_lt}
 use Rattle.std.specs.List.{AllByRecursion}
@@ -18,7 +18,7 @@ use Rattle.qcow2_alloc.specs.declared.async_lru_cache.Slot.{Slot}
 use Rattle.qcow2_alloc.proofs.Caching.Places.{Place, place-of-key, place-hit, slot-of}
 use Rattle.qcow2_image.specs.Seen.{IsOfFile, IsTableAt}
 
--- An entry that is used goes first: each is as it was.
+-- The entry that is used moves to the front.
 all-move : {X : Type 0} (P : X → Type 0) (front : List X) (x : X) (back : List X) → AllByRecursion P (front ++ x ∷ back) → AllByRecursion P (x ∷ front ++ back)
 all-move P [] x back all = all
 all-move P (y ∷ front) x back all = let rest = all-move P front x back all.1 in (rest.0, (all.0, rest.1))
@@ -39,7 +39,7 @@ module _ {V : Type 0} (P : ℕ × Slot V → Type 0) (key : ℕ) (es : List (ℕ
   pub one-hit : (s : Slot V) × P (key, s) × (s.value ≡ v)
   one-hit = (found.0, moved.0, found.2)
 
--- Entries that stay when some go,
+-- The entries that stay when others are dropped keep the property.
 all-removed : {K X : Type 0} (P : K × X → Type 0) (test : K → Bool) (es : List (K × X)) → AllByRecursion P es → AllByRecursion P (remove_entry test es)
 all-removed P test [] all = tt
 all-removed P test (e ∷ es) all = elim (cases_Bool (test e.0)) [
@@ -57,7 +57,7 @@ all-with-room P cap es all = elim (cases_Bool (nat_lt (length es) cap)) [
   | inr t ↦ rw t (all-but-victim P (victim es) es all)
 ]
 
--- and that are the same once they are written.
+-- Entries that are only written keep the property.
 of-written : (f : Bytes) (h : Fields) (xs ys : List (ℕ × Slot TableValue)) → map written_table xs ≡ map written_table ys → AllByRecursion (IsOfFile f h) ys → AllByRecursion (IsOfFile f h) xs
 of-written f h [] ys same all = tt
 of-written f h (x ∷ xs) [] same all = absurd (cc same)
@@ -90,7 +90,7 @@ of-search f h cap key es es' answer named sought all = elim (found-or-not (looku
     | inr room ↦ subst (AllByRecursion (IsOfFile f h)) (sym room) (all-with-room (IsOfFile f h) cap es all)
   ]
 
--- A table that is cached alone is of the file where an L1 word names its cluster, if it fits and isn't modified.
+-- If all cached tables are in one cluster that an L1 entry references, and are clean, they are the file's.
 pub tables-of-file : (f : Bytes) (h : Fields) (table : ℕ) → IsTableAt f h (table * cluster_size h) → (es : List (ℕ × Slot TableValue))
     → AllByRecursion (λ e. e.0 ≡ table) es → AllByRecursion (λ e. IsCachedTable f h e.0 e.1.value) es
     → AllByRecursion (λ e. e.1.value.modified ≡ false) es → AllByRecursion (IsOfFile f h) es

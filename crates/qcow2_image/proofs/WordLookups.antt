@@ -1,4 +1,4 @@
--- What a look at words leaves, behind a search of their table.
+-- Lemmas on a lookup of L2 entries, after the search of their table in the cache.
 use Rattle.std.proofs.Common.{◌≡◌, ℕ, ◌+◌, ◌*◌, ◌/◌, ◌%◌, ◌^◌, ◌<◌, ◌≤◌, refl, arith, ap, sym, subst, ◌∙◌, List, [], ◌∷◌, true, false, Some, None, Result, Ok, Err, inl, inr}
 use Rattle.std.specs.Prelude.{⊤, nat_eq, slice_index}
 use Rattle.std.specs.List.{AllByRecursion}
@@ -42,17 +42,16 @@ use Rattle.qcow2_image.proofs.Runs.{run-same}
 use Rattle.qcow2_image.proofs.FileWords.{table-named, entry-of-file, entry-of-unsound, entry-of-none, named-in-reach}
 use Rattle.qcow2_image.proofs.TableSearches.{all-hit, one-hit, of-search}
 
--- Why it was refused: no cache is ever full.
+-- The cause of a failed lookup. The cache is never full of pinned tables.
 looking-found : {fine full damage : Type 0} {a b : ℕ} → ((fine → ⊥) → damage) → (full → ⊥) → Implies (search_causes fine full a b) (looking_causes damage a b)
 looking-found broken never = record { before = omega arith; after = omega arith; damaged = broken; counter = absurd; full = λ full. absurd (never full); limit = λ number. absurd }
 
--- It was cut off by what cut off the search.
+-- The lookup has the resource errors of the search.
 cut-off : (fault : Fault) → IsNotResourceError fault → WritesBackCached.IsNotResourceError fault
 cut-off Memory not_resource_error = not_resource_error
 cut-off Storage not_resource_error = not_resource_error
 cut-off fault not_resource_error = tt
 
--- What is clean is in reach.
 tables-in-reach : (cached : Cached) → AreTablesClean cached → AreTablesAddressable cached
 tables-in-reach cached clean = from cached.tables clean where
   from : (es : List (ℕ × Slot TableValue)) → AllByRecursion (λ e. e.1.value.modified ≡ false) es → AllByRecursion (λ e. e.1.value.modified ≡ true → IsAddressable e.1.value.layout.cluster_bits e.0) es
@@ -65,7 +64,7 @@ blocks-in-reach cached clean = from cached.blocks clean where
   from [] all = tt
   from (e ∷ es) all = ((λ yes. absurd (cc (sym yes ∙ all.0))), from es all.1)
 
--- Guest clusters under one table.
+-- Guest clusters of one table.
 module _ (guest most e k : ℕ) (whole : guest % e + most ≤ e) (lt : k < most) where
   pub one-row : (guest + k) / e ≡ guest / e
   one-row = ap (λ x. x / e) (omega (arith, div-add-mod' guest e)) ∙ div-mul-add (guest / e) e (guest % e + k) (omega (arith, whole, lt))
@@ -73,7 +72,7 @@ module _ (guest most e k : ℕ) (whole : guest % e + most ≤ e) (lt : k < most)
   pub in-row : (guest + k) % e < e
   in-row = mod_below (guest + k) e (omega (arith, whole, lt))
 
--- A search of the table that the L1 table names, and what is cached then. No request but reads is made.
+-- The table that the L1 entry references is searched. The storage only gets reads.
 module _ {S : Type 0} (g : Ghosts S) (guest most table : ℕ) (old new : Tables S g) (l1 : new.l1 ≡ old.l1) (space : new.space ≡ old.space) (named : place_of_table old.l1.raw_entries old.file.header.fields.cluster_bits guest ≡ Some table) where
   abbrev H : Header
   H = old.file.header
@@ -87,7 +86,7 @@ module _ {S : Type 0} (g : Ghosts S) (guest most table : ℕ) (old new : Tables 
         (table-named (file_of g old) H.fields old.l1 seen.l1 guest table named)
         (subst (λ (b : List ℕ). Sought written_table old.caches.l2.slots.cap table (table_in (bytes_of b) H.fields table (entries_of_cluster H.fields)) (cached_in old.caches).tables answer (cached_in mid).tables) has_no_dirty_data.0.bytes found.sought) seen.tables
 
-    -- What is cached was cached or is the file's, so that all is seen still.
+    -- Every cached table was cached before or is the file's, so memory stays coherent.
     seen-then : AllByRecursion (IsOfFile (file_of g old) H.fields) (cached_in new.caches).tables → IsCacheCoherent g old → IsCacheCoherent g new
     seen-then tables seen =
         let bytes : file_of g new ≡ file_of g old = ap bytes_of has_no_dirty_data.0.bytes in
@@ -99,7 +98,7 @@ module _ {S : Type 0} (g : Ghosts S) (guest most table : ℕ) (old new : Tables 
           tables = rw (bytes, header) tables;
         }
 
-  -- A table that is found and stays.
+  -- The table is found, and doesn't change.
   module _ {T : Type 0} (does : TableValue → Result T Fault → TableValue → Type 0) (result : Result T Fault) (u : TableUsed g.state table does (cached_file old.caches old.file) result (cached_file new.caches new.file)) (same : u.value' ≡ u.value) where
     left : new.caches ≡ with_tables u.mid (hit (nat_eq table) (cached_in u.mid).tables u.value)
     left = u.left ∙ ap (λ x. with_tables u.mid (hit (nat_eq table) (cached_in u.mid).tables x)) same
@@ -114,7 +113,7 @@ module _ {S : Type 0} (g : Ghosts S) (guest most table : ℕ) (old new : Tables 
         let one = one-hit (IsOfFile (file_of g old) H.fields) table (cached_in u.mid).tables u.value u.value_cached (tables-found u.mid (Ok tt) u.found seen) in
         (ap (λ (t : TableValue). t.layout) (sym one.2) ∙ one.1.layout, ap (λ (t : TableValue). t.raw_entries) (sym one.2) ∙ one.1.raw_entries)
 
-    -- Its words are those of the guest clusters under it.
+    -- Its entries are those of the guest clusters.
     words-used : IsTable l2_table_kind u.value → guest % entries_of_cluster H.fields + most ≤ entries_of_cluster H.fields → IsCacheCoherent g old → (k : ℕ) → k < most → mapping_in u.value ((guest + k) % entries_of_cluster H.fields) ≡ entry (file_of g old) H.fields (guest + k)
     words-used fits whole seen k lt =
         let is = of-file seen in
@@ -139,7 +138,7 @@ module _ {S : Type 0} (g : Ghosts S) (guest most table : ℕ) (old new : Tables 
         cause = λ seen. tt;
       }
 
-  -- a table that isn't fine is damaged in the file, as what is cached is clean and the L1 table is sound
+  -- A table that isn't fine is damaged in the file, since what is cached is clean and the L1 table is valid.
   not-fine : UnchangedButFaults (g.state old.file.image) (g.state new.file.image) → IsCacheCoherent g old → (IsTableFine (bytes_of (g.state new.file.image).bytes) H.fields table × AreTablesAddressable (cached_in old.caches) × AreBlocksAddressable (cached_in old.caches) → ⊥) → entry (file_of g old) H.fields guest ≡ damaged
   not-fine kept seen not =
       entry-of-unsound (file_of g old) H.fields old.l1 guest table seen.l1 named (λ sound. not (
@@ -189,7 +188,7 @@ module _ {S : Type 0} (g : Ghosts S) (guest most table : ℕ) (old new : Tables 
   looks-used (Ok run) whole used = looks-found run whole used
   looks-used (Err fault) whole used = looks-refused fault used
 
--- What a look at a table leaves clean,
+-- After a lookup nothing that is cached is dirty.
 pub clean-used : {S T : Type 0} (state : S → StorageState) (table : ℕ) (does : TableValue → Result T Fault → TableValue → Type 0) (old : MetadataCaches S) (before : ImageFile S) (result : Result T Fault) (new : MetadataCaches S) (after : ImageFile S)
     → ((t t' : TableValue) (r : Result T Fault) → does t r t' → t' ≡ t) → AreTablesClean (cached_in old) × AreBlocksClean (cached_in old) → UsesTable state table does (cached_file old before) result (cached_file new after) → AreTablesClean (cached_in new) × AreBlocksClean (cached_in new)
 clean-used state table does old before result new after stays clean (inl r) = let has_no_dirty_data = r.2.has_no_dirty_data clean.0 clean.1 in (has_no_dirty_data.1, has_no_dirty_data.2)
@@ -198,7 +197,7 @@ clean-used state table does old before result new after stays clean (inr u) =
     let left : new ≡ with_tables u.mid (hit (nat_eq table) (cached_in u.mid).tables u.value) = u.left ∙ ap (λ x. with_tables u.mid (hit (nat_eq table) (cached_in u.mid).tables x)) (stays u.value u.value' result u.used) in
     rw left (all-hit (λ e. e.1.value.modified ≡ false) table (cached_in u.mid).tables u.value u.value_cached has_no_dirty_data.1, has_no_dirty_data.2)
 
--- and loose.
+-- After a lookup nothing that is cached is pinned.
 module _ {S : Type 0} (state : S → StorageState) (table : ℕ) (old : MetadataCaches S) (before : ImageFile S) where
   loose-found : (answer : Result Unit Fault) (new : MetadataCaches S) (after : ImageFile S) → TableFound state table old before answer new after → IsUnpinned old → IsUnpinned new
   loose-found answer new after found loose = (
@@ -215,7 +214,7 @@ module _ {S : Type 0} (state : S → StorageState) (table : ℕ) (old : Metadata
       let less = (pins-hit table (cached_in u.mid).tables u.value').among (λ _. true) in
       rw u.left (omega (arith, less, mid.0), mid.1, mid.2, mid.3)
 
--- Where the L1 table names none, all that it would map is unmapped.
+-- If the L1 entry references no table, all its guest clusters are unallocated.
 pub looks-none : {S : Type 0} (g : Ghosts S) (guest most offset : ℕ) (old : Tables S g) → offset ≡ guest * 2 ^ old.file.header.fields.cluster_bits → 0 < most → guest % entries_of_cluster old.file.header.fields + most ≤ entries_of_cluster old.file.header.fields
     → place_of_table old.l1.raw_entries old.file.header.fields.cluster_bits guest ≡ None → LooksAt g guest most old (Ok (Backing offset, most)) old
 looks-none g guest most offset old at some whole none =

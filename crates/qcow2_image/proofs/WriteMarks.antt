@@ -1,4 +1,4 @@
--- What a refused write of the image file has marked.
+-- Lemmas on a failed write to the image file: when it sets the image to failed.
 use Rattle.std.proofs.Common.{◌≡◌, inl, inr}
 use Rattle.std.specs.Prelude.{ℕ, List, false, true}
 use Rattle.imago_storage.specs.Through.{PaddedWriteFailed, NotBegun}
@@ -10,14 +10,14 @@ use Rattle.qcow2_image.specs.Steps.{failed_by}
 use Rattle.qcow2_image.specs.Writing.{MarksFailedOnWrite}
 
 module _ {S : Type 0} (g : Ghosts S) (old new : Qcow2 S g) where
-  -- before it had begun, as a lookup does,
+  -- Before the first change, only a storage fault does.
   pub marks-before : (fault : Fault) → new.failed ≡ failed_by fault false → NotBegun (g.state old.tables.file.image) (g.state new.tables.file.image) fault
       → MarksFailedOnWrite g old new fault
   marks-before Memory failed refused = inr (failed, refused.unchanged_but_faults)
   marks-before Storage failed refused = failed
   marks-before fault failed refused = absurd refused.cause
 
-  -- and within it always.
+  -- After the first change, each error does.
   pub marks-within : (unit place : ℕ) (bytes : List ℕ) (fault : Fault) → new.failed ≡ true
       → PaddedWriteFailed unit (g.state old.tables.file.image) (g.state new.tables.file.image) place bytes fault → MarksFailedOnWrite g old new fault
   marks-within unit place bytes Memory failed halted = inl (failed, halted.refusals)

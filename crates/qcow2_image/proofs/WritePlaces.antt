@@ -1,4 +1,4 @@
--- Where places of an image are written by their words or in the run of a mapping, and what the mapping holds behind a write.
+-- Lemmas on where the bytes of the disk are written, by their entries or in the run, and on the prepared mapping after a write.
 use Rattle.std.proofs.Common.{refl, arith, ap, sym, subst, ◌∙◌, inl, inr}
 use Rattle.std.specs.Prelude.{◌≡◌, ◌⊎◌, ℕ, ◌+◌, ◌-◌, ◌*◌, ◌/◌, ◌%◌, ◌<◌, ◌≤◌, ◌&&◌, ◌||◌, ltb, nat_le, Bool, true, false, Option, Some, None, IsSome, IfSome}
 use Rattle.std.proofs.lemmas.Bool.{cases_Bool, cases_lt, and_from, and_parts, or_parts, le-leb, leb-true, lt-ltb, ltb-true}
@@ -16,7 +16,7 @@ use Rattle.qcow2_types.specs.Header.{Fields, cluster_size}
 use Rattle.qcow2_types.specs.Words.{data_at}
 use Rattle.qcow2_types.proofs.Changes.DataSteps.{untouched-keeps}
 use Rattle.qcow2_alloc.specs.GuestView.{Metadata, IsSound}
-use Rattle.qcow2_steps.specs.Data.{IsHidden, KeepsRawEntries, WritesBeside}
+use Rattle.qcow2_steps.specs.Data.{IsHidden, KeepsEntries, WritesBeside}
 use Rattle.qcow2_steps.proofs.DataRuns.{beside-reserved, beside-words}
 use Rattle.qcow2_image.specs.HeldHomes.{clusters-from, clusters-of, held-at, own-hidden, run-from, run-guest}
 use Rattle.qcow2_image.specs.Holding.{PreparedMappingRun, IsHeld, IsOwnAs, IsUncopied, Notes, mapping_id_held, copied_to, held_writable_location, held_of, held_place, writable_location_or, writable_locations_with, in_clusters, in_run, written_to}
@@ -30,7 +30,7 @@ use Rattle.qcow2_image.specs.declared.unspent.Unspent.{Unspent}
 use Rattle.qcow2_image.proofs.DiskEffects.{safe-sound}
 use Rattle.qcow2_image.proofs.WritesInPlace.{IsWrittenAt, byte-stays, rewritten-entries, rewritten-kept, written-beside}
 
--- the place of the disk lies in the run, at this place of the file
+-- The byte `p` of the disk is in the run, at the offset `at` of the file.
 pub record IsOfRun (h : Fields) (hold : PreparedMappingRun) (p at : ℕ) : Type 0 where
   pub inside : in_run hold p ≡ true
   pub guest : (hold.guest ≤ p / cluster_size h) × (p / cluster_size h < hold.guest + hold.count)
@@ -40,15 +40,15 @@ abbrev pub IsInRun : Fields → Option PreparedMappingRun → (p at : ℕ) → T
 IsInRun h None p at = ⊥
 IsInRun h (Some hold) p at = IsOfRun h hold p at
 
--- A place is written where its word says, or where that says none, in the run.
+-- The byte is written where its entry says, otherwise in the run.
 abbrev pub IsWrittenIn : Bytes → Fields → Option PreparedMappingRun → (p at : ℕ) → Type 0
 IsWrittenIn f h hold p at = (writable_location_by h p (mapped f h p) ≡ Some (0, at)) ⊎ ((writable_location_by h p (mapped f h p) ≡ None) × IsInRun h hold p at)
 
--- No place shows what is held.
+-- No guest cluster reads the host clusters of the mapping.
 abbrev pub IsUnshown : Bytes → Fields → Option PreparedMappingRun → Type 0
 IsUnshown f h hold = IfSome hold (λ x. (d : ℕ) → d < x.count → IsHidden f h (x.host + d))
 
--- So it is written in a cluster that none shows.
+-- So a byte is written in a data cluster with the COPIED flag, or in a cluster that no guest cluster reads.
 pub written-at : (f : Bytes) (h : Fields) (hold : Option PreparedMappingRun) (p at : ℕ) → IsUnshown f h hold → IsWrittenIn f h hold p at → IsWrittenAt f h p at
 written-at f h hold p at unshown (inl home) = inl home
 written-at f h None p at unshown (inr run) = absurd run.1
@@ -57,7 +57,7 @@ written-at f h (Some hold) p at unshown (inr run) =
     let there : at / cluster_size h ≡ hold.host + d = cluster-there h at (hold.host + d) p run.1.there in
     inr (run.0, subst (IsHidden f h) (sym there) (unshown d (omega (arith, run.1.guest.0, run.1.guest.1))))
 
--- a home in the run
+-- A location in the run belongs to a byte of the run.
 held-there : (hold : PreparedMappingRun) (p at : ℕ) → held_writable_location hold p ≡ Some (0, at) → (in_run hold p ≡ true) × (at ≡ hold.place + (p - hold.offset))
 held-there hold p at is = elim (cases_Bool (in_run hold p)) [
   | inl so ↦
@@ -67,11 +67,11 @@ held-there hold p at is = elim (cases_Bool (in_run hold p)) [
   | inr off ↦ let none : None ≡ Some (0, at) = rw off at is in absurd (cc none)
 ]
 
--- a place on the disk that can't be written by its word, of an image that can
+-- The byte has no location by its entry, though the image is writable.
 no-word : (m : Bytes) (h : Fields) (p : ℕ) → p < h.size → writable_locations true m h p ≡ None → writable_location_by h p (mapped m h p) ≡ None
 no-word m h p lt none = rw (lt-ltb p h.size lt) at none
 
--- Each place that a layer says can be written is so.
+-- Each location of a layer is of this form.
 module _ {S : Type 0} (g : Ghosts S) (d : Qcow2 S g) (well_formed : IsWellFormed g d) where
   abbrev h : Fields
   h = d.tables.file.header.fields
@@ -128,24 +128,23 @@ module _ {S : Type 0} (g : Ghosts S) (d : Qcow2 S g) (well_formed : IsWellFormed
     from (Some hold) holds = λ i less. own-hidden hold.is_kept (rest_of g d.tables holds.space) (hold.guest + i) (hold.host + i)
         (safe-sound g d holds.space holds.space_known well_formed) (holds.held.own i less)
 
--- Where a mapping holds something, what was noted changes neither where places can be written,
+-- A note of a write doesn't change the locations.
 pub noted-homes : (at n : ℕ) (old new : Option PreparedMappingRun) → Notes at n old new → (home : ℕ → Option (ℕ × ℕ)) → writable_locations_with new home ≡ writable_locations_with old home
 noted-homes at n None new notes home = ap (λ o. writable_locations_with o home) notes
 noted-homes at n (Some hold) new notes home =
     ap (λ o. writable_locations_with o home) notes.1 ∙ (λ i p. writable_location_or (home p) (held_writable_location hold p))
 
--- nor which it is.
+-- A note of a write doesn't change the ID of the mapping.
 pub noted-claim : (at n : ℕ) (old new : Option PreparedMappingRun) → Notes at n old new → mapping_id_held new ≡ mapping_id_held old
 noted-claim at n None new notes = ap mapping_id_held notes
 noted-claim at n (Some hold) new notes = ap mapping_id_held notes.1
 
--- Numbers with the same quotient and rest are the same.
 same-parts : (a b d : ℕ) → a / d ≡ b / d → a % d ≡ b % d → a ≡ b
 same-parts a b d rows columns =
     let product : a / d * d ≡ b / d * d = ap (λ x. x * d) rows in
     omega (arith, product, columns, div-add-mod' a d, div-add-mod' b d)
 
--- A range of places, as `in_run` tests it.
+-- Ranges of bytes, as `in_run` tests them.
 pub in-range : (at n p : ℕ) → (nat_le at p && ltb p (at + n)) ≡ true → (at ≤ p) × (p < at + n)
 in-range at n p is = let both = and_parts (nat_le at p) (ltb p (at + n)) is in (leb-true at p both.0, ltb-true p (at + n) both.1)
 
@@ -172,8 +171,7 @@ off-range at n p off = elim (cases_lt p at) [
   ]
 ]
 
--- A sound image of which a mapping holds something, a range of its disk that can be written from a place of the file on, and a file that
--- was written there.
+-- A consistent image with a prepared mapping, a range of its disk with its location in the file, and a file that was written there.
 module _ (m : Metadata) (sound : IsSound m) (hold : PreparedMappingRun) (held : IsHeld m hold) (guest place n : ℕ)
     (each : (i : ℕ) → i < n → IsWrittenIn m.file m.header.fields (Some hold) (guest + i) (place + i))
     (x : Bytes) (out : Outside m.file x place n) where
@@ -189,14 +187,14 @@ module _ (m : Metadata) (sound : IsSound m) (hold : PreparedMappingRun) (held : 
   each-at : (i : ℕ) → i < n → IsWrittenAt m.file fields (guest + i) (place + i)
   each-at i lt = written-at m.file fields (Some hold) (guest + i) (place + i) unshown (each i lt)
 
-  -- The places of the guest clusters;
+  -- The run is in the guest clusters of the mapping.
   run-cluster : (p : ℕ) → in_run hold p ≡ true → in_clusters fields hold p ≡ true
   run-cluster p is =
       let run = run-from hold p is in
       let on = held.on_disk in
       clusters-of fields hold p (run-guest m hold held p is) (omega (arith, run.1, on))
 
-  -- no word says where one of them is written.
+  -- No entry gives a location for a byte of these guest clusters.
   no-home : (p at : ℕ) → in_clusters fields hold p ≡ true → writable_location_by fields p (mapped m.file fields p) ≡ Some (0, at) → ⊥
   no-home p at is home =
       let found = home-of fields p at (mapped m.file fields p) home in
@@ -206,7 +204,7 @@ module _ (m : Metadata) (sound : IsSound m) (hold : PreparedMappingRun) (held : 
       let raw_entry : entry m.file fields (hold.guest + d) ≡ data_at found.0 true = subst (λ g. entry m.file fields g ≡ data_at found.0 true) same found.1 in
       subst IsUncopied raw_entry (held.uncopied d (omega (arith, guest.0, guest.1)))
 
-  -- So its bytes stay but for those that are written in the run,
+  -- So only writes in the run change the bytes of the mapping.
   byte-kept : (p : ℕ) → in_clusters fields hold p ≡ true → IsOut guest n p → x (held_place fields hold p) ≡ m.file (held_place fields hold p)
   byte-kept p is beside = byte-stays m.file m.header was guest place n each-at x out (held_place fields hold p) (λ i lt at. elim (each i lt) [
     | inl home ↦
@@ -229,11 +227,11 @@ module _ (m : Metadata) (sound : IsSound m) (hold : PreparedMappingRun) (held : 
         elim beside [ inl low ↦ omega (arith, low, one) | inr high ↦ omega (arith, high, one, lt) ]
   ])
 
-  -- and what of the range lies in it lies in the run.
+  -- A byte of the range that is in these guest clusters is in the run.
   cluster-run : (i : ℕ) → i < n → in_clusters fields hold (guest + i) ≡ true → in_run hold (guest + i) ≡ true
   cluster-run i lt is = elim (each i lt) [ inl home ↦ absurd (no-home (guest + i) (place + i) is home) | inr run ↦ run.1.inside ]
 
-  -- What was written to it is noted.
+  -- The write is noted in the mapping.
   module _ (written : ℕ → Bool) (notes : (p : ℕ) → written p ≡ ((nat_le guest p && ltb p (guest + n)) || hold.written p)) where
     abbrev now : PreparedMappingRun
     now = record hold { written = written }
@@ -244,7 +242,7 @@ module _ (m : Metadata) (sound : IsSound m) (hold : PreparedMappingRun) (held : 
     written-on : (i : ℕ) → i < n → written (guest + i) ≡ true
     written-on i lt = notes (guest + i) ∙ ap (λ b. b || hold.written (guest + i)) (range-in guest n i lt)
 
-    -- A place beside the range is held as it was,
+    -- The state of a byte outside the range is the same.
     pub held-beside : (p : ℕ) → IsOut guest n p → held_of fields x now p ≡ held_of fields m.file hold p
     held-beside p beside = elim (cases_Bool (in_clusters fields hold p)) [
       | inr off ↦ rw off refl
@@ -256,7 +254,7 @@ module _ (m : Metadata) (sound : IsSound m) (hold : PreparedMappingRun) (held : 
       ]
     ]
 
-    -- and one of it takes its byte, or notes it.
+    -- A byte of the range takes the written byte, or the mapping notes it.
     pub held-range : (i b : ℕ) (old new : Cell) → i < n → x (place + i) ≡ b
         → (writable_location_by fields (guest + i) (mapped m.file fields (guest + i)) ≡ Some (0, place + i) → new ≡ own (byte b))
         → (writable_location_by fields (guest + i) (mapped m.file fields (guest + i)) ≡ None → new ≡ old)
@@ -274,7 +272,7 @@ module _ (m : Metadata) (sound : IsSound m) (hold : PreparedMappingRun) (held : 
           rw (so, run.1.inside) (by-run run.0, ap (λ o. inside (copied_to fields hold (guest + i)) o hold.overwrite) noted)
     ]
 
-    -- So all that it holds is held still.
+    -- So the mapping is still held.
     pub held-still : 0 < n → IsHeld (record m { file = x }) now
     held-still some =
         let run = written-beside m.file m.header was guest place n each-at x out some in
@@ -284,11 +282,11 @@ module _ (m : Metadata) (sound : IsSound m) (hold : PreparedMappingRun) (held : 
         record {
           any = held.any;
           row = held.row;
-          layers_below = λ d less. record {
-            inside = (held.layers_below d less).inside;
+          in_table = λ d less. record {
+            inside = (held.in_table d less).inside;
             table_linked = (untouched-keeps m.file x m.header was (rewritten-kept m.file m.header was guest place n each-at x out)).places.l1 _
-                ∙ (held.layers_below d less).table_linked;
-            table_nonzero = (held.layers_below d less).table_nonzero;
+                ∙ (held.in_table d less).table_linked;
+            table_nonzero = (held.in_table d less).table_nonzero;
           };
           own = λ d less. own-still raw_entries hold.is_kept (hold.guest + d) (hold.host + d) (held.own d less);
           uncopied = λ d less. subst IsUncopied (sym (rewritten-entries m.file m.header was guest place n each-at x out (hold.guest + d)))
@@ -306,7 +304,7 @@ module _ (m : Metadata) (sound : IsSound m) (hold : PreparedMappingRun) (held : 
           beside = λ p is off. notes p ∙ beside-off p is off;
         }
       where
-        own-still : KeepsRawEntries m x → (is_kept : Bool) (g h : ℕ) → IsOwnAs is_kept m g h → IsOwnAs is_kept (record m { file = x }) g h
+        own-still : KeepsEntries m x → (is_kept : Bool) (g h : ℕ) → IsOwnAs is_kept m g h → IsOwnAs is_kept (record m { file = x }) g h
         own-still raw_entries true g h mine = record { file = raw_entries.file_entries g ∙ mine.file; memory = raw_entries.memory_entries g ∙ mine.memory }
         own-still raw_entries false g h mine = beside-reserved m x raw_entries h mine
 

@@ -1,4 +1,4 @@
--- What a write into data clusters, in place, leaves of a consistent image.
+-- Lemmas on a write in place to data clusters, and what it leaves of a consistent image.
 use Rattle.std.proofs.Common.{refl, arith, ap, sym, subst, ◌∙◌, inl, inr}
 use Rattle.std.specs.Prelude.{◌≡◌, ◌≢◌, ℕ, zero, suc, ◌+◌, ◌-◌, ◌*◌, ◌/◌, ◌<◌, ◌≤◌, Bool, Some, None, ◌⊎◌}
 use Rattle.std.proofs.lemmas.Bool.{cases_eq, cases_lt}
@@ -26,7 +26,7 @@ use Rattle.qcow2_image.specs.Holding.{place_in}
 use Rattle.qcow2_image.specs.ImageLayer.{cell_by, writable_location_by}
 use Rattle.qcow2_image.specs.Homes.{mapped, home-of, cluster-there, data-apart-from-structure, one-place}
 
--- A place of the disk is written at a place of the file: where its word says, or where its word says none, in a cluster that none shows.
+-- A byte of the disk is written where its entry says, otherwise in a cluster that no guest cluster reads.
 abbrev pub IsWrittenAt : Bytes → Fields → (p at : ℕ) → Type 0
 IsWrittenAt f h p at =
     (writable_location_by h p (mapped f h p) ≡ Some (0, at)) ⊎ ((writable_location_by h p (mapped f h p) ≡ None) × IsHidden f h (at / cluster_size h))
@@ -38,10 +38,10 @@ module _ (f : Bytes) (H : Header) (was : IsConsistent f H) where
   abbrev per_table : ℕ
   per_table = entries_of_cluster h
 
-  -- A write of n bytes at a place of the file, where each of n places of the disk is written.
+  -- A write of `n` bytes at `place`, each at the location of its byte of the disk.
   module _ (guest place n : ℕ) (each : (i : ℕ) → i < n → IsWrittenAt f h (guest + i) (place + i))
       (x : Bytes) (out : Outside f x place n) where
-    -- The cluster that a byte of it lies in holds no table, block or header.
+    -- No table, block or header is in the cluster of a written byte.
     apart-at : (i : ℕ) → i < n → structure f h (meets h ((place + i) / cluster_size h)) ≡ 0
     apart-at i lt = elim (each i lt) [
       | inl home ↦
@@ -51,7 +51,7 @@ module _ (f : Bytes) (H : Header) (was : IsConsistent f H) where
       | inr held ↦ held.1.apart
     ]
 
-    -- Nor does a cluster from its first to its last: a byte of it lies in each.
+    -- None is in a cluster between the first and the last one, as each of them has a written byte.
     apart-in : 0 < n → (d : ℕ) → place / cluster_size h ≤ d → d ≤ (place + (n - 1)) / cluster_size h
         → structure f h (meets h d) ≡ 0
     apart-in some d from upto = elim (cases_eq (place / cluster_size h) d) [
@@ -80,7 +80,7 @@ module _ (f : Bytes) (H : Header) (was : IsConsistent f H) where
     abbrev more : ℕ
     more = (place + (n - 1)) / cluster_size h - place / cluster_size h
 
-    -- Where it has a byte, its clusters are a run, and none of them holds any.
+    -- So the clusters of the range have no structure, and contain the range.
     pub written-beside : 0 < n → ((d : ℕ) → first ≤ d → d ≤ first + more → structure f h (meets h d) ≡ 0)
         × (first * cluster_size h ≤ place) × (place + n ≤ (first + more + 1) * cluster_size h)
     written-beside some =
@@ -98,7 +98,7 @@ module _ (f : Bytes) (H : Header) (was : IsConsistent f H) where
         let run = written-beside some in
         (run-written f H was first more run.0 x place n out run.1 run.2).same_structure_outside
 
-    -- Where it has none, each byte stays.
+    -- If the range is empty, no byte changes.
     all-stay : n ≡ 0 → (p : ℕ) → x p ≡ f p
     all-stay none p = out p (elim (cases_lt p place) [ inl lt ↦ inl lt | inr le ↦ inr (omega (arith, le, none)) ])
 
@@ -114,22 +114,21 @@ module _ (f : Bytes) (H : Header) (was : IsConsistent f H) where
       raw_entries = λ i j live _. word-stays none (l2_table f h i) j;
     }
 
-    -- No part of the structure is touched,
+    -- The write changes no structure of the image.
     pub rewritten-kept : SameStructureOutside f x h nothing
     rewritten-kept = elim (cases_eq n 0) [ inl none ↦ written-none none | inr some ↦ written-run (omega (arith, some)) ]
 
-    -- the image stays consistent,
+    -- The image stays consistent.
     pub rewritten-consistent : IsConsistent x H
     rewritten-consistent = untouched-consistent f x H was rewritten-kept
 
-    -- and each guest cluster has the mapping that it had.
+    -- Each guest cluster has the same mapping.
     pub rewritten-entries : (g : ℕ) → entry x h g ≡ entry f h g
     rewritten-entries g =
         let raw_entries : 0 < per_table = some-words h (consistent-shaped f H was) in
         let kept = guest-kept f x h (untouched-keeps f x H was rewritten-kept) raw_entries g in
         entries-same f x h was.readable.tables rewritten-consistent.readable.tables raw_entries g kept
 
-    -- A byte that isn't written stays.
     pub byte-stays : (at : ℕ) → ((i : ℕ) → i < n → at ≡ place + i → ⊥) → x at ≡ f at
     byte-stays at none = elim (cases_lt at place) [
       | inl before ↦ out at (inl before)
@@ -139,7 +138,7 @@ module _ (f : Bytes) (H : Header) (was : IsConsistent f H) where
       ]
     ]
 
-    -- So does data of a place that isn't in the range, or that no word says to be written.
+    -- Data of a byte outside the range, or without a location by its entry, stays the same.
     byte-beside : (p d : ℕ) (mark : Bool) → IsOut guest n p ⊎ (writable_location_by h p (mapped f h p) ≡ None) → mapped f h p ≡ data_at d mark
         → x (place_in h d p) ≡ f (place_in h d p)
     byte-beside p d mark beside is = byte-stays (place_in h d p) (λ i lt at. elim (each i lt) [
@@ -157,7 +156,7 @@ module _ (f : Bytes) (H : Header) (was : IsConsistent f H) where
           held.1.dataless (p / cluster_size h) mark (is ∙ ap (λ c. data_at c mark) (sym cluster))
     ])
 
-    -- So such a place says what it did,
+    -- Such a byte has the same cell.
     pub rewritten-others : (blank : Cell) (p : ℕ) → IsOut guest n p ⊎ (writable_location_by h p (mapped f h p) ≡ None)
         → cell_by blank x h p (mapped x h p) ≡ cell_by blank f h p (mapped f h p)
     rewritten-others blank p beside =
@@ -172,7 +171,7 @@ module _ (f : Bytes) (H : Header) (was : IsConsistent f H) where
         by unmapped same = refl
         by damaged same = refl
 
-    -- and one that a word says to be written says its byte.
+    -- A byte of the range with a location by its entry has the written byte.
     pub rewritten-range : (blank : Cell) (i : ℕ) → writable_location_by h (guest + i) (mapped f h (guest + i)) ≡ Some (0, place + i)
         → cell_by blank x h (guest + i) (mapped x h (guest + i)) ≡ own (byte (x (place + i)))
     rewritten-range blank i home =
@@ -180,7 +179,6 @@ module _ (f : Bytes) (H : Header) (was : IsConsistent f H) where
         ap (cell_by blank x h (guest + i)) (rewritten-entries ((guest + i) / cluster_size h) ∙ found.1)
         ∙ ap (λ p. own (byte (x p))) (sym found.2)
 
--- A test of each word below n gives the same where it does of each.
 below-same : (n : ℕ) (p q : ℕ → Bool) → ((k : ℕ) → k < n → p k ≡ q k) → all_below n p ≡ all_below n q
 unfolding all_below
 below-same zero p q same = refl
@@ -189,7 +187,7 @@ below-same (suc n) p q same =
     let below : all_below n p ≡ all_below n q = below-same n p q (λ k lt. same k (omega arith)) in
     rw (here, below) refl
 
--- Where the structure is kept, so are the tables, word for word.
+-- With the same structure, the tables have the same entries.
 module _ (f x : Bytes) (h : Fields) (kept : SameStructureOutside f x h nothing) where
   pub kept-l1-words : raw_entries_in x h.l1_offset h.l1_entries ≡ raw_entries_in f h.l1_offset h.l1_entries
   kept-l1-words = words_same x f h.l1_offset h.l1_offset h.l1_entries (λ i lt. kept.l1 i lt (λ e. cc))

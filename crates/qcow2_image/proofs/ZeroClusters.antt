@@ -1,4 +1,4 @@
--- What guest clusters keep for their zeroes.
+-- Lemmas on preallocated zero clusters.
 use Rattle.std.proofs.Common.{◌≡◌, ◌≢◌, ℕ, ◌*◌, ap, arith, sym, subst, ◌∙◌, true, false, Option, Some, None}
 use Rattle.std.specs.Prelude.{⊤}
 use Rattle.imago_storage.specs.declared.storage.Storage.{Ghosts}
@@ -7,7 +7,7 @@ use Rattle.qcow2_types.specs.Entries.{entry}
 use Rattle.qcow2_types.specs.Header.{Fields, cluster_size}
 use Rattle.qcow2_types.specs.References.{meets, structure}
 use Rattle.qcow2_types.specs.Words.{Mapping, damaged, data_at, packed, zeroes}
-use Rattle.qcow2_types.specs.Words as raw_entries
+use Rattle.qcow2_types.specs.Words as mappings
 use Rattle.qcow2_types.proofs.Counting.Consistent.{meets-own}
 use Rattle.qcow2_steps.specs.Data.{IsKeptFor}
 use Rattle.qcow2_clusters.specs.declared.space.Space.{Space}
@@ -19,17 +19,17 @@ use Rattle.qcow2_image.specs.declared.qcow2.Qcow2.{Qcow2}
 use Rattle.qcow2_image.specs.declared.tables.Tables.{Tables}
 use Rattle.qcow2_image.proofs.DiskEffects.{rest-memory}
 
--- What is kept is named by a word for zeroes, with its mark.
+-- Its entry is one of zeroes, with the COPIED flag.
 pub kept-is : (w : Mapping) (x : ℕ) → Some x ≡ kept_by w → w ≡ zeroes (Some x) true
 kept-is (zeroes (Some cluster) true) x is = let same : cluster ≡ x = cc in ap (λ c. zeroes (Some c) true) same
 kept-is (zeroes (Some cluster) false) x is = absurd (cc)
 kept-is (zeroes None copied) x is = absurd (cc)
 kept-is (data_at cluster copied) x is = absurd (cc)
 kept-is (packed offset length) x is = absurd (cc)
-kept-is raw_entries.unmapped x is = absurd (cc)
+kept-is mappings.unmapped x is = absurd (cc)
 kept-is damaged x is = absurd (cc)
 
--- No table, block or header is in the first cluster of a file but the header.
+-- A cluster without structure isn't the first of the file, as the header is there.
 pub apart-some : (f : Bytes) (h : Fields) (c : ℕ) → structure f h (meets h c) ≡ 0 → c ≢ 0
 unfolding structure
 apart-some f h c none is =
@@ -39,7 +39,7 @@ apart-some f h c none is =
     omega (arith, first, none')
 
 module _ {S : Type 0} (g : Ghosts S) where
-  -- At rest what its word says is what is in memory, too.
+  -- In a flushed image the entry in memory is the same.
   pub kept-at-rest : (t : Tables S g) (space : Space) (guest x : ℕ) → entry (file_of g t) t.file.header.fields guest ≡ zeroes (Some x) true
       → IsKeptFor (rest_of g t space) guest x
   kept-at-rest t space guest x is = record { file = is; memory = ap (λ (b : Bytes). entry b t.file.header.fields guest) (rest-memory g t space) ∙ is }
@@ -47,6 +47,6 @@ module _ {S : Type 0} (g : Ghosts S) where
   pub kept-in : (guest x : ℕ) (d : Qcow2 S g) (space : Space) → HasKept g guest (Some x) d → IsKeptFor (rest_of g d.tables space) guest x
   kept-in guest x d space kept = kept-at-rest d.tables space guest x (kept-is _ x kept.is)
 
-  -- Behind a call that kept the disk it is kept still.
+  -- The cluster is still preallocated after a call that kept the disk.
   pub kept-behind : (guest : ℕ) (kept : Option ℕ) (old mid : Qcow2 S g) → KeepsDisk g ⊤ old mid → HasKept g guest kept old → HasKept g guest kept mid
   kept-behind guest kept old mid k has = record { well_formed = k.safely has.well_formed tt; is = has.is ∙ ap kept_by (sym (k.raw_entries has.well_formed tt guest)) }

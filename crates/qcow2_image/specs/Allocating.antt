@@ -1,4 +1,5 @@
--- How clusters are allocated for guest clusters that have none of their own.
+-- Specifies the calls of `allocating.rt`: how images before and after an allocation for guest clusters are related. These guest clusters
+-- can't be written in place.
 use Rattle.std.specs.Prelude.{◌≡◌, ◌≢◌, ⊤, ℕ, ◌+◌, ◌-◌, ◌*◌, ◌/◌, ◌<◌, ◌≤◌, ◌==◌, Bool, true, false, not, List, max, slice_index, length, Option, Some, None, IsSome, IfSome, is_some, Result, Ok, Err, IfOk, IfErr, OnOk, OnErr}
 use Rattle.imago_storage.specs.Calls.{Cause}
 use Rattle.imago_storage.specs.declared.fault.Fault.{Fault}
@@ -11,7 +12,7 @@ use Rattle.qcow2_types.specs.Bytes.{Bytes, raw_entry}
 use Rattle.qcow2_types.specs.Entries.{entry, l2_table}
 use Rattle.qcow2_types.specs.Header.{Fields, cluster_size, entries_of_cluster}
 use Rattle.qcow2_types.specs.Words.{Mapping, damaged, data_at, is_copied, packed, zeroes}
-use Rattle.qcow2_types.specs.Words as raw_entries
+use Rattle.qcow2_types.specs.Words as mappings
 use Rattle.qcow2_metadata.specs.Places.{IsAddressable}
 use Rattle.qcow2_metadata.specs.Tables.{padded}
 use Rattle.qcow2_alloc.specs.Causes.{HasCause, Causes}
@@ -33,45 +34,47 @@ use Rattle.qcow2_image.specs.declared.qcow2.Qcow2.{Qcow2}
 use Rattle.qcow2_image.specs.declared.tables.Tables.{Tables}
 use Rattle.qcow2_clusters.specs.declared.space.Space.{Space}
 
--- Whether an image has failed behind a change: once that has begun, want of memory marks it too, as it may have left a part.
+-- True if an image has failed after a change. If memory runs out after the change has begun, the image fails too, as a part may have been
+-- done.
 abbrev pub failed_by_resource_error : {T : Type 0} → Result T Fault → (begun : Bool) → Bool → Bool
 failed_by_resource_error (Err Memory) true failed = true
 failed_by_resource_error (Err Storage) begun failed = true
 failed_by_resource_error result begun failed = failed
 
--- As long as neither a call nor what came before it has begun to change anything, as a flag tells that is set then, the image is kept, and
--- only a storage's fault marks it. Once one has, want of memory does, too.
+-- The flag `now` is set once this call, or one before it, has begun to change anything. While it isn't set, the call writes nothing, and
+-- only a storage fault sets the image to failed. Afterwards running out of memory sets it to failed too.
 pub record Begins {S T : Type 0} (g : Ghosts S) (was : Bool) (old : Qcow2 S g) (result : Result T Fault) (now : Bool) (new : Qcow2 S g)
     : Type 0 where
   pub left_untouched : now ≡ false → (was ≡ false) × KeepsImage g old result new
   pub marked : now ≡ true → new.failed ≡ failed_by_resource_error result true old.failed
 
--- what shows through a guest cluster that nothing maps, of an image over some layers or none
+-- The source of the data of an unallocated guest cluster: the layers below (the backing chain) if the image has any, otherwise zeroes.
 abbrev pub shown_blank : Bool → Shown
 shown_blank true = shown.Below
 shown_blank false = shown.Zeroes
 
--- What a guest cluster shows that is mapped so: a cluster that is kept for zeroes shows nothing, and a damaged word tells nothing.
+-- The source of the data of a guest cluster with this mapping. A preallocated zero cluster reads as zeroes. An invalid entry has no source.
 abbrev pub shown_of : Bool → Mapping → Option Shown
-shown_of backing raw_entries.unmapped = Some (shown_blank backing)
+shown_of backing mappings.unmapped = Some (shown_blank backing)
 shown_of backing (zeroes cluster copied) = Some shown.Zeroes
 shown_of backing (packed offset length) = Some shown.Barred
 shown_of backing (data_at cluster copied) = Some (shown.Data cluster)
 shown_of backing damaged = None
 
--- and what a place of it says, over these bytes of the file
+-- The cell of a byte (its value, or a gap that the layers below fill), given where its guest cluster is read from and the bytes of the
+-- file.
 abbrev pub shown_cell : Bytes → Fields → ℕ → Shown → Cell
 shown_cell file h p shown.Zeroes = own (byte 0)
 shown_cell file h p shown.Below = unmapped
 shown_cell file h p shown.Barred = own barred
 shown_cell file h p (shown.Data cluster) = own (byte (file (place_in h cluster p)))
 
--- words can name the cluster whose data it shows
+-- If the guest cluster is read from a host cluster, the offset of that host cluster fits an entry.
 abbrev pub IsShownAddressable : ℕ → Shown → Type 0
 IsShownAddressable cluster_bits (shown.Data cluster) = IsAddressable cluster_bits cluster
 IsShownAddressable cluster_bits shown = ⊤
 
--- What it shows is told by a lookup alone.
+-- A lookup returns where the guest cluster is read from. Nothing else happens.
 pub record TellsShown {S : Type 0} (g : Ghosts S) (guest : ℕ) (old : Qcow2 S g) (result : Result Shown Fault)
     (new : Qcow2 S g) : Type 0 where
   pub keeps : KeepsImage g old result new
@@ -83,16 +86,16 @@ pub record TellsShown {S : Type 0} (g : Ghosts S) (guest : ℕ) (old : Qcow2 S g
       (entry (file_of g old.tables) old.tables.file.header.fields guest ≡ damaged)
       (g.state old.tables.file.image).faults (g.state new.tables.file.image).faults))
 
--- the cluster that a guest cluster keeps for its zeroes that is mapped so, as copied
+-- The preallocated zero cluster of a mapping, if its entry has the COPIED flag.
 abbrev pub kept_by : Mapping → Option ℕ
 kept_by (zeroes (Some cluster) true) = Some cluster
 kept_by mapping = None
 
--- the one that a guest cluster of an image keeps
+-- The preallocated zero cluster of a guest cluster of an image.
 abbrev pub kept_for : {S : Type 0} (g : Ghosts S) → (guest : ℕ) → Tables S g → Option ℕ
 kept_for g guest t = kept_by (entry (file_of g t) t.file.header.fields guest)
 
--- It is told by a lookup alone.
+-- A lookup returns the preallocated zero cluster of a guest cluster. Nothing else happens.
 pub record TellsKept {S : Type 0} (g : Ghosts S) (guest : ℕ) (old : Qcow2 S g) (result : Result (Option ℕ) Fault)
     (new : Qcow2 S g) : Type 0 where
   pub keeps : KeepsImage g old result new
@@ -103,25 +106,25 @@ pub record TellsKept {S : Type 0} (g : Ghosts S) (guest : ℕ) (old : Qcow2 S g)
       (entry (file_of g old.tables) old.tables.file.header.fields guest ≡ damaged)
       (g.state old.tables.file.image).faults (g.state new.tables.file.image).faults))
 
--- A safe image of which a guest cluster keeps this cluster for its zeroes, as copied, or none.
+-- The image is well-formed, and `kept` is the preallocated zero cluster of the guest cluster, or `None` if it has none.
 pub record HasKept {S : Type 0} (g : Ghosts S) (guest : ℕ) (kept : Option ℕ) (d : Qcow2 S g) : Type 0 where
   pub well_formed : IsWellFormed g d
   pub is : kept ≡ kept_for g guest d.tables
 
--- Clusters aren't reserved in a safe image, but for want of memory or by a storage, only since there is no place left, of which `full` says
--- what number tells it.
+-- The causes for which clusters aren't reserved. In a well-formed image these are resource errors, and `Fault::Limit` with a number for
+-- which `full` holds.
 abbrev pub reserving_causes : {S : Type 0} (g : Ghosts S) → (full : ℕ → Type 0) → Qcow2 S g → Qcow2 S g → Causes
 reserving_causes g full old new = storing_causes (IsWellFormed g old) full (g.state old.tables.file.image).faults
     (g.state new.tables.file.image).faults
 
--- Nor are they allocated, where the free space is known.
+-- Like `reserving_causes`, but it needs a well-formed image with loaded free space.
 abbrev pub allocation_causes : {S : Type 0} (g : Ghosts S) → (full : ℕ → Type 0) → Qcow2 S g → Qcow2 S g → Causes
 allocation_causes g full old new = record (reserving_causes g full old new) {
   damaged = IsWellFormed g old × IsSome old.tables.space → ⊥;
   counter = IsWellFormed g old × IsSome old.tables.space → ⊥;
 }
 
--- The free space is known then; a refusal leaves all as it was, but that a storage's fault marks the image. Where it was known before,
+-- The free space is loaded. On error nothing changes, except that a storage fault sets the image to failed. If it was loaded before,
 -- nothing changes.
 pub record LoadsSpace {S : Type 0} (g : Ghosts S) (old : Qcow2 S g) (result : Result Unit Fault) (new : Qcow2 S g) : Type 0 where
   pub keeps : KeepsDisk g (HadNoResourceError result) old new
@@ -135,12 +138,12 @@ pub record LoadsSpace {S : Type 0} (g : Ghosts S) (old : Qcow2 S g) (result : Re
   pub known_cause : IsWellFormed g old → IfErr result (Cause (g.state old.tables.file.image).faults (g.state new.tables.file.image).faults)
   pub faults : OnOk result (new.failed ≡ old.failed)
 
--- The L1 word over a guest cluster has the copied mark: nothing else names its L2 table.
+-- The L1 entry of the guest cluster has the COPIED flag: nothing else references its L2 table.
 abbrev pub HasOwnTable : {S : Type 0} (g : Ghosts S) → ℕ → Tables S g → Type 0
 HasOwnTable g guest t = let h = t.file.header.fields in
     is_copied (raw_entry (file_of g t) h.l1_offset (guest / entries_of_cluster h)) ≡ true
 
--- The L1 table has a word at this index then: where it had none, it has become longer up to that by words that name nothing.
+-- The L1 table has an entry at this index. If it had none, it has become longer by entries that reference nothing.
 pub record EnsuresEntry {S : Type 0} (g : Ghosts S) (i : ℕ) (old : Qcow2 S g) (result : Result Unit Fault) (new : Qcow2 S g) : Type 0 where
   pub keeps : KeepsDisk g (HadNoResourceError result) old new
   pub leaks : IsWellFormed g old → HadNoResourceError result → KeepsLeaks g old new
@@ -151,8 +154,8 @@ pub record EnsuresEntry {S : Type 0} (g : Ghosts S) (i : ℕ) (old : Qcow2 S g) 
   pub cause : IfErr result (HasCause (allocation_causes g
       (HasNoPlace g (IsForRawEntry g i old.tables) i (enough_for_entry old.tables i) old.tables new.tables) old new))
 
--- An L2 table of its own is over a guest cluster then, and the L1 table is no longer than its word needs. So many free clusters in a row
--- are enough for that.
+-- The guest cluster has an L2 table of its own, and the L1 table is no longer than its entry needs. `enough` consecutive free clusters
+-- suffice for that.
 pub record EnsuresTable {S : Type 0} (g : Ghosts S) (enough guest : ℕ) (old : Qcow2 S g) (result : Result ℕ Fault) (new : Qcow2 S g)
     : Type 0 where
   pub keeps : KeepsDisk g (HadNoResourceError result) old new
@@ -168,15 +171,15 @@ pub record EnsuresTable {S : Type 0} (g : Ghosts S) (enough guest : ℕ) (old : 
   pub cause : let i = guest / entries_of_cluster old.tables.file.header.fields in
       IfErr result (HasCause (allocation_causes g (HasNoPlace g (IsForTable g guest old.tables) i enough old.tables new.tables) old new))
 
--- The L1 table stays, and the L2 tables where they are.
+-- The L1 table is unchanged, and the L2 tables keep their offsets.
 pub record KeepsTop {S : Type 0} (g : Ghosts S) (sure : Type 0) (old new : Qcow2 S g) : Type 0 where
   pub l1 : new.tables.l1 ≡ old.tables.l1
   pub entries : new.tables.file.header.fields.l1_entries ≡ old.tables.file.header.fields.l1_entries
   pub tables : sure → (i : ℕ)
       → l2_table (file_of g new.tables) new.tables.file.header.fields i ≡ l2_table (file_of g old.tables) old.tables.file.header.fields i
 
--- Bytes are stored in the first of n clusters in a row that were free: they are reserved then, and can be named, and the file reaches the
--- end of the last one.
+-- Bytes are stored in the first of `n` newly allocated, consecutive and addressable clusters. The file reaches at least the end of the last
+-- one.
 pub record StoresContent {S : Type 0} (g : Ghosts S) (n : ℕ) (bytes : List ℕ) (old : Qcow2 S g) (result : Result ℕ Fault) (new : Qcow2 S g)
     : Type 0 where
   pub keeps : KeepsDisk g (HadNoResourceError result) old new
@@ -190,17 +193,17 @@ pub record StoresContent {S : Type 0} (g : Ghosts S) (n : ℕ) (bytes : List ℕ
       → file_of g new.tables (x * cluster_size old.tables.file.header.fields + i) ≡ slice_index bytes i)
   pub cause : IfErr result (HasCause (allocation_causes g (LacksFreeRun g n (enough_for_run old.tables n) old.tables new.tables) old new))
 
--- whether there was no place for what was to be stored
+-- No free run was found for what should be stored.
 abbrev pub full_by : Result ℕ Fault → Bool
 full_by (Err (Limit number)) = true
 full_by result = false
 
--- what was stored in the first of n clusters that were free
+-- The result of storing in `n` newly allocated clusters.
 abbrev pub placed_by : (n : ℕ) → Result ℕ Fault → Result Placed Fault
 placed_by n (Ok host) = Ok (record { host = host; count = n; is_kept = false })
 placed_by n (Err fault) = Err fault
 
--- They are stored in the first of n clusters in a row, or in one alone where so many can't be had.
+-- Like `StoresContent`, but a single cluster is allocated if no run of `n` is free.
 pub record StoresMost {S : Type 0} (g : Ghosts S) (n : ℕ) (bytes : List ℕ) (old : Qcow2 S g) (result : Result Placed Fault)
     (new : Qcow2 S g) : Type 0 where
   pub keeps : KeepsDisk g (HadNoResourceError result) old new
@@ -216,12 +219,13 @@ pub record StoresMost {S : Type 0} (g : Ghosts S) (n : ℕ) (bytes : List ℕ) (
       → file_of g new.tables (r.host * cluster_size old.tables.file.header.fields + i) ≡ slice_index bytes i)
   pub cause : IfErr result (HasCause (allocation_causes g (LacksFreeRun g 1 (enough_for_run old.tables n) old.tables new.tables) old new))
 
--- A cluster that is kept is filled there, but for want of memory or by a storage: no place is looked for.
+-- The causes for which a preallocated zero cluster isn't filled. If a well-formed image has loaded its free space, these are resource
+-- errors.
 abbrev pub filling_causes : {S : Type 0} (g : Ghosts S) → Qcow2 S g → Qcow2 S g → Causes
 filling_causes g old new = writing_causes (IsWellFormed g old × IsSome old.tables.space)
     (g.state old.tables.file.image).faults (g.state new.tables.file.image).faults
 
--- Bytes are written to the cluster that a guest cluster keeps for its zeroes: it keeps that still, and what is free stays so.
+-- Bytes are written to the preallocated zero cluster of a guest cluster, which stays preallocated. The free space is unchanged.
 pub record FillsContent {S : Type 0} (g : Ghosts S) (guest host : ℕ) (bytes : List ℕ) (old : Qcow2 S g) (result : Result Unit Fault)
     (new : Qcow2 S g) : Type 0 where
   pub keeps : KeepsDiskWhere g (HasKept g guest (Some host) old) (HadNoResourceError result) old new
@@ -234,8 +238,8 @@ pub record FillsContent {S : Type 0} (g : Ghosts S) (guest host : ℕ) (bytes : 
       → file_of g new.tables (host * cluster_size old.tables.file.header.fields + i) ≡ slice_index bytes i)
   pub cause : IfErr result (HasCause (filling_causes g old new))
 
--- The content of a guest cluster is put in the cluster that it keeps for its zeroes, or else in the first of clusters in a row that were
--- free, n of them at most, which are reserved then. For one that is kept no place is looked for.
+-- The data of a guest cluster is put in its preallocated zero cluster, if it has one. Otherwise it is put in the first of at most `n` newly
+-- allocated, consecutive clusters.
 pub record PlacesContent {S : Type 0} (g : Ghosts S) (guest : ℕ) (kept : Option ℕ) (n : ℕ) (bytes : List ℕ) (old : Qcow2 S g)
     (result : Result Placed Fault) (new : Qcow2 S g) : Type 0 where
   pub keeps : KeepsDiskWhere g (HasKept g guest kept old) (HadNoResourceError result) old new
@@ -253,16 +257,16 @@ pub record PlacesContent {S : Type 0} (g : Ghosts S) (guest : ℕ) (kept : Optio
   pub cause : IfErr result (HasCause (allocation_causes g
       (λ number. (kept ≡ None) × LacksFreeRun g 1 (enough_for_run old.tables n) old.tables new.tables number) old new))
 
--- What waits in a safe image is freed, but for want of memory or by a storage.
+-- The causes for which the free list isn't emptied. In a well-formed image these are resource errors.
 abbrev pub pending_causes : {S : Type 0} (g : Ghosts S) → Qcow2 S g → Qcow2 S g → Causes
 pending_causes g old new = releasing_causes (IsWellFormed g old) (g.state old.tables.file.image).faults (g.state new.tables.file.image).faults
 
--- something waits to be freed
+-- The free list isn't empty.
 abbrev pub waits_in : Option Space → Bool
 waits_in None = false
 waits_in (Some space) = not (length space.to_free.entries == 0)
 
--- What waits to be freed is freed: nothing waits then. Where nothing does, nothing is done. Whatever is answered, the file gets no shorter.
+-- The free list is emptied. If it is empty already, nothing is done. In every case the file gets no shorter.
 pub record FreesPending {S : Type 0} (g : Ghosts S) (old : Qcow2 S g) (result : Result Unit Fault) (new : Qcow2 S g) : Type 0 where
   pub keeps : KeepsDisk g (HadNoResourceError result) old new
   pub leaks : IsWellFormed g old → HadNoResourceError result → KeepsLeaks g old new
@@ -272,7 +276,7 @@ pub record FreesPending {S : Type 0} (g : Ghosts S) (old : Qcow2 S g) (result : 
   pub emptied : OnOk result (waits_in new.tables.space ≡ false)
   pub cause : IfErr result (HasCause (pending_causes g old new))
 
--- What waits is freed, and the file is flushed. So it gets no shorter.
+-- The free list is emptied, and then the file is flushed. The file gets no shorter.
 pub record FlushesFreed {S : Type 0} (g : Ghosts S) (old : Qcow2 S g) (result : Result Unit Fault) (new : Qcow2 S g) : Type 0 where
   pub keeps : KeepsDisk g (HadNoResourceError result) old new
   pub leaks : IsWellFormed g old → HadNoResourceError result → KeepsLeaks g old new

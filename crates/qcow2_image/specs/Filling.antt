@@ -1,4 +1,4 @@
--- How the content of a host cluster is made for a guest cluster that has none of its own.
+-- Copy on write: the bytes of a host cluster for a guest cluster that can't be written in place.
 use Rattle.std.specs.Prelude.{◌≡◌, ◌⊎◌, ⊤, ℕ, ◌+◌, ◌-◌, ◌*◌, ◌/◌, ◌%◌, ◌^◌, ◌<◌, ◌≤◌, List, length, min, slice_index, Result, IfOk, IfErr, OnOk, IsTrue, Vec}
 use Rattle.std.specs.declared.alloc.Global.{Global}
 use Rattle.imago_storage.specs.Calls.{Cause}
@@ -24,19 +24,19 @@ use Rattle.qcow2_image.specs.Steps.{KeepsImage}
 use Rattle.qcow2_image.specs.declared.allocating.Shown.{Shown}
 use Rattle.qcow2_image.specs.declared.qcow2.Qcow2.{Qcow2}
 
--- a place that isn't going to be written for sure
+-- The byte at this offset may stay unwritten: it isn't certain that the range overwrites it.
 abbrev pub IsLeft : Asked → ℕ → Type 0
 IsLeft asked p = IsTrue asked.overwrite → IsOut asked.offset asked.length p
 
--- a place of the disk in the guest cluster in which a range begins
+-- The offset is on the disk, in the guest cluster in which the range starts.
 abbrev pub IsInFirst : Fields → Asked → ℕ → Type 0
 IsInFirst h asked p = (p / cluster_size h ≡ asked.offset / cluster_size h) × (p < h.size)
 
--- where the places of the disk in the guest cluster of one of them begin, and where they end
+-- The start and the end of the part of the disk that is in the guest cluster of an offset.
 abbrev pub first_places : Fields → ℕ → ℕ × ℕ
 first_places h offset = let start = offset / cluster_size h * cluster_size h in (start, min (start + cluster_size h) h.size)
 
--- The part that is copied of the places from one to another: all of them, but for what is going to be written where they begin or end.
+-- `part` must be copied of the bytes from `start` to `end`: all of them, except a range at either end that will be overwritten.
 pub record CopiesPart (start end : ℕ) (asked : Asked) (part : ℕ × ℕ) : Type 0 where
   pub low : start ≤ part.0
   pub order : part.0 ≤ part.1
@@ -44,20 +44,20 @@ pub record CopiesPart (start end : ℕ) (asked : Asked) (part : ℕ × ℕ) : Ty
   pub all : (p : ℕ) → start ≤ p → p < end → IsLeft asked p → (part.0 ≤ p) × (p < part.1)
   pub none : IsTrue asked.overwrite → asked.offset ≤ start → end ≤ asked.offset + asked.length → part.0 ≡ part.1
 
--- what the places of a guest cluster show, over the layers below
+-- The bytes that the guest reads in a guest cluster, given where the cluster is read from and the layers below.
 abbrev pub shown_over : {S B : Type 0} (g : Ghosts S) → GhostsBelow B → Shown → Qcow2 S g × B → ℕ → Value
 shown_over g u shown image p =
     through (shown_cell (file_of g image.0.tables) image.0.tables.file.header.fields p shown) (at (u.layers_below image.1) p)
 
--- A refusal as that of a read of the layers below, where the places from one to another show these values.
+-- The error is one of a read of the layers below, where the bytes of `part` have these values.
 pub record RefusesPart {B : Type 0} (u : GhostsBelow B) (value : ℕ → Value) (part : ℕ × ℕ) (old now : B) (fault : Fault) : Type 0 where
   pub failed : ImageCause (u.files_of_layers_below old) (u.files_of_layers_below now) fault
   pub cause : u.coherent_below old
       → ReadCause (u.layers_below old) value (unit_of_chain (u.layers_below old)) part.0 (part.1 - part.0) (u.files_of_layers_below old) (u.files_of_layers_below now) fault
   pub no_range_overflow : u.coherent_below old → part.1 ≤ 2 ^ 63 → fault ≡ RangeOverflow → ⊥
 
--- What the places of a part show, as those of a guest cluster do, is copied to bytes of theirs; or that is refused, by the image's own file
--- or by the layers below. Any storage's fault marks the image as failed.
+-- The bytes of `part` that the guest reads in a guest cluster are copied to `bytes`, or the image's own file or a layer below fails. Any
+-- storage fault sets the image to failed.
 pub record CopiesShown {S B : Type 0} (g : Ghosts S) (u : GhostsBelow B) (shown : Shown) (part : ℕ × ℕ) (old : Qcow2 S g × B)
     (result : Result Unit Fault) (new : Qcow2 S g × B) (bytes : ℕ → ℕ) : Type 0 where
   pub below : LookupCallBelow u (HadNoResourceError result) old.1 new.1
@@ -67,7 +67,7 @@ pub record CopiesShown {S B : Type 0} (g : Ghosts S) (u : GhostsBelow B) (shown 
   pub err : IfErr result (λ e. Cause (g.state old.0.tables.file.image).faults (g.state new.0.tables.file.image).faults e
       ⊎ RefusesPart u (shown_over g u shown old) part old.1 new.1 e)
 
--- The content of a host cluster for a part of a guest cluster: each place has the byte that it shows, unless it is going to be written.
+-- The bytes of a host cluster for a part of a guest cluster: each is what the guest reads, unless it will be overwritten.
 pub record Fills {S B : Type 0} (g : Ghosts S) (u : GhostsBelow B) (asked : Asked) (old : Qcow2 S g × B) (content : List ℕ)
     : Type 0 where
   pub long : length content ≡ cluster_size old.0.tables.file.header.fields
@@ -75,17 +75,17 @@ pub record Fills {S B : Type 0} (g : Ghosts S) (u : GhostsBelow B) (asked : Aske
       (p : ℕ) → IsInFirst h asked p → IsLeft asked p
       → IsCopied (at (u.layers_below old.1)) (layer_of g old.0) p (slice_index content (p % cluster_size h))
 
--- What a place shows is needed for a part of a guest cluster: the part isn't all of that which is going to be written.
+-- The guest's byte at this offset is needed: the range doesn't overwrite the whole guest cluster.
 pub record IsNeededFor (h : Fields) (asked : Asked) (p : ℕ) : Type 0 where
   pub first : IsInFirst h asked p
   pub part : IsTrue asked.overwrite → IsWholeUnit (cluster_size h) h.size asked.offset asked.length (asked.offset / cluster_size h) → ⊥
 
--- a place that is needed shows this
+-- A needed byte has this value.
 abbrev pub NeedsShown : {S B : Type 0} (g : Ghosts S) → GhostsBelow B → Asked → Qcow2 S g × B → Value → Type 0
 NeedsShown g u asked old value = (p : ℕ) × IsNeededFor old.0.tables.file.header.fields asked p
     × (through ((layer_of g old.0).cell p) (at (u.layers_below old.1) p) ≡ value)
 
--- Why the places that are needed aren't read.
+-- The reasons why needed bytes can't be read.
 abbrev pub WhyNotCopied : {S B : Type 0} (g : Ghosts S) → GhostsBelow B → Asked → Qcow2 S g × B → B → Fault → Type 0
 WhyNotCopied g u asked old now Failed = SomeUnusable (u.layers_below old.1) Failed
 WhyNotCopied g u asked old now MissingData = SomeUnusable (u.layers_below old.1) MissingData
@@ -95,14 +95,14 @@ WhyNotCopied g u asked old now Memory = ⊤
 WhyNotCopied g u asked old now Storage = SomeRose (u.files_of_layers_below old.1) (u.files_of_layers_below now)
 WhyNotCopied g u asked old now fault = ⊥
 
--- A refusal by what the guest cluster shows.
+-- The error comes from a read of the guest cluster's current bytes.
 pub record RefusesCopy {S B : Type 0} (g : Ghosts S) (u : GhostsBelow B) (asked : Asked) (old : Qcow2 S g × B) (now : B) (fault : Fault)
     : Type 0 where
   pub failed : ImageCause (u.files_of_layers_below old.1) (u.files_of_layers_below now) fault
   pub cause : IsWellFormed g old.0 → u.coherent_below old.1 → WhyNotCopied g u asked old now fault
 
--- The content is made, of what the guest cluster shows, or that is refused: the image is left as a lookup leaves it. Any storage's fault
--- marks it as failed, also one of the layers below.
+-- The bytes are made from what the guest reads in the guest cluster, or the call fails. The image changes only as in a lookup. Any storage
+-- fault, also one of the layers below, sets it to failed.
 pub record MakesContent {S B : Type 0} (g : Ghosts S) (u : GhostsBelow B) (asked : Asked) (old : Qcow2 S g × B)
     (result : Result (Vec ℕ Global) Fault) (new : Qcow2 S g × B) : Type 0 where
   pub below : LookupCallBelow u (HadNoResourceError result) old.1 new.1

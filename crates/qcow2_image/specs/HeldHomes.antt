@@ -1,4 +1,5 @@
--- Where the places of an image can be written while a mapping is prepared: laws of the driver.
+-- Laws of the qcow2 driver while a mapping is prepared (its run is written and not yet committed): where in the file the bytes of the disk
+-- can be written.
 use Rattle.std.proofs.Common.{inl, inr, sym, subst, ap, refl, arith, ◌∙◌}
 use Rattle.std.specs.Prelude.{◌≡◌, ◌⊎◌, ℕ, ◌+◌, ◌-◌, ◌*◌, ◌/◌, ◌<◌, ◌≤◌, ltb, nat_le, ◌&&◌, Bool, true, false, Option, Some, None, IsSome, IfSome}
 use Rattle.std.proofs.lemmas.Bool.{and_from, and_parts, cases_Bool, cases_lt, leb-true, ltb-true, le-leb, lt-ltb}
@@ -20,13 +21,13 @@ use Rattle.qcow2_image.specs.Unspent.{holding_in}
 use Rattle.qcow2_image.specs.declared.qcow2.Qcow2.{Qcow2}
 use Rattle.qcow2_image.specs.declared.unspent.Unspent.{Unspent}
 
--- No place shows a guest cluster's own host cluster that it doesn't name as its data.
+-- No guest cluster reads a host cluster of the mapping before the commit links it.
 pub own-hidden : (is_kept : Bool) (m : Metadata) (guest host : ℕ) → IsSound m → IsOwnAs is_kept m guest host
     → IsHidden m.file m.header.fields host
 own-hidden true m guest host sound own = (kept-hidden m guest host sound own).0
 own-hidden false m guest host sound own = (reserved-hidden m host sound own).0
 
--- Where nothing is prepared nothing is held,
+-- If no mapping is prepared, the image has no run that waits for a commit.
 pub none-held : (hold : Option PreparedMappingRun) → mapping_id_held hold ≡ None → hold ≡ None
 none-held None free = refl
 none-held (Some hold) free = absurd (Prim.cc free)
@@ -39,18 +40,17 @@ pub free_loose : (h : Fields) (file : Bytes) (hold : Option PreparedMappingRun) 
 free_loose h file None p free = refl
 free_loose h file (Some hold) p free = absurd (Prim.cc free)
 
--- and each place can be written where its word says.
+-- If no mapping is prepared, only the L2 entries say where a byte can be written.
 pub free-homes : (hold : Option PreparedMappingRun) (home : ℕ → Option (ℕ × ℕ)) (p : ℕ) → mapping_id_held hold ≡ None → writable_locations_with hold home p ≡ home p
 free-homes None home p free = refl
 free-homes (Some hold) home p free = absurd (Prim.cc free)
 
--- A place that can be written by its word can be so, whatever is prepared.
+-- The location that an L2 entry gives for a byte doesn't depend on whether a mapping is prepared.
 pub words-first : (hold : Option PreparedMappingRun) (home : ℕ → Option (ℕ × ℕ)) (p : ℕ) (at : ℕ × ℕ) → home p ≡ Some at
     → writable_locations_with hold home p ≡ Some at
 words-first None home p at is = is
 words-first (Some hold) home p at is = ap (λ x. writable_location_or x (held_writable_location hold p)) is
 
--- the place lies in the run
 pub run-from : (hold : PreparedMappingRun) (p : ℕ) → in_run hold p ≡ true → (hold.offset ≤ p) × (p < hold.offset + hold.length)
 run-from hold p is = from (nat_le hold.offset p) (ltb p (hold.offset + hold.length)) refl refl is where
   from : (a b : Bool) → nat_le hold.offset p ≡ a → ltb p (hold.offset + hold.length) ≡ b → (a && b) ≡ true
@@ -59,12 +59,11 @@ run-from hold p is = from (nat_le hold.offset p) (ltb p (hold.offset + hold.leng
   from true false low high both = absurd (Prim.cc both)
   from false b low high both = absurd (Prim.cc both)
 
--- The first place is one of it.
 pub first-in : (hold : PreparedMappingRun) → 0 < hold.length → in_run hold hold.offset ≡ true
 first-in hold some =
     rw (le-leb hold.offset hold.offset (Prim.omega arith), lt-ltb hold.offset (hold.offset + hold.length) (Prim.omega (arith, some))) refl
 
--- A place at or behind the first byte of a cluster is in that one or behind it, and one before it is in none of these.
+-- An offset at or after the start of a cluster is in that cluster or a later one. An offset before its start is in an earlier one.
 pub div-from : (c g p : ℕ) → g * c ≤ p → 0 < c → g ≤ p / c
 div-from c g p low some = elim (cases_lt (p / c) g) [
   | inr from ↦ from
@@ -84,7 +83,7 @@ div-to c g p high = elim (cases_lt (p / c) g) [
       absurd (Prim.omega (arith, le, split, high))
 ]
 
--- The places of the guest clusters.
+-- The offsets of the guest clusters of the mapping.
 pub clusters-from : (h : Fields) (hold : PreparedMappingRun) (p : ℕ) → in_clusters h hold p ≡ true
     → ((hold.guest ≤ p / cluster_size h) × (p / cluster_size h < hold.guest + hold.count)) × (p < h.size)
 clusters-from h hold p is =
@@ -102,7 +101,7 @@ clusters-of h hold p guests low =
     (le-leb hold.guest (p / cluster_size h) guests.0) (lt-ltb (p / cluster_size h) (hold.guest + hold.count) guests.1))
     (lt-ltb p h.size low)
 
--- A place of the run lies in one of the guest clusters.
+-- An offset of the run is in one of the guest clusters.
 pub run-guest : (m : Metadata) (hold : PreparedMappingRun) → IsHeld m hold → (p : ℕ) → in_run hold p ≡ true
     → (hold.guest ≤ p / cluster_size m.header.fields) × (p / cluster_size m.header.fields < hold.guest + hold.count)
 run-guest m hold held p is =
@@ -113,7 +112,7 @@ run-guest m hold held p is =
       div-to c (hold.guest + hold.count) p (Prim.omega (arith, held.last, inside.1, parts)),
     )
 
--- Places of the file lie as far from one another as those of the disk do.
+-- Two offsets in the file differ by as much as the two offsets on the disk.
 pub held-linear : (h : Fields) (hold : PreparedMappingRun) (p : ℕ) → hold.guest ≤ p / cluster_size h
     → held_place h hold p + hold.guest * cluster_size h ≡ hold.host * cluster_size h + p
 held-linear h hold p from =
@@ -125,7 +124,7 @@ held-linear h hold p from =
     let there : (hold.guest + d) * c ≡ p / c * c = ap (λ x. x * c) whole in
     Prim.omega (arith, parts, back, there, div-add-mod' p c)
 
--- The place of the file for a place of the run.
+-- The offset in the file of a byte of the run.
 pub held-at : (m : Metadata) (hold : PreparedMappingRun) → IsHeld m hold → (p : ℕ) → in_run hold p ≡ true
     → hold.place + (p - hold.offset) ≡ held_place m.header.fields hold p
 held-at m hold held p is =
@@ -134,7 +133,7 @@ held-at m hold held p is =
     let first = held-linear m.header.fields hold hold.offset (run-guest m hold held hold.offset (first-in hold held.long)).0 in
     Prim.omega (arith, held.placed, one, first, inside.0)
 
--- A place that is held in the run,
+-- A location in the run belongs to a byte of the run.
 home-held : (hold : PreparedMappingRun) (p : ℕ) (at : ℕ × ℕ) → held_writable_location hold p ≡ Some at
     → (in_run hold p ≡ true) × (at ≡ (0, hold.place + (p - hold.offset)))
 home-held hold p at is = elim (cases_Bool (in_run hold p)) [
@@ -147,12 +146,12 @@ module _ {S : Type 0} (g : Ghosts S) (d : Qcow2 S g) (well_formed : IsWellFormed
   h = d.tables.file.header.fields
 
   module _ (hold : PreparedMappingRun) (holds : HoldsIn g d.tables hold) where
-    -- No place shows what is held for it,
+    -- No guest cluster reads the host clusters of the mapping.
     hidden : (i : ℕ) → i < hold.count → IsHidden (file_of g d.tables) h (hold.host + i)
     hidden i less = own-hidden hold.is_kept (rest_of g d.tables holds.space) (hold.guest + i) (hold.host + i)
         (subst (λ o. IfSome o (λ space. IsSound (rest_of g d.tables space))) holds.space_known well_formed.sound) (holds.held.own i less)
 
-    -- so that no place has its home there by its word.
+    -- No entry gives a location in the host clusters of the mapping.
     elsewhere : (p q at : ℕ) → in_run hold q ≡ true → writable_locations_of g d p ≡ Some (0, at) → at ≡ held_place h hold q → ⊥
     elsewhere p q at run home there =
         let is = home-there d.mode.writable (memory_of g d.tables) h p (0, at) home in
@@ -164,7 +163,7 @@ module _ {S : Type 0} (g : Ghosts S) (d : Qcow2 S g) (well_formed : IsWellFormed
         subst (λ (m : Bytes). mapped m h p ≡ data_at found.0 true) (memory_is g d.tables) found.1 in
         (hidden i (Prim.omega (arith, guest.0, guest.1))).dataless (p / cluster_size h) true (raw_entry ∙ ap (λ c. data_at c true) same)
 
-  -- No two places are written at one place of the file: both by their words,
+  -- No two bytes of the disk are written at one location of the file. First, both locations come from L2 entries.
   module _ (p q : ℕ) (at : ℕ × ℕ) where
     abbrev raw_entry : ℕ → Option (ℕ × ℕ)
     raw_entry = writable_locations_of g d
@@ -172,7 +171,7 @@ module _ {S : Type 0} (g : Ghosts S) (d : Qcow2 S g) (well_formed : IsWellFormed
     by-words : raw_entry p ≡ Some at → raw_entry q ≡ Some at → p ≡ q
     by-words = words-home g d.tables d.mode.writable p q at well_formed.consistent
 
-    -- or both in the run,
+    -- Second, both locations are in the run of the prepared mapping.
     in-held : (hold : PreparedMappingRun) → HoldsIn g d.tables hold → held_writable_location hold p ≡ Some at → held_writable_location hold q ≡ Some at → p ≡ q
     in-held hold holds one two =
         let here = home-held hold p at one in
@@ -183,7 +182,7 @@ module _ {S : Type 0} (g : Ghosts S) (d : Qcow2 S g) (well_formed : IsWellFormed
         let places : hold.place + (p - hold.offset) ≡ hold.place + (q - hold.offset) = ap (λ (x : ℕ × ℕ). x.1) same in
         Prim.omega (arith, places, low.0, low'.0)
 
-  -- for a home by a word is none of the run.
+  -- A location that an L2 entry gives is never in the run of the prepared mapping.
   apart : (hold : PreparedMappingRun) → HoldsIn g d.tables hold → (p q : ℕ) (at : ℕ × ℕ) → writable_locations_of g d p ≡ Some at → held_writable_location hold q ≡ Some at → ⊥
   apart hold holds p q at one two =
       let there = home-held hold q at two in
@@ -207,7 +206,7 @@ module _ {S : Type 0} (g : Ghosts S) (d : Qcow2 S g) (well_formed : IsWellFormed
     from None is holds one two = by-words p q at one two
     from (Some hold) is holds one two = either hold holds p q at one two
 
--- While nothing is prepared, a place that can be written has room, and one that is vacant or zeroed can't be.
+-- If no mapping is prepared, a byte that can be written is allocated. An unallocated byte, or one that reads as zero, can't be written.
 pub reports_allocations : {S : Type 0} (g : Ghosts S) (d : Qcow2 S g) → mapping_id_held (holding_in g d.unspent) ≡ None → (p : ℕ) →
     let h = d.tables.file.header.fields in
     (IsUnallocated (memory_of g d.tables) h p ⊎ IsZeroed (memory_of g d.tables) h p → (layer_of g d).writable_location p ≡ None)

@@ -1,4 +1,4 @@
--- Where the places of an image can be written: laws of a driver that was opened for writing.
+-- Laws of the qcow2 driver: where in the file the bytes of the disk can be written in place.
 use Rattle.std.proofs.Common.{inl, inr, sym, subst, ap, refl, arith, ◌∙◌}
 use Rattle.std.specs.Prelude.{◌≡◌, ◌≢◌, ◌⊎◌, ℕ, ◌+◌, ◌*◌, ◌/◌, ◌%◌, ◌<◌, ltb, Bool, true, false, Option, Some, None, IsSome}
 use Rattle.std.proofs.lemmas.Bool.{cases_Bool, cases_eq, ltb-true, le-ltb}
@@ -7,7 +7,7 @@ use Rattle.imago_storage.specs.declared.storage.Storage.{Ghosts}
 use Rattle.qcow2_types.specs.Bytes.{Bytes}
 use Rattle.qcow2_types.specs.Header.{Fields, Header, cluster_size, entries_of_cluster}
 use Rattle.qcow2_types.specs.Words.{Mapping, data_at, zeroes, packed, damaged, unmapped}
-use Rattle.qcow2_types.specs.Words as raw_entries
+use Rattle.qcow2_types.specs.Words as mappings
 use Rattle.qcow2_types.specs.Entries.{entry, l2_table}
 use Rattle.qcow2_types.specs.References.{structure, contents, of_mapping, of_copied, meets, refs}
 use Rattle.qcow2_types.specs.Slots.{slot, Live}
@@ -27,13 +27,13 @@ use Rattle.qcow2_image.specs.Rooms.{HasCluster, ReadsNone, IsUnallocated, IsZero
 use Rattle.qcow2_image.specs.Seen.{file_of, memory_of}
 use Rattle.qcow2_image.specs.declared.tables.Tables.{Tables}
 
--- Nothing waits in memory, so that it is what the file is.
+-- Nothing in memory is dirty, so the metadata in memory is what the file says.
 pub memory_is : {S : Type 0} (g : Ghosts S) (t : Tables S g) → memory_of g t ≡ file_of g t
 memory_is g t = clean-memory (file_of g t) t.file.header.fields (cached_in t.caches) t.clean.0 t.clean.1
 
--- what is taken by none, and what reads none, has no home
+-- A mapping without an allocation, or one that reads as zeroes, has no writable location.
 none-taken : (h : Fields) (p : ℕ) (m : Mapping) → TakesNone m ⊎ ReadsNone m → writable_location_by h p m ≡ None
-none-taken h p raw_entries.unmapped which = refl
+none-taken h p mappings.unmapped which = refl
 none-taken h p (zeroes cluster copied) which = refl
 none-taken h p (packed offset length) which = refl
 none-taken h p damaged which = refl
@@ -41,16 +41,15 @@ none-taken h p (data_at cluster false) which = refl
 none-taken h p (data_at cluster true) (inl none) = absurd none
 none-taken h p (data_at cluster true) (inr none) = absurd none
 
--- a home is in a cluster
+-- A mapping with a writable location has a cluster.
 some-own : (h : Fields) (p : ℕ) (m : Mapping) → IsSome (writable_location_by h p m) → HasCluster m
 some-own h p (data_at cluster copied) some = tt
 some-own h p (zeroes (Some cluster) copied) some = tt
 some-own h p (zeroes None copied) some = absurd (Prim.cc some)
-some-own h p raw_entries.unmapped some = absurd (Prim.cc some)
+some-own h p mappings.unmapped some = absurd (Prim.cc some)
 some-own h p (packed offset length) some = absurd (Prim.cc some)
 some-own h p damaged some = absurd (Prim.cc some)
 
--- A place that nothing is allocated for, or that reads as zeroes, can't be written where it is.
 pub without_writable_location : (writable : Bool) (m : Bytes) (h : Fields) (p : ℕ) → IsUnallocated m h p ⊎ IsZeroed m h p → writable_locations writable m h p ≡ None
 without_writable_location false m h p which = refl
 without_writable_location true m h p (inl (inl behind)) = rw (le-ltb p h.size behind) refl
@@ -64,7 +63,7 @@ without_writable_location true m h p (inr (inr none)) = elim (cases_Bool (ltb p 
   | inr t ↦ rw t refl
 ]
 
--- a place that can be written lies on the disk, and its home is that of its mapping
+-- A byte that can be written in place is on the disk, and its location comes from its L2 entry.
 pub home-there : (writable : Bool) (m : Bytes) (h : Fields) (p : ℕ) (home : ℕ × ℕ) → writable_locations writable m h p ≡ Some home
     → (writable ≡ true) × (p < h.size) × (writable_location_by h p (entry m h (p / cluster_size h)) ≡ Some home)
 home-there false m h p home is = absurd (Prim.cc is)
@@ -77,23 +76,23 @@ some-is : {A : Type 0} (x : Option A) → IsSome x → (a : A) × (x ≡ Some a)
 some-is None some = absurd (Prim.cc some)
 some-is (Some a) some = (a, refl)
 
--- A place that can be written has room.
+-- A byte that can be written in place is allocated.
 pub housed : (writable : Bool) (m : Bytes) (h : Fields) (p : ℕ) → IsSome (writable_locations writable m h p) → HasRoom m h p
 housed writable m h p some =
     let one = some-is (writable_locations writable m h p) some in
     let there = home-there writable m h p one.0 one.1 in
     record { inside = there.1; own = some-own h p (entry m h (p / cluster_size h)) (rw there.2 refl) }
 
--- the mapping of the guest cluster in which a place of the disk lies
+-- The mapping of the guest cluster of a byte of the disk.
 abbrev pub mapped : Bytes → Fields → ℕ → Mapping
 mapped f h p = entry f h (p / cluster_size h)
 
--- the place in the file, if there is one
+-- The offset of a location in the file, if any.
 abbrev file_place : Option (ℕ × ℕ) → ℕ
 file_place None = 0
 file_place (Some home) = home.1
 
--- A place that can be written is in a data cluster that is marked as copied.
+-- A byte that can be written in place is in a data cluster with the COPIED flag.
 pub home-of : (h : Fields) (p at : ℕ) (m : Mapping) → writable_location_by h p m ≡ Some (0, at)
     → (c : ℕ) × (m ≡ data_at c true) × (at ≡ place_in h c p)
 home-of h p at (data_at c true) is = (c, refl, sym (ap file_place is))
@@ -103,7 +102,7 @@ home-of h p at (packed offset length) is = absurd cc
 home-of h p at unmapped is = absurd cc
 home-of h p at damaged is = absurd cc
 
--- It is in this file.
+-- A writable location is in the image file.
 pub home-here : (h : Fields) (p : ℕ) (at : ℕ × ℕ) (m : Mapping) → writable_location_by h p m ≡ Some at → at ≡ (0, at.1)
 home-here h p at (data_at c true) is = cc
 home-here h p at (data_at c false) is = absurd cc
@@ -112,7 +111,7 @@ home-here h p at (packed offset length) is = absurd cc
 home-here h p at unmapped is = absurd cc
 home-here h p at damaged is = absurd cc
 
--- A place in a cluster says which cluster it is, and where in it.
+-- The cluster and the offset inside it can be computed from an offset in a cluster.
 pub cluster-there : (h : Fields) (at c p : ℕ) → at ≡ place_in h c p → at / cluster_size h ≡ c
 cluster-there h at c p is =
     let below : p % cluster_size h < cluster_size h = mod_below p (cluster_size h) (pow_pos h.cluster_bits) in
@@ -123,7 +122,6 @@ within-there h at c p is =
     let below : p % cluster_size h < cluster_size h = mod_below p (cluster_size h) (pow_pos h.cluster_bits) in
     ap (λ x. x % cluster_size h) is ∙ mod-mul-add c (cluster_size h) (p % cluster_size h) below
 
--- Numbers with the same quotient and rest are the same.
 same-parts : (a b d : ℕ) → a / d ≡ b / d → a % d ≡ b % d → a ≡ b
 same-parts a b d rows columns =
     let product : a / d * d ≡ b / d * d = ap (λ x. x * d) rows in
@@ -136,7 +134,7 @@ module _ (f : Bytes) (H : Header) (was : IsConsistent f H) where
   abbrev per_table : ℕ
   per_table = entries_of_cluster h
 
-  -- The word of a guest cluster whose data is in the file: it is one of a table that there is.
+  -- The L2 entry of a guest cluster whose data is in the file is in a table that exists.
   module _ (g c : ℕ) (copied : Bool) (is : entry f h g ≡ data_at c copied) where
     table-there : l2_table f h (g / per_table) ≢ 0
     table-there none =
@@ -153,20 +151,20 @@ module _ (f : Bytes) (H : Header) (was : IsConsistent f H) where
     weighs-there : of_mapping h (meets h c) (slot f h (g / per_table) (g % per_table)) ≡ 1
     weighs-there = ap (of_mapping h (meets h c)) slot-there ∙ meets-own h c
 
-  -- Where it is marked as copied,
+  -- From here on the entry has the COPIED flag.
   module _ (g c : ℕ) (is : entry f h g ≡ data_at c true) where
     marked-there : of_copied h (meets h c) (slot f h (g / per_table) (g % per_table)) ≡ 1
     marked-there = ap (of_copied h (meets h c)) (slot-there g c true is) ∙ meets-own h c
 
-    -- its cluster is named once,
+    -- Its cluster is referenced once.
     pub data-once : refs f h c ≡ 1
     data-once = marked-named-once f H was c (g / per_table) (g % per_table) (live-there g c true is) marked-there
 
-    -- no table, block or header is in it,
+    -- No table, refcount block or header is in the cluster of the entry.
     pub data-apart-from-structure : structure f h (meets h c) ≡ 0
     data-apart-from-structure = marked-apart-from-structure f H was c (g / per_table) (g % per_table) (live-there g c true is) marked-there
 
-    -- and no other guest cluster has its data there.
+    -- No other guest cluster has its data in the cluster of the entry.
     one-word : (g' : ℕ) (mark : Bool) → entry f h g' ≡ data_at c mark
         → (g' / per_table ≢ g / per_table) ⊎ (g' % per_table ≢ g % per_table) → ⊥
     unfolding refs
@@ -187,7 +185,7 @@ module _ (f : Bytes) (H : Header) (was : IsConsistent f H) where
       ]
     ]
 
-  -- A place of the disk that can be written at a place of the file is the only one whose data is there.
+  -- If a byte can be written at a location, it is the only one whose data is there.
   pub one-place : (p q at d : ℕ) (mark : Bool) → writable_location_by h p (mapped f h p) ≡ Some (0, at)
       → mapped f h q ≡ data_at d mark → at ≡ place_in h d q → p ≡ q
   one-place p q at d mark home is there =
@@ -197,7 +195,7 @@ module _ (f : Bytes) (H : Header) (was : IsConsistent f H) where
       let guest = alone (p / cluster_size h) d (found.1 ∙ ap (λ c. data_at c true) cluster) (q / cluster_size h) mark is in
       same-parts p q (cluster_size h) guest within
 
-  -- So no two places of the disk are written at one place of the file.
+  -- So no two bytes of the disk are written in place at one location of the file.
   pub one-home : (p q : ℕ) (at : ℕ × ℕ) → writable_location_by h p (mapped f h p) ≡ Some at → writable_location_by h q (mapped f h q) ≡ Some at → p ≡ q
   one-home p q at here there =
       let own-file : at ≡ (0, at.1) = home-here h p at (mapped f h p) here in

@@ -1,4 +1,4 @@
--- A qcow2 image as a layer of a chain: what its words and bytes say of each place.
+-- A qcow2 image as a layer of a chain (an image and its backing chain): what its entries and bytes say of each byte of the disk.
 use Rattle.std.proofs.Common.{inl, inr, refl}
 use Rattle.std.specs.Prelude.{◌≡◌, ◌⊎◌, ℕ, ◌+◌, ◌-◌, ◌*◌, ◌/◌, ◌%◌, ◌^◌, Bool, true, false, Option, Some, None, List, Result, Ok, Err, if◌then◌else◌, ltb, ◌&&◌, codes, ◌++◌}
 use Rattle.imago_storage.specs.State.{Shape, StorageState}
@@ -13,29 +13,29 @@ use Rattle.qcow2_types.specs.Counts.{count}
 use Rattle.qcow2_types.specs.Header.{Fields, Header, header_of, cluster_size}
 use Rattle.qcow2_types.specs.References.{refs}
 use Rattle.qcow2_types.specs.Words.{Mapping, data_at, zeroes, packed, damaged}
-use Rattle.qcow2_types.specs.Words as raw_entries
+use Rattle.qcow2_types.specs.Words as mappings
 use Rattle.qcow2_types.specs.Entries.{entry}
 use Rattle.qcow2_image.specs.Holding.{PreparedMappingRun, mapping_id_held, held_with, writable_locations_with}
 use Rattle.qcow2_image.specs.declared.mode.OpenMode.{OpenMode}
 
--- what a place says that no word maps, with or without layers below
+-- The cell of an unallocated byte: a gap if the image has layers below, which fill it, and otherwise 0.
 abbrev pub blank_of : Bool → Cell
 blank_of true = unmapped
 blank_of false = own (byte 0)
 
--- What a place says by the mapping of its guest cluster, where the data is in this file.
+-- The cell of a byte by the mapping of its guest cluster, if the data is in this file.
 abbrev pub cell_by : Cell → Bytes → Fields → ℕ → Mapping → Cell
 cell_by blank file h p (data_at cluster copied) = own (byte (file (cluster * cluster_size h + p % cluster_size h)))
 cell_by blank file h p (zeroes cluster copied) = own (byte 0)
 cell_by blank file h p (packed offset length) = own barred
-cell_by blank file h p raw_entries.unmapped = blank
+cell_by blank file h p mappings.unmapped = blank
 cell_by blank file h p damaged = own damaged_place
 
--- What each place of an image says, by the words in memory and the bytes of its file. Behind its size it says 0.
+-- The cells of an image, by the entries in memory and the bytes of its file. After the end of the disk they are 0.
 abbrev pub cells : Cell → Bytes → Bytes → Fields → ℕ → Cell
 cells blank memory file h p = if ltb p h.size then cell_by blank file h p (entry memory h (p / cluster_size h)) else own (byte 0)
 
--- what a file means by itself, by its header
+-- The meaning of a file by itself, by its header.
 abbrev pub meaning_of : Cell → Bytes → Result Header Fault → Meaning
 meaning_of blank file (Ok H) = record { size = H.fields.size; cell = cells blank file file H.fields }
 meaning_of blank file (Err fault) = record { size = 0; cell = λ p. own damaged_place }
@@ -43,7 +43,7 @@ meaning_of blank file (Err fault) = record { size = 0; cell = λ p. own damaged_
 abbrev pub qcow2_meaning : Cell → List ℕ → Meaning
 qcow2_meaning blank bytes = meaning_of blank (bytes_of bytes) (header_of false (bytes_of bytes))
 
--- how often each cluster of a file is counted beyond what names it, by its header
+-- The excess refcount of each cluster of a file, by its header, with nothing pending.
 abbrev pub excess_refcount_in : Bytes → Result Header Fault → ℕ → ℕ
 excess_refcount_in file (Ok H) c = count file H.fields c - refs file H.fields c
 excess_refcount_in file (Err fault) c = 0
@@ -51,11 +51,11 @@ excess_refcount_in file (Err fault) c = 0
 abbrev pub qcow2_leaks : List ℕ → ℕ → ℕ
 qcow2_leaks bytes = excess_refcount_in (bytes_of bytes) (header_of false (bytes_of bytes))
 
--- the alignment of the ranges that it can zero by itself
+-- The alignment in bytes of the ranges that the image can zero by itself.
 abbrev pub granularity_of : Fields → Option ℕ
 granularity_of h = if ltb 2 h.version then Some (cluster_size h) else None
 
--- what never changes of an image over a storage of this shape, by how it was opened and the number of its open image
+-- The constants of an open image, by the shape of its storage, its mode and its number.
 abbrev pub qcow2_fixed : Shape → Fields → OpenMode → ℕ → Fixed
 qcow2_fixed shape h mode number = record {
   format = format.Qcow2;
@@ -77,16 +77,16 @@ qcow2_fixed shape h mode number = record {
   unit = cluster_size h;
 }
 
--- where a place can be written in the file, by the mapping of its guest cluster: in its own cluster alone
+-- The location where a byte can be written in place: in the data cluster of a mapping with the COPIED flag.
 abbrev pub writable_location_by : Fields → ℕ → Mapping → Option (ℕ × ℕ)
 writable_location_by h p (data_at cluster true) = Some (0, cluster * cluster_size h + p % cluster_size h)
 writable_location_by h p mapping = None
 
--- where each place of an image can be written, by the words in memory, if it was opened for writing
+-- The locations where the bytes of an image can be written in place, by the entries in memory, if it is writable.
 abbrev pub writable_locations : Bool → Bytes → Fields → ℕ → Option (ℕ × ℕ)
 writable_locations writable memory h p = if writable && ltb p h.size then writable_location_by h p (entry memory h (p / cluster_size h)) else None
 
--- an image, with these words in memory, and what a mapping holds of it, if one is prepared
+-- The layer of an image, by the entries in memory and the prepared mapping, if any.
 abbrev pub qcow2_layer : StorageState → Bytes → Fields → OpenMode → ℕ → Bool → Option PreparedMappingRun → Layer
 qcow2_layer state memory h mode number failed hold = record {
   fixed = qcow2_fixed state.shape h mode number;
@@ -98,21 +98,21 @@ qcow2_layer state memory h mode number failed hold = record {
   unspent = mapping_id_held hold;
 }
 
--- what an image is printed as
+-- The text that describes an image: `qcow2[NAME]`, or `qcow2[]` for an image without a name.
 abbrev pub qcow2_text : Option (List ℕ) → List ℕ
 qcow2_text None = codes "qcow2[]"
 qcow2_text (Some name) = codes "qcow2[" ++ name ++ codes "]"
 
--- how a lookup answers a place that no table maps, with or without layers below
+-- The answer of a lookup of an unallocated byte, for an image with or without layers below.
 abbrev pub unmapped_answer : Bool → ℕ → ShallowMapping
 unmapped_answer true offset = shallow.Indirect offset false
 unmapped_answer false offset = shallow.Zero false
 
--- how a lookup answers a mapping, of a place that lies so far within its cluster
+-- The answer of a lookup by a mapping. The byte is `within` bytes after the start of its cluster.
 abbrev pub shallow_of : OpenMode → ℕ → ℕ → ℕ → Mapping → ShallowMapping
 shallow_of mode cluster_bits offset within (data_at cluster copied) =
     shallow.Raw 0 (cluster * 2 ^ cluster_bits + within) (mode.writable && copied)
-shallow_of mode cluster_bits offset within raw_entries.unmapped = unmapped_answer mode.backing offset
+shallow_of mode cluster_bits offset within mappings.unmapped = unmapped_answer mode.backing offset
 shallow_of mode cluster_bits offset within (zeroes cluster copied) = shallow.Zero true
 shallow_of mode cluster_bits offset within mapping = shallow.Special offset
 

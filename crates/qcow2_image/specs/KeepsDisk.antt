@@ -1,4 +1,4 @@
--- What calls leave of an image that change its file and not its disk.
+-- The effect of calls that change the file of an image, but not what the guest reads.
 use Rattle.std.specs.Prelude.{◌≡◌, ℕ, List, IsTrue}
 use Rattle.imago_storage.specs.Calls.{CountsNotFallen, IsFaultless}
 use Rattle.imago_storage.specs.Passing.{UnrefusedCrashImages}
@@ -10,8 +10,9 @@ use Rattle.qcow2_image.specs.Rooms.{IsWellFormed, is_sound}
 use Rattle.qcow2_image.specs.Seen.{file_of, layer_of}
 use Rattle.qcow2_image.specs.declared.qcow2.Qcow2.{Qcow2}
 
--- An image that has become another: the disk is what it was, each word means what it did, and what is prepared stays. Each stop shows what
--- the disk did. It wasn't cut off where `ok` holds, and is safe then. Of its disk that holds where it was as `sure` says.
+-- The call keeps what the guest reads, the meaning of each entry, and the prepared mapping. Each crash image reads like the disk. If `ok`
+-- holds, the call had no resource error, and the image is well-formed afterwards. The claims on the disk need `sure`, which says that the
+-- image was well-formed.
 pub record KeepsDiskWhere {S : Type 0} (g : Ghosts S) (sure ok : Type 0) (old new : Qcow2 S g) : Type 0 where
   pub mode : new.mode ≡ old.mode
   pub number : new.number ≡ old.number
@@ -31,6 +32,6 @@ pub record KeepsDiskWhere {S : Type 0} (g : Ghosts S) (sure ok : Type 0) (old ne
   pub raw_entries : sure → ok → (guest : ℕ)
       → entry (file_of g new.tables) new.tables.file.header.fields guest ≡ entry (file_of g old.tables) old.tables.file.header.fields guest
 
--- The same of each image that was safe.
+-- Like `KeepsDiskWhere`, for every image that was well-formed.
 abbrev pub KeepsDisk : {S : Type 0} (g : Ghosts S) (ok : Type 0) → Qcow2 S g → Qcow2 S g → Type 0
 KeepsDisk g ok old new = KeepsDiskWhere g (IsWellFormed g old) ok old new

@@ -1,4 +1,5 @@
--- What images leak: how often their clusters are counted beyond what names them, and beyond what is pending of them.
+-- The leaks of an image: the excess refcount of each cluster, beyond its references and what is pending. A cluster is pending if it is
+-- allocated and not yet referenced, or on the free list.
 use Rattle.std.specs.Prelude.{◌≡◌, ℕ, ◌+◌, ◌-◌, Bool, true, false, List, Option, Some, None, Result, Ok, Err}
 use Rattle.imago_storage.specs.declared.fault.Fault.{Fault}
 use Rattle.imago_storage.specs.declared.storage.Storage.{Ghosts}
@@ -14,12 +15,13 @@ use Rattle.qcow2_image.specs.declared.allocating.Placed.{Placed}
 use Rattle.qcow2_image.specs.declared.qcow2.Qcow2.{Qcow2}
 use Rattle.qcow2_image.specs.declared.mappings.Reserved.{Reserved}
 
--- how often what waits to be freed names a cluster
+-- The number of times that a cluster is on the free list.
 abbrev pub waiting_in : Option Space → ℕ → ℕ
 waiting_in None c = 0
 waiting_in (Some space) c = listed space.to_free.entries c
 
--- how often a cluster is reserved where these are a mapping's host clusters: those that were kept for zeroes aren't, as words name them
+-- The number of times that a cluster is reserved, if these are the host clusters of a mapping. Preallocated zero clusters aren't, as
+-- entries reference them.
 abbrev pub reserved_as : (is_kept : Bool) → (host n c : ℕ) → ℕ
 reserved_as true host n c = 0
 reserved_as false host n c = covers c (record { first = host; count = n; metadata = false })
@@ -28,41 +30,41 @@ abbrev pub reserved_in : Option PreparedMappingRun → ℕ → ℕ
 reserved_in None c = 0
 reserved_in (Some hold) c = reserved_as hold.is_kept hold.host hold.count c
 
--- how often a cluster is pending: it waits to be freed, or is reserved for the mapping that is prepared
+-- The number of times that a cluster is pending: on the free list, or reserved for the prepared mapping.
 abbrev pub pending : {S : Type 0} (g : Ghosts S) → Qcow2 S g → ℕ → ℕ
 pending g d c = waiting_in d.tables.space c + reserved_in (holding_in g d.unspent) c
 
--- how often a cluster is counted in the file, and how often it is named there
+-- The refcount of a cluster in the file, and its number of references there.
 abbrev pub counts_in : {S : Type 0} (g : Ghosts S) → Qcow2 S g → ℕ → ℕ
 counts_in g d c = count (file_of g d.tables) d.tables.file.header.fields c
 
 abbrev pub names_in : {S : Type 0} (g : Ghosts S) → Qcow2 S g → ℕ → ℕ
 names_in g d c = refs (file_of g d.tables) d.tables.file.header.fields c
 
--- how often it is counted there beyond what names it, and beyond what is pending of it
+-- The excess refcount: the refcount minus references minus what is pending.
 abbrev pub excess_refcount_of : {S : Type 0} (g : Ghosts S) → Qcow2 S g → ℕ → ℕ
 excess_refcount_of g d c = counts_in g d c - (names_in g d c + pending g d c)
 
--- what leaks in the file, as a checker tells it
+-- The leaks of the file, as a checker lists them.
 abbrev pub leaks_of : {S : Type 0} (g : Ghosts S) → Qcow2 S g → List (ℕ × ℕ)
 leaks_of g d = leaks (file_of g d.tables) d.tables.file.header.fields
 
--- An image has become another: how often each cluster is counted beyond what names it and what is pending of it is what it was.
+-- The excess refcount of each cluster stays the same.
 abbrev pub KeepsLeaks : {S : Type 0} (g : Ghosts S) → Qcow2 S g → Qcow2 S g → Type 0
 KeepsLeaks g old new = (c : ℕ)
     → counts_in g new c + names_in g old c + pending g old c ≡ counts_in g old c + names_in g new c + pending g new c
 
--- The same but for what was reserved, and isn't held by a mapping yet.
+-- Like `KeepsLeaks`, except for clusters that were reserved, and that are in no prepared mapping yet.
 abbrev pub KeepsLeaksBut : {S : Type 0} (g : Ghosts S) → (reserved : ℕ → ℕ) → Qcow2 S g → Qcow2 S g → Type 0
 KeepsLeaksBut g reserved old new = (c : ℕ)
     → counts_in g new c + names_in g old c + pending g old c ≡ counts_in g old c + names_in g new c + pending g new c + reserved c
 
--- what is reserved by a call that puts content in host clusters
+-- The clusters that are reserved by a call that puts data in host clusters.
 abbrev pub reserved_by : Result Placed Fault → ℕ → ℕ
 reserved_by (Ok r) c = reserved_as r.is_kept r.host r.count c
 reserved_by (Err fault) c = 0
 
--- and by one that answers the clusters of a mapping
+-- The clusters that are reserved by a call that returns the clusters of a mapping.
 abbrev pub reserved_with : Result Reserved Fault → ℕ → ℕ
 reserved_with (Ok r) c = reserved_as r.is_kept r.host r.count c
 reserved_with (Err fault) c = 0

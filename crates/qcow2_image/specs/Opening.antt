@@ -1,4 +1,4 @@
--- What an image is right after it was opened, and why it isn't opened.
+-- The state of an image right after it was opened, and the reasons why it isn't opened.
 use Rattle.std.specs.Prelude.{◌≡◌, ⊤, ℕ, Bool, true, false, not, ◌&&◌, ◌||◌, ◌==◌, List, [], ◌∷◌, Option, Some, None, IfSome, Ok, Err, Result, is_some}
 use Rattle.imago_storage.specs.State.{MayFail, HasRisen, StorageState}
 use Rattle.imago_storage.specs.declared.fault.Fault.{Fault}
@@ -16,12 +16,12 @@ use Rattle.qcow2_image.specs.Seen.{IsCacheCoherent}
 use Rattle.qcow2_image.specs.declared.qcow2.Qcow2.{Qcow2}
 use Rattle.qcow2_image.specs.declared.tables.Tables.{Tables}
 
--- the file begins as an image does: with the magic number, and version 2 or 3
+-- The file starts with the magic number, and version 2 or 3.
 abbrev pub is_qcow2 : Bytes → Bool
 is_qcow2 f = (be f 0 4 == 0x5146_49fb) && ((be f 4 4 == 2) || (be f 4 4 == 3))
 
--- The rules behind those on the header: an image whose data is in another file isn't carried yet; each word of the L1 table has a meaning,
--- and so has each of the refcount table, where the file is to be written.
+-- The rules after those on the header. The data is in this file, and each L1 entry is valid. For writing, each refcount table entry is
+-- valid too.
 abbrev pub rules_of_opening : Bool → Bytes → Fields → List Rule
 rules_of_opening writable f h =
     (has_external_data h, Unsupported)
@@ -29,32 +29,32 @@ rules_of_opening writable f h =
     ∷ (writable && not (refcount_table_sound f h), DamagedTable)
     ∷ []
 
--- The header by which a file is opened for reading, or also for writing, or the first rule that it breaks.
+-- The header with which a file is opened, read-only or for writing, or the first rule that it breaks.
 unfoldable pub header_for : Bool → Bytes → Result Header Fault
 header_for writable f = header_of writable f >>= λ H. first_fault (rules_of_opening writable f H.fields) and-then Ok H
 
--- Why it isn't opened: by that rule, unless memory was wanting or the storage has failed, which is of a kind that may.
+-- The reasons why an image isn't opened: the first rule that it breaks, unless memory runs out or the storage fails.
 abbrev pub WhyNotOpened : {S : Type 0} → (S → StorageState) → Bool → Bytes → Fault → Type 0
 WhyNotOpened state writable f Memory = ⊤
 WhyNotOpened state writable f Storage = MayFail state
 WhyNotOpened state writable f fault = header_for writable f ≡ Err fault
 
--- Why the free space of an image isn't loaded, which is asked of one that is to be written alone: a word of its refcount table has no
--- meaning, or memory was wanting, or the storage has failed.
+-- The reasons why the free space of an image isn't loaded, which is only done for writing. A refcount table entry isn't valid, memory runs
+-- out, or the storage fails.
 abbrev pub WhyNoSpace : Bytes → Fields → (writable : Bool) → (before after : ℕ) → Fault → Type 0
 WhyNoSpace f h writable before after DamagedTable = (writable ≡ true) × (refcount_table_sound f h ≡ false) × (after ≡ before)
 WhyNoSpace f h writable before after Memory = after ≡ before
 WhyNoSpace f h writable before after Storage = HasRisen before after
 WhyNoSpace f h writable before after fault = ⊥
 
--- What is known of the free space of an image right after it was opened: its refcount table, where it is to be written, and else nothing.
--- Nothing waits to be freed.
+-- The free space right after opening: the refcount table for writing, otherwise nothing. The free list is empty.
 pub record IsSpaceOpened (before : StorageState) (h : Fields) (writable : Bool) (space : Option Space) : Type 0 where
   pub known : is_some space ≡ writable
   pub loads : IfSome space (λ s. LoadsAllocator before h (Ok s.allocator) before)
   pub idle : IfSome space (λ s. s.to_free.entries ≡ [])
 
--- The storage is as it was, what is in memory is what its file says, and nothing is cached, with room for so many tables and blocks.
+-- The storage is unchanged, memory is what its file says, and nothing is cached. The caches have slots for these numbers of tables and
+-- blocks.
 pub record IsJustOpened {S : Type 0} (g : Ghosts S) (before : StorageState) (writable : Bool) (l2_tables refcount_blocks : ℕ)
     (t : Tables S g) : Type 0 where
   pub same : g.state t.file.image ≡ before
@@ -66,12 +66,12 @@ pub record IsJustOpened {S : Type 0} (g : Ghosts S) (before : StorageState) (wri
   pub tables : t.caches.l2.slots.cap ≡ l2_tables
   pub blocks : t.caches.rb.slots.cap ≡ refcount_blocks
 
--- whether layers are below, as it was said, or else by whether the header names a backing file
+-- True if the image reads unallocated bytes from layers below. The caller's choice counts, otherwise the header has a backing file name.
 abbrev pub is_backed : Option Bool → Header → Bool
 is_backed (Some backed) H = backed
 is_backed None H = is_some H.backing_name
 
--- Its metadata was just opened, for writing or not, over layers or not, it has this number and has not failed, and nothing is prepared.
+-- The image was just opened, with this mode and number. It hasn't failed, and no mapping is prepared.
 pub record IsOpenedAs {S : Type 0} (g : Ghosts S) (before : StorageState) (writable : Bool) (backing : Option Bool)
     (number l2_tables refcount_blocks : ℕ) (d : Qcow2 S g) : Type 0 where
   pub tables : IsJustOpened g before writable l2_tables refcount_blocks d.tables

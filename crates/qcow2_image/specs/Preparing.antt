@@ -1,4 +1,5 @@
--- How a mapping is prepared for guest clusters in a row that have no host clusters of their own.
+-- Specifies how a mapping is prepared for consecutive guest clusters that can't be written in place: they get host clusters, and only a
+-- later commit links these.
 use Rattle.std.specs.Prelude.{◌≡◌, ◌≢◌, ◌⊎◌, ⊤, ℕ, ◌+◌, ◌-◌, ◌*◌, ◌/◌, ◌%◌, ◌<◌, ◌≤◌, min, Bool, false, List, length, slice_index, Option, Some, None, IsTrue, IfSome, is_some, Result, Err, IfOk, IfErr}
 use Rattle.imago_storage.specs.declared.fault.Fault.{Fault}
 use Rattle.imago_storage.specs.declared.fault.Fault.TheVariants.{Memory, Storage}
@@ -35,42 +36,43 @@ use Rattle.qcow2_image.specs.declared.qcow2.Qcow2.{Qcow2}
 use Rattle.qcow2_image.specs.declared.tables.Tables.{Tables}
 use Rattle.qcow2_image.specs.declared.unspent.Unspent.{Unspent}
 
--- how much of a range lies in the first `count` of its guest clusters
+-- The number of bytes of a range in the first `count` of its guest clusters.
 abbrev pub run_in : Fields → (count offset length : ℕ) → ℕ
 run_in h count offset n = min n (count * cluster_size h - offset % cluster_size h)
 
--- and how much in the first one
+-- The number of bytes of a range in its first guest cluster.
 abbrev pub first_run : Fields → (offset length : ℕ) → ℕ
 first_run h offset n = min n (cluster_size h - offset % cluster_size h)
 
--- A storage's fault has marked the image as failed, and want of memory has marked it or left all as it was.
+-- A storage fault has set the image to failed. If memory ran out, the image has failed or is unchanged.
 abbrev pub LeavesMarkedFailed : {S : Type 0} (g : Ghosts S) → Qcow2 S g → Qcow2 S g → Fault → Type 0
 LeavesMarkedFailed g old new Storage = IsTrue new.failed
 LeavesMarkedFailed g old new Memory = IsTrue new.failed ⊎ KeepsImage {T = Unit} g old (Err Memory) new
 LeavesMarkedFailed g old new fault = ⊤
 
--- Guest clusters in a row can come to name host clusters in their L2 table: they keep those for their zeroes, or those are reserved, and
--- there is room on the list of clusters to free.
+-- Consecutive guest clusters can be linked to host clusters, which are preallocated zero clusters, or reserved with a slot of the free
+-- list.
 pub record IsReservedFor {S : Type 0} (g : Ghosts S) (guest : ℕ) (r : Reserved) (t : Tables S g) : Type 0 where
   pub space : Space
   pub space_known : t.space ≡ Some space
-  pub layers_below : (d : ℕ) → d < r.count → IsUnder (rest_of g t space) r.table (guest + d)
+  pub in_table : (d : ℕ) → d < r.count → IsUnder (rest_of g t space) r.table (guest + d)
   pub own : AreOwnAs r.is_kept r.count (rest_of g t space) guest r.host
   pub host_nonzero : r.host ≢ 0
   pub room : r.is_kept ≡ false → 0 < space.to_free.held
 
--- There is no place for what a guest cluster lacks that keeps this host cluster, or none: its word of the L1 table would be behind the 2^22
--- that there can be, or no quarter of the space was free in a row.
+-- The missing parts of a guest cluster can't be allocated, if `kept` is its preallocated zero cluster. Its L1 entry would be after the
+-- first 2^22, or no run of a quarter of the space was free.
 abbrev pub LacksPlaceBeside : {S : Type 0} (g : Ghosts S) → (guest : ℕ) → (kept : Option ℕ) → (old new : Tables S g) → ℕ → Type 0
 LacksPlaceBeside g guest kept old new number = let h = old.file.header.fields in
     HasNoPlace g (IsForCluster g guest kept old) (guest / entries_of_cluster h) (space h / 4) old new number
 
--- There is none for what a guest cluster lacks: a word of the L1 table, an L2 table of its own, or a host cluster that it keeps.
+-- The missing parts of a guest cluster can't be allocated: an L1 entry, an L2 table of its own, or a host cluster.
 abbrev pub LacksPlace : {S : Type 0} (g : Ghosts S) → (guest : ℕ) → (old new : Tables S g) → ℕ → Type 0
 LacksPlace g guest old new number = LacksPlaceBeside g guest (kept_for g guest old) old new number
 
--- Guest clusters in a row, n of them at most, have host clusters in a row, the first one with this content, under an L2 table that nothing
--- else names: the one that the first keeps for its zeroes, or else such that are reserved for them. The disk stays as it was.
+-- At most `n` consecutive guest clusters get consecutive host clusters, the first one with this content, and an L2 table that nothing else
+-- references. The host cluster is the preallocated zero cluster `kept`, otherwise clusters are allocated. The guest reads the same bytes as
+-- before.
 pub record Reserves {S : Type 0} (g : Ghosts S) (guest : ℕ) (kept : Option ℕ) (n : ℕ) (content : List ℕ) (old : Qcow2 S g)
     (result : Result Reserved Fault) (new : Qcow2 S g) : Type 0 where
   pub keeps : KeepsDiskWhere g (HasKept g guest kept old) (HadNoResourceError result) old new
@@ -86,7 +88,7 @@ pub record Reserves {S : Type 0} (g : Ghosts S) (guest : ℕ) (kept : Option ℕ
       → file_of g new.tables (r.host * cluster_size old.tables.file.header.fields + i) ≡ slice_index content i)
   pub cause : IfErr result (HasCause (reserving_causes g (LacksPlaceBeside g guest kept old.tables new.tables) old new))
 
--- What a mapping holds for a run, of the clusters that are reserved for it.
+-- The prepared mapping for a run and its clusters.
 abbrev pub held_run : {S : Type 0} (g : Ghosts S) → Asked → Reserved → Qcow2 S g → ℕ → (ℕ → Bool) → PreparedMappingRun
 held_run g asked r d mapping_id written = let h = d.tables.file.header.fields in record {
   mapping_id = mapping_id;
@@ -103,7 +105,7 @@ held_run g asked r d mapping_id written = let h = d.tables.file.header.fields in
   written = written;
 }
 
--- What was reserved is kept as the mapping that is prepared, with another claim than the last one, and nothing was written to it yet.
+-- The clusters are stored as the prepared mapping, with another ID than the last one. Nothing is written to it yet.
 pub record KeepsMapping {S : Type 0} (g : Ghosts S) (asked : Asked) (r : Reserved) (old : Qcow2 S g)
     (mapping : PreparedDataMapping PreparedMappingState) (new : Qcow2 S g) : Type 0 where
   pub unspent : Unspent S g
@@ -118,27 +120,27 @@ pub record KeepsMapping {S : Type 0} (g : Ghosts S) (asked : Asked) (r : Reserve
     state = Some (record { number = old.number; mapping_id = unspent.mapping_id });
   }
 
--- the same range, but for what lies behind its first guest cluster, or behind its first `count` of them
+-- The part of a range in its first guest cluster, and in its first `count` guest clusters.
 abbrev pub first_part : Fields → Asked → Asked
 first_part h asked = record asked { length = first_run h asked.offset asked.length }
 
 abbrev pub run_part : Fields → ℕ → Asked → Asked
 run_part h count asked = record asked { length = run_in h count asked.offset asked.length }
 
--- Each place of a guest cluster is going to be written.
+-- Every byte of the guest cluster will be overwritten.
 pub record IsCovered (h : Fields) (asked : Asked) (guest : ℕ) : Type 0 where
   pub overwrite : IsTrue asked.overwrite
   pub all : (p : ℕ) → p / cluster_size h ≡ guest → (asked.offset ≤ p) × (p < asked.offset + asked.length)
 
--- So many guest clusters of a range in a row, from its first on, stand under one L2 table, and all of those behind the first is covered.
+-- The first `n` guest clusters of a range are in one L2 table, and the range covers all but the first completely.
 pub record CoversMost (h : Fields) (offset length n : ℕ) : Type 0 where
   pub any : 0 < n
   pub row : offset / cluster_size h % entries_of_cluster h + n ≤ entries_of_cluster h
   pub inside : (offset / cluster_size h + n) * cluster_size h < h.size + cluster_size h
   pub all : (i : ℕ) → 0 < i → i < n → (p : ℕ) → p / cluster_size h ≡ offset / cluster_size h + i → (offset ≤ p) × (p < offset + length)
 
--- Guest clusters of a range in a row, from its first on, stand under one L2 table, and all of those behind the first is going to be
--- written. They have no clusters of their own, if the first hasn't.
+-- The first `n` guest clusters of a range are in one L2 table, and all but the first will be overwritten completely. If the first can't be
+-- written in place, none of them can.
 pub record IsRun {S : Type 0} (g : Ghosts S) (asked : Asked) (n : ℕ) (d : Qcow2 S g) : Type 0 where
   pub any : 0 < n
   pub row : let h = d.tables.file.header.fields in asked.offset / cluster_size h % entries_of_cluster h + n ≤ entries_of_cluster h
@@ -146,16 +148,16 @@ pub record IsRun {S : Type 0} (g : Ghosts S) (asked : Asked) (n : ℕ) (d : Qcow
   pub uncopied : IsCacheCoherent g d.tables → let h = d.tables.file.header.fields in let first = asked.offset / cluster_size h in
       IsUncopied (entry (file_of g d.tables) h first) → (i : ℕ) → i < n → IsUncopied (entry (file_of g d.tables) h (first + i))
 
--- The file is at least as long as the end of the clusters that are held for what is prepared, so that words may come to name them.
+-- The file reaches at least the end of the host clusters of the prepared mapping, so no link goes past the end.
 abbrev pub ReachesHeld : {S : Type 0} (g : Ghosts S) → Qcow2 S g → Type 0
 ReachesHeld g d = IfSome (holding_in g d.unspent) (λ held.
     (held.host + held.count) * cluster_size d.tables.file.header.fields ≤ length (g.state d.tables.file.image).bytes)
 
--- so many bytes are the part of a range in such a run
+-- `length` bytes are the part of a range in a run for which `IsRun` holds.
 abbrev pub IsPartOfRun : {S : Type 0} (g : Ghosts S) → Asked → ℕ → Qcow2 S g → Type 0
 IsPartOfRun g asked length d = (n : ℕ) × IsRun g asked n d × (length ≡ run_in d.tables.file.header.fields n asked.offset asked.length)
 
--- Such a run is found by a lookup alone.
+-- A lookup finds a run for which `IsRun` holds, and nothing else changes.
 pub record FindsRun {S : Type 0} (g : Ghosts S) (asked : Asked) (old : Qcow2 S g) (result : Result ℕ Fault) (new : Qcow2 S g)
     : Type 0 where
   pub keeps : KeepsImage g old result new
@@ -166,8 +168,8 @@ pub record FindsRun {S : Type 0} (g : Ghosts S) (asked : Asked) (old : Qcow2 S g
       IfErr result (HasCause (looking_causes (entry (file_of g old.tables) h (asked.offset / cluster_size h) ≡ damaged)
       (g.state old.tables.file.image).faults (g.state new.tables.file.image).faults))
 
--- The run of a range in the first of its guest clusters, n of them at most, is prepared in an image that has become another: what the
--- places of the first one show is in the host cluster that is held for it.
+-- The run of a range in at most `n` of its guest clusters is prepared. The host cluster of the first has the data that its guest cluster
+-- reads.
 pub record HoldsFresh {S B : Type 0} (g : Ghosts S) (u : GhostsBelow B) (asked : Asked) (n : ℕ) (old : Qcow2 S g × B) (middle : Qcow2 S g)
     (mapping : PreparedDataMapping PreparedMappingState) (new : Qcow2 S g) : Type 0 where
   pub clusters : Reserved
@@ -182,8 +184,8 @@ pub record HoldsFresh {S B : Type 0} (g : Ghosts S) (u : GhostsBelow B) (asked :
       (p : ℕ) → IsInFirst h asked p → IsLeft (first_part h asked) p
       → IsCopied (at (u.layers_below old.1)) (layer_of g old.0) p (file_of g middle.tables (place_in h clusters.host p))
 
--- A mapping is prepared so, or refused, by the image or by the layers below: before it is held the image has become another, with the same
--- disk.
+-- A mapping is prepared, or the image or a layer below fails. The image `middle` is the one before the mapping is stored: its disk reads as
+-- before.
 pub record PreparesFresh {S B : Type 0} (g : Ghosts S) (u : GhostsBelow B) (asked : Asked) (n : ℕ) (old : Qcow2 S g × B)
     (result : Result (PreparedDataMapping PreparedMappingState) Fault) (new : Qcow2 S g × B) : Type 0 where
   pub middle : Qcow2 S g
@@ -196,7 +198,7 @@ pub record PreparesFresh {S B : Type 0} (g : Ghosts S) (u : GhostsBelow B) (aske
       (LacksPlace g (asked.offset / cluster_size old.0.tables.file.header.fields) old.0.tables middle.tables) old.0 middle) fault
       ⊎ RefusesCopy g u (first_part old.0.tables.file.header.fields asked) old new.1 fault))
 
--- So is a run that is found.
+-- Like `PreparesFresh`, for a run that a lookup finds.
 pub record PreparesRun {S B : Type 0} (g : Ghosts S) (u : GhostsBelow B) (asked : Asked) (old : Qcow2 S g × B)
     (result : Result (PreparedDataMapping PreparedMappingState) Fault) (new : Qcow2 S g × B) : Type 0 where
   pub n : ℕ

@@ -1,4 +1,4 @@
--- What contracts see of a prepared mapping.
+-- The value of a prepared mapping (a run that is written and not yet committed) as contracts see it.
 use Rattle.std.specs.Prelude.{ℕ, ◌+◌, Bool, false, Option, Some, None, ltb, nat_le, ◌&&◌, ◌||◌}
 use Rattle.std.specs.declared.snapshot.Snapshot.{Snapshot}
 use Rattle.imago_storage.specs.declared.storage.Storage.{Ghosts}
@@ -8,7 +8,7 @@ use Rattle.qcow2_image.specs.declared.unspent.Writes.{Writes, fold-Writes}
 use Rattle.qcow2_image.specs.declared.unspent.Writes.TheOpen.{Writes-F}
 use Rattle.qcow2_image.specs.Holding.{PreparedMappingRun}
 
--- the place lies in the range
+-- The byte is in the range.
 abbrev pub here : (at n p : ℕ) → Bool
 here at n p = nat_le at p && ltb p (at + n)
 
@@ -16,7 +16,7 @@ abbrev pub earlier : Option (Snapshot (ℕ → Bool)) → ℕ → Bool
 earlier None p = false
 earlier (Some s) p = s.value p
 
--- a place was written, by the last range or by those before
+-- The byte was written, in the last range or an earlier one.
 abbrev pub covered_by : Writes-F (ℕ → Bool) → ℕ → Bool
 covered_by layer p = here layer.at layer.length p || earlier layer.before p
 

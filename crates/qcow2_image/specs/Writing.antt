@@ -1,4 +1,4 @@
--- What a change of an image that was opened for writing rests on, and why it is refused.
+-- Specifies how an image before and after a write are related, and the errors of the write.
 use Rattle.std.proofs.Common.{inl, refl}
 use Rattle.std.specs.Prelude.{◌≡◌, ◌⊎◌, ⊤, ℕ, ◌+◌, ◌/◌, ◌<◌, ◌∷◌, List, Some, None, Result, MatchResult, false, true}
 use Rattle.imago_storage.specs.State.{HasRisen}
@@ -23,15 +23,15 @@ use Rattle.qcow2_image.specs.Leaking.{KeepsLeaks}
 use Rattle.qcow2_image.specs.Looking.{looking_causes}
 use Rattle.qcow2_image.specs.Preparing.{LacksPlace}
 
--- Each place that can be written by the words of an image can be so later.
+-- Each byte that can be written in place by an entry still can.
 abbrev pub KeepsWritableLocations : {S : Type 0} (g : Ghosts S) → Qcow2 S g → Qcow2 S g → Type 0
 KeepsWritableLocations g d now = (p : ℕ) (at : ℕ × ℕ) → writable_locations_of g d p ≡ Some at → writable_locations_of g now p ≡ Some at
 
--- Each place shows what it did, or a byte of its own.
+-- Each byte has the same cell as before, or is now a byte of the image's own.
 abbrev pub ComesToBytes : (old new : ℕ → Cell) → Type 0
 ComesToBytes old new = (p : ℕ) → (new p ≡ old p) ⊎ ((b : ℕ) × (new p ≡ own (byte b)))
 
--- What an image has become since a call began.
+-- The changes of an image since a call began.
 pub record Since {S : Type 0} (g : Ghosts S) (d now : Qcow2 S g) : Type 0 where
   pub writable_locations : KeepsWritableLocations g d now
   pub cells : ComesToBytes (layer_of g d).cell (layer_of g now).cell
@@ -39,16 +39,16 @@ pub record Since {S : Type 0} (g : Ghosts S) (d now : Qcow2 S g) : Type 0 where
   pub bits : now.tables.file.header.fields.cluster_bits ≡ d.tables.file.header.fields.cluster_bits
   pub leaks : KeepsLeaks g d now
 
--- A call has begun on a safe image: that is safe still, each place can be written where it could, and shows what it did or a byte of its
--- own, and nothing leaks anew.
+-- A call has begun on a well-formed image. The image is still well-formed, and nothing has leaked. Each byte can be written where it could,
+-- and reads as before or as a byte of the image's own.
 abbrev pub HasBegun : {S : Type 0} (g : Ghosts S) → Qcow2 S g → Qcow2 S g → Type 0
 HasBegun g d now = IsWellFormed g d → IsWellFormed g now × Since g d now
 
--- A call begins so: a law of the driver.
+-- Law: if a call has just started on a well-formed image, `HasBegun` holds between the image and itself.
 pub begun_itself : {S : Type 0} (g : Ghosts S) (d : Qcow2 S g) → HasBegun g d d
 begun_itself g d = λ well_formed. (well_formed, record { writable_locations = λ p at is. is; cells = λ p. inl refl; size = refl; bits = refl; leaks = λ c. refl })
 
--- What a place shows is needed by a call: it lies in a cluster that the range meets, and that isn't overwritten whole.
+-- A call needs what the guest reads at this offset: the range meets its cluster, and doesn't overwrite it completely.
 pub record IsNeeded (unit size : ℕ) (call : Call) (p : ℕ) : Type 0 where
   pub cluster : ℕ
   pub here : IsOfUnit unit size cluster p
@@ -57,13 +57,13 @@ pub record IsNeeded (unit size : ℕ) (call : Call) (p : ℕ) : Type 0 where
   pub in_unit : IsOfUnit unit size cluster met
   pub part : announces call ≡ Some true → IsWholeUnit unit size (offset_of call) (length_of call) cluster → ⊥
 
--- a place that is needed shows this, over the layers below
+-- A needed byte has this value, over the layers below.
 abbrev pub NeedsValue : {S : Type 0} (g : Ghosts S) → Qcow2 S g → List Layer → Call → Value → Type 0
 NeedsValue g d below call value = let h = d.tables.file.header.fields in
     (p : ℕ) × IsNeeded (cluster_size h) h.size call p × (at (layer_of g d ∷ below) p ≡ value)
 
--- An image, as a call can have made it of one since it began, had no place for what the guest cluster of a place lacked, as this number
--- tells. The search for one left its disk as it was, and leaked nothing.
+-- At some point since the call began, the missing parts of the guest cluster of a byte couldn't be allocated. The number is that of the
+-- limit. The search kept the disk, and leaked nothing.
 pub record HadNoPlace {S : Type 0} (g : Ghosts S) (d : Qcow2 S g) (p number : ℕ) : Type 0 where
   pub now : Qcow2 S g
   pub well_formed : IsWellFormed g now
@@ -74,8 +74,8 @@ pub record HadNoPlace {S : Type 0} (g : Ghosts S) (d : Qcow2 S g) (p number : �
   pub left_leaks : KeepsLeaks g now left
   pub lacks : LacksPlace g (p / cluster_size now.tables.file.header.fields) now.tables left.tables number
 
--- Why an image isn't changed, by causes of its own: zeroing, discards and resizes are declined; bytes aren't written where a place of the
--- range has no cluster of its own, for which there was no place, nor where a place that is needed can't be read.
+-- The driver's own reasons for not changing an image. Zeroing, discards and resizes are declined. A write fails if a byte has no writable
+-- location and no cluster can be allocated for it. It also fails if a needed byte can't be read.
 abbrev pub WhyUnwritten : {S : Type 0} (g : Ghosts S) → Qcow2 S g → List Layer → Call → Fault → Type 0
 WhyUnwritten g d below call Unsupported = ⊤
 WhyUnwritten g d below call (Limit number) = (p : ℕ) × IsIn (offset_of call) (length_of call) p × (writable_locations_of g d p ≡ None)
@@ -84,25 +84,25 @@ WhyUnwritten g d below call DamagedTable = NeedsValue g d below call damaged_pla
 WhyUnwritten g d below call Barred = NeedsValue g d below call barred
 WhyUnwritten g d below call fault = ⊥
 
--- each place of the range can be written in the image file, from a place of it on
+-- Each byte of the range can be written in the image file, from `place` on.
 abbrev pub IsWritableAt : Layer → (offset place n : ℕ) → Type 0
 IsWritableAt layer offset place n = (i : ℕ) → i < n → layer.writable_location (offset + i) ≡ Some (0, place + i)
 
--- Whether a range is mapped isn't told where a lookup in it is refused.
+-- It can't be decided whether a range is mapped if a lookup in it fails.
 abbrev pub telling_causes : {S : Type 0} (g : Ghosts S) → Qcow2 S g → Qcow2 S g → Causes
 telling_causes g old new = looking_causes
     ((p : ℕ) × (p < (layer_of g old).size) × ((layer_of g old).cell p ≡ own damaged_place))
     (g.state old.tables.file.image).faults (g.state new.tables.file.image).faults
 
--- A refused write has marked an image as failed, or it was for want of memory, and has left the file as it was. Want of memory marks it
--- where the storage refused a change.
+-- A failed write has set the image to failed, or memory ran out and the file is unchanged. Running out of memory also sets it to failed if
+-- the storage refused a change.
 abbrev pub MarksFailedOnWrite : {S : Type 0} (g : Ghosts S) → Qcow2 S g → Qcow2 S g → Fault → Type 0
 MarksFailedOnWrite g old new Memory =
     ((new.failed ≡ true) × HasRisen (g.state old.tables.file.image).refusals (g.state new.tables.file.image).refusals)
     ⊎ ((new.failed ≡ false) × UnchangedButFaults (g.state old.tables.file.image) (g.state new.tables.file.image))
 MarksFailedOnWrite g old new fault = new.failed ≡ true
 
--- Bytes are written to the image file, from a place on.
+-- Bytes are written to the image file at `place`.
 pub record WritesAt {S : Type 0} (g : Ghosts S) (place : ℕ) (bytes : List ℕ) (old : Qcow2 S g) (result : Result Unit Fault)
     (new : Qcow2 S g) : Type 0 where
   pub put : WriteOutcome (g.state old.tables.file.image) (g.state new.tables.file.image) place bytes result
@@ -115,7 +115,7 @@ pub record WritesAt {S : Type 0} (g : Ghosts S) (place : ℕ) (bytes : List ℕ)
   pub unspent : new.unspent ≡ old.unspent
   pub failed : MatchResult result (λ _. new.failed ≡ false) (MarksFailedOnWrite g old new)
 
--- Want of memory has marked an image as failed only where its storage refused a change.
+-- Running out of memory has set the image to failed only if the storage refused a change.
 abbrev pub OutOfMemoryLeavesUntouched : {S : Type 0} (g : Ghosts S) → Qcow2 S g → Qcow2 S g → Fault → Type 0
 OutOfMemoryLeavesUntouched g old new fault = fault ≡ Memory
     → (new.failed ≡ old.failed) ⊎ HasRisen (g.state old.tables.file.image).refusals (g.state new.tables.file.image).refusals

@@ -1,5 +1,5 @@
-// Clusters are allocated for guest clusters that have none of their own. qemu does so in `handle_alloc`, and imago in
-// `prepare_cow_cluster`. A word is an L1 or L2 entry there.
+// Allocates clusters for guest clusters that can't be written in place. Before that the L1 table is made long enough, and the L2 table is
+// made or copied, so that it isn't shared. Definitions: specs/Allocating.antt.
 ghost use Rattle.std.specs.Prelude.{◌≡◌, ◌<◌, ◌+◌, ◌*◌, ◌/◌, ◌^◌, ℕ, false, None, Some, length, IfSome, IsTrue};
 ghost use Rattle.qcow2_types.specs.Header.{cluster_size};
 ghost use Rattle.qcow2_image.specs.Allocating.{Begins, EnsuresTable, EnsuresEntry, FillsContent, FlushesFreed, FreesPending, IsShownAddressable, LoadsSpace, PlacesContent, StoresContent, StoresMost, TellsKept, TellsShown, failed_by_resource_error, full_by, kept_by, placed_by, shown_of, waits_in};
@@ -24,7 +24,7 @@ use qcow2_metadata::{L1Table, L2Mapping, Table};
 use qcow2_types::{ClusterCount, GuestCluster, HostCluster};
 use std::alloc::Global;
 
-// What a guest cluster shows: zeroes, the layers below, data in a cluster of the file, or what can't be read.
+// The content of a guest cluster: zeroes, the layers below, the data of a cluster of the file, or bytes that can't be read.
 #[derive(Clone, Copy)]
 pub(crate) enum Shown {
     Zeroes,
@@ -33,8 +33,8 @@ pub(crate) enum Shown {
     Barred,
 }
 
-// Where the content of guest clusters in a row is put: the first of host clusters in a row, how many there are, and whether the guest
-// cluster kept that for its zeroes.
+// The location of the data of consecutive guest clusters: the first of `count` consecutive host clusters, and whether it is a preallocated
+// zero cluster.
 #[derive(Clone, Copy)]
 pub(crate) struct Placed {
     pub(crate) host: HostCluster,
@@ -42,23 +42,23 @@ pub(crate) struct Placed {
     pub(crate) is_kept: bool,
 }
 
-// Whether there was no place for what was to be stored.
+// Returns true if no free run was found for what should be stored.
 fn is_full(stored: &Result<HostCluster, Fault>) -> bool
     ensures { result ≡ full_by stored.now }
 {
     matches!(stored, Err(Fault::Limit(_)))
 }
 
-// The first of the clusters in which something was stored. The room for their entry is left to the list, since a prepared mapping may be
+// Returns the first of the clusters in which bytes were stored. The reserved slot stays on the free list, since a prepared mapping may be
 // dropped with its image.
 fn host_of(stored: Result<Stored, Fault>) -> Result<HostCluster, Fault>
     ensures { result ≡ stored }
 {
     let stored = stored?;
-    Ok(stored.leave_room())
+    Ok(stored.leave_slot())
 }
 
-// What was stored in the first of so many clusters that were free.
+// Returns the result of storing in `count` newly allocated clusters.
 fn as_placed(stored: Result<HostCluster, Fault>, count: ClusterCount) -> Result<Placed, Fault>
     ensures { result ≡ placed_by count stored }
 {
@@ -70,7 +70,7 @@ fn as_placed(stored: Result<HostCluster, Fault>, count: ClusterCount) -> Result<
     })
 }
 
-// What a guest cluster shows that is mapped so.
+// Returns where a guest cluster with this mapping is read from.
 fn shown_through(mapping: L2Mapping, backing: bool) -> Shown
     ensures shown { Some result ≡ shown_of backing (mapping_seen mapping) }
     ensures reach { (cluster_bits : ℕ) → IsHostAddressable cluster_bits mapping → IsShownAddressable cluster_bits result }
@@ -83,7 +83,7 @@ fn shown_through(mapping: L2Mapping, backing: bool) -> Shown
     }
 }
 
-// The host cluster that a guest cluster keeps for its zeroes that is mapped so, if it does, as copied.
+// Returns the preallocated zero cluster of a mapping, if it has one with the COPIED flag.
 fn kept_through(mapping: L2Mapping) -> Option<HostCluster>
     ensures kept_host { result ≡ kept_by (mapping_seen mapping) }
     ensures reach { (cluster_bits : ℕ) → IsHostAddressable cluster_bits mapping → IfSome result (IsAddressable cluster_bits) }
@@ -97,7 +97,7 @@ fn kept_through(mapping: L2Mapping) -> Option<HostCluster>
     }
 }
 
-// Has the word at an index of the L1 table name a new L2 table: a copy of the one that it names, or one in which nothing is mapped.
+// Makes the L1 entry at an index reference a new L2 table: a copy of the old one, or an empty table.
 fn new_table<S: Storage>(
     alloc: Global,
     file: &mut ImageFile<S>,
@@ -127,8 +127,8 @@ fn new_table<S: Storage>(
 }
 
 impl<S: Storage> Qcow2<S> {
-    // Answers what a change did, and marks the image as failed behind a storage's fault, and behind want of memory where the change had
-    // begun: it may have left a part then.
+    // Returns the result of a change, after it has set the image to failed if needed. A storage fault always does, and running out of
+    // memory does if the change had begun, as a part may have been done.
     fn mark_change_fault<T>(&mut self, answer: Result<T, Fault>, begun: bool) -> Result<T, Fault>
         ensures same { result ≡ answer }
         ensures marks_failed { self.new ≡ record self.old { failed = failed_by_resource_error answer begun self.old.failed } }
@@ -141,7 +141,7 @@ impl<S: Storage> Qcow2<S> {
         answer
     }
 
-    // What a guest cluster shows.
+    // Returns where a guest cluster is read from.
     pub(crate) fn shown_at(&mut self, guest: GuestCluster) -> Result<Shown, Fault>
         requires fits { let bits = self.old.tables.file.header.fields.cluster_bits in (guest + 1) * 2 ^ bits < 2 ^ 64 + 2 ^ bits }
         requires runs { self.old.failed ≡ false }
@@ -157,7 +157,7 @@ impl<S: Storage> Qcow2<S> {
         }
     }
 
-    // The host cluster that a guest cluster keeps for its zeroes, if it does, as copied.
+    // Returns the preallocated zero cluster of a guest cluster, if it has one with the COPIED flag.
     pub(crate) fn kept_at(&mut self, guest: GuestCluster) -> Result<Option<HostCluster>, Fault>
         requires fits { let bits = self.old.tables.file.header.fields.cluster_bits in (guest + 1) * 2 ^ bits < 2 ^ 64 + 2 ^ bits }
         requires runs { self.old.failed ≡ false }
@@ -173,7 +173,7 @@ impl<S: Storage> Qcow2<S> {
         }
     }
 
-    // The free space is loaded where it isn't known yet.
+    // Loads the free space, if it isn't loaded yet.
     pub(crate) fn load_space(&mut self, alloc: Global) -> Result<(), Fault>
         ensures { LoadsSpace S.Storage self.old result self.new }
     {
@@ -192,7 +192,7 @@ impl<S: Storage> Qcow2<S> {
         }
     }
 
-    // The L1 table has a word at this index then: where it is too short a longer one takes its place.
+    // Ensures that the L1 table has an entry at this index. A table that is too short is replaced by a longer one.
     fn ensure_entry(&mut self, alloc: Global, index: usize, begun: &mut bool) -> Result<(), Fault>
         requires free { self.old.unspent ≡ None }
         ensures raw_entry { EnsuresEntry S.Storage index self.old result self.new }
@@ -217,8 +217,8 @@ impl<S: Storage> Qcow2<S> {
         self.mark_change_fault(longer, *begun)
     }
 
-    // The cluster of the L2 table over a guest cluster for which the L1 table has a word. The table's words may be changed then: one is
-    // made where there is none, and one that may be shared, as its L1 word lacks the copied mark, is replaced by a copy.
+    // Returns the cluster of an L2 table that isn't shared, for a guest cluster that has an L1 entry. A missing table is made. A table that
+    // may be shared, as its L1 entry has no COPIED flag, is replaced by a copy.
     fn own_table(
         &mut self,
         alloc: Global,
@@ -256,8 +256,8 @@ impl<S: Storage> Qcow2<S> {
         self.mark_change_fault(made, *begun)
     }
 
-    // The cluster of the L2 table over a guest cluster, whose words may be changed then. The L1 table is lengthened first where it has no
-    // word for it.
+    // Returns the cluster of a guest cluster's L2 table, which isn't shared afterwards. The L1 table is lengthened first if it has no entry
+    // for the guest cluster.
     pub(crate) fn ensure_table(
         &mut self,
         alloc: Global,
@@ -273,7 +273,7 @@ impl<S: Storage> Qcow2<S> {
         self.own_table(alloc, guest, begun)
     }
 
-    // Stores the content of a guest cluster in the first of host clusters in a row that were free.
+    // Stores the data of a guest cluster in the first of `count` consecutive clusters, which are newly allocated.
     pub(crate) fn store_content(
         &mut self,
         alloc: Global,
@@ -303,7 +303,7 @@ impl<S: Storage> Qcow2<S> {
         host_of(self.mark_change_fault(stored, *begun))
     }
 
-    // Writes the content of a guest cluster to the host cluster that it keeps for its zeroes.
+    // Writes the data of a guest cluster to its preallocated zero cluster.
     fn fill_content(
         &mut self,
         alloc: Global,
@@ -325,7 +325,7 @@ impl<S: Storage> Qcow2<S> {
         self.mark_change_fault(filled, *begun)
     }
 
-    // Stores it in the first of so many, or in one alone where so many can't be had in a row.
+    // Stores the data of a guest cluster in the first of `count` new clusters, or in a single one if no such run is free.
     fn store_most(
         &mut self,
         alloc: Global,
@@ -350,8 +350,8 @@ impl<S: Storage> Qcow2<S> {
         as_placed(stored, count)
     }
 
-    // Puts the content of a guest cluster in the host cluster that it keeps for its zeroes, if it does, or else in the first of host
-    // clusters in a row that were free, so many at most.
+    // Puts the data of a guest cluster in its preallocated zero cluster, if `kept` is given. Otherwise it is stored in the first of at most
+    // `count` consecutive new clusters.
     pub(crate) fn place_content(
         &mut self,
         alloc: Global,
@@ -380,7 +380,7 @@ impl<S: Storage> Qcow2<S> {
         }
     }
 
-    // Whether something waits to be freed.
+    // Returns true if the list of clusters to free isn't empty.
     pub(crate) fn has_pending_frees(&self) -> bool
         ensures { result ≡ waits_in self.now.tables.space }
     {
@@ -390,7 +390,7 @@ impl<S: Storage> Qcow2<S> {
         }
     }
 
-    // What waits to be freed is freed.
+    // Frees the clusters on the free list. A resource error sets the image to failed.
     pub(crate) fn free_pending(&mut self) -> Result<(), Fault>
         ensures { FreesPending S.Storage self.old result self.new }
     {
@@ -405,7 +405,7 @@ impl<S: Storage> Qcow2<S> {
         self.mark_change_fault(freed, true)
     }
 
-    // What waits to be freed is freed, and then the file is flushed. Whatever cuts that off marks the image as failed.
+    // Frees the clusters on the free list, and then flushes the file. A resource error sets the image to failed.
     pub(crate) fn flush_freed(&mut self) -> Result<(), Fault>
         ensures { FlushesFreed S.Storage self.old result self.new }
     {

@@ -1,4 +1,4 @@
-// How qcow2 images are opened, option by option. Whether layers are below it is whether qemu and imago have a backing file.
+// A builder that opens a qcow2 image, with one call for each option.
 ghost use Rattle.std.specs.Prelude.{◌≡◌, ◌↔◌, false, None, Some, IfOk, IfErr, IsOk, IsOkUnless};
 ghost use Rattle.imago_storage.specs.declared.fault.Fault.{Fault};
 ghost use Rattle.imago_access.specs.Building.{IsOpened};
@@ -16,9 +16,9 @@ use imago_access::{
 use imago_storage::{Fault, Storage, StorageOpenOptions};
 use std::alloc::Global;
 
-/// Opens a qcow2 image, as `Qcow2::open_image` does, and refused as there.
+/// A builder that opens a qcow2 image, with the errors of `Qcow2::open_image`.
 ///
-/// No file is asked of the gate: an image whose data is in an external file isn't carried yet, and a backing file is a layer of its own.
+/// It opens no other file. An external data file isn't supported, and a backing file is opened separately, as the next layer of a chain.
 #[derive(Drop)]
 pub struct Qcow2OpenBuilder<S> {
     base: FormatDriverBuilderBase<S>,
@@ -27,7 +27,7 @@ pub struct Qcow2OpenBuilder<S> {
     entries: CacheEntries,
 }
 
-// The builder for an image file, where nothing else is said.
+// Returns the builder for an image file, with the defaults: read-only, number 0, and 128 and 32 cache entries.
 fn builder_for<S: Storage>(image: S) -> Qcow2OpenBuilder<S>
     ensures base { result.base ≡ record { image = image; writable = false; options = None } }
     ensures others { (result.backing ≡ None) × (result.number ≡ 0) }
@@ -42,8 +42,9 @@ fn builder_for<S: Storage>(image: S) -> Qcow2OpenBuilder<S>
 }
 
 impl<S: Storage> Qcow2OpenBuilder<S> {
-    /// Says whether layers are below it: places that no table maps are what these show, and else they are 0. Where nothing is said of that,
-    /// the header says it, by naming a backing file or not.
+    /// Sets whether unallocated bytes are read from a backing file. If not, they are 0.
+    ///
+    /// The default comes from the header: true if it has a backing file name.
     pub fn backing(mut self, backing: bool) -> Self
         ensures { result ≡ record self { backing = Some backing } }
     {
@@ -51,7 +52,7 @@ impl<S: Storage> Qcow2OpenBuilder<S> {
         self
     }
 
-    /// The number of the open image, which no other has; 0 where none is said.
+    /// Sets the number of the open image, 0 by default. No other open image may have the same number.
     pub fn number(mut self, number: u64) -> Self
         ensures { result ≡ record self { number = number } }
     {
@@ -59,8 +60,15 @@ impl<S: Storage> Qcow2OpenBuilder<S> {
         self
     }
 
-    /// How many L2 tables and refcount blocks are kept in memory at most, from 2 to 65,536 of each; 128 and 32 where nothing is said. It
-    /// refuses other numbers with `Fault::BadArgument`, and drops the image file then.
+    /// Sets how many L2 tables and refcount blocks are kept in memory at most. The defaults are 128 and 32.
+    ///
+    /// # Errors
+    ///
+    /// - `Fault::BadArgument` if a number isn't from 2 to 65,536.
+    ///
+    /// # On error
+    ///
+    /// The image file is dropped.
     pub fn cache_entries(mut self, l2_tables: usize, refcount_blocks: usize) -> Result<Self, Fault>
         ensures entries { IfOk result (λ b. (b.entries.l2_tables ≡ l2_tables) × (b.entries.refcount_blocks ≡ refcount_blocks)) }
         ensures others { IfOk result (λ b. (b.base ≡ self.base) × (b.backing ≡ self.backing) × (b.number ≡ self.number)) }
@@ -103,7 +111,7 @@ impl<S: Storage> FormatDriverBuilder<S> for Qcow2OpenBuilder<S> {
         ensures writable { ⟦<Qcow2OpenBuilder<S> as FormatDriverBuilder<S>>⟧.writable_of result ≡ false }
         ensures options { ⟦<Qcow2OpenBuilder<S> as FormatDriverBuilder<S>>⟧.options_of result ≡ None }
         ensures number { ⟦<Qcow2OpenBuilder<S> as FormatDriverBuilder<S>>⟧.number_of result ≡ 0 }
-        // Nothing is said of layers below, and the caches have their usual sizes.
+        // The header decides whether there is a backing file, and the caches have their default sizes.
         ensures backing { result.backing ≡ None }
         ensures entries { (result.entries.l2_tables ≡ 128) × (result.entries.refcount_blocks ≡ 32) }
     {
@@ -130,7 +138,7 @@ impl<S: Storage> FormatDriverBuilder<S> for Qcow2OpenBuilder<S> {
     fn open<G: ImplicitOpenGate<S>>(self, alloc: Global, gate: &mut G) -> Result<Qcow2<S>, Fault>
         ensures ok { IfOk result (⟦<Qcow2OpenBuilder<S> as FormatDriverBuilder<S>>⟧.opens self) }
         ensures err { IfErr result (⟦<Qcow2OpenBuilder<S> as FormatDriverBuilder<S>>⟧.refuses self) }
-        // The gate isn't asked.
+        // The gate, which would open other files, isn't used.
         ensures gate { gate.new ≡ gate.old }
     {
         let Qcow2OpenBuilder {
@@ -154,7 +162,7 @@ impl<S: Storage> FormatDriverBuilder<S> for Qcow2OpenBuilder<S> {
 }
 
 impl<S: Storage> Qcow2<S> {
-    /// Opens an image, option by option.
+    /// Returns a builder that opens an image option by option.
     pub fn builder(image: S) -> Qcow2OpenBuilder<S>
         ensures base { result.base ≡ record { image = image; writable = false; options = None } }
         ensures others { (result.backing ≡ None) × (result.number ≡ 0) }

@@ -1,5 +1,4 @@
-// How many entries the caches of an image have. qemu's options give bytes (`l2-cache-size`, `refcount-cache-size`), and imago's numbers are
-// fixed. A block is imago's refblock.
+// The numbers of L2 tables and refcount blocks that the caches of an image hold.
 ghost use Rattle.std.specs.Prelude.{◌≡◌, ◌≤◌, ◌↔◌, IsOk, IfOk, IsOkUnless};
 ghost use Rattle.std.proofs.Props.{props};
 ghost use Rattle.imago_storage.specs.declared.fault.Fault.{Fault};
@@ -7,7 +6,7 @@ ghost use Rattle.qcow2_image.specs.Caching.{AreCacheSizes};
 
 use imago_storage::Fault;
 
-/// How many L2 tables and refcount blocks are kept in memory at most.
+/// The largest numbers of L2 tables and refcount blocks that are kept in memory.
 #[derive(Drop)]
 pub(crate) struct CacheEntries {
     pub(crate) l2_tables: usize,
@@ -16,7 +15,7 @@ pub(crate) struct CacheEntries {
 }
 
 impl CacheEntries {
-    // 128 tables and 32 blocks.
+    // Returns the default: 128 L2 tables and 32 refcount blocks.
     pub(crate) fn usual() -> Self
         ensures { (result.l2_tables ≡ 128) × (result.refcount_blocks ≡ 32) }
     {
@@ -26,7 +25,7 @@ impl CacheEntries {
         }
     }
 
-    // So many, from 2 to 65,536 of each. It refuses other numbers with `Fault::BadArgument`.
+    // Returns these numbers of entries, each from 2 to 65,536. Any other number is `Fault::BadArgument`.
     pub(crate) fn new(l2_tables: usize, refcount_blocks: usize) -> Result<Self, Fault>
         ensures entries { IfOk result (λ e. (e.l2_tables ≡ l2_tables) × (e.refcount_blocks ≡ refcount_blocks)) }
         ensures ok { IsOk result ↔ AreCacheSizes l2_tables refcount_blocks }

@@ -1,8 +1,8 @@
-// Prepared mappings are committed or given up. A commit links the L2 entries of qemu's `QCowL2Meta`, or maps the clusters of imago's
-// `PreparedDataMapping`.
+// Commits and cancels prepared mappings (runs that are written and not yet committed). A commit links the L2 entries of the guest clusters
+// to their host clusters. Definitions: specs/Committing.antt.
 ghost use Rattle.std.specs.Prelude.{◌≡◌, ◌≤◌, ◌-◌, ◌↔◌, IsTrue};
 ghost use Rattle.qcow2_types.specs.Entries.{l2_entries};
-ghost use Rattle.qcow2_image.specs.Committing.{CancelsUnspent, CommitsUnspent, GivesBack, IsNamable, LinksHost, TakesUnspent, held_after};
+ghost use Rattle.qcow2_image.specs.Committing.{CancelsUnspent, CommitsUnspent, GivesBack, IsLinkable, LinksHost, TakesUnspent, held_after};
 
 use crate::mappings::Reserved;
 use crate::qcow2::{PreparedMappingState, Qcow2};
@@ -17,19 +17,19 @@ use qcow2_types::{
     ClusterCount, ClustersToFreeEntry, GuestCluster, HostCluster, MAX_OFFSET, PendingClusters,
 };
 
-// Whether words can name the clusters, and those of the guest clusters stand in one table.
+// Returns true if L2 entries can reference the host clusters, and the entries of the guest clusters are in one L2 table.
 fn is_linkable(
     host: HostCluster,
     count: ClusterCount,
     guest: GuestCluster,
     cluster_bits: u32,
-    raw_entries: usize,
+    entries: usize,
 ) -> bool
     requires bits { (9 ≤ cluster_bits) × (cluster_bits ≤ 21) }
-    requires raw_entries { raw_entries ≡ l2_entries cluster_bits }
-    ensures { IsTrue result ↔ IsNamable cluster_bits guest host count }
+    requires entries { entries ≡ l2_entries cluster_bits }
+    ensures { IsTrue result ↔ IsLinkable cluster_bits guest host count }
 {
-    let row = raw_entries - guest.l2_index(cluster_bits);
+    let row = entries - guest.l2_index(cluster_bits);
     let most = MAX_OFFSET >> cluster_bits;
     if host.0 == 0 || count.0 == 0 || count.0 > row as u64 || host.0 > most {
         return false;
@@ -37,7 +37,7 @@ fn is_linkable(
     count.0 - 1 <= most - host.0
 }
 
-// Lets the room for one entry go, where any is held. For a cluster that was kept none is.
+// Releases a reserved slot of the free list, if any. A preallocated zero cluster has none.
 fn let_go(to_free: &mut ClustersToFreeList, is_kept: bool)
     ensures entries { to_free.new.entries ≡ to_free.old.entries }
     ensures held { to_free.new.held ≡ held_after is_kept to_free.old.held }
@@ -49,7 +49,7 @@ fn let_go(to_free: &mut ClustersToFreeList, is_kept: bool)
     }
 }
 
-// Has guest clusters in a row name the host clusters that are reserved for them, or that they kept for their zeroes, in their L2 table.
+// Links consecutive guest clusters to their host clusters, in their L2 table. Then it releases the slot of the free list.
 fn link_host<S: Storage>(
     tables: &mut Tables<S>,
     clusters: Reserved,
@@ -58,14 +58,8 @@ fn link_host<S: Storage>(
     ensures { LinksHost S.Storage clusters guest tables.old result tables.new }
 {
     let cluster_bits = tables.file.header.cluster_bits();
-    let raw_entries = tables.file.header.l2_entries();
-    if !is_linkable(
-        clusters.host,
-        clusters.count,
-        guest,
-        cluster_bits,
-        raw_entries,
-    ) {
+    let entries = tables.file.header.l2_entries();
+    if !is_linkable(clusters.host, clusters.count, guest, cluster_bits, entries) {
         return Err(Fault::DamagedTable);
     }
     let Some(mut space) = tables.space.take() else {
@@ -94,8 +88,8 @@ fn link_host<S: Storage>(
     }
 }
 
-// Puts host clusters in a row that nothing is going to name among what waits to be freed, where room is held for that. What was kept stays
-// so.
+// Adds host clusters that no entry references to the free list, if a slot is reserved for them. Otherwise they leak. A preallocated zero
+// cluster stays preallocated.
 fn give_back(space: &mut Option<Space>, host: HostCluster, count: ClusterCount, is_kept: bool)
     ensures { GivesBack is_kept host count space.old space.new }
 {
@@ -112,7 +106,7 @@ fn give_back(space: &mut Option<Space>, host: HostCluster, count: ClusterCount, 
 }
 
 impl<S: Storage> Qcow2<S> {
-    // Takes the prepared mapping out, if it has this state.
+    // Takes the prepared mapping out of the image, if it has this state.
     fn take_unspent(&mut self, state: PreparedMappingState) -> Option<Unspent<S>>
         ensures { TakesUnspent S.Storage state.mapping_id self.old result self.new }
     {
@@ -127,8 +121,8 @@ impl<S: Storage> Qcow2<S> {
         if is_it { self.unspent.take() } else { None }
     }
 
-    // Has the guest clusters of a prepared mapping name their host clusters. Whatever keeps them from that marks the image as failed: a
-    // part may be written.
+    // Links the guest clusters of a prepared mapping to their host clusters. Any error sets the image to failed, as a part may have been
+    // written.
     pub(crate) fn commit_unspent(
         &mut self,
         state: PreparedMappingState,
@@ -155,7 +149,7 @@ impl<S: Storage> Qcow2<S> {
         }
     }
 
-    // Gives a prepared mapping up: its host clusters wait to be freed then, unless the guest clusters keep them for their zeroes.
+    // Cancels a prepared mapping. Its host clusters go to the free list, except a preallocated zero cluster.
     pub(crate) fn cancel_unspent(&mut self, state: PreparedMappingState)
         ensures { CancelsUnspent S.Storage state.mapping_id self.old self.new }
     {

@@ -1,5 +1,4 @@
-// A qcow2 image as the driver of a chain. A driver is qemu's `BlockDriver` and imago's `FormatDriverInstance`. The layer below is the
-// backing of both.
+// The calls of the driver interface (`FormatDriverInstance`) for a qcow2 image, with their contracts.
 ghost use Rattle.std.proofs.Common.{inr};
 ghost use Rattle.std.specs.Prelude.{◌≡◌, ◌<◌, ◌+◌, ◌-◌, ◌/◌, ◌%◌, ◌^◌, min, ◌⊎◌, ⊤, None, Some, List, false, refl, length, IsTrue, IsErr, IsErrOf, IsOk, IsSome, OnOk, IfOk, IfErr};
 ghost use Rattle.std.proofs.lemmas.Nat.{pow_pos};
@@ -139,16 +138,16 @@ impl<S: Storage> FormatDriverInstance for Qcow2<S> {
         ensures marks_failed { IfErr result (MarksFailed ⟦<Qcow2<S> as DriverModel>⟧ self.old self.new) }
         ensures cause { let d = ⟦<Qcow2<S> as DriverModel>⟧ in
             d.coherent self.old → IfErr result (RefusesLookup d offset max_length self.old self.new) }
-        // It is marked as failed behind a storage's fault alone.
+        // Only a storage fault sets the image to failed.
         ensures marked { self.new.failed ≡ failed_after failed_by result self.old.failed }
-        // Its file is as it was, but for counts of faults.
+        // The file is unchanged, except for fault counts.
         ensures reads { let d = ⟦<Qcow2<S> as DriverModel>⟧ in Pairs UnchangedButMoreFaults (files d self.old) (files d self.new) }
-        // It answers the entry of the guest cluster, for as long a run as goes on under one L2 table.
+        // It returns the L2 entry of the guest cluster, and the longest run of consecutive mappings in one L2 table.
         ensures entry { let t = self.old.tables in 0 < max_length → offset < t.file.header.fields.size
             → ⟦<Qcow2<S> as DriverModel>⟧.coherent self.old → IfOk result (λ r. r.0 ≡ answer_at S.Storage t self.old.mode offset) }
         ensures whole { let t = self.old.tables in
             ⟦<Qcow2<S> as DriverModel>⟧.coherent self.old → IfOk result (λ r. IsWholeRunIn S.Storage t offset max_length r.1) }
-        // It leaks nothing.
+        // The call leaks nothing.
         ensures leaks { KeepsLeaks S.Storage self.old self.new }
     {
         if self.failed {
@@ -182,11 +181,11 @@ impl<S: Storage> FormatDriverInstance for Qcow2<S> {
             → OverflowsIn (files d self.old) storage place (length buf.old) → IsErrOf result Fault.RangeOverflow }
         ensures marks_failed { IfErr result (MarksFailed ⟦<Qcow2<S> as DriverModel>⟧ self.old self.new) }
         ensures cause { IfErr result (RefusesRead ⟦<Qcow2<S> as DriverModel>⟧ place (length buf.old) self.old self.new) }
-        // It leaks nothing.
+        // The call leaks nothing.
         ensures leaks { KeepsLeaks S.Storage self.old self.new }
-        // Its file gets no shorter.
+        // The file gets no shorter.
         ensures no_shorter { IsNoShorter (S.state self.old.tables.file.image) (S.state self.new.tables.file.image) }
-        // It is marked as failed behind a storage's fault alone.
+        // Only a storage fault sets the image to failed.
         ensures marked { self.new.failed ≡ failed_after failed_by result self.old.failed }
     {
         if self.failed {
@@ -209,7 +208,7 @@ impl<S: Storage> FormatDriverInstance for Qcow2<S> {
         ensures unusable { (f : _) → unusable_fault (⟦<Qcow2<S> as DriverModel>⟧.layer self.old) ≡ Some f → IsErrOf result f }
         ensures unchanged { IsUnchanged ⟦<Qcow2<S> as DriverModel>⟧ self.old self.new }
         ensures buffer { _buf.new ≡ _buf.old }
-        // It is declined, and changes nothing.
+        // The call is declined, and changes nothing.
         ensures same { self.new ≡ self.old }
     {
         if self.failed {
@@ -234,30 +233,31 @@ impl<S: Storage> FormatDriverInstance for Qcow2<S> {
             length ≡ 0 → IfOk result (λ m. (m ≡ nowhere) × (d.layer self.new ≡ d.layer self.old)) }
         ensures size { let d = ⟦<Qcow2<S> as DriverModel>⟧ in (d.layer self.new).size ≡ (d.layer self.old).size }
         ensures free { IsErr result → IsFree (⟦<Qcow2<S> as DriverModel>⟧.layer self.new) }
-        // A crash during the preparation of a safe image leaves a consistent file that shows the disk as before.
+        // A crash while a well-formed image is prepared leaves a consistent file, whose disk reads as before.
         ensures does { let d = ⟦<Qcow2<S> as DriverModel>⟧ in
             Prepares d B.LayersBelowModel (asking offset length overwrite) result (self.old, below.old) (self.new, below.new) }
         ensures below { LookupCallBelow B.LayersBelowModel (HadNoResourceError result) below.old below.new }
         ensures early_outcome { RangeEarlyOutcome ⟦<Qcow2<S> as DriverModel>⟧ offset length result self.old self.new }
         ensures unread { let d = ⟦<Qcow2<S> as DriverModel>⟧ in
             (length ≡ 0) ⊎ IsSome (own_refusal (d.layer self.old) offset length) → below.new ≡ below.old }
-        // It answers all of the run that can be written, or prepares what lies in the first guest clusters, those behind the first of which
-        // are written as a whole.
+        // It returns the whole run that can be written in place, or prepares the first guest clusters. Those after the first are
+        // overwritten completely.
         ensures whole { let t = self.old.tables in ⟦<Qcow2<S> as DriverModel>⟧.coherent self.old
             → IfOk result (λ m. 0 < length → m.state ≡ None → IsWholeRunIn S.Storage t offset length m.length) }
         ensures part { let asked = asking offset length overwrite in
             IfOk result (λ m. IsSome m.state → IsPartOfRun S.Storage asked m.length self.old) }
-        // Then the file reaches at least the end of the clusters that are held for it.
+        // The file then reaches at least the end of the host clusters of the mapping.
         ensures reaches { IfOk result (λ m. IsSome m.state → ReachesHeld S.Storage self.new) }
-        // It is refused with a limit only where the first place can't be written.
+        // It fails with `Fault::Limit` only if the first byte can't be written in place.
         ensures limit { let d = ⟦<Qcow2<S> as DriverModel>⟧ in
             d.coherent self.old → IfErr result (λ e. (n : _) → e ≡ Limit n → (d.layer self.old).writable_location offset ≡ None) }
-        // Then the L1 table would have more than 2^22 words, or no quarter of the space is free in a row for what the guest cluster
-        // lacks: a word of the L1 table, an L2 table of its own, or a host cluster. The limit tells of either.
+        // With `Fault::Limit`, the L1 table would have more than 2^22 entries, or no free run of a quarter of the space was left. The
+        // clusters were for an L1 entry, an L2 table of the guest cluster's own, or a host cluster. The number of the limit belongs to that
+        // cause.
         ensures full { let t = self.old.tables in
             ⟦<Qcow2<S> as DriverModel>⟧.well_formed self.old → B.LayersBelowModel.coherent_below below.old → IfErr result (λ e. (n : _) → e ≡ Limit n
             → LacksPlace S.Storage (offset / cluster_size t.file.header.fields) t self.new.tables n) }
-        // It leaks nothing: a cluster that it reserves is pending then.
+        // The call leaks nothing: a cluster that it allocates is pending (not yet linked) afterwards.
         ensures leaks { ⟦<Qcow2<S> as DriverModel>⟧.well_formed self.old → HadNoResourceError result → KeepsLeaks S.Storage self.old self.new }
     {
         if self.failed {
@@ -278,14 +278,14 @@ impl<S: Storage> FormatDriverInstance for Qcow2<S> {
         _alloc: Global,
         mapping: PreparedDataMapping<PreparedMappingState>,
     ) -> Result<(), (Fault, Option<PreparedDataMapping<PreparedMappingState>>)>
-        // After success in a safe image each byte of the run reads as what was written there, or as before. The rest of the disk reads as
+        // After success in a well-formed image each byte of the run reads as the written byte, or as before. The rest of the disk reads as
         // before. A byte that was announced to be overwritten, and wasn't, may read as any byte. A crash leaves a consistent file, in which
-        // each byte reads as before or as the commit makes it read.
+        // each byte reads as before or as after the commit.
         ensures commits { Commits ⟦<Qcow2<S> as DriverModel>⟧ mapping.state result self.old self.new }
         ensures refused { CommitRefused ⟦<Qcow2<S> as DriverModel>⟧ mapping result self.old self.new }
-        // It leaks nothing: what it comes to name isn't pending any more, and what was named before is.
+        // The call leaks nothing: the clusters that it links are no longer pending, and the clusters that were linked before are.
         ensures leaks { ⟦<Qcow2<S> as DriverModel>⟧.well_formed self.old → IfErr result (λ e. IsNotResourceError e.0) → KeepsLeaks S.Storage self.old self.new }
-        // Its file gets no shorter, so that no word comes to name what lies past its end.
+        // The file gets no shorter, so no entry references bytes past its end.
         ensures no_shorter { IsNoShorter (S.state self.old.tables.file.image) (S.state self.new.tables.file.image) }
     {
         let storage = mapping.storage();
@@ -318,7 +318,7 @@ impl<S: Storage> FormatDriverInstance for Qcow2<S> {
         mapping: PreparedDataMapping<PreparedMappingState>,
     ) -> Result<(), (Fault, PreparedDataMapping<PreparedMappingState>)>
         ensures cancels { Cancels ⟦<Qcow2<S> as DriverModel>⟧ mapping result self.old self.new }
-        // It leaks nothing: a cluster that was reserved waits to be freed then.
+        // The call leaks nothing: an allocated cluster is on the free list afterwards.
         ensures leaks { ⟦<Qcow2<S> as DriverModel>⟧.well_formed self.old → KeepsLeaks S.Storage self.old self.new }
     {
         let storage = mapping.storage();
@@ -344,19 +344,20 @@ impl<S: Storage> FormatDriverInstance for Qcow2<S> {
         place: u64,
         bytes: &[u8],
     ) -> Result<(), Fault>
-        // After a write into data of a safe image the disk has these bytes. The image stays safe, so its file is consistent. A write into
-        // the prepared run changes no byte of the disk before the commit. A crash leaves a consistent file that shows old or written bytes.
+        // After a write in place in a well-formed image the disk has these bytes. The image stays well-formed, so its file is consistent. A
+        // write to the prepared run changes no byte of the disk before the commit. A crash leaves a consistent file in which each byte is
+        // old or written.
         ensures writes { WritesMapped ⟦<Qcow2<S> as DriverModel>⟧ guest place bytes.now result self.old self.new }
         ensures early_outcome { RangeEarlyOutcome ⟦<Qcow2<S> as DriverModel>⟧ guest (length bytes.now) result self.old self.new }
         ensures refused { WritingRefused ⟦<Qcow2<S> as DriverModel>⟧ guest place (length bytes.now) result self.old self.new }
-        // Want of memory leaves it usable where the storage refused no change.
+        // If memory runs out, the image stays usable, unless the storage refused a change.
         ensures untouched_unless_begun { IfErr result (OutOfMemoryLeavesUntouched S.Storage self.old self.new) }
-        // Its file is as it was, but for these bytes at their place: each of them is there, or what was.
+        // Only these bytes of the file may change: each is new or old.
         ensures file { let s = S.state self.old.tables.file.image in
             IsTrue s.shape.keeps → OldOrNewBytes s.bytes place bytes.now (S.state self.new.tables.file.image).bytes }
-        // It leaks nothing: no cluster comes to be counted, named or pending.
+        // The call leaks nothing: no refcount, reference or pending cluster changes.
         ensures leaks { ⟦<Qcow2<S> as DriverModel>⟧.well_formed self.old → HadNoResourceError result → KeepsLeaks S.Storage self.old self.new }
-        // Its file gets no shorter.
+        // The file gets no shorter.
         ensures no_shorter { IsNoShorter (S.state self.old.tables.file.image) (S.state self.new.tables.file.image) }
     {
         if self.failed {
@@ -386,7 +387,7 @@ impl<S: Storage> FormatDriverInstance for Qcow2<S> {
         ensures does { DoesPart ensures_zero ⟦<Qcow2<S> as DriverModel>⟧ offset length result self.old self.new }
         ensures early_outcome { RangeEarlyOutcome ⟦<Qcow2<S> as DriverModel>⟧ offset length result self.old self.new }
         ensures refused { PartRefused ensures_zero ⟦<Qcow2<S> as DriverModel>⟧ offset length result self.old self.new }
-        // It is declined, and changes nothing.
+        // The call is declined, and changes nothing.
         ensures same { self.new ≡ self.old }
     {
         self.decline(offset, length)
@@ -403,7 +404,7 @@ impl<S: Storage> FormatDriverInstance for Qcow2<S> {
         ensures does { DoesPart discards_to_zero ⟦<Qcow2<S> as DriverModel>⟧ offset length result self.old self.new }
         ensures early_outcome { RangeEarlyOutcome ⟦<Qcow2<S> as DriverModel>⟧ offset length result self.old self.new }
         ensures refused { PartRefused discards_to_zero ⟦<Qcow2<S> as DriverModel>⟧ offset length result self.old self.new }
-        // It is declined, and changes nothing.
+        // The call is declined, and changes nothing.
         ensures same { self.new ≡ self.old }
     {
         self.decline(offset, length)
@@ -420,7 +421,7 @@ impl<S: Storage> FormatDriverInstance for Qcow2<S> {
         ensures does { DoesPart discards_to_any ⟦<Qcow2<S> as DriverModel>⟧ offset length result self.old self.new }
         ensures early_outcome { RangeEarlyOutcome ⟦<Qcow2<S> as DriverModel>⟧ offset length result self.old self.new }
         ensures refused { PartRefused discards_to_any ⟦<Qcow2<S> as DriverModel>⟧ offset length result self.old self.new }
-        // It is declined, and changes nothing.
+        // The call is declined, and changes nothing.
         ensures same { self.new ≡ self.old }
     {
         self.decline(offset, length)
@@ -437,7 +438,7 @@ impl<S: Storage> FormatDriverInstance for Qcow2<S> {
         ensures does { DoesPart discards_to_backing ⟦<Qcow2<S> as DriverModel>⟧ offset length result self.old self.new }
         ensures early_outcome { RangeEarlyOutcome ⟦<Qcow2<S> as DriverModel>⟧ offset length result self.old self.new }
         ensures refused { PartRefused discards_to_backing ⟦<Qcow2<S> as DriverModel>⟧ offset length result self.old self.new }
-        // It is declined, and changes nothing.
+        // The call is declined, and changes nothing.
         ensures same { self.new ≡ self.old }
     {
         self.decline(offset, length)
@@ -450,7 +451,7 @@ impl<S: Storage> FormatDriverInstance for Qcow2<S> {
         ensures has_no_dirty_data { OnOk result (⟦<Qcow2<S> as DriverModel>⟧.has_no_dirty_data self.new) }
         ensures written { let d = ⟦<Qcow2<S> as DriverModel>⟧ in d.well_formed self.old → IsFree (d.layer self.old) → OnOk result (IsWritten d self.new) }
         ensures counted { let d = ⟦<Qcow2<S> as DriverModel>⟧ in d.well_formed self.old → IsFree (d.layer self.old) → OnOk result (IsCounted d self.new) }
-        // A crash during the flush of a safe image leaves a consistent file, also while clusters wait to be freed.
+        // A crash during the flush of a well-formed image leaves a consistent file, also if the free list isn't empty.
         ensures crash_images { let d = ⟦<Qcow2<S> as DriverModel>⟧ in
             d.well_formed self.old → (below : List Layer) → KeepsCrashImages d below GivesNone self.old self.new }
         ensures early_outcome { let d = ⟦<Qcow2<S> as DriverModel>⟧ in EarlyOutcome d (unusable_fault (d.layer self.old)) ⊥ result self.old self.new }
@@ -459,13 +460,13 @@ impl<S: Storage> FormatDriverInstance for Qcow2<S> {
         ensures failed { IfErr result (Fails ⟦<Qcow2<S> as DriverModel>⟧ self.old self.new) }
         ensures marks_failed { IfErr result (MarksFailed ⟦<Qcow2<S> as DriverModel>⟧ self.old self.new) }
         ensures cause { let d = ⟦<Qcow2<S> as DriverModel>⟧ in d.well_formed self.old → IfErr result (RefusesFlush d self.old self.new) }
-        // Where nothing waits to be freed and nothing is prepared, it is marked as failed behind a storage's fault alone.
+        // If the free list is empty and no mapping is prepared, only a storage fault sets the image to failed.
         ensures marked { IsUntouched S.Storage self.old → self.new.failed ≡ failed_after failed_by result self.old.failed }
-        // Where it succeeds nothing waits to be freed any more.
+        // After success the free list is empty.
         ensures freed { OnOk result (waits_in self.new.tables.space ≡ false) }
-        // It leaks nothing: what waited isn't counted any more.
+        // The call leaks nothing: clusters that were on the free list are freed.
         ensures leaks { ⟦<Qcow2<S> as DriverModel>⟧.well_formed self.old → HadNoResourceError result → KeepsLeaks S.Storage self.old self.new }
-        // Its file gets no shorter.
+        // The file gets no shorter.
         ensures no_shorter { IsNoShorter (S.state self.old.tables.file.image) (S.state self.new.tables.file.image) }
     {
         if self.failed {
@@ -488,9 +489,9 @@ impl<S: Storage> FormatDriverInstance for Qcow2<S> {
         ensures mutating_call { MutatingCall ⟦<Qcow2<S> as DriverModel>⟧ (HadNoResourceError result) (HadNoResourceError result) self.old self.new }
         ensures marks_failed { IfErr result (MarksFailed ⟦<Qcow2<S> as DriverModel>⟧ self.old self.new) }
         ensures cause { IfErr result (RefusesFlush ⟦<Qcow2<S> as DriverModel>⟧ self.old self.new) }
-        // It leaks nothing.
+        // The call leaks nothing.
         ensures leaks { KeepsLeaks S.Storage self.old self.new }
-        // It is marked as failed behind a storage's fault alone.
+        // Only a storage fault sets the image to failed.
         ensures marked { self.new.failed ≡ failed_after failed_by result self.old.failed }
     {
         if self.failed {
@@ -511,9 +512,9 @@ impl<S: Storage> FormatDriverInstance for Qcow2<S> {
         ensures failed { IfErr result (λ e. IsStale e → IsTrue (⟦<Qcow2<S> as DriverModel>⟧.layer self.new).failed) }
         ensures marks_failed { IfErr result (MarksFailed ⟦<Qcow2<S> as DriverModel>⟧ self.old self.new) }
         ensures cause { IfErr result (RefusesReload ⟦<Qcow2<S> as DriverModel>⟧ self.old self.new) }
-        // It is marked as failed behind each refusal but want of memory.
+        // Any error but `Fault::Memory` sets the image to failed.
         ensures marked { self.new.failed ≡ failed_after failed_on_reload result self.old.failed }
-        // What is in memory is then what the file says, whatever it was before, and nothing else is cached; a refusal leaves what it was.
+        // After success the tables in memory are those of the file, and nothing else is cached. On error they are unchanged.
         ensures reloads { self.old.failed ≡ false → Reloads S.Storage self.old.mode.writable self.old.tables result self.new.tables }
     {
         if self.failed {
@@ -536,7 +537,7 @@ impl<S: Storage> FormatDriverInstance for Qcow2<S> {
         ensures unread { IsUngrown (⟦<Qcow2<S> as DriverModel>⟧.layer self.old) size → _below.new ≡ _below.old }
         ensures below { LookupCallBelow B.LayersBelowModel (HadNoResourceError result) _below.old _below.new }
         ensures refused { GrowthRefused ⟦<Qcow2<S> as DriverModel>⟧ B.LayersBelowModel size _mode result (self.old, _below.old) (self.new, _below.new) }
-        // It is declined, and changes nothing.
+        // The call is declined, and changes nothing.
         ensures same { self.new ≡ self.old }
     {
         if self.failed {
@@ -553,7 +554,7 @@ impl<S: Storage> FormatDriverInstance for Qcow2<S> {
         ensures resizes { let d = ⟦<Qcow2<S> as DriverModel>⟧ in Resizes d (d.layer self.old).size size result self.old self.new }
         ensures shrinks { Shrinks ⟦<Qcow2<S> as DriverModel>⟧ size result self.old self.new }
         ensures refused { ShrinkRefused ⟦<Qcow2<S> as DriverModel>⟧ size result self.old self.new }
-        // It is declined, and changes nothing.
+        // The call is declined, and changes nothing.
         ensures same { self.new ≡ self.old }
     {
         if self.failed {

@@ -1,4 +1,4 @@
-// The file of a qcow2 image, as it stands. It stands in a storage: qemu's protocol node (`bs->file`), imago's `Storage`.
+// Reads of the bytes of the image file itself, not of the disk. A qcow2 image has one file, number 0.
 ghost use Rattle.std.specs.Prelude.{◌≡◌, ◌≤◌, length, OnOk, IfErr, IsOk, IsErrOf};
 ghost use Rattle.imago_access.specs.FileReads.{FilesRead, FileReadCause};
 ghost use Rattle.imago_access.specs.Files.{AreRead, OverflowsIn, HadNoResourceError, files};
@@ -25,7 +25,7 @@ impl<S: Storage> ReadFiles for Qcow2<S> {
         ensures read { FilesRead ⟦<Qcow2<S> as DriverModel>⟧ (HadNoResourceError result) self.old self.new }
         ensures cause { let d = ⟦<Qcow2<S> as DriverModel>⟧ in let overflows = OverflowsIn (files d self.old) file offset (length buf.old) in
             IfErr result (FileReadCause overflows (files d self.old) (files d self.new)) }
-        // It leaks nothing.
+        // The call leaks nothing.
         ensures leaks { KeepsLeaks S.Storage self.old self.new }
     {
         if file == 0 {

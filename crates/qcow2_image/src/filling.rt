@@ -1,6 +1,5 @@
-// The content of host clusters for guest clusters that have none of their own: what they show, copied from the layers below where these
-// show, and from the file where other guest clusters may share their data. That is copy on write: `perform_cow` in qemu, and
-// `prepare_cow_cluster` in imago. The layers below are the backing of both.
+// Copy on write: makes the bytes of a new host cluster from what its guest cluster reads. The bytes come from the layers below, or from a
+// cluster of the file that other guest clusters may share. Definitions: specs/Filling.antt.
 ghost use Rattle.std.specs.Prelude.{◌≡◌, ◌<◌, ◌≤◌, ◌+◌, ◌-◌, ◌%◌, ℕ, false, length, replicate, slice_index, IfOk, IfErr};
 ghost use Rattle.imago_access.specs.Changes.{asking};
 ghost use Rattle.imago_access.specs.declared.driver_model.LayersBelowModel.{Ghosts as BelowGhosts};
@@ -15,7 +14,7 @@ use imago_storage::{Fault, Storage, StorageExt};
 use qcow2_types::GuestOffset;
 use std::alloc::Global;
 
-// So many zeroes.
+// Returns `count` zeroes.
 fn zeroes(alloc: Global, count: usize) -> Result<Vec<u8>, Fault>
     ensures ok { IfOk result (λ bytes. bytes.items ≡ replicate count 0) }
     ensures err { IfErr result (λ e. e ≡ Fault.Memory) }
@@ -23,8 +22,8 @@ fn zeroes(alloc: Global, count: usize) -> Result<Vec<u8>, Fault>
     Ok(vec![in alloc; 0u8; count]?)
 }
 
-// The part that is copied of the places from one to another: all of them, but for a range that is going to be written where they begin or
-// end.
+// Returns the part of the bytes from `start` to `end` that must be copied. It is all of them, except a range at the start or the end that
+// will be overwritten.
 fn copied_part(start: u64, end: u64, offset: u64, length: u64, overwrite: bool) -> (u64, u64)
     requires low { start ≤ offset }
     requires high { offset + length ≤ end }
@@ -40,7 +39,7 @@ fn copied_part(start: u64, end: u64, offset: u64, length: u64, overwrite: bool) 
 }
 
 impl<S: Storage> Qcow2<S> {
-    // The places of the disk in the guest cluster of one of them: where they begin, and where they end.
+    // Returns the start and the end of the part of the disk that is in the guest cluster of an offset.
     fn first_places(&self, offset: u64) -> (u64, u64)
         requires inside { offset < self.now.tables.file.header.fields.size }
         ensures { result ≡ first_places self.now.tables.file.header.fields offset }
@@ -55,8 +54,8 @@ impl<S: Storage> Qcow2<S> {
         (start, start + count)
     }
 
-    // Reads what the places of a guest cluster show, from one of them on, into zeroes. A storage's fault marks the image as failed, also
-    // one of the layers below.
+    // Reads what the guest reads in a guest cluster, from the offset `first` on, into a buffer of zeroes. A storage fault, also one of the
+    // layers below, sets the image to failed.
     fn read_shown<B: ReadBelow>(
         &mut self,
         alloc: Global,
@@ -88,7 +87,7 @@ impl<S: Storage> Qcow2<S> {
         }
     }
 
-    // Has the content of a guest cluster that begins at a place, zeroes so far, be what the places of a part show.
+    // Copies the guest's bytes of `part` into `content`, which is the whole cluster from `start` on and was all zeroes.
     fn copy_shown<B: ReadBelow>(
         &mut self,
         alloc: Global,
@@ -117,7 +116,7 @@ impl<S: Storage> Qcow2<S> {
         self.read_shown(alloc, below, shown, &mut content[from..to], first)
     }
 
-    // The content of a host cluster for a part of a guest cluster that has none of its own: what that shows.
+    // Returns the bytes of a host cluster for a part of a guest cluster that can't be written in place: what the guest reads there.
     pub(crate) fn content_for<B: ReadBelow>(
         &mut self,
         alloc: Global,

@@ -1,5 +1,5 @@
-//! What the layer of a qcow2 image shows, by the format, and what its calls leak together. The functions do nothing, and their contracts
-//! are what was proved of the definitions. A layer is qemu's node, a place an offset, and what leaks a leaked cluster for qemu and imago.
+//! Laws of a qcow2 image: what its disk reads by the format, and what its calls leak. A law is a function without code, whose contract is a
+//! theorem for users of the definitions.
 
 ghost use Rattle.std.specs.Prelude.{◌≡◌, ◌<◌, ◌+◌, ℕ, List, false, Ok};
 ghost use Rattle.imago_storage.specs.Disk.{Value};
@@ -17,8 +17,10 @@ ghost use Rattle.qcow2_image.specs.Seen.{layer_of};
 
 use imago_storage::Storage;
 
-/// The layer of an image with its data in its file has the size, and shows at each place of its disk, what the format says of that file,
-/// above what is below: where no table maps a place, that is what the layer says of such, or what is below it.
+/// Law: if an image is opened over a file, its disk has the size in the header, and each byte reads as the tables say.
+///
+/// The law on bytes is for images without an external data file. An unallocated byte is read from the layers below (the backing chain), or
+/// is 0 if the image has none.
 pub fn layers_show_what_images_do()
     ensures size { (blank : Cell) (file : List ℕ) → (qcow2_meaning blank file).size ≡ size_in_header (header_of false (bytes_of file)) }
     ensures shown { (blank : Cell) (file : List ℕ) (external : Bytes) (H : Header) (p : ℕ) (below : Value)
@@ -26,9 +28,11 @@ pub fn layers_show_what_images_do()
         → through ((qcow2_meaning blank file).cell p) below ≡ in_qcow2 (bytes_of file) external (Ok H) p (through blank below) }
 {}
 
-/// Calls that keep the leaks of an image keep them together. Where nothing is pending before and behind them, each cluster is counted
-/// beyond what names it as often as it was: a safe image leaks what it did. Nothing is pending right after it was opened, and where
-/// nothing waits to be freed and nothing is prepared.
+/// Law: if each of two successive calls keeps the leaks of an image, the pair keeps them.
+///
+/// Leaks are excess refcounts: refcounts beyond the references and what is pending (allocated and not yet referenced, or on the free list).
+/// If nothing is pending before and after, the excess refcount of each cluster is the same before and after. So a well-formed image leaks
+/// the same clusters. Nothing is pending right after an image is opened, nor while the free list is empty and no mapping is prepared.
 pub fn leaks_add_up<S: Storage>()
     ensures both { (a b c : _) → KeepsLeaks S.Storage a b → KeepsLeaks S.Storage b c → KeepsLeaks S.Storage a c }
     ensures alike { (old new : _) → KeepsLeaks S.Storage old new → ((c : ℕ) → pending S.Storage old c ≡ 0)
@@ -42,8 +46,9 @@ pub fn leaks_add_up<S: Storage>()
     ensures none { (d : _) → waits_in d.tables.space ≡ false → IsFree (layer_of S.Storage d) → (c : ℕ) → pending S.Storage d c ≡ 0 }
 {}
 
-/// Consistent files in which each cluster is counted beyond what names it as often leak the same clusters, as a checker tells it. That is
-/// what a layer's file leaks, behind a flush with nothing prepared (`IsCounted`).
+/// Law: if each cluster has the same excess refcount (refcount minus references) in two consistent files, both leak the same clusters.
+///
+/// The leaks are those that a checker lists. `IsCounted` says what the file of a layer leaks after a flush with no mapping prepared.
 pub fn consistent_files_leak_alike()
     ensures { (one other : List ℕ) (H K : Header) → IsConsistent (bytes_of one) H → IsConsistent (bytes_of other) K
         → ((c : ℕ) → qcow2_leaks other c ≡ qcow2_leaks one c) → leaks (bytes_of other) K.fields ≡ leaks (bytes_of one) H.fields }

@@ -1,5 +1,5 @@
-//! The qcow2 driver: an image file, with its metadata cached, as a layer of a chain. A driver is qemu's `BlockDriver` and imago's
-//! `FormatDriverInstance`, and a layer a node of qemu's backing chain.
+//! The qcow2 driver: an image file with its cached metadata, as a layer of a chain (an image and its backing chain). It reads images of
+//! version 2 and 3, and writes them with copy on write. Terms are explained in docs/GLOSSARY.md.
 #![tactic(auto)]
 
 mod allocating;

@@ -1,5 +1,4 @@
-// Where the bytes of guest clusters are: through the L1 table and the cached L2 tables. A word says it, which is an L2 entry for qemu
-// (`qcow2_get_host_offset`) and imago (`get_mapping`).
+// Finds where the bytes of guest clusters are, by the L1 table and the cached L2 tables. Definitions: specs/Looking.antt.
 ghost use Rattle.std.specs.Prelude.{◌≡◌, ◌+◌, ◌*◌, ◌%◌, ◌^◌, ◌<◌, ◌≤◌};
 ghost use Rattle.qcow2_types.specs.Entries.{l2_entries};
 ghost use Rattle.qcow2_metadata.specs.Tables.{mapping_in};
@@ -14,7 +13,7 @@ use qcow2_alloc::{ImageFile, MetadataCaches};
 use qcow2_metadata::{L1Table, L2Mapping, L2Table, Table};
 use qcow2_types::{GuestCluster, HostCluster};
 
-// The cluster of the L2 table over a guest cluster, if the L1 table names one.
+// Returns the cluster of the L2 table of a guest cluster, if the L1 entry references one.
 pub(crate) fn l2_cluster(
     l1: &L1Table,
     guest: GuestCluster,
@@ -29,7 +28,8 @@ pub(crate) fn l2_cluster(
     }
 }
 
-// How a guest cluster is mapped in a table, and how many from it on, of at most so many, go on from one another.
+// Returns the mapping of a guest cluster in a table, and the length of the run from it, at most `most` clusters. In a run the mappings are
+// consecutive.
 fn mapped_run(table: &L2Table, guest: GuestCluster, most: u64) -> (L2Mapping, u64)
     requires limit_nonzero { 0 < most }
     requires fits { (guest + most) * 2 ^ table.now.layout.cluster_bits < 2 ^ 64 + 2 ^ table.now.layout.cluster_bits }
@@ -49,7 +49,7 @@ fn mapped_run(table: &L2Table, guest: GuestCluster, most: u64) -> (L2Mapping, u6
     (first, most)
 }
 
-// The same in an image of such clusters. A table for clusters of another size is damaged.
+// Like `mapped_run`, but fails with `Fault::DamagedTable` if the table is for another cluster size.
 fn run_of(
     table: &mut L2Table,
     guest: GuestCluster,
@@ -67,7 +67,7 @@ fn run_of(
     }
 }
 
-// The same in the L2 table in a cluster, for which the cache is searched once.
+// Like `run_of`, in the L2 table in this cluster. The cache is searched once.
 fn run_in_table<S: Storage>(
     file: &mut ImageFile<S>,
     caches: &mut MetadataCaches<S>,
@@ -85,7 +85,8 @@ fn run_in_table<S: Storage>(
     run_of(table, guest, most, cluster_bits)
 }
 
-// How a guest cluster is mapped, and how many from it on, of at most so many under one L2 table, go on from one another.
+// Returns the mapping of a guest cluster, and the length of the run from it, at most `most` clusters. All `most` clusters are in one L2
+// table.
 pub(crate) fn look_up<S: Storage>(
     tables: &mut Tables<S>,
     guest: GuestCluster,
@@ -93,7 +94,7 @@ pub(crate) fn look_up<S: Storage>(
 ) -> Result<(L2Mapping, u64), Fault>
     requires limit_nonzero { 0 < most }
     requires fits { let bits = tables.old.file.header.fields.cluster_bits in (guest + most) * 2 ^ bits < 2 ^ 64 + 2 ^ bits }
-    requires one_table { let raw_entries = l2_entries tables.old.file.header.fields.cluster_bits in guest % raw_entries + most ≤ raw_entries }
+    requires one_table { let entries = l2_entries tables.old.file.header.fields.cluster_bits in guest % entries + most ≤ entries }
     ensures { LooksAt S.Storage guest most tables.old result tables.new }
 {
     let cluster_bits = tables.file.header.cluster_bits();

@@ -1,5 +1,5 @@
-// Mappings are prepared for guest clusters whose data is in no host cluster of their own. A prepared mapping is qemu's `QCowL2Meta`, of
-// `qcow2_alloc_host_offset`, and imago's `PreparedDataMapping`, of `prepare_data_mapping`.
+// Prepares mappings for guest clusters that can't be written in place: their new host clusters, and the data of the first one. Definitions:
+// specs/Preparing.antt.
 ghost use Rattle.std.specs.Prelude.{◌≡◌, ◌<◌, ◌≤◌, ◌+◌, ◌-◌, ◌*◌, ◌/◌, ◌%◌, ◌^◌, false, None, length, IfSome};
 ghost use Rattle.imago_access.specs.Changes.{asking};
 ghost use Rattle.qcow2_types.specs.Header.{cluster_size, entries_of_cluster};
@@ -16,8 +16,8 @@ use qcow2_types::{ClusterCount, GuestCluster, GuestOffset, HostCluster};
 use std::alloc::Global;
 use std::snapshot::Snapshot;
 
-// What guest clusters in a row are to be written in: host clusters in a row, from the first on, with the cluster of the L2 table over the
-// guest clusters. Either those kept them for their zeroes, or they are reserved.
+// Consecutive host clusters for consecutive guest clusters, and the cluster of the L2 table of the guest clusters. The host clusters are
+// newly allocated, or, if `is_kept` is set, a preallocated zero cluster.
 #[derive(Clone, Copy)]
 pub(crate) struct Reserved {
     pub(crate) table: HostCluster,
@@ -26,8 +26,8 @@ pub(crate) struct Reserved {
     pub(crate) is_kept: bool,
 }
 
-// How many of a range's guest clusters in a row, from its first on, stand under one L2 table, and are covered whole behind the first. One
-// amid which the disk ends isn't among those: what is behind that end has to be zeroes.
+// Returns how many consecutive guest clusters of a range, from its first on, are in one L2 table and, except the first, are covered
+// completely. After the first, a cluster in which the disk ends isn't counted: its bytes after the end must be zeroes.
 fn most_covered(header: &Header, offset: u64, length: u64) -> u64
     requires inside { offset + length ≤ header.now.fields.size }
     requires nonempty { 0 < length }
@@ -42,7 +42,7 @@ fn most_covered(header: &Header, offset: u64, length: u64) -> u64
 }
 
 impl<S: Storage> Qcow2<S> {
-    // How much of a range lies in the first of its guest clusters, so many of them.
+    // Returns how many bytes of a range are in the first `count` of its guest clusters.
     fn run_in(&self, count: ClusterCount, offset: u64, length: u64) -> u64
         requires within_table { count ≤ entries_of_cluster self.now.tables.file.header.fields }
         requires any { 0 < count }
@@ -53,8 +53,9 @@ impl<S: Storage> Qcow2<S> {
         length.min(all - within)
     }
 
-    // How many guest clusters in a row get host clusters in a row, from that of a range's first place on, which has none of its own: those
-    // behind it are mapped as it is, and are written as a whole.
+    // Returns how many consecutive guest clusters get consecutive host clusters, from the one at `offset` on, which can't be written in
+    // place. The clusters after the first are mapped like the first, and the range covers them completely. Without `overwrite` the answer
+    // is 1.
     fn covered_run(
         &mut self,
         offset: u64,
@@ -82,8 +83,8 @@ impl<S: Storage> Qcow2<S> {
         }
     }
 
-    // Has host clusters in a row for guest clusters in a row, so many at most, the first one with this content, under an L2 table: the one
-    // that the first keeps for its zeroes, if it does, or else such that are reserved.
+    // Provides host clusters for at most `count` consecutive guest clusters, and puts `content` in the first. If `kept` is given, it is
+    // that preallocated zero cluster. Otherwise clusters are allocated. Afterwards the L2 table of the guest clusters isn't shared.
     fn reserve(
         &mut self,
         alloc: Global,
@@ -95,11 +96,11 @@ impl<S: Storage> Qcow2<S> {
         requires whole { length content.now ≡ cluster_size self.old.tables.file.header.fields }
         requires host_addressable { IfSome kept (λ host. IsAddressable self.old.tables.file.header.fields.cluster_bits host) }
         requires any { 0 < count }
-        requires row { let raw_entries = entries_of_cluster self.old.tables.file.header.fields in guest % raw_entries + count ≤ raw_entries }
+        requires row { let entries = entries_of_cluster self.old.tables.file.header.fields in guest % entries + count ≤ entries }
         requires free { self.old.unspent ≡ None }
         ensures { Reserves S.Storage guest kept count content.now self.old result self.new }
     {
-        // That the free space is known now is the first change, if it wasn't.
+        // Loading the free space counts as the first change.
         let mut begun = self.tables.space.is_none();
         self.load_space(alloc)?;
         let table = self.ensure_table(alloc, guest, &mut begun)?;
@@ -112,9 +113,8 @@ impl<S: Storage> Qcow2<S> {
         })
     }
 
-    // Prepares a mapping of what lies in so many guest clusters in a row at most, from that of a range's first place on, whose data is in
-    // no clusters of their own: the host cluster that the first keeps for its zeroes, or such that are reserved. The first has what is
-    // shown there.
+    // Prepares a mapping for the part of a range in its first `count` guest clusters at most, which can't be written in place. The first
+    // host cluster gets the data that its guest cluster reads, except what the range overwrites.
     fn prepare_run<B: ReadBelow>(
         &mut self,
         alloc: Global,
@@ -144,7 +144,7 @@ impl<S: Storage> Qcow2<S> {
         Ok(self.hold(clusters, offset, run, overwrite))
     }
 
-    // The same, of as many as can be had at once.
+    // Like `prepare_run`, for as many guest clusters as `covered_run` finds.
     pub(crate) fn prepare_fresh<B: ReadBelow>(
         &mut self,
         alloc: Global,
@@ -164,7 +164,7 @@ impl<S: Storage> Qcow2<S> {
         self.prepare_run(alloc, below, offset, length, overwrite, count)
     }
 
-    // Keeps what was reserved as the mapping that is prepared.
+    // Stores the host clusters as the prepared mapping of the image, with a new ID.
     fn hold(
         &mut self,
         clusters: Reserved,

@@ -1,6 +1,6 @@
-// How an image was opened. For writing is `BDRV_O_RDWR` for qemu, and `writable` for imago. A layer below is the backing of both.
+// The mode in which an image was opened.
 
-/// For reading alone or also for writing, and over layers or not.
+/// The mode in which an image was opened: read-only or also for writing, and with or without a backing file to read unallocated bytes from.
 #[derive(Clone, Copy, Drop)]
 pub struct OpenMode {
     pub(crate) writable: bool,

@@ -1,5 +1,4 @@
-// What is written of a prepared mapping, and where its run lies. The mapping is qemu's `QCowL2Meta`, and imago's `PreparedDataMapping`. A
-// place is an offset.
+// Notes which ranges of a prepared mapping were written, and finds the bytes of its run in the image file.
 ghost use Rattle.std.specs.Prelude.{◌≡◌, ◌≤◌, ◌+◌, ◌^◌, ◌||◌, ℕ, Some, IfSome, false};
 ghost use Rattle.qcow2_image.specs.Holding.{HoldsRun};
 ghost use Rattle.qcow2_image.specs.Unspent.{covers, here, prepared_mapping_run};
@@ -9,7 +8,7 @@ use imago_storage::Storage;
 use std::snapshot::Snapshot;
 
 impl Writes {
-    // Nothing was written.
+    // Returns an empty list of ranges.
     pub(crate) fn none() -> Writes
         ensures { (p : ℕ) → covers result p ≡ false }
     {
@@ -20,7 +19,7 @@ impl Writes {
         }
     }
 
-    // Notes a range that is written.
+    // Notes that a range was written.
     pub(crate) fn note(&mut self, at: u64, length: u64)
         ensures { (p : ℕ) → covers self.new p ≡ (here at length p || covers self.old p) }
     {
@@ -34,7 +33,8 @@ impl Writes {
 }
 
 impl<S: Storage> Unspent<S> {
-    // Where a place of the run lies in the file, and how much of the run goes on from it, up to so many bytes.
+    // Returns the offset in the image file of a byte of the prepared run, and the length of the run from there, at most `most` bytes.
+    // Returns `None` if the byte isn't in the run.
     pub(crate) fn run_from(&self, offset: u64, most: u64) -> Option<(u64, u64)>
         ensures run { HoldsRun (Some (prepared_mapping_run S.Storage self.now)) offset most result }
         ensures end_bounded { IfSome result (λ r. r.0 + r.1 ≤ 2 ^ 60) }

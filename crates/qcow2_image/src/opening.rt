@@ -1,5 +1,5 @@
-// How the metadata of an image is opened: its header, its L1 table, its refcount table where it is to be written, and caches of which
-// nothing is filled. qemu opens it in `qcow2_do_open`, and imago in `do_open`. Layers below are the backing of both.
+// Opens the metadata of an image: its header, its L1 table, and empty caches. If the image is opened for writing, its refcount table is
+// loaded too. Definitions: specs/Opening.antt.
 ghost use Rattle.std.specs.Prelude.{◌≡◌, ◌≢◌, true, false, None, Ok, OnOk, IfOk, IfErr, IsTrue, length};
 ghost use Rattle.imago_storage.specs.Calls.{CountsFaults, UnchangedButFaults};
 ghost use Rattle.imago_storage.specs.declared.fault.Fault.TheVariants.{DamagedTable};
@@ -24,7 +24,7 @@ use qcow2_metadata::{Header, L1Table, Table};
 use qcow2_types::{MAGIC, OnDiskStruct, V2Header};
 use std::alloc::Global;
 
-// The header of an image that is to be read, or also written, with its data in this file.
+// Loads the header of an image that is opened read-only or for writing. An external data file is `Fault::Unsupported`.
 pub(crate) fn load_header<S: Storage>(
     alloc: Global,
     image: &mut S,
@@ -44,7 +44,7 @@ pub(crate) fn load_header<S: Storage>(
     Ok(header)
 }
 
-// The L1 table of an image with this header.
+// Loads the L1 table of an image with this header.
 pub(crate) fn load_l1<S: Storage>(
     alloc: Global,
     image: &mut S,
@@ -62,7 +62,7 @@ pub(crate) fn load_l1<S: Storage>(
     L1Table::load(alloc, image, header, cluster, header.l1_table_entries())
 }
 
-// Both of them. Nothing but reads is asked of the storage.
+// Loads the header and the L1 table. The storage only gets reads.
 fn load_metadata<S: Storage>(
     alloc: Global,
     image: &mut S,
@@ -80,8 +80,8 @@ fn load_metadata<S: Storage>(
     Ok((header, l1))
 }
 
-// The free space of an image with this header that is to be written; of another nothing is known. Nothing but reads is asked of the
-// storage.
+// Loads the free space of an image that is opened for writing, by this header. Returns `None` for a read-only image. The storage only gets
+// reads.
 pub(crate) fn load_free_space<S: Storage>(
     alloc: Global,
     file: &mut ImageFile<S>,
@@ -104,7 +104,7 @@ pub(crate) fn load_free_space<S: Storage>(
     Ok(Some(space))
 }
 
-// Opens the metadata of an image, with caches of so many entries.
+// Opens the metadata of an image, with caches for these numbers of entries.
 fn open_tables<S: Storage>(
     alloc: Global,
     mut image: S,
@@ -126,8 +126,8 @@ fn open_tables<S: Storage>(
     })
 }
 
-// Opens an image for reading, or also for writing, with this number. Places that no table maps are what layers below show, or else 0, as
-// `backing` says, and where it says nothing as the header does, by naming a backing file.
+// Opens an image with this number, read-only or for writing. If `backing` is `None`, unallocated bytes are read from a backing file if the
+// header has a backing file name.
 pub(crate) fn open_with<S: Storage>(
     alloc: Global,
     image: S,
@@ -155,7 +155,7 @@ pub(crate) fn open_with<S: Storage>(
     })
 }
 
-// Whether an image begins with these bytes.
+// Returns true if these 72 bytes start with the magic number and version 2 or 3.
 fn begins_image(start: &[u8]) -> bool
     requires { length start.now ≡ 72 }
     ensures { result ≡ is_qcow2 (bytes_of start.now) }
@@ -165,34 +165,43 @@ fn begins_image(start: &[u8]) -> bool
 }
 
 impl<S: Storage> Qcow2<S> {
-    /// Opens an image for reading, or also for writing, with the number 0 and caches of 128 L2 tables and 32 refcount blocks. Layers are
-    /// below where its header names a backing file.
+    /// Opens an image, read-only or for writing.
     ///
-    /// It reads the header and the L1 table, to be written also the refcount table, and nothing else is asked of the storage. It is
-    /// refused, and the storage dropped then:
+    /// It gets the number 0, and caches for 128 L2 tables and 32 refcount blocks. If its header has a backing file name, unallocated bytes
+    /// are read from the layers below (the backing chain). The call reads the header and the L1 table, and for writing also the refcount
+    /// table. It makes no other request.
     ///
-    /// - by the first of the header's rules that the file breaks, as `Header::load` has them: with `Fault::DamagedHeader`,
-    ///   `Fault::Unsupported` or `Fault::Limit`; to be written it may have neither the dirty nor the corrupt bit, nor any autoclear bit,
-    ///   nor a backing file's name in its first 64 bytes;
-    /// - with `Fault::Unsupported` where the data is in an external file, which isn't carried yet;
-    /// - with `Fault::DamagedTable` where a word of the L1 table has no meaning, or, to be written, one of the refcount table;
-    /// - with `Fault::Memory`, and with `Fault::Storage` where the storage may fail.
+    /// L2 tables and refcount blocks aren't checked here. An offset below a damaged L2 table fails when it is looked up.
     ///
-    /// What L2 tables and refcount blocks say doesn't matter here: a place under a damaged table is refused when it is looked up.
+    /// # Errors
+    ///
+    /// - `Fault::DamagedHeader`, `Fault::Unsupported` or `Fault::Limit` for the first rule of `Header::load` that the header breaks. For
+    ///   writing, the dirty bit, the corrupt bit and all autoclear bits must be 0. The name of the backing file must then not start in
+    ///   the first 64 bytes.
+    /// - `Fault::Unsupported` if the data is in an external file.
+    /// - `Fault::DamagedTable` if an L1 entry isn't valid, or, for writing, a refcount table entry.
+    /// - `Fault::Memory` if memory runs out.
+    /// - `Fault::Storage` if the storage fails.
+    ///
+    /// # On error
+    ///
+    /// The storage is dropped.
     pub fn open_image(alloc: Global, image: S, writable: bool) -> Result<Self, Fault>
         ensures ok { IfOk result (IsOpenedAs S.Storage (S.state image) writable None 0 128 32) }
-        // As a driver it shows what the file means, and where the file is a consistent image it is safe.
+        // The opened disk reads as the file says. The image is well-formed if the file is consistent.
         ensures seen { IfOk result (IsOpened ⟦<Qcow2<S> as DriverModel>⟧ format.Qcow2 writable 0 (S.state image)) }
-        // What opens begins as an image does.
+        // A file that opens has the magic number, and version 2 or 3.
         ensures begins { OnOk result (IsTrue (is_qcow2 (file (S.state image)))) }
         ensures err { IfErr result (WhyNotOpened S.state writable (file (S.state image))) }
     {
         open_with(alloc, image, writable, None, 0, CacheEntries::usual())
     }
 
-    /// Whether a storage begins as an image does: with the magic number, and version 2 or 3.
+    /// Returns true if a storage starts with the magic number, and version 2 or 3.
     ///
-    /// It refuses with `Fault::Memory` and `Fault::Storage`.
+    /// # Errors
+    ///
+    /// - `Fault::Memory`, `Fault::Storage`.
     pub fn probe(alloc: Global, image: &mut S) -> Result<bool, Fault>
         ensures ok { IfOk result (λ is. is ≡ is_qcow2 (file (S.state image.old))) }
         ensures unchanged_but_faults { UnchangedButFaults (S.state image.old) (S.state image.new) }

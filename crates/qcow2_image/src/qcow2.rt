@@ -1,5 +1,5 @@
-// A qcow2 image as a driver. A driver is qemu's `BlockDriver` and imago's `FormatDriverInstance`. A prepared mapping is `QCowL2Meta`, or
-// `PreparedDataMapping`.
+// The type of an open qcow2 image, and the model by which contracts describe it (`DriverModel`). Its calls are in `drivers.rt`, and the
+// definitions in specs/ImageLayer.antt and specs/Rooms.antt.
 ghost use Rattle.std.specs.Prelude.{◌≡◌, ◌==◌, ⊤, List, [], Some, None};
 ghost use Rattle.std.specs.Option.{option_copied};
 ghost use Rattle.imago_storage.specs.Steps.{Call};
@@ -25,28 +25,30 @@ use imago_storage::Storage;
 use qcow2_alloc::ImageFile;
 use std::fmt::{self, Debug, Display, Formatter, Write};
 
-/// What an image keeps of a mapping that it has prepared.
+/// The state of a prepared mapping (a run that is written and not yet committed). It can't be dropped: commit or cancel the mapping, or
+/// call `give_up`.
 pub struct PreparedMappingState {
     pub(crate) number: u64,
     pub(crate) mapping_id: u64,
 }
 
 impl PreparedMappingState {
-    /// The number of the image that has prepared the mapping.
+    /// Returns the number of the image that has prepared the mapping.
     pub fn number(&self) -> u64
         ensures { result ≡ self.now.number }
     {
         self.number
     }
 
-    /// Whether it is of a mapping that an image with the number of this one has prepared.
+    /// Returns true if an image with the number of `image` has prepared the mapping.
     pub fn belongs_to<S: Storage>(&self, image: &Qcow2<S>) -> bool
         ensures { result ≡ (self.now.number == image.now.number) }
     {
         self.number == image.number
     }
 
-    /// Lets go of it. That is for a state that no image holds: one that is let go so leaves its image prepared for good.
+    /// Discards the state. Use it only if no image has the mapping prepared any more: otherwise that image can neither commit nor cancel
+    /// it.
     pub fn give_up(self) {
         let PreparedMappingState {
             number: _number,
@@ -55,21 +57,32 @@ impl PreparedMappingState {
     }
 }
 
-/// A qcow2 image: each place of the disk is what the tables of its file say of it.
+/// A qcow2 image. Its disk reads as the tables of its file say.
 ///
-/// Its one storage, the image file, has the number 0. In a call of the disk, a fault of that storage marks it as failed, and so do a
-/// refused commit that has spent its mapping, and a header or tables that can't be read anew, but for want of memory. Want of memory marks
-/// it once a call has begun to change it or its file, and leaves all as it was before. A read of its file as it stands marks nothing.
+/// Its only storage is the image file, with the number 0. Bytes of the disk are in this file, in the layers below (the backing chain), or
+/// zeroes.
 ///
-/// One that was opened for writing is written where a place has data in a host cluster of its own, which its L2 entry marks as copied:
-/// bytes go there at once, and no table changes. Where a guest cluster has none of its own, a cluster is allocated: it is reserved, filled
-/// with what the guest cluster shows, which is copied from the layers below where they do, or from data that isn't marked as copied, as
-/// others may share it (copy on write), then written, and named by the L2 entry as the mapping is committed. What the entry named before,
-/// for data, for zeroes or compressed, and what was reserved and is given up, waits for the next allocation or flush, which counts it down.
-/// A cluster that is kept for zeroes, and marked as copied, is filled and written in the place of one that is allocated, and stays kept
-/// where that is given up. An L1 table that has no word for the guest cluster is replaced by a longer one before.
-/// A compressed cluster is written only as a whole. Zeroing and discards are declined (a chain writes zeroes then, where it may), and the
-/// size stays.
+/// A write goes in place if the L2 entry of the guest cluster is data with the COPIED flag: no table changes. Otherwise a mapping is
+/// prepared: a cluster is allocated and filled with what the guest reads (copy on write). The data comes from the layers below, or from a
+/// cluster without the COPIED flag, which others may share. Then the bytes are written, and the commit of the mapping links the L2 entry to
+/// the new cluster.
+///
+/// A preallocated zero cluster with the COPIED flag is filled and linked instead of a new cluster. It stays preallocated if the mapping is
+/// cancelled. If the L1 table has no entry for the guest cluster, it is first replaced by a longer table.
+///
+/// A cluster that the L2 entry referenced before goes to the free list, and so does a new cluster whose mapping is cancelled. The next
+/// allocation or flush frees them.
+///
+/// A compressed cluster is only written as a whole. Zeroing and discards are declined; a chain then writes zeroes if it may. Resizes fail.
+///
+/// # On error
+///
+/// These set the image to failed, and it must be opened again:
+///
+/// - a storage fault in a call of the disk; a read of the file by `read_file` isn't such a call;
+/// - a commit that fails after it has taken the mapping;
+/// - a reload (`invalidate_cache`) that fails for any cause but `Fault::Memory`;
+/// - `Fault::Memory` once a call has begun to change the image or its file. Before that, running out of memory changes nothing.
 #[derive(Drop)]
 pub struct Qcow2<S: Storage> {
     pub(crate) tables: Tables<S>,
@@ -121,30 +134,35 @@ impl<S: Storage> DriverModel for Qcow2<S> {
 }
 
 impl<S: Storage> Qcow2<S> {
-    /// Whether it has failed: after a fault of a storage in a call of the disk, a refused commit that has spent its mapping, a header or
-    /// tables that couldn't be read anew, but for want of memory, or a change that want of memory cut off once it had begun, it has to be
-    /// opened again.
+    /// Returns true if the image has failed. It must then be opened again before it is used.
+    ///
+    /// The image fails in each of these cases:
+    ///
+    /// - A call of the disk has a storage fault.
+    /// - A commit fails after it has taken its mapping.
+    /// - A reload fails for any cause but `Fault::Memory`.
+    /// - Memory runs out after a call has begun to change the image.
     pub fn failed(&self) -> bool
         ensures { result ≡ (⟦<Qcow2<S> as DriverModel>⟧.layer self.now).failed }
     {
         self.failed
     }
 
-    /// Whether layers are below it: places that no table maps are what these show, and else they are 0.
+    /// Returns true if unallocated bytes are read from a backing file. Otherwise they are 0.
     pub fn backing(&self) -> bool
         ensures { result ≡ self.now.mode.backing }
     {
         self.mode.backing
     }
 
-    /// The image file.
+    /// Returns the image file.
     pub fn image(&self) -> &S
         ensures { result.now ≡ self.now.tables.file.image }
     {
         &self.tables.file.image
     }
 
-    /// The image file, to be changed. What is in memory of its tables stays as it was read.
+    /// Returns the image file for changes. After a change, the tables in memory aren't reloaded.
     pub fn image_mut(&mut self) -> &mut S
         ensures* lends { sem 𝓛 (Lends (the_row S.row S.Storage) S.row self.entry result (λ w. with_image self.entry.now w)) }
         ensures value { result.now ≡ self.old.tables.file.image }
@@ -154,21 +172,27 @@ impl<S: Storage> Qcow2<S> {
         &mut file.image
     }
 
-    /// How many further files it has: none.
+    /// Returns the number of files besides the image file that the image has open, which is 0.
     pub fn extras(&self) -> usize
         ensures { result ≡ 0 }
     {
         0
     }
 
-    /// The name of one of them: no text, as there is none.
+    /// Returns the name of a file besides the image file. The text is empty, as the image has none.
     pub fn extra_name(&self, _i: usize) -> &str
         ensures { result.now ≡ [] }
     {
         ""
     }
 
-    /// The image file again. Nothing may be prepared. What waits to be freed stays counted: flush before.
+    /// Returns the image file, and drops the rest of the image.
+    ///
+    /// Clusters on the free list keep their refcount, so they leak. Flush first to free them.
+    ///
+    /// # Preconditions
+    ///
+    /// No mapping is prepared.
     pub fn into_image(self) -> S
         requires free { IsFree (⟦<Qcow2<S> as DriverModel>⟧.layer self) }
         ensures { result ≡ self.tables.file.image }
@@ -184,36 +208,39 @@ impl<S: Storage> Qcow2<S> {
         into_file(tables)
     }
 
-    /// Whether the data is in an external file.
+    /// Returns true if the data is in an external file.
     pub fn requires_external_data_file(&self) -> bool
         ensures { result ≡ has_external_data self.now.tables.file.header.fields }
     {
         self.tables.file.header.external_data_file()
     }
 
-    /// The name of the external data file, where the header gives one.
+    /// Returns the name of the external data file, if the header has one.
     pub fn implicit_external_data_file(&self) -> Option<&str>
         ensures { option_copied result ≡ self.now.tables.file.header.data_file_name }
     {
         self.tables.file.header.external_data_filename()
     }
 
-    /// The name of the backing file, where the header gives one.
+    /// Returns the name of the backing file, if the header has one.
     pub fn implicit_backing_file(&self) -> Option<&str>
         ensures { option_copied result ≡ self.now.tables.file.header.backing_name }
     {
         self.tables.file.header.backing_filename()
     }
 
-    /// The format of the backing file, where the header names one.
+    /// Returns the format of the backing file, if the header has one.
     pub fn implicit_backing_format(&self) -> Option<&str>
         ensures { option_copied result ≡ self.now.tables.file.header.backing_format }
     {
         self.tables.file.header.backing_format()
     }
 
-    /// Says whether layers are below it: places that no table maps are what these show, and else they are 0. Nothing may be prepared: a
-    /// prepared cluster has what its places showed before.
+    /// Sets whether unallocated bytes are read from a backing file. If not, they are 0.
+    ///
+    /// # Preconditions
+    ///
+    /// No mapping is prepared: a prepared cluster has the bytes that the guest read before.
     pub fn set_backing(&mut self, backing: bool)
         requires free { IsFree (⟦<Qcow2<S> as DriverModel>⟧.layer self.old) }
         ensures { self.new ≡ record self.old { mode = record self.old.mode { backing = backing } } }
@@ -222,7 +249,7 @@ impl<S: Storage> Qcow2<S> {
     }
 }
 
-// The image file of these tables.
+// Returns the image file of these tables.
 fn into_file<S: Storage>(tables: Tables<S>) -> S
     ensures { result ≡ tables.file.image }
 {

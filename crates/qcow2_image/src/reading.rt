@@ -1,5 +1,4 @@
-// What a qcow2 image reads of its tables: where places lie, and all of it anew. A place is an offset for qemu (`qcow2_get_host_offset`) and
-// imago (`get_mapping`).
+// Looks up bytes of the disk in the tables. Also has the rules by which an error sets the image to failed.
 ghost use Rattle.std.specs.Prelude.{◌≡◌, ◌<◌, ◌≤◌, ◌+◌, ◌*◌, ◌^◌, ◌/◌, ◌%◌, ◌-◌, IfOk, IfErr, min, false};
 ghost use Rattle.imago_access.specs.Files.{HadNoResourceError};
 ghost use Rattle.imago_access.specs.Failing.{Fails, RefusesLookup};
@@ -19,7 +18,7 @@ use imago_storage::{Fault, Storage};
 use qcow2_metadata::L2Mapping;
 use qcow2_types::GuestOffset;
 
-// How a lookup answers a mapping, at an offset that lies so far within its cluster.
+// Returns the answer of a lookup for a mapping, at `offset`, which is `within` bytes after the start of its cluster.
 fn shallow(
     mapping: L2Mapping,
     mode: OpenMode,
@@ -56,7 +55,7 @@ fn shallow(
     }
 }
 
-// How many clusters a range meets that begins so far within its first cluster.
+// Returns the number of clusters of a range that starts `within` bytes after the start of its first cluster.
 fn clusters_met(within: u64, length: u64, cluster_bits: u32) -> u64
     requires bits { (9 ≤ cluster_bits) × (cluster_bits ≤ 21) }
     requires nonempty { 0 < length }
@@ -66,7 +65,8 @@ fn clusters_met(within: u64, length: u64, cluster_bits: u32) -> u64
     (within + (length - 1) >> cluster_bits) + 1
 }
 
-// How much of a range that begins so far within its first cluster lies in so many clusters.
+// Returns how many bytes of a range are in its first `count` clusters. The range starts `within` bytes after the start of its first
+// cluster.
 fn bytes_met(count: u64, within: u64, length: u64, cluster_bits: u32) -> u64
     requires bits { (9 ≤ cluster_bits) × (cluster_bits ≤ 21) }
     requires within { within ≤ count * 2 ^ cluster_bits }
@@ -77,7 +77,7 @@ fn bytes_met(count: u64, within: u64, length: u64, cluster_bits: u32) -> u64
 }
 
 impl<S: Storage> Qcow2<S> {
-    // Marks it as failed behind a storage's fault.
+    // Sets the image to failed if the error is a storage fault.
     pub(crate) fn mark(&mut self, fault: Fault)
         ensures { self.new ≡ record self.old { failed = failed_by fault self.old.failed } }
     {
@@ -86,7 +86,7 @@ impl<S: Storage> Qcow2<S> {
         }
     }
 
-    // Answers what a storage did, and marks it as failed behind its fault.
+    // Returns the result of a call of a storage, after `mark` for its error.
     pub(crate) fn mark_fault(&mut self, answer: Result<(), Fault>) -> Result<(), Fault>
         ensures same { result ≡ answer }
         ensures marks_failed { self.new ≡ record self.old { failed = failed_after failed_by answer self.old.failed } }
@@ -100,7 +100,7 @@ impl<S: Storage> Qcow2<S> {
         }
     }
 
-    // The same of what reading all anew did: all but want of memory marks it.
+    // Like `mark_fault`, for a reload: any error other than `Fault::Memory` sets the image to failed.
     pub(crate) fn mark_reload_fault(&mut self, answer: Result<(), Fault>) -> Result<(), Fault>
         ensures same { result ≡ answer }
         ensures marks_failed { self.new ≡ record self.old { failed = failed_after failed_on_reload answer self.old.failed } }
@@ -116,7 +116,8 @@ impl<S: Storage> Qcow2<S> {
         }
     }
 
-    // The run from an offset on, within one L2 table.
+    // Returns the mapping at an offset, and the length of its run in bytes, at most `max_length`. The run ends at the end of its L2 table
+    // or of the disk, at the latest.
     pub(crate) fn run_from(
         &mut self,
         offset: u64,

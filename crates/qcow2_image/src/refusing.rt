@@ -1,5 +1,4 @@
-// Why calls that change a qcow2 image are refused before anything is done. What is declined is answered with `-ENOTSUP` by qemu, and with
-// `ErrorKind::Unsupported` by imago.
+// The errors of calls that change an image and fail before anything is done. Zeroing, discards and resizes are declined here.
 ghost use Rattle.std.specs.Prelude.{◌≡◌, ◌<◌, ◌≤◌, ◌+◌, ◌^◌, if◌then◌else◌, false, Some, None, List, IsTrue, IfOk, IfErr, IsOk, OnOk, IsErrOf};
 ghost use Rattle.imago_storage.specs.State.{StorageState};
 ghost use Rattle.imago_storage.specs.Steps.{Call};
@@ -14,7 +13,7 @@ use imago_access::{DriverModel, FormatDriverInstance, check_commit, check_range}
 use imago_storage::{Fault, Storage, larger_alignment};
 
 impl<S: Storage> Qcow2<S> {
-    // Why a change of a range that isn't empty is refused before anything is done.
+    // Checks a change of a range that isn't empty. The error is `Fault::Failed`, or that of `check_range`.
     pub(crate) fn check_change(&self, offset: u64, length: u64) -> Result<(), Fault>
         requires { 0 < length }
         ensures ok { let d = ⟦<Qcow2<S> as DriverModel>⟧ in OnOk result (own_refusal (d.layer self.now) offset length ≡ None) }
@@ -33,7 +32,7 @@ impl<S: Storage> Qcow2<S> {
         check_range(self.mode.writable, unit as u64, size, offset, length)
     }
 
-    // Declines to zero or to discard a range. One of no bytes is done.
+    // Declines to zero or to discard a range with `Fault::Unsupported`, after the checks of any change. An empty range succeeds.
     pub(crate) fn decline(&self, offset: u64, length: u64) -> Result<(u64, u64), Fault>
         ensures ok { IfOk result (λ r. (r ≡ (offset, 0)) × (length ≡ 0)) }
         ensures early_outcome { (f : _) → own_refusal (⟦<Qcow2<S> as DriverModel>⟧.layer self.now) offset length ≡ Some f → IsErrOf result f }
@@ -53,7 +52,8 @@ impl<S: Storage> Qcow2<S> {
         Err(Fault::Unsupported)
     }
 
-    // Why a mapping with state that is to be committed is given back, if it is.
+    // Checks a commit of a mapping with this state: `Fault::Failed`, `Fault::ReadOnly` or `Fault::Foreign`, in this order. If it fails, the
+    // mapping is given back to the caller.
     pub(crate) fn check_state(&self, state: &PreparedMappingState) -> Result<(), Fault>
         ensures ok { let d = ⟦<Qcow2<S> as DriverModel>⟧ in OnOk result (commit_refusal d (Some state.now) (d.layer self.now) ≡ None) }
         ensures own { OnOk result (state.now.number ≡ self.now.number) }
@@ -65,7 +65,7 @@ impl<S: Storage> Qcow2<S> {
         check_commit(self.ready(), self.mode.writable, self.number, state.number)
     }
 
-    // Why a resize that has something to do is refused.
+    // Returns the error of a resize that would change the size: `Fault::Unsupported`, or `Fault::ReadOnly` for a read-only image.
     pub(crate) fn resize_refusal(&self) -> Fault
         ensures { result ≡ (if self.now.mode.writable then Fault.Unsupported else Fault.ReadOnly) }
     {

@@ -1,4 +1,4 @@
-// Reading the tables of an open image anew. That is qemu's `qcow2_co_invalidate_cache`, and imago's `invalidate_cache`.
+// Reloads the tables of an open image. The tables in memory are replaced only when nothing can fail any more.
 ghost use Rattle.std.specs.Prelude.{◌≡◌, ◌≢◌, [], true, false, Ok, IsOk, OnOk, IfOk, IfErr};
 ghost use Rattle.imago_storage.specs.Calls.{Cause, UnchangedButFaults, CountsNotFallen};
 ghost use Rattle.imago_storage.specs.declared.fault.Fault.TheVariants.{DamagedTable};
@@ -21,7 +21,7 @@ use qcow2_metadata::{Header, L1Table};
 use std::alloc::Global;
 use std::mem;
 
-// The header again. The storage drops what it has cached first, so that it is what is below it now.
+// Loads the header again. The storage first drops its cached bytes, so that the header is really read again.
 fn reload_header<S: Storage>(alloc: Global, image: &mut S) -> Result<Header, Fault>
     ensures loads { IfOk result (λ header. header_of false (file (S.state image.old)) ≡ Ok header) }
     ensures inside { IfOk result (λ header. has_external_data header.fields ≡ false) }
@@ -34,8 +34,8 @@ fn reload_header<S: Storage>(alloc: Global, image: &mut S) -> Result<Header, Fau
     load_header(alloc, image, false)
 }
 
-// Why an image with this header open isn't read anew, where the L1 table of the file's header isn't loaded: first because the header can't
-// change so. Whether it can is the same turned round.
+// Returns the error of a reload that has loaded `header`, but then failed with `fault`. If that header can't replace the open one, this
+// comes first. The check of `update` is symmetric.
 fn first_fault(mut header: Header, opened: &Header, fault: Fault) -> Fault
     ensures { IsFirstFault header opened.now fault result }
 {
@@ -45,7 +45,7 @@ fn first_fault(mut header: Header, opened: &Header, fault: Fault) -> Fault
     }
 }
 
-// Both of them, in place of an open header.
+// Loads the header and the L1 table again. `opened` is the header of the open image, for `first_fault`.
 fn reload_tables<S: Storage>(
     alloc: Global,
     image: &mut S,
@@ -69,7 +69,7 @@ fn reload_tables<S: Storage>(
     }
 }
 
-// Drops all that is cached. Nothing of it is to be written, and nothing of it is pinned, so that nothing stays.
+// Drops all that is cached, without writing it. Nothing of it is dirty or pinned, so nothing is lost and the caches are empty afterwards.
 pub(crate) fn drop_cached<S: Storage>(caches: &mut MetadataCaches<S>) -> Result<(), Fault>
     requires unpinned { IsUnpinned caches.old }
     ensures ok { IsOk result }
@@ -80,8 +80,7 @@ pub(crate) fn drop_cached<S: Storage>(caches: &mut MetadataCaches<S>) -> Result<
     caches.invalidate_rb()
 }
 
-// The free space of an image that is written, by the header that was read anew in place of the open one; of another nothing is known. The
-// header comes back.
+// Loads the free space by the reloaded `header`, and returns that header again. A read-only image gets `None`.
 fn reload_free_space<S: Storage>(
     alloc: Global,
     file: &mut ImageFile<S>,
@@ -105,9 +104,10 @@ fn reload_free_space<S: Storage>(
     (other, space)
 }
 
-// Reads the header and the L1 table anew, and the refcount table of an image that is written, and drops what is cached and what waits to be
-// freed. It refuses what opening for reading does, before the tables a header that differs in more than the size and the places of tables,
-// and a damaged refcount table. What is in memory changes only once nothing can refuse any more.
+// Reloads the header and the L1 table, and for a writable image the refcount table. Drops what is cached, and the list of clusters to free.
+// The errors are those of opening the image read-only, and two more. If the header differs from the open one in more than the size and the
+// offsets of tables, `Fault::Unsupported` comes before the errors of tables. If the refcount table of a writable image is damaged,
+// `Fault::DamagedTable` comes last. On error, what is in memory is unchanged.
 pub(crate) fn reload<S: Storage>(
     tables: &mut Tables<S>,
     alloc: Global,

@@ -1,4 +1,4 @@
-// The metadata of an open image, as one value. qemu has it in `BDRVQcow2State`, and imago in `Qcow2`.
+// The metadata of an open image, as one value.
 ghost use Rattle.std.proofs.Props.{props};
 ghost use Rattle.qcow2_alloc.specs.Caches.{cached_in};
 ghost use Rattle.qcow2_image.specs.Caching.{IsClean, IsUnpinned};
@@ -8,8 +8,9 @@ use qcow2_alloc::{ImageFile, MetadataCaches};
 use qcow2_clusters::Space;
 use qcow2_metadata::L1Table;
 
-/// An image file with its header, its L1 table, what is cached of its other tables, and its free space once something was allocated.
-/// Nothing that is cached waits to be written, and nothing of it is pinned.
+/// An image file with its header, its L1 table, the caches of its L2 tables and refcount blocks, and its free space.
+///
+/// The free space is `None` until it is loaded. Nothing that is cached is dirty or pinned.
 #[derive(Drop)]
 pub struct Tables<S: Storage> {
     pub(crate) file: ImageFile<S>,

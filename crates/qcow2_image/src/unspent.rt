@@ -1,11 +1,11 @@
-// What is prepared of an image and not yet spent. A prepared mapping is qemu's `QCowL2Meta`, and imago's `PreparedDataMapping`.
+// The prepared mapping of an image: a run that is written and not yet committed.
 ghost use Rattle.std.specs.Prelude.{◌≤◌, ◌+◌, ◌^◌};
 
 use imago_storage::Storage;
 use qcow2_types::{ClusterCount, GuestCluster, HostCluster};
 use std::snapshot::Snapshot;
 
-/// The ranges that were written to a prepared mapping, the last one and, for contracts alone, those before.
+/// The ranges that were written to a prepared mapping. Contracts also see the earlier ranges, in `before`.
 #[derive(Drop)]
 pub struct Writes {
     pub(crate) before: Option<Snapshot<Writes>>,
@@ -13,9 +13,14 @@ pub struct Writes {
     pub(crate) length: u64,
 }
 
-/// A prepared mapping: its run in bytes, and where that is in the file, the first of its guest clusters with the cluster of the L2 table
-/// over them, and the first of the host clusters that are reserved for them, or that they kept for their zeroes. For contracts it keeps the
-/// file as it was when the guest clusters' content was there.
+/// A prepared mapping: a run that is written and not yet committed.
+///
+/// `offset` and `length` are its run on the disk, in bytes, and `place` is the run's offset in the image file. `guest` is the first of its
+/// guest clusters, and `table` the cluster of their L2 table. `host` is the first of `count` consecutive host clusters: newly allocated
+/// ones, or a preallocated zero cluster if `is_kept` is set.
+///
+/// With `overwrite`, the caller writes the whole run before the commit. `written` has the ranges that were written. `copied` is for
+/// contracts only: the image file when the data of the guest clusters had been copied.
 #[derive(Drop)]
 pub struct Unspent<S: Storage> {
     pub(crate) mapping_id: u64,

@@ -1,5 +1,4 @@
-// Writes where the places of a disk are. A place is an offset for qemu and imago. What a word marks as copied has `QCOW_OFLAG_COPIED`, or
-// the copied bit.
+// Writes to the image file where the bytes of the disk are: in clusters with the COPIED flag, or in the run of the prepared mapping.
 ghost use Rattle.std.specs.Prelude.{◌≡◌, ◌<◌, ◌≤◌, ◌+◌, ◌^◌, ◌↔◌, false, Some, None, length, IsTrue, IsFalse, IfOk, IfErr, IfSome};
 ghost use Rattle.imago_access.specs.Failing.{Fails, RefusesLookup};
 ghost use Rattle.imago_access.specs.Mappings.{IsMappedRun};
@@ -19,7 +18,7 @@ use imago_access::{DriverModel, ShallowMapping};
 use imago_storage::{Fault, Storage, StorageExt, WriteFault};
 use std::alloc::Global;
 
-// The place of the image file where a run can be written, if it can.
+// Returns the offset in the image file where a run can be written, if it can.
 fn writable_place(mapping: ShallowMapping) -> Option<u64>
     ensures { result ≡ writable_place_of mapping }
 {
@@ -34,7 +33,7 @@ fn writable_place(mapping: ShallowMapping) -> Option<u64>
 }
 
 impl<S: Storage> Qcow2<S> {
-    // Where the run from an offset on can be written, if it can, and how long it is.
+    // Returns the offset in the image file where the run at `offset` can be written, if it can, and the run's length in bytes.
     pub(crate) fn writable_run(
         &mut self,
         offset: u64,
@@ -64,7 +63,7 @@ impl<S: Storage> Qcow2<S> {
         }
     }
 
-    // Where a place lies that a prepared mapping holds in its run, and how much of the run goes on from it, up to so many bytes.
+    // Returns the image file's offset of a byte of the prepared run, and the length of the run from there, at most `most` bytes.
     fn held_run(&self, offset: u64, most: u64) -> Option<(u64, u64)>
         ensures run { HoldsRun (holding_in S.Storage self.now.unspent) offset most result }
         ensures end_bounded { IfSome result (λ r. r.0 + r.1 ≤ 2 ^ 60) }
@@ -75,7 +74,7 @@ impl<S: Storage> Qcow2<S> {
         }
     }
 
-    // Whether a range lies as a whole in the run that a prepared mapping holds, from a place of the image file on.
+    // Returns true if the whole range is in the prepared run, and is in the image file from `place` on.
     fn holds_at(&self, guest: u64, place: u64, length: u64) -> bool
         ensures held { IsTrue result ↔ HoldsRun (holding_in S.Storage self.now.unspent) guest length (Some (place, length)) }
         ensures end_bounded { IsTrue result → place + length ≤ 2 ^ 60 }
@@ -86,8 +85,8 @@ impl<S: Storage> Qcow2<S> {
         }
     }
 
-    // Whether a range is mapped from a place of the image file on, and can be written there. What is held can't be written by its words,
-    // so that no table is looked up where that is all of the range.
+    // Returns true if the whole range is mapped to the image file from `place` on, and can be written there. No L2 entry makes the bytes of
+    // the prepared run writable, so a range inside that run needs no lookup.
     pub(crate) fn is_mapped_at(
         &mut self,
         guest: u64,
@@ -124,8 +123,8 @@ impl<S: Storage> Qcow2<S> {
         Ok(true)
     }
 
-    // Writes bytes to the image file, from a place on. Refused before that has begun, only a storage's fault marks the image as failed;
-    // a change that the storage refused always does, as a part may be written.
+    // Writes bytes to the image file at `place`. If the write fails before any change, only a storage fault sets the image to failed. If
+    // the storage refused a change, the image always fails, as a part may have been written.
     pub(crate) fn write_at(&mut self, alloc: Global, place: u64, bytes: &[u8]) -> Result<(), Fault>
         requires end_bounded { place + length bytes.now ≤ 2 ^ 60 }
         requires runs { self.old.failed ≡ false }
@@ -144,7 +143,7 @@ impl<S: Storage> Qcow2<S> {
         }
     }
 
-    // Notes to a prepared mapping that a range was written.
+    // Notes in the prepared mapping, if any, that a range of the image file was written.
     pub(crate) fn note(&mut self, at: u64, length: u64)
         ensures notes { Notes at length (holding_in S.Storage self.old.unspent) (holding_in S.Storage self.new.unspent) }
         ensures others { self.new ≡ record self.old { unspent = self.new.unspent } }

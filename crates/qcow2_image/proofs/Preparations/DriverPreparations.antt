@@ -1,4 +1,4 @@
--- What a preparation leaves that reserves a cluster, in the words of the driver.
+-- Lemmas that state a preparation with reserved clusters by the relations of the driver.
 use Rattle.std.proofs.Common.{◌≡◌, ℕ, ◌+◌, ◌*◌, ◌/◌, ◌%◌, ◌^◌, ◌<◌, ◌≤◌, refl, arith, ap, sym, subst, ◌∙◌, inl, inr, List, length, Option, Some, None, Result, Ok, Err}
 use Rattle.std.specs.Prelude.{⊤, ◌⊎◌, ◌++◌, ◌-◌, min, IsTrue, IsErr, IsSome, IfOk, IfErr}
 use Rattle.std.specs.Borrow.{RattleType}
@@ -62,7 +62,7 @@ module _ (R : RattleType) (st : Ghosts R.Denot) (sd : mir.Syntax.Dict) (dd : mir
   abbrev h' : Fields
   h' = middle.tables.file.header.fields
 
-  -- An image that became another with the same disk:
+  -- The call kept the disk.
   module _ (ok : Type 0) (k : KeepsDisk st ok old middle) where
     pub fixed-kept : (layer_of st middle).fixed ≡ (layer_of st old).fixed
     fixed-kept = λ i. qcow2_fixed (k.shape i) (record h { version = k.version i; cluster_bits = k.bits i }) (k.mode i) (k.number i)
@@ -73,7 +73,7 @@ module _ (R : RattleType) (st : Ghosts R.Denot) (sd : mir.Syntax.Dict) (dd : mir
         ∙ ap (λ (b : ℕ). entry (file_of st old.tables) h (p / 2 ^ b)) k.bits
         ∙ sym (ap (λ (m : Bytes). entry m h (p / cluster_size h)) (memory_is st old.tables))
 
-    -- it has room where it had,
+    -- Allocated bytes stay allocated.
     pub takes-disk : IsWellFormed st old → ok → Takes coherent (λ _. ⊤) old middle
     takes-disk well_formed whole = record {
       stays_allocated = λ p left was. record {
@@ -90,7 +90,7 @@ module _ (R : RattleType) (st : Ghosts R.Denot) (sd : mir.Syntax.Dict) (dd : mir
       ];
     }
 
-    -- and each place can be written by its word where it could.
+    -- Each byte can be written in place where it could.
     pub homes-disk : IsWellFormed st old → ok → mapping_id_held (holding_in st old.unspent) ≡ None → (p : ℕ) → writable_locations_of st middle p ≡ writable_locations_of st old p
     homes-disk well_formed whole free p =
         let now-free : mapping_id_held (holding_in st middle.unspent) ≡ None = ap (λ v. mapping_id_held (holding_in st v)) k.unspent ∙ free in
@@ -107,7 +107,7 @@ module _ (R : RattleType) (st : Ghosts R.Denot) (sd : mir.Syntax.Dict) (dd : mir
     abbrev part : Asked
     part = first_part h asked
 
-    -- Why it is refused,
+    -- The causes of an error.
     module _ (e : Fault) (k : KeepsDisk st (IsNotResourceError e) old middle) (leaks : IsWellFormed st old → IsNotResourceError e → KeepsLeaks st old middle)
         (marked : LeavesMarkedFailed st old middle e)
         (why : HasCause (reserving_causes st (LacksPlace st (asked.offset / cluster_size h) old.tables middle.tables) old middle) e
@@ -143,7 +143,7 @@ module _ (R : RattleType) (st : Ghosts R.Denot) (sd : mir.Syntax.Dict) (dd : mir
         Cause = PartCause (u.layers_below x) (layer_of st old) asked.offset asked.length (coherent.own_cause d (u.layers_below x) call)
             (files coherent old ++ u.files_of_layers_below x) (files coherent middle ++ u.files_of_layers_below y)
 
-        -- There was no place for what the guest cluster lacks.
+        -- The missing parts of the guest cluster couldn't be allocated.
         had : (number : ℕ) → IsNotResourceError e → full number → IsWellFormed st d → HadNoPlace st d asked.offset number
         had number not_resource_error lacks was = record {
           now = old;
@@ -208,7 +208,7 @@ module _ (R : RattleType) (st : Ghosts R.Denot) (sd : mir.Syntax.Dict) (dd : mir
         };
       }
 
-    -- Such a run is held then.
+    -- The run is held afterwards.
     module _ (writable : IsTrue old.mode.writable) (k : KeepsDisk st ⊤ old middle) (n : ℕ) (found : IsRun st asked n old)
         (mapping : PreparedDataMapping PreparedMappingState) (new : Qcow2 R.Denot st) (f : HoldsFresh st u asked n (old, x) middle mapping new)
         (leaks : IsWellFormed st old → KeepsLeaks st old new) where
@@ -253,19 +253,19 @@ module _ (R : RattleType) (st : Ghosts R.Denot) (sd : mir.Syntax.Dict) (dd : mir
       reserved : IsWellFormed st old → IsReservedFor st (asked.offset / cluster_size h') f.clusters middle.tables
       reserved well_formed = subst (λ (n : ℕ). IsReservedFor st n f.clusters middle.tables) guest (f.reserved well_formed)
 
-      -- its guest cluster has no cluster of its own, as its first place can't be written
+      -- Its first guest cluster can't be written in place, as its first byte can't.
       uncopied-was : IsWellFormed st old → IsUncopied (entry (file_of st old.tables) h (asked.offset / cluster_size h))
       uncopied-was well_formed = subst (λ (m : Bytes). IsUncopied (entry m h (asked.offset / cluster_size h))) (memory_is st old.tables)
           (homeless-uncopied (memory_of st old.tables) h old.mode.writable asked.offset writable (omega (arith, some, inside))
           (words-none (holding_in st old.unspent) (writable_locations_of st old) asked.offset (nowhere well_formed.seen)))
 
-      -- and so have the others none
+      -- The other guest clusters can't either.
       uncopied : IsWellFormed st old → (i : ℕ) → i < count → IsUncopied (entry (file_of st middle.tables) h' (asked.offset / cluster_size h' + i))
       uncopied well_formed i less =
           subst IsUncopied (ap (λ (n : ℕ). entry (file_of st old.tables) h (n + i)) guest ∙ sym (k.raw_entries well_formed tt (asked.offset / cluster_size h' + i)))
           (found.uncopied well_formed.seen (uncopied-was well_formed) i (let few = f.count_bounded in omega (arith, less, few)))
 
-      -- each place has what it shows, by the size of clusters and of the disk
+      -- Each byte has what the guest reads, by the sizes of clusters and of the disk.
       abbrev Filled : ℕ → ℕ → Layer → Type 0
       Filled b size layer = (p : ℕ) → (p / 2 ^ b ≡ asked.offset / 2 ^ b) × (p < size)
           → IsLeft (record asked { length = min asked.length (2 ^ b - asked.offset % 2 ^ b) }) p
@@ -345,7 +345,6 @@ module _ (R : RattleType) (st : Ghosts R.Denot) (sd : mir.Syntax.Dict) (dd : mir
       prepares-held = subst (λ (d : Qcow2 R.Denot st). Prepares coherent u asked (Ok mapping) (old, x) (d, y)) (sym f.holds.now)
           (subst (λ (m : PreparedDataMapping PreparedMappingState). Prepares coherent u asked (Ok m) (old, x) (held, y)) (sym f.holds.answer) answered)
 
--- The first guest clusters of a run are one.
 pub run-narrower : {S : Type 0} (g : Ghosts S) (asked : Asked) (d : Qcow2 S g) (n k : ℕ) → IsRun g asked n d → 0 < k → k ≤ n → IsRun g asked k d
 run-narrower g asked d n k run any few = record {
   any = any;
@@ -354,7 +353,7 @@ run-narrower g asked d n k run any few = record {
   uncopied = λ seen first i less. run.uncopied seen first i (omega (arith, less, few));
 }
 
--- What is prepared, or refused, in the words of the driver.
+-- The preparation, or its error, by the relations of the driver.
 module _ (R : RattleType) (st : Ghosts R.Denot) (sd : mir.Syntax.Dict) (dd : mir.Syntax.Dict) {B : Type 0} (u : GhostsBelow B) (asked : Asked)
     (old new : Qcow2 R.Denot st) (x y : B) where
   abbrev driver : SeenGhosts (Qcow2 R.Denot st) PreparedMappingState
@@ -407,7 +406,7 @@ module _ (R : RattleType) (st : Ghosts R.Denot) (sd : mir.Syntax.Dict) (dd : mir
       subst (λ (m : PreparedDataMapping PreparedMappingState). IsMappedRun (layer_of st old) asked.offset asked.length m.length × (m.offset + m.length < 2 ^ 64)) (sym f.answer)
       ((run.1, λ is. run.0, λ is. omega (arith, run.1, inside)), omega (arith, place, length, near))
 
-  -- It has state, and is the part of the range in such a run.
+  -- The mapping has state, and is the part of the range in such a run.
   pub fresh-whole : (result : Result (PreparedDataMapping PreparedMappingState) Fault) (P : PreparedDataMapping PreparedMappingState → Type 0) → Does result
       → IfOk result (λ m. 0 < asked.length → m.state ≡ None → P m)
   fresh-whole (Err e) P p = tt
@@ -422,7 +421,6 @@ module _ (R : RattleType) (st : Ghosts R.Denot) (sd : mir.Syntax.Dict) (dd : mir
     ap (λ (m : PreparedDataMapping PreparedMappingState). m.length) p.prepares.ok.holds.answer,
   )
 
-  -- The file reaches the end of what is held.
   pub fresh-reaches : (result : Result (PreparedDataMapping PreparedMappingState) Fault) → Does result
       → IfOk result (λ m. IsSome m.state → ReachesHeld st new)
   fresh-reaches (Err e) p = tt
@@ -433,12 +431,10 @@ module _ (R : RattleType) (st : Ghosts R.Denot) (sd : mir.Syntax.Dict) (dd : mir
       (subst (λ (b : ℕ). (f.unspent.host + f.unspent.count) * 2 ^ b ≤ length file) (sym p.prepares.keeps.bits)
       (subst (λ (o : PreparedMappingRun). (o.host + o.count) * cluster_size old.tables.file.header.fields ≤ length file) (sym f.holds) p.prepares.ok.reaches))
 
--- What holds of the first place holds where a limit refuses.
 pub limit-where : {T : Type 0} (result : Result T Fault) (P : Type 0) → P → IfErr result (λ e. (n : ℕ) → e ≡ Limit n → P)
 limit-where (Ok v) P is = tt
 limit-where (Err e) P is = λ n same. is
 
--- Nothing is held of an image of which nothing is prepared.
 pub unspent-none : {S : Type 0} (g : Ghosts S) (u : Option (Unspent S g)) → mapping_id_held (holding_in g u) ≡ None → u ≡ None
 unspent-none g None free = refl
 unspent-none g (Some u) free = absurd (cc free)

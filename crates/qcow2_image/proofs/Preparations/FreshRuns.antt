@@ -1,4 +1,4 @@
--- What is held of guest clusters in a row that have no clusters of their own, the first of whose host clusters has what that shows.
+-- Lemmas on what a mapping holds for consecutive guest clusters, where the first host cluster has the copied data.
 use Rattle.std.proofs.Common.{◌≡◌, ◌⊎◌, inl, inr, sym, subst, ap, refl, arith, ◌∙◌, ℕ, ◌+◌, ◌-◌, ◌*◌, ◌/◌, ◌%◌, ◌<◌, ◌≤◌, ltb, leb, Bool, true, false, Option, Some, None}
 use Rattle.std.specs.Prelude.{◌&&◌, IsTrue, if◌then◌else◌, min}
 use Rattle.std.proofs.lemmas.Bool.{and_from, cases_Bool, cases_eq, cases_lt, cases_order, le-leb, both_ways, lt-ltb}
@@ -14,7 +14,7 @@ use Rattle.qcow2_types.specs.Bytes.{Bytes}
 use Rattle.qcow2_types.specs.Entries.{entry}
 use Rattle.qcow2_types.specs.Header.{Fields, cluster_size, entries_of_cluster}
 use Rattle.qcow2_types.specs.Words.{Mapping, data_at, zeroes, packed, damaged}
-use Rattle.qcow2_types.specs.Words as raw_entries
+use Rattle.qcow2_types.specs.Words as mappings
 use Rattle.qcow2_metadata.specs.Places.{IsAddressable}
 use Rattle.qcow2_image.specs.Allocating.{shown_blank, shown_cell, shown_of}
 use Rattle.qcow2_image.specs.Filling.{IsInFirst, IsLeft}
@@ -37,10 +37,10 @@ blank-shown : (backing : Bool) (f : Bytes) (h : Fields) (p : ℕ) → blank_of b
 blank-shown true f h p = refl
 blank-shown false f h p = refl
 
--- Each place of a guest cluster says what the cluster shows.
+-- Each byte of a guest cluster reads as the cluster shows.
 pub shown-says : (backing : Bool) (shown : Shown) (f : Bytes) (h : Fields) (p : ℕ) (m : Mapping) → shown_of backing m ≡ Some shown
     → cell_by (blank_of backing) f h p m ≡ shown_cell f h p shown
-shown-says backing shown f h p raw_entries.unmapped is = blank-shown backing f h p ∙ ap (shown_cell f h p) (some-same (shown_blank backing) shown is)
+shown-says backing shown f h p mappings.unmapped is = blank-shown backing f h p ∙ ap (shown_cell f h p) (some-same (shown_blank backing) shown is)
 shown-says backing shown f h p (zeroes cluster copied) is = ap (shown_cell f h p) (some-same variant.Zeroes shown is)
 shown-says backing shown f h p (packed offset length) is = ap (shown_cell f h p) (some-same variant.Barred shown is)
 shown-says backing shown f h p (data_at cluster copied) is = ap (shown_cell f h p) (some-same (variant.Data cluster) shown is)
@@ -51,7 +51,7 @@ uncopied-nowhere h p (data_at cluster true) is = absurd is
 uncopied-nowhere h p (data_at cluster false) is = refl
 uncopied-nowhere h p (zeroes cluster copied) is = refl
 uncopied-nowhere h p (packed offset length) is = refl
-uncopied-nowhere h p raw_entries.unmapped is = refl
+uncopied-nowhere h p mappings.unmapped is = refl
 uncopied-nowhere h p damaged is = refl
 
 nowhere-uncopied : (h : Fields) (p : ℕ) (m : Mapping) → writable_location_by h p m ≡ None → IsUncopied m
@@ -59,23 +59,22 @@ nowhere-uncopied h p (data_at cluster true) is = absurd (cc is)
 nowhere-uncopied h p (data_at cluster false) is = tt
 nowhere-uncopied h p (zeroes cluster copied) is = tt
 nowhere-uncopied h p (packed offset length) is = tt
-nowhere-uncopied h p raw_entries.unmapped is = tt
+nowhere-uncopied h p mappings.unmapped is = tt
 nowhere-uncopied h p damaged is = tt
 
--- A place of the disk that can't be written is in no cluster of its own, in an image that was opened for writing.
+-- If a byte of a writable image can't be written in place, its mapping isn't data with the COPIED flag.
 pub homeless-uncopied : (f : Bytes) (h : Fields) (writable : Bool) (p : ℕ) → IsTrue writable → p < h.size → writable_locations writable f h p ≡ None
     → IsUncopied (entry f h (p / cluster_size h))
 homeless-uncopied f h writable p may low is =
     nowhere-uncopied h p (entry f h (p / cluster_size h)) (rw (may, lt-ltb p h.size low) at is)
 
--- Its places can be written nowhere by its word.
 pub uncopied-homeless : (writable : Bool) (f : Bytes) (h : Fields) (p : ℕ) → IsUncopied (entry f h (p / cluster_size h)) → writable_locations writable f h p ≡ None
 uncopied-homeless writable f h p is = from (writable && ltb p h.size) where
   from : (b : Bool) → (if b then writable_location_by h p (entry f h (p / cluster_size h)) else None) ≡ None
   from true = uncopied-nowhere h p (entry f h (p / cluster_size h)) is
   from false = refl
 
--- The part of a range in its first clusters, k of them, by the size of clusters.
+-- The part of a range in its first `k` clusters, by the size of clusters.
 module _ (c k offset length n : ℕ) (one : 0 < c) (any : 0 < k) (is : n ≡ min length (k * c - offset % c)) where
   below : offset % c < c
   below = mod_below offset c one
@@ -92,7 +91,6 @@ module _ (c k offset length n : ℕ) (one : 0 < c) (any : 0 < k) (is : n ≡ min
   part-high : offset + n ≤ offset / c * c + k * c
   part-high = omega (arith, div-add-mod' offset c, is, below, least)
 
-  -- It ends where the range does, or with the last cluster.
   part-ends : (offset + n ≡ offset + length) ⊎ (offset + n ≡ (offset / c + k) * c)
   part-ends = elim (cases_lt (k * c - offset % c) length) [
     | inr short ↦ inl (omega (arith, is, short))
@@ -113,7 +111,6 @@ module _ (c k offset length n : ℕ) (one : 0 < c) (any : 0 < k) (is : n ≡ min
     ]
   ]
 
-  -- A place of the range in one of the clusters is in the part.
   part-inside : (p : ℕ) → p / c < offset / c + k → p < offset + length → p < offset + n
   part-inside p to low = elim part-ends [
     | inl all ↦ omega (arith, all, low)
@@ -124,7 +121,7 @@ module _ (c k offset length n : ℕ) (one : 0 < c) (any : 0 < k) (is : n ≡ min
         omega (arith, last, le, product, rest, div-add-mod' p c)
   ]
 
-  -- A place of the first cluster isn't in a unit that the range doesn't touch.
+  -- A byte of the first cluster is in a unit that the range touches.
   near-by : 0 < length → (p u : ℕ) → p / c ≡ offset / c → u * c ≤ p → p < u * c + c → (u * c + c ≤ offset) ⊎ (offset + length ≤ u * c) → ⊥
   near-by some p u same low high which =
       let here : p / c * c ≡ offset / c * c = ap (λ (x : ℕ). x * c) same in
@@ -151,14 +148,14 @@ module _ (c k offset length n : ℕ) (one : 0 < c) (any : 0 < k) (is : n ≡ min
   part-near : 0 < length → (p : ℕ) → p / c ≡ offset / c → IsApart c offset length p → ⊥
   part-near some p same apart = near-by some p apart.0 same apart.1 apart.2 apart.3
 
--- Nor is a place of the range itself.
+-- A byte of the range is in such a unit too.
 range-near : (c offset length p : ℕ) → offset ≤ p → p < offset + length → IsApart c offset length p → ⊥
 range-near c offset length p low high apart = elim apart.3 [
   | inl before ↦ let behind = apart.2 in omega (arith, before, behind, low)
   | inr behind ↦ let from = apart.1 in omega (arith, behind, from, high)
 ]
 
--- An image for which such a run is held, with the layer that it shows then.
+-- An image that holds such a run, and its layer.
 module _ {S : Type 0} (g : Ghosts S) (d : Qcow2 S g) (asked : Asked) (clusters : Reserved) (mapping_id : ℕ) (written : ℕ → Bool)
     (unwritten : (p : ℕ) → written p ≡ false) (some : 0 < asked.length) (fits : asked.offset + asked.length ≤ d.tables.file.header.fields.size)
     (any : 0 < clusters.count) where
@@ -198,14 +195,13 @@ module _ {S : Type 0} (g : Ghosts S) (d : Qcow2 S g) (asked : Asked) (clusters :
   pub fresh-uncut : IsUncutAt c h.size asked.offset asked.length (asked.offset + run)
   fresh-uncut = part-uncut c count asked.offset asked.length run one any refl h.size
 
-  -- The first place lies in the first host cluster.
   first-place : place_in h clusters.host asked.offset ≡ held_place h hold asked.offset
   first-place = let same : clusters.host ≡ clusters.host + (guest - guest) = omega arith in ap (λ x. place_in h x asked.offset) same
 
-  -- The guest clusters behind the first are going to be written as a whole.
+  -- The guest clusters after the first will be overwritten completely.
   module _ (row : guest % entries_of_cluster h + count ≤ entries_of_cluster h)
       (covered : (i : ℕ) → 0 < i → i < count → IsCovered h asked (guest + i)) where
-    -- They can be named, and are held.
+    -- The host clusters can be linked, and are held.
     pub fresh-held : IsAddressable h.cluster_bits (clusters.host + (count - 1)) → IsReservedFor g guest clusters d.tables
         → ((i : ℕ) → i < count → IsUncopied (entry (file_of g d.tables) h (guest + i))) → HoldsIn g d.tables hold
     fresh-held near reserved uncopied = record {
@@ -214,7 +210,7 @@ module _ {S : Type 0} (g : Ghosts S) (d : Qcow2 S g) (asked : Asked) (clusters :
       held = record {
         any = any;
         row = row;
-        layers_below = reserved.layers_below;
+        in_table = reserved.in_table;
         own = reserved.own;
         uncopied = uncopied;
         host_nonzero = reserved.host_nonzero;
@@ -230,7 +226,7 @@ module _ {S : Type 0} (g : Ghosts S) (d : Qcow2 S g) (asked : Asked) (clusters :
       room = reserved.room;
     }
 
-    -- A place of the guest clusters lies in the first one, or in the run.
+    -- A byte of the guest clusters is in the first one, or in the run.
     where-is : (p : ℕ) → in_clusters h hold p ≡ true → (p / c ≡ guest) ⊎ (IsTrue asked.overwrite × (asked.offset ≤ p) × (p < asked.offset + run))
     where-is p is =
         let there = clusters-from h hold p is in
@@ -244,7 +240,7 @@ module _ {S : Type 0} (g : Ghosts S) (d : Qcow2 S g) (asked : Asked) (clusters :
               inr (all.overwrite, in-range.0, part-inside c count asked.offset asked.length run one any refl p there.0.1 in-range.1)
         ]
 
-    -- What is held is in the guest clusters that the range touches.
+    -- The mapping only holds guest clusters that the range touches.
     pub fresh-near : (p : ℕ) → IsApart c asked.offset asked.length p → now.held p ≡ loose
     fresh-near p apart = elim (cases_Bool (in_clusters h hold p)) [
       | inr far ↦ rw far refl
@@ -260,7 +256,7 @@ module _ {S : Type 0} (g : Ghosts S) (d : Qcow2 S g) (asked : Asked) (clusters :
       holds : HoldsIn g d.tables hold
       holds = fresh-held near reserved uncopied
 
-      -- Its places are in no cluster by their words,
+      -- No entry makes a byte of the guest clusters writable.
       homeless-at : (p : ℕ) → (guest ≤ p / c) × (p / c < guest + count) → writable_locations_of g d p ≡ None
       homeless-at p at =
           let i : ℕ = p / c - guest in
@@ -270,7 +266,7 @@ module _ {S : Type 0} (g : Ghosts S) (d : Qcow2 S g) (asked : Asked) (clusters :
           uncopied-homeless d.mode.writable (memory_of g d.tables) h p
           (subst IsUncopied (sym raw_entry) (uncopied i (omega (arith, at.0, at.1))))
 
-      -- but those of the run are at home where it is held.
+      -- A byte of the run can be written where it is held.
       home-at : (i : ℕ) → i < run → now.writable_location (asked.offset + i) ≡ Some (0, place_in h clusters.host asked.offset + i)
       home-at i less =
           let in-run : in_run hold (asked.offset + i) ≡ true = and_from (leb asked.offset (asked.offset + i)) (ltb (asked.offset + i) (asked.offset + run))
@@ -280,7 +276,6 @@ module _ {S : Type 0} (g : Ghosts S) (d : Qcow2 S g) (asked : Asked) (clusters :
           ap (λ (o : Option (ℕ × ℕ)). writable_location_or o (held_writable_location hold (asked.offset + i))) (homeless-at (asked.offset + i) at)
           ∙ rw in-run (ap (λ (n : ℕ). Some (0, place_in h clusters.host asked.offset + n)) behind)
 
-      -- a place beside the run
       out-of-run : (p : ℕ) → in_run hold p ≡ false → IsOut asked.offset run p
       out-of-run p out = elim (cases_lt p asked.offset) [
         | inl before ↦ inl before
@@ -291,21 +286,21 @@ module _ {S : Type 0} (g : Ghosts S) (d : Qcow2 S g) (asked : Asked) (clusters :
         ]
       ]
 
-      -- A place of the first guest cluster that is beside the run is beside the range's part in that.
+      -- A byte of the first guest cluster outside the run is outside the range's part in that cluster.
       out-of-first : (p : ℕ) → IsOut asked.offset run p → IsOut asked.offset (first_run h asked.offset asked.length) p
       out-of-first p out = elim out [
         | inl before ↦ inl before
         | inr past ↦ inr (let most = least c count asked.offset asked.length run one any refl in omega (arith, past, most))
       ]
 
-      -- In the first guest cluster a place has what it shows where that is asked for,
+      -- In the first guest cluster each byte has what the guest reads, unless it will be overwritten.
       filled-at : (p : ℕ) → p / c ≡ guest → p < h.size → IsLeft (first_part h asked) p
           → IsCopied under (layer_of g d) p (hold.copied (held_place h hold p))
       filled-at p at on left =
           let same : clusters.host ≡ clusters.host + (p / c - guest) = omega (arith, at) in
           subst (λ x. IsCopied under (layer_of g d) p (file_of g d.tables (place_in h x p))) same (filled p (at, on) left)
 
-      -- What was copied to a place of the run is what that shows,
+      -- The copied byte of the run is what the guest reads.
       inside-at : (p : ℕ) → in_clusters h hold p ≡ true → in_run hold p ≡ true → (over : Bool) → asked.overwrite ≡ over
           → IsHolding under now asked.offset run over p (inside (if over then None else Some (hold.copied (held_place h hold p))) None over)
       inside-at p near is true overwritten = (run-from hold p is, refl, refl)
@@ -314,7 +309,7 @@ module _ {S : Type 0} (g : Ghosts S) (d : Qcow2 S g) (asked : Asked) (clusters :
         | inr there ↦ absurd (cc (sym overwritten ∙ there.0))
       ]
 
-      -- and so is what was copied beside it.
+      -- The same holds for a byte outside the run.
       beside-at : (p : ℕ) → in_clusters h hold p ≡ true → in_run hold p ≡ false
           → IsHolding under now asked.offset run asked.overwrite p (beside (hold.copied (held_place h hold p)))
       beside-at p near out =
@@ -328,7 +323,7 @@ module _ {S : Type 0} (g : Ghosts S) (d : Qcow2 S g) (asked : Asked) (clusters :
             ap (λ (o : Option (ℕ × ℕ)). writable_location_or o (held_writable_location hold p)) (homeless-at p there.0) ∙ rw out refl,
           )
 
-      -- what is held of a place, by where it lies
+      -- The state of a byte, by where it is.
       abbrev held-by : Bool → Bool → ℕ → Held
       held-by near within p = if near then (if within then inside (if asked.overwrite then None else Some (hold.copied (held_place h hold p))) None asked.overwrite
           else beside (hold.copied (held_place h hold p))) else loose

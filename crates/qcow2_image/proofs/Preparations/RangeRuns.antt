@@ -1,4 +1,4 @@
--- Runs of guest clusters that a range covers, and what a lookup finds of them.
+-- Lemmas on the guest clusters that a range covers, and on what a lookup finds of them.
 use Rattle.std.proofs.Common.{◌≡◌, ◌⊎◌, inl, inr, ap, sym, subst, arith, ℕ, zero, suc, ◌+◌, ◌-◌, ◌*◌, ◌/◌, ◌%◌, ◌<◌, ◌≤◌, true, false, None, Some}
 use Rattle.std.specs.Prelude.{IsTrue, min}
 use Rattle.std.proofs.Math.Nat.{add-mul, mul-le-mul_right}
@@ -8,25 +8,25 @@ use Rattle.imago_access.specs.Changes.{Asked}
 use Rattle.qcow2_types.specs.Entries.{entry}
 use Rattle.qcow2_types.specs.Header.{Fields, cluster_size, entries_of_cluster}
 use Rattle.qcow2_types.specs.Words.{Mapping, damaged, data_at, packed, zeroes}
-use Rattle.qcow2_types.specs.Words as raw_entries
+use Rattle.qcow2_types.specs.Words as mappings
 use Rattle.qcow2_image.specs.Holding.{IsUncopied}
 use Rattle.qcow2_image.specs.Looking.{Follows}
 use Rattle.qcow2_image.specs.Preparing.{CoversMost, IsRun, first_run, run_in}
 use Rattle.qcow2_image.specs.Seen.{IsCacheCoherent, file_of}
 use Rattle.qcow2_image.specs.declared.qcow2.Qcow2.{Qcow2}
 
--- What goes on from a cluster that isn't written where it is isn't so, either.
+-- A mapping that follows one without a writable location has none either.
 follows-uncopied : (a b : Mapping) → Follows a b → IsUncopied a → IsUncopied b
 follows-uncopied a (zeroes cluster mark) on is = tt
 follows-uncopied a (packed offset length) on is = tt
-follows-uncopied a raw_entries.unmapped on is = tt
+follows-uncopied a mappings.unmapped on is = tt
 follows-uncopied a damaged on is = tt
 follows-uncopied (data_at cluster true) (data_at next mark) on is = absurd is
 follows-uncopied (data_at cluster false) (data_at next mark) on is = subst (λ m. IsUncopied (data_at next m)) (sym on.1) tt
 follows-uncopied (zeroes None mark') (data_at next mark) on is = absurd on
 follows-uncopied (zeroes (Some cluster) mark') (data_at next mark) on is = absurd on
 follows-uncopied (packed offset length) (data_at next mark) on is = absurd on
-follows-uncopied raw_entries.unmapped (data_at next mark) on is = absurd on
+follows-uncopied mappings.unmapped (data_at next mark) on is = absurd on
 follows-uncopied damaged (data_at next mark) on is = absurd on
 
 run-uncopied : (mapped : ℕ → Mapping) (guest n : ℕ) → ((k : ℕ) → k + 1 < n → Follows (mapped (guest + k)) (mapped (guest + k + 1)))
@@ -39,7 +39,7 @@ run-uncopied mapped guest n each first (suc i) less =
     (follows-uncopied (mapped (guest + i)) (mapped (guest + i + 1)) (each i (omega (arith, less)))
     (run-uncopied mapped guest n each first i (omega (arith, less))))
 
--- A range covers its guest clusters to the begin of the last one.
+-- A range covers its guest clusters up to the start of the last one.
 module _ (h : Fields) (offset length n : ℕ) (inside : offset + length ≤ h.size) (some : 0 < length) (raw_entries : 0 < entries_of_cluster h) (any : 0 < n)
     (most : (n ≡ 1) ⊎ ((offset / cluster_size h + n ≤ (offset + length) / cluster_size h)
     × (offset / cluster_size h % entries_of_cluster h + n ≤ entries_of_cluster h))) where
@@ -86,12 +86,11 @@ module _ (h : Fields) (offset length n : ℕ) (inside : offset + length ≤ h.si
     ];
   }
 
--- The part of a range in one guest cluster is that in the first.
 pub one-cluster : (h : Fields) (offset length : ℕ) → run_in h 1 offset length ≡ first_run h offset length
 one-cluster h offset length =
     let same : 1 * cluster_size h ≡ cluster_size h = omega arith in ap (λ c. min length (c - offset % cluster_size h)) same
 
--- So many guest clusters, and one alone, are a run.
+-- A run of the clusters that are covered, and a run of one.
 module _ {S : Type 0} (g : Ghosts S) (asked : Asked) (d : Qcow2 S g) (most : ℕ) (covers : CoversMost d.tables.file.header.fields asked.offset asked.length most) where
   abbrev first : ℕ
   first = asked.offset / cluster_size d.tables.file.header.fields

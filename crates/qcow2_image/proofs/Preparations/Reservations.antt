@@ -1,4 +1,4 @@
--- What reserving a cluster and holding it for a guest cluster leave of an image.
+-- Lemmas on `reserve` and `prepare_run`: what is left after clusters are reserved and held for guest clusters.
 use Rattle.std.proofs.Common.{false, ◌≡◌, ℕ, ◌+◌, ◌-◌, ◌*◌, ◌/◌, ◌%◌, ◌^◌, ◌<◌, ◌≤◌, refl, ap, sym, subst, ◌∙◌, inl, inr, Bool, List, length, Option, Some, None, Result, Ok, Err, arith}
 use Rattle.std.specs.Prelude.{⊤, ◌⊎◌, IfErr, IfSome, IsSome, Vec, is_some, min, not, slice_index}
 use Rattle.std.specs.declared.alloc.Global.{Global}
@@ -52,7 +52,7 @@ use Rattle.qcow2_image.proofs.LeaksByFile.{leaks-kept}
 use Rattle.qcow2_image.proofs.ContentCopies.{why-looked}
 
 module _ {S : Type 0} (g : Ghosts S) where
-  -- A refusal leaves the image marked, or all as it was, also behind a call that only looks.
+  -- A resource error leaves the image failed or unchanged, also after a lookup.
   marked-behind : {T : Type 0} (old mid new : Qcow2 S g) (v : T) (e : Fault) → KeepsImage g old (Ok v) mid → LeavesMarkedFailed g mid new e → LeavesMarkedFailed g old new e
   marked-behind {T} old mid new v Storage k marked = marked
   marked-behind {T} old mid new v Memory k (inl marked) = inl marked
@@ -60,7 +60,7 @@ module _ {S : Type 0} (g : Ghosts S) where
       inr (keeps-both {T = Unit} g old mid new (Err Memory) (keeps-as {T = T} {U = Unit} g old mid (Ok v) (Ok tt) (λ w. tt) (λ f. refl) k) kept)
   marked-behind {T} old mid new v e k marked = tt
 
-  -- Why the free space isn't loaded, or clusters aren't allocated, behind a call that kept the disk.
+  -- The causes of an error after a call that kept the disk.
   why-loaded : (full : ℕ → Type 0) (old new : Qcow2 S g) (e : Fault) → HasCause (allocation_causes g (λ number. ⊥) old new) e
       → (IsWellFormed g old → Cause (g.state old.tables.file.image).faults (g.state new.tables.file.image).faults e) → HasCause (reserving_causes g full old new) e
   why-loaded full old new Memory why known = tt
@@ -92,7 +92,7 @@ module _ {S : Type 0} (g : Ghosts S) where
     limit = λ number at well_formed. told number well_formed (at (k.safely well_formed tt));
   }
 
-  -- Where an image has loaded its free space, or was only looked at, it has the same free runs, and lacks the same table.
+  -- Loading the free space, or a lookup, keeps the free runs and the missing table.
   lacks-since : (guest : ℕ) (kept : Option ℕ) (number : ℕ) (old mid new : Tables S g) → mid.file.header ≡ old.file.header
       → ((total : ℕ) → 0 < total → HasFreeRun g old total → HasFreeRun g mid total) → 0 < space mid.file.header.fields / 4
       → (LacksTable g guest mid → LacksTable g guest old) → LacksPlaceBeside g guest kept mid new number
@@ -115,7 +115,6 @@ module _ {S : Type 0} (g : Ghosts S) where
               (subst (λ (H : Header). LacksFreeRun g asked (space H.fields / 4) mid new number) header full),
         )
 
-  -- A quarter of the space is some.
   some-quarter : (d : Qcow2 S g) → IsWellFormed g d → 0 < space d.tables.file.header.fields / 4
   some-quarter d well_formed = quarter-some g d well_formed
 
@@ -172,8 +171,7 @@ module _ {S : Type 0} (g : Ghosts S) where
         ),
       )
 
-  -- What holds of each safe image holds of one that is known to keep a cluster, or none, for a guest cluster; also behind a call that kept
-  -- the disk.
+  -- A statement on well-formed images holds with a known preallocated cluster too, also after a call that kept the disk.
   keeps-known : (ok : Type 0) (guest : ℕ) (kept : Option ℕ) (old new : Qcow2 S g) → KeepsDisk g ok old new → KeepsDiskWhere g (HasKept g guest kept old) ok old new
   keeps-known ok guest kept old new k =
       keeps-disk-then g (HasKept g guest kept old) (IsWellFormed g old) (IsWellFormed g old) ⊤ ok old old new tt (λ known. known.well_formed) (λ known. known.well_formed) (keeps-disk-same g ⊤ old) k
@@ -188,7 +186,7 @@ module _ {S : Type 0} (g : Ghosts S) where
   which-host host None P is = tt
   which-host host (Some x) P is = is.0
 
-  -- Reserving a cluster is refused where the free space isn't known,
+  -- Reserving fails if the free space isn't loaded.
   pub reserve-unloaded : (guest : ℕ) (kept : Option ℕ) (n : ℕ) (bytes : List ℕ) (old new : Qcow2 S g) (e : Fault) → LoadsSpace g old (Err e) new
       → Reserves g guest kept n bytes old (Err e) new
   reserve-unloaded guest kept n bytes old new e l = record {
@@ -205,7 +203,7 @@ module _ {S : Type 0} (g : Ghosts S) where
     cause = why-loaded (LacksPlaceBeside g guest kept old.tables new.tables) old new e l.cause l.known_cause;
   }
 
-  -- where there is no table,
+  -- Reserving fails if no L2 table is made.
   pub reserve-tableless : (guest : ℕ) (kept : Option ℕ) (n : ℕ) (bytes : List ℕ) (old mid new : Qcow2 S g) (e : Fault) → LoadsSpace g old (Ok tt) mid
       → EnsuresTable g (enough_for_table mid.tables guest) guest mid (Err e) new → (begun now : Bool) → is_some old.tables.space ≡ not begun
       → Begins {T = ℕ} g begun mid (Err e) now new → Reserves g guest kept n bytes old (Err e) new
@@ -227,7 +225,7 @@ module _ {S : Type 0} (g : Ghosts S) where
         t.cause;
   }
 
-  -- and where the bytes aren't put anywhere.
+  -- Reserving fails if the data isn't stored.
   pub reserve-unplaced : (guest table : ℕ) (kept : Option ℕ) (n : ℕ) (bytes : List ℕ) (old first mid new : Qcow2 S g) (e : Fault)
       → n ≤ entries_of_cluster old.tables.file.header.fields
       → LoadsSpace g old (Ok tt) first → EnsuresTable g (enough_for_table first.tables guest) guest first (Ok table) mid
@@ -258,7 +256,7 @@ module _ {S : Type 0} (g : Ghosts S) where
             s.cause;
       }
 
-  -- The L1 table in memory says which tables have no other name.
+  -- The L1 table in memory says which tables aren't shared.
   own-still : (guest : ℕ) (mid new : Qcow2 S g) → IsWellFormed g mid → IsWellFormed g new → new.tables.l1 ≡ mid.tables.l1
       → new.tables.file.header.fields.cluster_bits ≡ mid.tables.file.header.fields.cluster_bits
       → new.tables.file.header.fields.l1_entries ≡ mid.tables.file.header.fields.l1_entries
@@ -276,7 +274,7 @@ module _ {S : Type 0} (g : Ghosts S) where
       ∙ top-word (file_of g mid.tables) h mid.tables.l1 well_formed.seen.l1 (guest / entries_of_cluster h) inside)
       ∙ own
 
-  -- Guest clusters in a row that stand in one table have it.
+  -- Consecutive guest clusters of one table have that table.
   under-row : (m : Metadata) (table guest n : ℕ) → guest % entries_of_cluster m.header.fields + n ≤ entries_of_cluster m.header.fields
       → IsUnder m table guest → (i : ℕ) → i < n → IsUnder m table (guest + i)
   under-row m table guest n fits under i less =
@@ -289,7 +287,7 @@ module _ {S : Type 0} (g : Ghosts S) where
         table_nonzero = under.table_nonzero;
       }
 
-  -- Else the guest clusters have them.
+  -- Otherwise the clusters are reserved.
   pub reserve-done : (guest table : ℕ) (r : Placed) (kept : Option ℕ) (n : ℕ) (bytes : List ℕ) (old first mid new : Qcow2 S g)
       → guest % entries_of_cluster old.tables.file.header.fields + n ≤ entries_of_cluster old.tables.file.header.fields
       → LoadsSpace g old (Ok tt) first → EnsuresTable g (enough_for_table first.tables guest) guest first (Ok table) mid
@@ -317,7 +315,7 @@ module _ {S : Type 0} (g : Ghosts S) where
             record {
               space = own.0;
               space_known = own.1;
-              layers_below = under-row (rest_of g new.tables own.0) table guest r.count
+              in_table = under-row (rest_of g new.tables own.0) table guest r.count
                   (subst (λ (b : ℕ). guest % (2 ^ b / 8) + r.count ≤ 2 ^ b / 8) (sym all.bits) (let few = s.many.1 in omega (arith, fits, few))) (record {
                     inside = subst (λ (n : ℕ). n < new.tables.file.header.fields.l1_entries) (sym row)
                         (subst (λ (n : ℕ). guest / entries_of_cluster mid.tables.file.header.fields < n) (sym s.top.entries) made.1);
@@ -337,7 +335,7 @@ module _ {S : Type 0} (g : Ghosts S) where
         cause = tt;
       }
 
-  -- A mapping isn't prepared where there is no content for it,
+  -- No mapping is prepared if no content is made.
   pub fresh-unfilled : {B : Type 0} (u : GhostsBelow B) (asked : Asked) (n : ℕ) (old new : Qcow2 S g × B) (e : Fault)
       → MakesContent g u (first_part old.0.tables.file.header.fields asked) old (Err e) new → PreparesFresh g u asked n old (Err e) new
   fresh-unfilled u asked n old new e m = record {
@@ -361,7 +359,7 @@ module _ {S : Type 0} (g : Ghosts S) where
     made : KeepsDisk g ⊤ old.0 first
     made = keeps-image-disk {T = Vec ℕ Global} g old.0 first (Ok content) m.keeps
 
-    -- where it isn't known what the guest cluster keeps,
+    -- No mapping is prepared if the lookup of the preallocated cluster fails.
     pub fresh-untold : (new : Qcow2 S g) (e : Fault) → TellsKept g guest first (Err e) new → PreparesFresh g u asked n old (Err e) (new, y)
     fresh-untold new e t = record {
       middle = new;
@@ -405,7 +403,7 @@ module _ {S : Type 0} (g : Ghosts S) where
     keeps-reserved ok new k =
         keeps-disk-then g (IsWellFormed g old.0) (IsWellFormed g old.0) (HasKept g guest kept mid) ⊤ ok old.0 mid new tt (λ well_formed. well_formed) known-there looked k
 
-    -- and where no cluster is reserved.
+    -- No mapping is prepared if no cluster is reserved.
     pub fresh-unreserved : (is : guest ≡ asked.offset / cluster_size h) (new : Qcow2 S g) (e : Fault) → Reserves g guest kept n content.items mid (Err e) new → PreparesFresh g u asked n old (Err e) (new, y)
     fresh-unreserved is new e r = record {
       middle = new;
@@ -424,7 +422,7 @@ module _ {S : Type 0} (g : Ghosts S) where
       );
     }
 
-    -- Else it is prepared.
+    -- Otherwise it is prepared.
     module _ (is : guest ≡ asked.offset / cluster_size h) (any : 0 < n) (clusters : Reserved) (middle : Qcow2 S g)
         (r : Reserves g guest kept n content.items mid (Ok clusters) middle) where
       bits : mid.tables.file.header.fields.cluster_bits ≡ h.cluster_bits
@@ -462,7 +460,7 @@ module _ {S : Type 0} (g : Ghosts S) where
         err = tt;
       }
 
-  -- Behind a call that only looks it is prepared from there.
+  -- A lookup before the preparation doesn't matter.
   module _ {T B : Type 0} (u : GhostsBelow B) (asked : Asked) (n : ℕ) (old mid : Qcow2 S g) (x : B) (v : T) (k : KeepsImage g old (Ok v) mid) where
     abbrev was : Fields
     was = old.tables.file.header.fields
@@ -552,7 +550,7 @@ module _ {S : Type 0} (g : Ghosts S) where
       );
     }
 
-  -- There was no place for the first guest cluster of a range where that is refused with a limit.
+  -- `Fault::Limit` means that the missing parts of the first guest cluster couldn't be allocated.
   pub fresh-lacks : {B : Type 0} (u : GhostsBelow B) (asked : Asked) (n : ℕ) (old new : Qcow2 S g) (x y : B)
       (result : Result (PreparedDataMapping PreparedMappingState) Fault) → PreparesFresh g u asked n (old, x) result (new, y) → IsWellFormed g old
       → u.coherent_below x → IfErr result (λ e. (number : ℕ) → e ≡ Limit number
@@ -566,7 +564,7 @@ module _ {S : Type 0} (g : Ghosts S) where
     | inr below ↦ absurd (subst (λ (f : Fault). WhyNotCopied g u (first_part old.tables.file.header.fields asked) (old, x) y f) same (below.cause well_formed under))
   ]
 
-  -- A run that a call finds which only looks is one of the image before it.
+  -- A run that is found after a lookup is one of the image before.
   module _ {T B : Type 0} (u : GhostsBelow B) (asked : Asked) (old mid : Qcow2 S g) (x : B) (v : T) (k : KeepsImage g old (Ok v) mid) where
     run-behind : (n : ℕ) → IsRun g asked n mid → IsRun g asked n old
     run-behind n run =
@@ -590,7 +588,6 @@ module _ {S : Type 0} (g : Ghosts S) where
       prepares = fresh-behind {T = T} u asked p.n old mid x v k result new y p.prepares;
     }
 
-  -- One is prepared that was found,
   pub run-prepared : {B : Type 0} (u : GhostsBelow B) (asked : Asked) (n : ℕ) (old mid : Qcow2 S g) (x : B) → FindsRun g asked old (Ok n) mid
       → (result : Result (PreparedDataMapping PreparedMappingState) Fault) (new : Qcow2 S g) (y : B)
       → PreparesFresh g u asked n (mid, x) result (new, y) → PreparesRun g u asked (old, x) result (new, y)
@@ -600,7 +597,6 @@ module _ {S : Type 0} (g : Ghosts S) where
     prepares = fresh-behind {T = ℕ} u asked n old mid x n found.keeps result new y p;
   }
 
-  -- or none is.
   pub run-unfound : {B : Type 0} (u : GhostsBelow B) (asked : Asked) (old new : Qcow2 S g) (x : B) (e : Fault) → FindsRun g asked old (Err e) new
       → PreparesRun g u asked (old, x) (Err e) (new, x)
   run-unfound u asked old new x e found = record {

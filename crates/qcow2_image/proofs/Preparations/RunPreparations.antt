@@ -1,4 +1,4 @@
--- What a preparation leaves: of a run that can be written where it is, and of one that is held.
+-- Lemmas on preparations of a run that can be written in place, and of one that is held.
 use Rattle.std.proofs.Common.{◌≡◌, ◌≢◌, ℕ, ◌+◌, ◌*◌, ◌/◌, ◌%◌, ◌<◌, ◌≤◌, refl, arith, ap, sym, subst, ◌∙◌, inl, inr, false, Option, Some, None, Result, Ok, Err}
 use Rattle.std.specs.Prelude.{⊤, ◌⊎◌, ◌++◌}
 use Rattle.std.specs.Borrow.{RattleType}
@@ -27,7 +27,7 @@ use Rattle.imago_access.proofs.Marking.{over_plain}
 use Rattle.qcow2_types.specs.Bytes.{Bytes}
 use Rattle.qcow2_types.specs.Header.{Fields, Header, cluster_size, entries_of_cluster}
 use Rattle.qcow2_types.specs.Words.{Mapping, data_at, zeroes, packed, damaged, is_damaged}
-use Rattle.qcow2_types.specs.Words as raw_entries
+use Rattle.qcow2_types.specs.Words as mappings
 use Rattle.qcow2_types.specs.Entries.{entry, l2_table}
 use Rattle.qcow2_types.specs.Consistency.{IsConsistent}
 use Rattle.qcow2_types.proofs.Counting.Consistent.{some-words, consistent-shaped}
@@ -49,11 +49,10 @@ use Rattle.qcow2_image.specs.Unspent.{holding_in}
 use Rattle.qcow2_image.specs.Writing.{IsWritableAt, HadNoPlace}
 use Rattle.qcow2_image.proofs.Steps.{began-kept, looked-kept, marks-kept, takes-kept}
 
--- No guest cluster of a consistent image is damaged,
 pub never-damaged : (f : Bytes) (H : Header) → IsConsistent f H → (g : ℕ) → entry f H.fields g ≢ damaged
 never-damaged f H was g is = elim (cases_eq (l2_table f H.fields (g / entries_of_cluster H.fields)) 0) [
   | inl none ↦
-      let bad : raw_entries.unmapped ≡ damaged = sym (guest-slot-none f H.fields g none) ∙ (sym (entry-slot f H.fields g was.readable.tables) ∙ is) in
+      let bad : mappings.unmapped ≡ damaged = sym (guest-slot-none f H.fields g none) ∙ (sym (entry-slot f H.fields g was.readable.tables) ∙ is) in
       absurd (cc bad)
   | inr there ↦
       let live = guest-live f H.fields g (some-words H.fields (consistent-shaped f H was)) there in
@@ -67,12 +66,11 @@ damaged-by blank which f h p damaged is = refl
 damaged-by blank which f h p (data_at c x) is = absurd (cc is)
 damaged-by blank which f h p (zeroes c x) is = absurd (cc is)
 damaged-by blank which f h p (packed o n) is = absurd (cc is)
-damaged-by blank which f h p raw_entries.unmapped is = elim which [
+damaged-by blank which f h p mappings.unmapped is = elim which [
   | inl none ↦ absurd (cc (sym none ∙ is))
   | inr zero ↦ absurd (cc (sym zero ∙ is))
 ]
 
--- so that no place of a safe one is.
 pub safe-undamaged : {S : Type 0} (g : Ghosts S) (d : Qcow2 S g) → IsWellFormed g d → (p : ℕ) → p < (layer_of g d).size → (layer_of g d).cell p ≢ own damaged_place
 safe-undamaged g d well_formed p inside is =
     let h = d.tables.file.header.fields in
@@ -82,7 +80,7 @@ safe-undamaged g d well_formed p inside is =
     never-damaged (file_of g d.tables) d.tables.file.header well_formed.consistent (p / cluster_size h)
     (damaged-by (blank_of d.mode.backing) (blanks d.mode.backing) (file_of g d.tables) h p _ here)
 
--- A run of whole clusters cuts none that the range covers.
+-- A run of whole clusters ends inside no cluster that the range covers completely.
 pub uncut-run : (h : Fields) (mapped : ℕ → Mapping) (offset asked n : ℕ) → offset < h.size → offset + n ≤ h.size → IsWholeRun h mapped offset asked n
     → IsUncutAt (cluster_size h) h.size offset asked (offset + n)
 uncut-run h mapped offset asked n low inside is u unit = elim is.ends [
@@ -100,7 +98,7 @@ uncut-run h mapped offset asked n low inside is u unit = elim is.ends [
       ]
 ]
 
--- Where a place has no home, it has none by its word; and it had none before, where each that there was is there.
+-- A byte without a location has none by its entry. It had none before, if each earlier location is kept.
 pub words-none : (hold : Option PreparedMappingRun) (home : ℕ → Option (ℕ × ℕ)) (p : ℕ) → writable_locations_with hold home p ≡ None → home p ≡ None
 words-none None home p is = is
 words-none (Some hold) home p is = from (home p) refl is where
@@ -130,7 +128,7 @@ module _ (R : RattleType) (st : Ghosts R.Denot) (sd : mir.Syntax.Dict) (dd : mir
       }
 
   module _ {B : Type 0} (u : GhostsBelow B) (x : B) (asked : Asked) where
-    -- why it is refused, in the words of the driver, where it was in those of a lookup,
+    -- The cause of an error in the relations of the driver, from that of a lookup.
     pub part-why : (e : Fault) → old.failed ≡ false → LookCause (layer_of st old) asked.offset asked.length (files coherent old) (files coherent new) e → IsWellFormed st old → (d : Qcow2 R.Denot st) (call : Call)
         → PartCause (u.layers_below x) (layer_of st old) asked.offset asked.length (coherent.own_cause d (u.layers_below x) call) (files coherent old ++ u.files_of_layers_below x) (files coherent new ++ u.files_of_layers_below x) e
     part-why DamagedTable runs why well_formed d call = absurd (safe-undamaged st old well_formed (asked.offset + why.0) why.2 why.3)
@@ -143,7 +141,7 @@ module _ (R : RattleType) (st : Ghosts R.Denot) (sd : mir.Syntax.Dict) (dd : mir
     ]
     part-why e runs why well_formed d call = absurd why
 
-    -- and where the first place can't be written.
+    -- The cause of an error if the first byte can't be written in place.
     pub part-nowhere : (number : ℕ) → (layer_of st old).writable_location asked.offset ≡ None → 0 < asked.length → (d : Qcow2 R.Denot st) (call : Call) → coherent.began d call old → IsUncutPart (layer_of st old) call asked.offset asked.length
         → (IsWellFormed st d → HadNoPlace st d asked.offset number)
         → PartCause (u.layers_below x) (layer_of st old) asked.offset asked.length (coherent.own_cause d (u.layers_below x) call) (files coherent old ++ u.files_of_layers_below x) (files coherent new ++ u.files_of_layers_below x) (Limit number)

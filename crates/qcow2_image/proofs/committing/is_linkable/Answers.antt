@@ -6,16 +6,15 @@ use Rattle.std.proofs.lemmas.Bool.{leb-true, le-leb}
 use Rattle.qcow2_types.specs.Entries.{l2_entries}
 use Rattle.qcow2_image.proofs.committing.is_linkable.Goals as goal
 
--- A table has words.
 some-words : (bits : ℕ) → 9 ≤ bits → 0 < l2_entries bits
 some-words bits low = let le : 2 ^ 9 ≤ 2 ^ bits = pow_mono low in omega (arith, le)
 
 pub overflow_sub-row : goal.overflow_sub-row
 overflow_sub-row c =
     let at = c.l2_index.ensures in
-    let raw_entries = c.requires.raw_entries in
+    let entries = c.requires.entries in
     let rest = mod_below c.args.guest (l2_entries c.args.cluster_bits) (some-words c.args.cluster_bits c.requires.bits.0) in
-    omega (arith, at, raw_entries, rest)
+    omega (arith, at, entries, rest)
 
 pub returns : goal.returns
 returns c =
@@ -23,7 +22,7 @@ returns c =
     let x = c.args.host in
     let n = c.args.count in
     let at = c.l2_index.ensures in
-    let raw_entries = c.requires.raw_entries in
+    let entries = c.requires.entries in
     let rest = mod_below c.args.guest (l2_entries bits) (some-words bits c.requires.bits.0) in
     let host = c.host.view_is in
     let count = c.count.view_is in
@@ -37,7 +36,7 @@ returns c =
             cluster_nonzero = omega (arith, host, host-some);
             any = omega (arith, count, count-some);
             reach = reach.0 (omega (arith, low, host, count, near, count-some));
-            row = omega (arith, few, count, at, raw_entries, rest);
+            row = omega (arith, few, count, at, entries, rest);
           },
       λ is.
           let low = reach.1 is.reach in

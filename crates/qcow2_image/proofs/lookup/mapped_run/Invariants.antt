@@ -5,7 +5,7 @@ use Rattle.qcow2_metadata.specs.MappingView.{mapping_seen, IsHostAddressable, Ba
 use Rattle.qcow2_image.specs.Looking.{Follows}
 use Rattle.qcow2_image.proofs.lookup.mapped_run.Given as goal
 
--- the run so far: each cluster goes on from the one before, and the last of them was read last
+-- Up to `next` each mapping follows the one before, and `last` is the mapping of the last cluster.
 abbrev pub invariant-loop-next : goal.invariant-loop-next
 invariant-loop-next l =
     let bits = l.table.layout.cluster_bits in

@@ -19,7 +19,7 @@ use Rattle.qcow2_image.proofs.CallsWithoutChanges.{failed-barrier, failed-refusa
 use Rattle.qcow2_image.proofs.drivers.Qcow2FormatDriverInstance.prepare_data_mapping.Goals as goal
 use Rattle.qcow2_image.proofs.LeaksByFile.{leaks-kept}
 
--- a change that is refused at once is refused for a cause
+-- The early error of a change has a cause.
 own-refused : (below : List Layer) (layer : Layer) (offset n : ℕ) (causes : Fault → Type 0) (olds news : List StorageState)
     → (e : Fault) → own_refusal layer offset n ≡ Some e → PartCause below layer offset n causes olds news e
 own-refused below layer offset n causes olds news e h = search rules

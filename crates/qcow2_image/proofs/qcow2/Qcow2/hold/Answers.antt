@@ -7,7 +7,7 @@ use Rattle.qcow2_image.specs.Holding.{place_in}
 use Rattle.qcow2_image.specs.Unspent.{covers}
 use Rattle.qcow2_image.proofs.qcow2.Qcow2.hold.Goals as goal
 
--- The next number in 64 bits is another.
+-- The ID changes even if it wraps around.
 another : (n : ℕ) → (n + 1) % 18446744073709551616 ≡ n → ⊥
 another n same = Prim.omega (arith, same, mod_below (n + 1) 18446744073709551616, div-add-mod (n + 1) 18446744073709551616)
 

@@ -1,4 +1,4 @@
--- The range is mapped so far from the place on, and nothing was done but lookups.
+-- The range is mapped from `place` on up to this point, and only lookups were done.
 use Rattle.std.proofs.Common.{◌+◌, ◌-◌, ◌<◌, ◌≤◌, ◌^◌, Ok}
 use Rattle.qcow2_image.specs.Seen.{IsCacheCoherent, layer_of}
 use Rattle.qcow2_image.specs.Steps.{KeepsImage}

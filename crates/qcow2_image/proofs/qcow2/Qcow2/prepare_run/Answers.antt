@@ -11,7 +11,6 @@ use Rattle.qcow2_image.proofs.Preparations.Reservations.{fresh-done, fresh-unfil
 use Rattle.qcow2_alloc.proofs.Faults.{handed-on}
 use Rattle.qcow2_image.proofs.qcow2.Qcow2.prepare_run.Goals as goal
 
--- how much of a run lies in its first clusters
 run-inside : (offset n most size run : ℕ) → run ≡ min n most → offset + n ≤ size → offset + run ≤ size
 run-inside offset n most size run is inside = omega (arith, is, inside)
 
