@@ -1,4 +1,4 @@
--- Lists of calls with nothing kept before and behind, one behind the other.
+-- Lists of calls that start and end with no mapping kept, one list after another.
 use Rattle.std.proofs.Common.{◌≡◌, ◌<◌, inl, inr, ℕ, zero, suc, List, ◌∷◌, [], ◌++◌, arith, refl, subst, sym, ap}
 use Rattle.std.specs.Prelude.{false, take, Option, Some, None, IsFalse}
 use Rattle.imago_storage.specs.declared.fault.Fault.TheVariants.{BadArgument}
@@ -18,7 +18,7 @@ use Rattle.qimg_calls.proofs.Driven.{driven-made}
 use Rattle.qimg_calls.proofs.Lists.{either-cases}
 
 module _ {D St : Type 0} (g : Ghosts D St) where
-  -- a call that isn't of a mapping keeps none
+  -- A call that isn't of a mapping keeps none.
   none-behind : (call : Call) (answer : Answer) (old : D × List D) (mid : ChainWithMapping D St) → IsFalse (is_of_mapping call) → Answers g call answer (chain_with_mapping old None) mid → mid.kept_mapping ≡ None
   none-behind call answer old mid other one =
       elim (either-cases (is_out_of_place false call) ((answer ≡ told.Refused BadArgument) × (mid ≡ chain_with_mapping old None)) (CallOutcome g call answer (chain_with_mapping old None) mid) one) [
@@ -37,7 +37,7 @@ module _ {D St : Type 0} (g : Ghosts D St) where
       let one = made.1.1 in
       none-given call answer old mid.drivers new mid.kept_mapping (none-behind call answer old mid other one) one (subst (λ (h : ChainWithMapping D St). CancelsKept g h new) made.1.2 made.2)
 
-  -- no call leaves all as it was
+  -- An empty list changes nothing.
   pub alone-none : (answers : List Answer) (old new : D × List D) → MadeAll g [] answers old new → new ≡ old
   alone-none [] old new made = subst (λ (h : ChainWithMapping D St). CancelsKept g h new) made.1 made.2
   alone-none (answer ∷ answers) old new made = absurd made.1
@@ -51,13 +51,13 @@ module _ {D St : Type 0} (g : Ghosts D St) where
   pub alone-both : (first second : List Call) (one other : List Answer) (a b c : D × List D) → AnswersAlone g first one a b → AnswersAlone g second other b c → AnswersAlone g (first ++ second) (one ++ other) a c
   alone-both first second one other a b c = both-all first second one other (chain_with_mapping a None) (chain_with_mapping b None) (chain_with_mapping c None)
 
-  -- what such a list does to a chain
+  -- The effect of such a list on a chain.
   pub driven-alone : (well_formed_is_coherent : (d : D) → g.well_formed d → g.coherent d) (well_formed_is_sound : (d : D) → g.well_formed d → IsCovered (g.layer d) g.sound (g.image d).bytes)
       (list : List Call) (answers : List Answer) (old new : D × List D) (since : Since) → AnswersAlone g list answers old new → IsFree (g.layer old.0) → IsReady g old → HoldsSince g since old
       → Driven g since list answers old new
   driven-alone well_formed_is_coherent well_formed_is_sound list answers old new since all none ready stands = driven-made g well_formed_is_coherent well_formed_is_sound list answers old new since (chain_with_mapping new None, all, refl) none ready stands
 
-  -- the answer fits the call
+  -- The answer fits the call.
   pub alone-fits : (call : Call) (answer : Answer) (old new : D × List D) → AnswersAlone g (call ∷ []) (answer ∷ []) old new → Fits call answer
   alone-fits call answer old new all =
       elim (either-cases (is_out_of_place false call) ((answer ≡ told.Refused BadArgument) × (all.0 ≡ chain_with_mapping old None)) (CallOutcome g call answer (chain_with_mapping old None) all.0) all.1) [
@@ -69,6 +69,6 @@ module _ {D St : Type 0} (g : Ghosts D St) where
   cut-none call answers old new zero fewer made = alone-none answers old new made
   cut-none call answers old new (suc n) fewer made = absurd (omega (arith, fewer))
 
-  -- where one call is cut short, it isn't made
+  -- A list of one call that was cut short hasn't made the call.
   pub alone-cut : (call : Call) (old new : D × List D) → CutShort g (call ∷ []) old new → new ≡ old
   alone-cut call old new short = cut-none call short.answers old new short.count short.fewer short.made

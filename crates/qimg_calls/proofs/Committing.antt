@@ -1,4 +1,4 @@
--- The mapping that is kept is committed, or given up.
+-- A commit or a cancel of the kept mapping.
 use Rattle.std.proofs.Common.{◌≡◌, ◌⊎◌, ◌<◌, ◌≤◌, List, ◌∷◌, arith, refl, sym, subst, ap, false}
 use Rattle.std.specs.Prelude.{Option, Some, None, Result, Ok, Err, map, ⊤}
 use Rattle.imago_storage.specs.Steps.{Call}
@@ -47,12 +47,12 @@ module _ {D St : Type 0} (g : Ghosts D St) (well_formed_is_usable : (d : D) → 
     commit-stops ready = fewer-stops g (map g.layer old.1) (g.layer old.0).size (g.layer old.0).size (g.layer old.0).size (GivesHeld (g.layer old.0)) (Begun (map g.layer old.1) (chain_disk g.layer old) call) old.0 new.0
         (omega arith) (λ p v gave. held-gives ((g.layer old.0).held p) v gave) (stops ready)
 
-    -- done
+    -- The commit succeeded.
     pub commit-leads : Commits g mapping.state (Ok tt) old.0 new.0 → (IsReady g old → IsIntactChain g new) → (IsReady g old → ChainCommits g mapping.state old new) → LeavesForNext g ⊤ call old new
     commit-leads does intact step = step-leads g old new ⊤ ⊤ call well_formed_is_usable does.mutating_call (looked ⊤) (λ w ready. tt) (λ w ready. does.mutating_call.excess_refcount (refl, kept.mine) ready.intact.is_well_formed) (λ w ready. intact ready)
         (λ w ready. committed-between (map g.layer old.1) (below_of g.layer old) _ _ (chain_disk g.layer old) (chain_disk g.layer new) (step ready)) commit-stops
 
-    -- refused: given back, or spent
+    -- The commit failed, and returned the mapping or consumed it.
     pub refused-makes : (fault : Fault) (back : Option (PreparedDataMapping St)) → Commits g mapping.state (Err (fault, back)) old.0 new.0 → CommitRefused g mapping (Err (fault, back)) old.0 new.0
         → (IsIntactChain g old → ChainCause g call (λ _. ⊥) old new fault)
         → CallOutcome g calls.CommitDataMapping (told.Refused fault) (chain_with_mapping old (Some mapping)) (chain_with_mapping new back)
@@ -92,7 +92,7 @@ module _ {D St : Type 0} (g : Ghosts D St) (well_formed_is_usable : (d : D) → 
           same = λ no. absurd (cc no);
         }
 
-  -- a mapping that is given up changes nothing of the disk
+  -- A cancelled mapping changes nothing on the disk.
   pub cancel-leads : (call : Call) (result : Result Unit (Fault × PreparedDataMapping St)) → Cancels g mapping result old.0 new.0 → ((g.layer old.0).size ≤ most_size (chain_disk g.layer old) call)
       → (IsReady g old → IsIntactChain g new)
       → (IsReady g old → ValuesBetween (Begun (map g.layer old.1) (chain_disk g.layer old) call) (chain_disk g.layer old) (chain_disk g.layer new))
@@ -102,7 +102,7 @@ module _ {D St : Type 0} (g : Ghosts D St) (well_formed_is_usable : (d : D) → 
       record {
         fixed = cancels.fixed;
         counts_not_fallen = subst (IsLater (g.image old.0)) (sym same) (is_later_same (g.image old.0));
-        no_change_refused = λ w ready. rw (same) (refl, refl);
+        faults = λ w ready. rw (same) (refl, refl);
         excess_refcount = λ w ready. cancels.excess_refcount kept.mine ready.intact.is_well_formed;
         layers_below = λ has_no_dirty_data. rw (below) (kept_all_same (files_of g old.1), has_no_dirty_data);
         below = λ w ready. rw (below) refl;

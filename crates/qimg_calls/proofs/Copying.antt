@@ -30,18 +30,18 @@ use Rattle.imago_access.proofs.Room.{room_same, takes_both, apart_wider}
 use Rattle.imago_access.proofs.Running.{ran_same, ran_both, ran_gives}
 use Rattle.qimg_calls.specs.Flattening.{Chains, HasByte, IsSoundPair, GivesRead, IsRangeCopied, IsRangeCopiedInPart, CopiesRange, CopiesDisk, CopyFails, Copies, CopyCause, MayCopy, PieceRefused, PieceCrashImages}
 
--- bytes that were read give what the source shows
+-- Bytes that were read are the source's.
 pub gives_read : {D St : Type 0} (g : Ghosts D St) (source : D × List D) (offset : ℕ) (bytes : List ℕ) → (Each g.coherent (chain source) → Shows (chain_disk g.layer source).value offset bytes) → (p : ℕ) (v : Value) → GivesBytes offset bytes p v → GivesRead g source p v
 gives_read g source offset bytes shown p v gave = (
   (slice_index bytes gave.0, gave.3),
   λ see. gave.3 ∙ sym (shown see gave.0 gave.1) ∙ ap (chain_disk g.layer source).value (sym gave.2),
 )
 
--- a range inside the disk that was read holds its bytes
+-- A range inside the disk was read.
 pub read_shown : {D St : Type 0} (g : Ghosts D St) (offset n : ℕ) (buf : List ℕ) (old new : D × List D) → offset + n ≤ (g.layer old.0).size → ChainReads g offset n buf old new → Shows (chain_disk g.layer old).value offset buf
 read_shown g offset n buf old new inside reads i lt = reads.1.below i lt (omega (arith, lt, reads.0, inside))
 
--- the source's byte at a place of the range
+-- The source's byte at an offset of the range.
 there : (offset : ℕ) (bytes : List ℕ) (source : Disk) → Shows source.value offset bytes → (p : ℕ) (v : Value) → IsIn offset (length bytes) p → v ≡ byte (slice_index bytes (p - offset))
     → HasByte (source.value p) × (v ≡ source.value p)
 there offset bytes source shown p v inside is =
@@ -51,7 +51,7 @@ there offset bytes source shown p v inside is =
     let has : source.value p ≡ byte (slice_index bytes i) = ap source.value (sym place) ∙ shown i lt in
     ((slice_index bytes i, has), is ∙ sym has)
 
--- a write of what the source shows copies it
+-- A write of the source's bytes copies the range.
 pub written_copied : (source old new : Disk) (offset : ℕ) (bytes : List ℕ) → Shows source.value offset bytes
     → Unless (length bytes ≡ 0) (Stays old new) (Changes (ToBytes offset bytes) old new offset (length bytes)) → IsRangeCopied source old new offset (length bytes)
 written_copied source old new offset bytes shown step = elim step [
@@ -67,7 +67,7 @@ written_copied source old new offset bytes shown step = elim step [
   }
 ]
 
--- .. and one that is refused, and not cut off, copies it in part
+-- A write that fails without a resource error copies the range in part.
 written_part : (source old new : Disk) (under : ℕ → Value) (offset : ℕ) (bytes : List ℕ) → Shows source.value offset bytes → PartlyDone under (write offset bytes) old new
     → IsRangeCopiedInPart source old new offset (length bytes)
 written_part source old new under offset bytes shown part = record {
@@ -76,7 +76,7 @@ written_part source old new under offset bytes shown part = record {
   others = part.others;
 }
 
--- two ranges, one behind the other
+-- Two consecutive ranges.
 pub copied_both : (source a b c : Disk) (offset n m : ℕ) → offset + n ≤ a.size → IsRangeCopied source a b offset n → IsRangeCopied source b c (offset + n) m → IsRangeCopied source a c offset (n + m)
 copied_both source a b c offset n m fits first second = record {
   size = second.size ∙ first.size;
@@ -90,7 +90,7 @@ copied_both source a b c offset n m fits first second = record {
       ∙ first.others p lt (elim out [ inl before ↦ inl before | inr behind ↦ inr (omega (arith, behind)) ]);
 }
 
--- a piece that isn't the last ends where the next one begins
+-- A piece that isn't the last ends where the next one begins.
 whole_piece : (size done n : ℕ) → done ≤ size → n ≡ min 65536 (size - done) → (done + n ≡ size → ⊥) → n ≡ 65536
 whole_piece size done n inside long more = elim (cases_lt 65536 (size - done)) [
   | inl lt ↦ long ∙ min-eq_left (omega (arith, lt))
@@ -105,13 +105,13 @@ next_more size done n inside long more =
     let least : n ≤ size - done = subst (λ (m : ℕ). m ≤ size - done) (sym long) (min-le_right 65536 (size - done)) in
     elim (cases_lt (done + n) size) [ inl lt ↦ lt | inr ge ↦ absurd (more (omega (arith, inside, least, ge))) ]
 
--- a piece of a disk that isn't empty isn't
+-- A piece of a nonempty disk isn't empty.
 pub some_left : (size done n : ℕ) → (done ≡ 0) ⊎ (done < size) → n ≡ min 65536 (size - done) → 0 < size → 0 < n
 some_left size done n more long some =
     let left : 0 < size - done = elim more [ inl first ↦ omega (arith, first, some) | inr lt ↦ omega (arith, lt) ] in
     subst (λ (m : ℕ). 0 < m) (sym long) (le-min (omega arith) left)
 
--- Images that can be used, and what is refused at once.
+-- Usable images, and errors before anything is done.
 open_then : (failed missing : Bool) (rest : Option Fault) → (if failed then Some Failed else if missing then Some MissingData else rest) ≡ None → ((if failed then Some Failed else if missing then Some MissingData else None) ≡ None) × (rest ≡ None)
 open_then true missing rest none = absurd (cc none)
 open_then false true rest none = absurd (cc none)
@@ -141,7 +141,7 @@ none_at_once : (refusal : Option Fault) → ((f : Fault) → refusal ≡ Some f 
 none_at_once None told = refl
 none_at_once (Some f) told = absurd (told f refl)
 
--- a layer that is like what it was, twice
+-- `KeepsLayerState` is transitive.
 like_then : (a b c : Layer) → KeepsLayerState a b → KeepsLayerState b c → KeepsLayerState a c
 like_then a b c first second = record {
   fixed = second.fixed ∙ first.fixed;
@@ -161,7 +161,7 @@ module _ {S P T Q : Type 0} (g : Ghosts S P) (h : Ghosts T Q) where
     failed = tt;
   }
 
-  -- a piece that is copied: neither chain refuses it at once
+  -- A piece was copied, so neither chain had an early error.
   pub may_copy : (result : Result Unit Fault) (old : Chains S T) (offset n : ℕ) → ((f : Fault) → chain_look_refusal g old.0 offset n ≡ Some f → ⊥) → ((f : Fault) → chain_refusal h old.1 offset n ≡ Some f → IsErrOf result f)
       → OnOk result (MayCopy g h n old)
   may_copy (Ok unit) old offset n source target =
@@ -174,7 +174,7 @@ module _ {S P T Q : Type 0} (g : Ghosts S P) (h : Ghosts T Q) where
       }
   may_copy (Err fault) old offset n source target = tt
 
-  -- .. behind others
+  -- The same holds if other pieces were copied before it.
   pub may_before : (a b : Chains S T) (end n size : ℕ) → Copies g h 0 end (Ok tt) a b → (0 < size → 0 < n) → MayCopy g h n b → MayCopy g h size a
   may_before a b end n size first some may = record {
     source = usable_before (g.layer a.0.0) (g.layer b.0.0) first.source.0.keeps_layer_state may.source;
@@ -182,7 +182,7 @@ module _ {S P T Q : Type 0} (g : Ghosts S P) (h : Ghosts T Q) where
     writable = λ here. subst (λ (f : Fixed). IsTrue f.writable) first.keeps_layer_state.fixed (may.writable (some here));
   }
 
-  -- no room for a piece
+  -- Memory for a piece ran out.
   pub no_room : (a : Chains S T) → CopyFails g h a a Memory
   no_room a = inl (record { cause = tt; marks_failed = λ is. absurd (cc is); target = ran_same h (below_ghosts h) ⊤ (GivesRead g a.0) a.1.0 a.1.1 })
 
@@ -197,12 +197,12 @@ module _ {S P T Q : Type 0} (g : Ghosts S P) (h : Ghosts T Q) where
     copied_in_part = λ not_resource_error. absurd not_resource_error;
   }
 
-  -- all of a disk
+  -- The whole disk was copied.
   pub copies_disk : (result : Result Unit Fault) (a b : Chains S T) → (h.layer a.1.0).size ≡ (g.layer a.0.0).size → Copies g h 0 (g.layer a.0.0).size result a b → IsSoundPair g h a → OnOk result (CopiesDisk g h a b.1)
   copies_disk (Ok unit) a b same all pair = (same, all.copied pair)
   copies_disk (Err fault) a b same all pair = tt
 
-  -- a refusal in a part of a range is one of the range
+  -- An error in a part of a range is one of the range.
   pub copies_wider : (fault : Fault) (offset n m : ℕ) (a b : Chains S T) → n ≤ m → Copies g h offset n (Err fault) a b → Copies g h offset m (Err fault) a b
   copies_wider fault offset n m a b fits part = record {
     source = part.source;
@@ -216,7 +216,7 @@ module _ {S P T Q : Type 0} (g : Ghosts S P) (h : Ghosts T Q) where
     failed = part.failed;
   }
 
-  -- a piece that is read, and written or not
+  -- A piece was read, and its write succeeded or failed.
   pub copies_written : (result : Result Unit Fault) (old new : Chains S T) (offset : ℕ) (bytes : List ℕ) → Pairs (LookupCall g ⊤) (chain old.0) (chain new.0) → (Each g.coherent (chain old.0) → Shows (chain_disk g.layer old.0).value offset bytes)
       → ChainRangeChange h (HadNoResourceError result) (GivesBytes offset bytes) old.1 new.1 → KeepsLayerState (h.layer old.1.0) (h.layer new.1.0) → TakesNear h offset (length bytes) result old.1 new.1 → IsCarriedOut h (write offset bytes) result old.1 new.1
       → IfErr result (ChainFails h old.1 new.1) → IfErr result (MarksTopFailed h (below_ghosts h) old.1 new.1)
@@ -238,7 +238,7 @@ module _ {S P T Q : Type 0} (g : Ghosts S P) (h : Ghosts T Q) where
     failed = inr (record { cause = failed; marks_failed = marks; source = looked });
   }
 
-  -- one that isn't read
+  -- The read of a piece failed.
   pub copies_unread : (fault : Fault) (old : Chains S T) (new : S × List S) (offset n : ℕ) → Pairs (LookupCall g (IsNotResourceError fault)) (chain old.0) (chain new) → ChainFails g old.0 new fault → MarksSomeFailed g (chain old.0) (chain new) fault
       → Copies g h offset n (Err fault) old (new, old.1)
   copies_unread fault old new offset n looked failed marks = record {
@@ -250,13 +250,13 @@ module _ {S P T Q : Type 0} (g : Ghosts S P) (h : Ghosts T Q) where
     failed = inl (record { cause = failed; marks_failed = marks; target = ran_same h (below_ghosts h) ⊤ (GivesRead g old.0) old.1.0 old.1.1 });
   }
 
-  -- why it isn't written
+  -- The cause of a failed write of a piece.
   pub piece_unwritten : (result : Result Unit Fault) (old new : Chains S T) (offset : ℕ) (bytes : List ℕ) → (Each g.coherent (chain old.0) → Shows (chain_disk g.layer old.0).value offset bytes) → CallRefused h (write offset bytes) result old.1 new.1
       → PieceRefused g h offset (length bytes) result old new
   piece_unwritten (Ok unit) old new offset bytes shown cause pair = tt
   piece_unwritten (Err fault) old new offset bytes shown cause pair = inr (record { bytes = bytes; long = refl; shown = shown pair.source; cause = cause pair.target })
 
-  -- what a piece leaves that is refused: one that isn't written, and one that isn't read
+  -- The state after a piece failed, at its write or at its read.
   pub piece_part : (result : Result Unit Fault) (old new : Chains S T) (offset : ℕ) (bytes : List ℕ) → (Each g.coherent (chain old.0) → Shows (chain_disk g.layer old.0).value offset bytes)
       → IsDoneInPart h (write offset bytes) result old.1 new.1 → PieceCrashImages g h offset (length bytes) result old new.1
   piece_part (Ok unit) old new offset bytes shown part pair = tt
@@ -267,7 +267,7 @@ module _ {S P T Q : Type 0} (g : Ghosts S P) (h : Ghosts T Q) where
   piece_same fault old offset n pair = λ not_resource_error. record { size = refl; range = λ p lt inside. inl refl; others = λ p lt out. refl }
 
   module _ (well_formed_is_coherent : (d : S) → g.well_formed d → g.coherent d) where
-    -- what a later part gives, seen from the source before
+    -- The bytes of a later part are those of the source at the start.
     gives_before : (a b : S × List S) → Pairs (LookupCall g ⊤) (chain a) (chain b) → (p : ℕ) (v : Value) → GivesRead g b p v → GivesRead g a p v
     gives_before a b looked p v gave = (
       gave.0,
@@ -317,7 +317,7 @@ module _ {S P T Q : Type 0} (g : Ghosts S P) (h : Ghosts T Q) where
           let same = chain_same g ⊤ a.0.1 b.0.1 tt pair.source.1 first.source.1 in
           copied_both (chain_disk g.layer a.0) (chain_disk h.layer a.1) (chain_disk h.layer b.1) (chain_disk h.layer c.1) offset n m fits (first.copied pair) (rw (top, same) at second)
 
-    -- two ranges, one behind the other
+    -- Two consecutive ranges.
     pub copies_both : (result : Result Unit Fault) (a b c : Chains S T) (offset n m : ℕ) → offset + n ≤ (h.layer a.1.0).size → Copies g h offset n (Ok tt) a b → Copies g h (offset + n) m result b c
         → Copies g h offset (n + m) result a c
     copies_both (Ok unit) a b c offset n m fits first second = record {
@@ -337,7 +337,7 @@ module _ {S P T Q : Type 0} (g : Ghosts S P) (h : Ghosts T Q) where
       failed = fails_behind a b c offset n m first fault second.failed;
     }
 
-    -- .. from the disk's begin on
+    -- Two consecutive ranges from the start of the disk.
     pub copies_next : (result : Result Unit Fault) (a b c : Chains S T) (end n : ℕ) → end ≤ (h.layer a.1.0).size → Copies g h 0 end (Ok tt) a b → Copies g h end n result b c → Copies g h 0 (end + n) result a c
     copies_next result a b c end n fits first second =
         let none : 0 + end ≡ end = omega arith in

@@ -1,4 +1,4 @@
--- What a list of calls does to a chain, with the mapping cancelled that is kept at its end.
+-- The effect of a list of calls on a chain, with the cancel of a mapping that is left at the end.
 use Rattle.std.proofs.Common.{◌≡◌, ◌∙◌, ℕ, List, refl, sym, subst}
 use Rattle.std.specs.Prelude.{Bool, Some, None, Option, map}
 use Rattle.imago_storage.specs.Disk.{Disk}
@@ -22,7 +22,7 @@ use Rattle.qimg_calls.specs.Runs.{HoldsSince, Driven}
 use Rattle.qimg_calls.proofs.Lists.{WritesBackCached, going-all, going-both, going-made, going-same, ran-all, stands-next}
 use Rattle.qimg_calls.proofs.Stops.{none-given}
 
--- a cancel gives nothing
+-- A cancel gives no byte a new value.
 fewer-since : (below : List Layer) (layer : Layer) (bytes : List ℕ) (since : Since) (disk : Disk) (state own : Bool) → IsSince below layer bytes (begun since disk (cancel state own)) → IsSince below layer bytes since
 fewer-since below layer bytes since disk state own is = record {
   file = λ p lt known. none-given below since disk (cancel state own) p _ (λ none. none) (is.file p lt known);
@@ -30,7 +30,7 @@ fewer-since below layer bytes since disk state own is = record {
 }
 
 module _ {D St : Type 0} (g : Ghosts D St) (well_formed_is_coherent : (d : D) → g.well_formed d → g.coherent d) (well_formed_is_sound : (d : D) → g.well_formed d → IsCovered (g.layer d) g.sound (g.image d).bytes) where
-  -- the step of a cancel
+  -- The step of a cancel.
   cancelled : (d new : D × List D) (m : PreparedDataMapping St) → CallOutcome g calls.Cancel told.Done (chain_with_mapping d (Some m)) (chain_with_mapping new None) → IsReady g d → ChainCancels g m.state d new
   cancelled d new m makes ready = let moves = makes.moves ready.intact in subst (λ says. ChainSteps g (disk_call g (chain_with_mapping d (Some m)) calls.Cancel) says d new) (sym (cc moves.0.1)) moves.0.2
 
@@ -43,7 +43,7 @@ module _ {D St : Type 0} (g : Ghosts D St) (well_formed_is_coherent : (d : D) �
         run = ran.run;
         ends = λ every. rw ((ran.ends every).0) refl;
         counts_not_fallen = ran.counts_not_fallen;
-        no_change_refused = ran.no_change_refused;
+        faults = ran.no_change_refused;
         excess_refcount = ran.excess_refcount;
         ready = λ every. (ran.ends every).1;
         stands = λ every. (ran.ends every).2;
@@ -60,7 +60,7 @@ module _ {D St : Type 0} (g : Ghosts D St) (well_formed_is_coherent : (d : D) �
         run = ran.run;
         ends = λ every. rw ((ran.ends every).0) (cancelled d new m makes (ran.ends every).1, same);
         counts_not_fallen = subst (IsLater (g.image ran.last.now.drivers.0)) (sym same) ran.counts_not_fallen;
-        no_change_refused = λ every. subst (IsFaultless (g.image old.0)) (sym same) (ran.no_change_refused every);
+        faults = λ every. subst (IsFaultless (g.image old.0)) (sym same) (ran.no_change_refused every);
         excess_refcount = λ every n. makes.leads.excess_refcount tt (ran.ends every).1 n ∙ ran.excess_refcount every n;
         ready = λ every. makes.leads.ready tt (ran.ends every).1;
         stands = λ every exact tells keeps room.
@@ -68,28 +68,28 @@ module _ {D St : Type 0} (g : Ghosts D St) (well_formed_is_coherent : (d : D) �
             (next.0, fewer-since (map g.layer new.1) (g.layer new.0) (g.image new.0).bytes ran.last.since (chain_disk g.layer d) _ _ next.1);
       }
 
-  -- the same, whatever is kept at the end
+  -- The list's effect, whether or not a mapping is kept at the end.
   driven : (list : List Call) (answers : List Answer) (old d : D × List D) (kept : Option (PreparedDataMapping St)) (new : D × List D) (since : Since) → AnswersAll g list answers (chain_with_mapping old None) (chain_with_mapping d kept)
       → CancelsKept g (chain_with_mapping d kept) new → MappingIsPrepared g (chain_with_mapping old None) → IsReady g old → HoldsSince g since old → Driven g since list answers old new
   driven list answers old d None new since all same is_kept ready stands = rw (same) (driven-free list answers old d since all is_kept ready stands)
   driven list answers old d (Some m) new since all up is_kept ready stands = driven-kept list answers old d new m since all up.0 up.1 is_kept ready stands
 
-  -- from what each call makes to what the list does
+  -- The list's effect, from the outcome of each call.
   pub driven-made : (list : List Call) (answers : List Answer) (old new : D × List D) (since : Since) → MadeAll g list answers old new → IsFree (g.layer old.0) → IsReady g old → HoldsSince g since old
       → Driven g since list answers old new
   driven-made list answers old new since made none ready stands =
       driven list answers old made.0.drivers made.0.kept_mapping new since made.1 made.2 (record { mine = tt; free = λ _. none }) ready stands
 
--- what a mapping that is given up leaves
+-- The state after a cancel.
 pub given-up : {D St : Type 0} (g : Ghosts D St) (d : D × List D) (kept : Option (PreparedDataMapping St)) (new : D × List D) → CancelsKept g (chain_with_mapping d kept) new → WritesBackCached g (chain_with_mapping d kept) (chain_with_mapping new None)
 given-up g d None new same = rw (same) (going-same g (chain_with_mapping d None))
 given-up g d (Some m) new up = going-made g calls.Cancel told.Done (chain_with_mapping d (Some m)) (chain_with_mapping new None) up.0
 
--- what a list of calls keeps, with its end
+-- The properties that a list of calls preserves, with the cancel at its end.
 pub going-made-all : {D St : Type 0} (g : Ghosts D St) (list : List Call) (answers : List Answer) (old new : D × List D) → MadeAll g list answers old new → WritesBackCached g (chain_with_mapping old None) (chain_with_mapping new None)
 going-made-all g list answers old new made = let last = made.0 in
     going-both g (chain_with_mapping old None) last (chain_with_mapping new None) (going-all g list answers (chain_with_mapping old None) last made.1) (given-up g last.drivers last.kept_mapping new made.2)
 
--- nothing is prepared where nothing is kept
+-- If no mapping is kept, none is prepared.
 pub none-kept : {D St : Type 0} (g : Ghosts D St) (old new : D × List D) → IsFree (g.layer old.0) → WritesBackCached g (chain_with_mapping old None) (chain_with_mapping new None) → IsFree (g.layer new.0)
 none-kept g old new none going = (going.kept (record { mine = tt; free = λ _. none })).free refl

@@ -1,4 +1,4 @@
--- What calls of a chain leave to the next one, and to a stop.
+-- The state that calls of a chain leave to the next call, and their crash images.
 use Rattle.std.proofs.Common.{◌≡◌, ◌⊎◌, inl, inr, ℕ, ◌<◌, ◌≤◌, ◌+◌, ◌^◌, ◌∷◌, List, length, arith, sym, ap, subst, refl, false}
 use Rattle.std.specs.Prelude.{map, Option, Some, None, Result, Ok, Err, IsOk, IfErr}
 use Rattle.std.proofs.lemmas.List.{length-map}
@@ -29,15 +29,14 @@ use Rattle.qimg_calls.specs.Moves.{RestsOn}
 use Rattle.qimg_calls.specs.declared.call.Call.{Call as CallMade}
 use Rattle.qimg_calls.specs.declared.call.Call.TheVariants as calls
 
--- the same of disks
+-- `ShowsBetween` for disks.
 abbrev pub ValuesBetween : (ℕ → Value → Type 0) → Disk → Disk → Type 0
 ValuesBetween gives old new = (p : ℕ) → p < new.size → ((p < old.size) × (new.value p ≡ old.value p)) ⊎ gives p (new.value p)
 
--- a layer that has not failed can be used as before
 pub usable-by : (l k : Layer) → l.failed ≡ false → k.failed ≡ false → l.fixed ≡ k.fixed → unusable_fault k ≡ None → unusable_fault l ≡ None
 usable-by l k a b same was = rw (a) (rw (same) (rw (b) at was))
 
--- a call that only an image that can't be used refuses mildly
+-- A usable layer has no other plain causes than resource errors. So a call without a resource error succeeded.
 pub whole-ok : {T : Type 0} (layer : Layer) (olds news : List StorageState) (result : Result T Fault) → HadNoResourceError result → unusable_fault layer ≡ None → IfErr result (PlainCause layer olds news) → IsOk result
 whole-ok layer olds news (Ok x) whole usable why = refl
 whole-ok layer olds news (Err Failed) whole usable why = absurd (cc (why, usable))
@@ -46,13 +45,13 @@ whole-ok layer olds news (Err Memory) whole usable why = absurd whole
 whole-ok layer olds news (Err Storage) whole usable why = absurd whole
 whole-ok layer olds news (Err fault) whole usable why = absurd why
 
--- a call that keeps the size shows between as it shows
+-- `ShowsBetween` from `IsBetween`, for a call that keeps the size.
 pub between : (gives : ℕ → Value → Type 0) (below : List Layer) (old new : Layer) → new.size ≡ old.size → IsBetween gives below old new → ShowsBetween gives below old new
 between gives below old new size values p inside =
     let was : p < old.size = subst (λ n. p < n) size inside in
     elim (values p was) [ inl same ↦ inl (was, same) | inr gave ↦ inr gave ]
 
--- stops of a call that keeps the size, and gives no more than the whole
+-- Weakens the clause on crash images to more values and a larger size.
 pub fewer-stops : {D St : Type 0} (g : Ghosts D St) (below : List Layer) (least most most' : ℕ) (gives more : ℕ → Value → Type 0) (old new : D) → most ≤ most'
     → ((p : ℕ) (v : Value) → gives p v → more p v) → KeepsCrashImagesTo g below least most gives old new → KeepsCrashImagesTo g below 0 most' more old new
 fewer-stops g below least most most' gives more old new high weaker stops =
@@ -69,7 +68,7 @@ fewer-stops g below least most most' gives more old new high weaker stops =
     stops
 
 module _ {D St : Type 0} (g : Ghosts D St) (old new : D × List D) (whole ok : Type 0) (call : Call) where
-  -- a change of a range
+  -- A change of a range.
   pub ran-leads : (well_formed_is_usable : (d : D) → g.well_formed d → (g.layer d).failed ≡ false) (gives : ℕ → Value → Type 0) → ChainRangeChange g ok gives old new
       → (whole → IsReady g old → ok)
       → ((p : ℕ) (v : Value) → gives p v → Begun (map g.layer old.1) (chain_disk g.layer old) call p v)
@@ -80,7 +79,7 @@ module _ {D St : Type 0} (g : Ghosts D St) (old new : D × List D) (whole ok : T
       record {
         fixed = ran.mutating_call.fixed;
         counts_not_fallen = ran.mutating_call.counts_not_fallen.0;
-        no_change_refused = λ w ready. (ran.mutating_call.faults (done w ready)).0;
+        faults = λ w ready. (ran.mutating_call.faults (done w ready)).0;
         excess_refcount = λ w ready. ran.mutating_call.excess_refcount (done w ready, ready.intact.is_coherent) ready.intact.is_well_formed;
         layers_below = λ has_no_dirty_data. ran.lookup_call.unchanged_but_faults has_no_dirty_data;
         below = same;
@@ -97,7 +96,7 @@ module _ {D St : Type 0} (g : Ghosts D St) (old new : D × List D) (whole ok : T
         crash_images = λ ready. fewer-stops g (map g.layer old.1) (g.layer old.0).size (g.layer old.0).size (most_size (chain_disk g.layer old) call) gives (Begun (map g.layer old.1) (chain_disk g.layer old) call) old.0 new.0 high gave (ran.crash_images ready.intact);
       }
 
-  -- a look through the chain
+  -- A read or lookup through the chain.
   pub look-leads : (well_formed_is_coherent : (d : D) → g.well_formed d → g.coherent d) → Pairs (LookupCall g ok) (chain old) (chain new) → (whole → ok)
       → (g.layer old.0).size ≤ most_size (chain_disk g.layer old) call → LeavesForNext g whole call old new
   look-leads well_formed_is_coherent looked done high =
@@ -106,7 +105,7 @@ module _ {D St : Type 0} (g : Ghosts D St) (old new : D × List D) (whole ok : T
       record {
         fixed = looked.0.keeps_layer_state.fixed;
         counts_not_fallen = looked.0.counts_not_fallen.0;
-        no_change_refused = λ w ready. (looked.0.faults (done w)).0;
+        faults = λ w ready. (looked.0.faults (done w)).0;
         excess_refcount = λ w ready. looked.0.excess_refcount (done w) ready.intact.is_well_formed;
         layers_below = λ has_no_dirty_data. chain_kept g ok old.1 new.1 has_no_dirty_data looked.1;
         below = same;
@@ -127,7 +126,7 @@ module _ {D St : Type 0} (g : Ghosts D St) (old new : D × List D) (whole ok : T
       }
 
 module _ {D St : Type 0} (g : Ghosts D St) (old new : D × List D) (whole ok : Type 0) (call : Call) where
-  -- a call whose values its step tells
+  -- A call with its values determined by its step.
   pub step-leads : {w : Type 0} (well_formed_is_usable : (d : D) → g.well_formed d → (g.layer d).failed ≡ false) → MutatingCall g ok w old.0 new.0 → LookupCallBelow (below_ghosts g) ok old.1 new.1
       → (whole → IsReady g old → ok)
       → (whole → IsReady g old → KeepsExcessRefcounts g old.0 new.0)
@@ -140,7 +139,7 @@ module _ {D St : Type 0} (g : Ghosts D St) (old new : D × List D) (whole ok : T
       record {
         fixed = mutating_call.fixed;
         counts_not_fallen = mutating_call.counts_not_fallen.0;
-        no_change_refused = λ w ready. (mutating_call.faults (done w ready)).0;
+        faults = λ w ready. (mutating_call.faults (done w ready)).0;
         excess_refcount = excess_refcount;
         layers_below = λ has_no_dirty_data. looked.unchanged_but_faults has_no_dirty_data;
         below = same;
@@ -159,7 +158,7 @@ module _ {D St : Type 0} (g : Ghosts D St) (old new : D × List D) (whole ok : T
       }
 
 module _ {D St : Type 0} (g : Ghosts D St) where
-  -- lookups in each layer are true
+  -- Each layer of a ready chain is coherent.
   pub all-see : (well_formed_is_coherent : (d : D) → g.well_formed d → g.coherent d) (c : D × List D) → IsReady g c → Each g.coherent (chain c)
   all-see well_formed_is_coherent c ready = (well_formed_is_coherent c.0 ready.intact.is_well_formed, ready.intact.is_coherent)
 
@@ -167,7 +166,7 @@ module _ {D St : Type 0} (g : Ghosts D St) where
   fewer c ready = let same : length (map g.layer c.1) ≡ length c.1 = length-map c.1 g.layer in omega (arith, same, ready.layers_bounded)
 
   module _ (old new : D × List D) (kept : Option (PreparedDataMapping St)) where
-    -- a layer that is like what it was keeps its mapping
+    -- `KeepsLayerState` keeps the prepared mapping.
     pub like-kept : KeepsLayerState (g.layer old.0) (g.layer new.0) → MappingIsPrepared g (chain_with_mapping old kept) → MappingIsPrepared g (chain_with_mapping new kept)
     like-kept like k = record {
       mine = mine-on (state_of kept) k.mine;
@@ -177,14 +176,14 @@ module _ {D St : Type 0} (g : Ghosts D St) where
       mine-on None mine = tt
       mine-on (Some s) mine = (rw (like.fixed) mine.0, rw (like.unspent) mine.1)
 
-  -- what each call rests on
+  -- A ready chain meets the condition of each call.
   pub ready-rests : (well_formed_is_coherent : (d : D) → g.well_formed d → g.coherent d) (call : CallMade) (c : D × List D) → IsReady g c → RestsOn g call c
   ready-rests well_formed_is_coherent (calls.Read offset n) c ready = all-see well_formed_is_coherent c ready
   ready-rests well_formed_is_coherent (calls.GetMapping offset n) c ready = (all-see well_formed_is_coherent c ready, fewer c ready)
   ready-rests well_formed_is_coherent (calls.GetShallowMapping offset n) c ready = all-see well_formed_is_coherent c ready
   ready-rests well_formed_is_coherent call c ready = ready.intact
 
-  -- a look leaves the disk as it was
+  -- A read or lookup leaves the disk unchanged.
   pub looked-stays : (old new : D × List D) (whole : Type 0) → whole → Pairs (LookupCall g whole) (chain old) (chain new) → Each g.coherent (chain old) → ChainStays g old new
   looked-stays old new whole w looked coherent =
       let top = (looked.0.stays w coherent.0).0 in

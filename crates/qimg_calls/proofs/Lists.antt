@@ -1,4 +1,4 @@
--- Calls one behind the other: from what each makes by itself to what the list does.
+-- The effect of a list of calls, from the outcome of each call.
 use Rattle.std.proofs.lemmas.Bool.{cases_lt}
 use Rattle.std.proofs.lemmas.List.Elements.{All-weaker}
 use Rattle.std.proofs.Common.{◌≡◌, ◌⊎◌, inl, inr, ℕ, ◌+◌, ◌<◌, ◌≤◌, ◌^◌, ◌∷◌, ◌++◌, [], List, length, arith, refl, sym, subst, ap, ◌∙◌, true, false, suc}
@@ -31,21 +31,21 @@ use Rattle.qimg_calls.specs.Runs.{Moment, moment, since_after, IsLeftBy, StatesS
 use Rattle.qimg_calls.proofs.Leading.{ready-rests}
 use Rattle.qimg_calls.proofs.Stops.{left-since, since-on, since-flushed}
 
--- an answer goes on, or it doesn't
+-- Decides if the answer is a resource error.
 goes-on-or : (answer : Answer) → GoesOn answer ⊎ (GoesOn answer → ⊥)
 goes-on-or (told.Refused Memory) = inr (λ on. on)
 goes-on-or (told.Refused Storage) = inr (λ on. on)
 goes-on-or (told.Refused fault) = inl tt
 goes-on-or answer = inl tt
 
--- a count that has not risen isn't at its greatest value
+-- A count that hasn't risen is below its greatest value.
 not-risen : (a b : ℕ) → a ≤ b → (HasRisen a b → ⊥) → b + 1 < 2 ^ 64
 not-risen a b later no_change_refused = elim (cases_lt (b + 1) (2 ^ 64)) [
   | inl fits ↦ fits
   | inr full ↦ absurd (no_change_refused (record { not_fallen = later; rose = λ fits. omega (arith, fits, full) }))
 ]
 
--- a count that is the same, and not at its greatest value, has not risen
+-- An equal count below its greatest value hasn't risen.
 calm-then : (a b : ℕ) → b ≡ a → b + 1 < 2 ^ 64 → HasRisen a b → ⊥
 calm-then a b same room rose = omega (arith, same, rose.rose room)
 
@@ -68,12 +68,11 @@ none-or : {A : Type 0} (u : Option A) → (u ≡ None) ⊎ (is_none u ≡ false)
 none-or None = inl refl
 none-or (Some n) = inr refl
 
--- nothing has gone wrong in two calls where it hasn't in each
 calm-both : (a b c : StorageState) → IsFaultless a b → IsFaultless b c → IsFaultless a c
 calm-both a b c first second = (second.0 ∙ first.0, second.1 ∙ first.1)
 
 module _ {D St : Type 0} (g : Ghosts D St) where
-  -- which of the two stands behind a call
+  -- The two cases of `since_after`.
   behind-or : (call : Call) (answer : Answer) (m : Moment D St) (new : ChainWithMapping D St)
       → (since_after g call answer m new ≡ begun m.since (chain_disk g.layer m.now.drivers) (disk_call g m.now call))
       ⊎ ((call ≡ calls.Flush) × (answer ≡ told.Done) × (state_of m.now.kept_mapping ≡ None) × (since_after g call answer m new ≡ flushed (chain_disk g.layer new.drivers)))
@@ -83,12 +82,12 @@ module _ {D St : Type 0} (g : Ghosts D St) where
   ]
   behind-or call answer m new = inl refl
 
-  -- a flush with nothing prepared that is done leaves a file that means the disk
+  -- After a flush with no mapping prepared, the file means the disk.
   made-flush : (call : Call) (answer : Answer) (old new : ChainWithMapping D St) → CallOutcome g call answer old new → IsIntactChain g old.drivers → call ≡ calls.Flush → answer ≡ told.Done → IsFree (g.layer old.drivers.0)
       → IsWritten g new.drivers.0
   made-flush call answer old new makes intact is_flush is_done none = (((rw (is_flush, is_done) at makes).moves intact).0.3.1 none).0
 
-  -- what all calls keep, whatever they are answered
+  -- The properties that every call preserves, with any answer.
   pub record WritesBackCached (old new : ChainWithMapping D St) : Type 0 where
     pub fixed : (g.layer new.drivers.0).fixed ≡ (g.layer old.drivers.0).fixed
     pub counts_not_fallen : IsLater (g.image old.drivers.0) (g.image new.drivers.0)
@@ -127,7 +126,7 @@ module _ {D St : Type 0} (g : Ghosts D St) where
   as-many [] (answer ∷ answers) old new all = absurd all
   as-many (call ∷ list) [] old new all = absurd all
 
-  -- one more call
+  -- One more call.
   pub all-then : (list : List Call) (answers : List Answer) (call : Call) (answer : Answer) (old mid new : ChainWithMapping D St) → AnswersAll g list answers old mid → Answers g call answer mid new
       → AnswersAll g (list ++ (call ∷ [])) (answers ++ (answer ∷ [])) old new
   all-then [] [] call answer old mid new same one = (new, subst (λ h. Answers g call answer h new) same one, refl)
@@ -136,7 +135,7 @@ module _ {D St : Type 0} (g : Ghosts D St) where
   all-then (c ∷ cs) [] call answer old mid new all one = absurd all
 
   module _ (well_formed_is_coherent : (d : D) → g.well_formed d → g.coherent d) (well_formed_is_sound : (d : D) → g.well_formed d → IsCovered (g.layer d) g.sound (g.image d).bytes) where
-    -- what a stop in a call of the disk shows
+    -- The crash images of a call of the disk.
     stops-behind : (whole : Type 0) (does : DiskCall) (old new : D × List D) (since : Since) → LeavesForNext g whole does old new → IsReady g old → StatesSize g old → HoldsSince g since old
         → UnrefusedCrashImages (LeftSince (map g.layer old.1) (g.layer old.0).fixed g.sound (begun since (chain_disk g.layer old) does)) (g.image old.0) (g.image new.0)
     stops-behind whole does old new since leads ready exact stands no_change_refused =
@@ -153,7 +152,7 @@ module _ {D St : Type 0} (g : Ghosts D St) where
               (one.1 step tells keeps),
         )
 
-    -- what stands behind one that wasn't cut off
+    -- The state after a call without a resource error.
     pub stands-behind : (whole : Type 0) (does : DiskCall) (old new : D × List D) (since : Since) → LeavesForNext g whole does old new → IsReady g old → whole → HoldsSince g since old
         → HoldsSince g (begun since (chain_disk g.layer old) does) new
     stands-behind whole does old new since leads ready on stands exact_then tells keeps room =
@@ -165,7 +164,7 @@ module _ {D St : Type 0} (g : Ghosts D St) where
         let left = LeftSince below entry.fixed g.sound (begun since (chain_disk g.layer old) does) in
         let told_before : IsTrue a.shape.tells = rw (sym leads.counts_not_fallen.0) tells in
         let kept_before : IsTrue a.shape.keeps = rw (sym leads.counts_not_fallen.0) keeps in
-        let same : b.refusals ≡ a.refusals = (leads.no_change_refused on ready).1 in
+        let same : b.refusals ≡ a.refusals = (leads.faults on ready).1 in
         let no_change_refused : HasRisen a.refusals b.refusals → ⊥ = calm-then a.refusals b.refusals same room in
         let stood = stands exact told_before kept_before (omega (arith, same, room)) in
         let step : CrashImageIsBytes a = λ _ _. stood.0 in
@@ -177,12 +176,12 @@ module _ {D St : Type 0} (g : Ghosts D St) where
               (since-on below g.sound entry a.bytes since does stood.1 (well_formed_is_sound old.0 ready.intact.is_well_formed).size (g.layer new.0) b.bytes leads.fixed (leads.shows on ready) how),
         )
 
-    -- what a stop in a call of a list shows
+    -- The crash images of a call of a list.
     stops-of : (call : Call) (answer : Answer) (old new : ChainWithMapping D St) (since : Since) → CallOutcome g call answer old new → IsReady g old.drivers → StatesSize g old.drivers → HoldsSince g since old.drivers
         → UnrefusedCrashImages (IsLeftBy g call (moment old since)) (g.image old.drivers.0) (g.image new.drivers.0)
     stops-of call answer old new since makes = stops-behind (GoesOn answer) (disk_call g old call) old.drivers new.drivers since makes.leads
 
-    -- what stands behind it
+    -- The state after that call.
     pub stands-next : (call : Call) (answer : Answer) (old new : ChainWithMapping D St) (since : Since) → CallOutcome g call answer old new → MappingIsPrepared g old → IsReady g old.drivers → GoesOn answer → HoldsSince g since old.drivers
         → HoldsSince g (since_after g call answer (moment old since) new) new.drivers
     stands-next call answer old new since makes is_kept ready on stands exact tells keeps room =
@@ -215,12 +214,12 @@ module _ {D St : Type 0} (g : Ghosts D St) where
       below = λ on. makes.leads.below on ready;
       fixed = makes.leads.fixed;
       mapping_prepared = makes.mapping_prepared is_kept;
-      no_change_refused = λ on. makes.leads.no_change_refused on ready;
+      faults = λ on. makes.leads.faults on ready;
       excess_refcount = λ on. makes.leads.excess_refcount on ready;
       ready = λ on. makes.leads.ready on ready;
     }
 
-    -- what a list of calls does, from the drivers before to those behind
+    -- The effect of a list of calls, from the drivers before it to those after it.
     pub record RangeChange (list : List Call) (answers : List Answer) (old new : ChainWithMapping D St) (since : Since) : Type 0 where
       pub last : Moment D St
       pub run : Run g list answers (moment old since) last
@@ -274,7 +273,7 @@ module _ {D St : Type 0} (g : Ghosts D St) where
                       run = (moment mid next, goes, (λ _. rest.run), rest.from);
                       from = is_later_both (g.image old.drivers.0) (g.image mid.drivers.0) (g.image rest.last.now.drivers.0) makes.leads.counts_not_fallen rest.from;
                       counts_not_fallen = rest.counts_not_fallen;
-                      no_change_refused = λ every. calm-both (g.image old.drivers.0) (g.image mid.drivers.0) (g.image new.drivers.0) (makes.leads.no_change_refused every.0 ready) (rest.no_change_refused every.1);
+                      no_change_refused = λ every. calm-both (g.image old.drivers.0) (g.image mid.drivers.0) (g.image new.drivers.0) (makes.leads.faults every.0 ready) (rest.no_change_refused every.1);
                       excess_refcount = λ every n. rest.excess_refcount every.1 n ∙ makes.leads.excess_refcount every.0 ready n;
                       ends = λ every. rest.ends every.1;
                     }

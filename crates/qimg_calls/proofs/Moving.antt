@@ -1,4 +1,4 @@
--- What calls do that answer nothing but that they were done.
+-- Calls whose answers only say that they succeeded or failed.
 use Rattle.std.proofs.Common.{◌≡◌, ap, refl}
 use Rattle.std.specs.Prelude.{Result, Ok, Err, OnOk, IfErr, IsErrOf, IsOk, IsFalse, List, ⊤, None}
 use Rattle.imago_storage.specs.State.{StorageState}
@@ -22,7 +22,7 @@ use Rattle.qimg_calls.specs.Making.{done_or_refused}
 use Rattle.qimg_calls.specs.Moves.{CallEffect, KeepsMapping, Names, Refuses, Leaves, TopStays}
 use Rattle.qimg_calls.proofs.Leading.{whole-ok}
 
--- an answer that goes on is that of a call that was not cut off
+-- An answer other than a resource error comes from such a result.
 pub not-cut : (result : Result Unit Fault) → GoesOn (done_or_refused result) → HadNoResourceError result
 not-cut (Ok unit) on = tt
 not-cut (Err fault) on = on
@@ -39,32 +39,32 @@ pub told-moves : {D St : Type 0} (g : Ghosts D St) (call : Call) (result : Resul
 told-moves g call (Ok unit) old new keeps steps names refuses leaves = ((done, refl, steps, names), keeps)
 told-moves g call (Err fault) old new keeps steps names refuses leaves = (refuses, λ not_resource_error. (leaves not_resource_error, keeps))
 
--- the answer of a call that tells nothing fits it
+-- The answer of a call without data fits it.
 pub told-fits : (call : Call) (result : Result Unit Fault) → IsFalse (tells_something call) → Fits call (done_or_refused result)
 told-fits call (Ok unit) nothing = nothing
 told-fits call (Err fault) nothing = tt
 
--- a refusal that comes at once is the answer
+-- An early error is the answer.
 pub told-refused : (result : Result Unit Fault) (f : Fault) → IsErrOf result f → done_or_refused result ≡ told.Refused f
 told-refused (Ok unit) f is = absurd (cc is)
 told-refused (Err fault) f is = ap told.Refused (cc is)
 
--- a call that is done is told as done
+-- A successful call is answered with `Done`.
 pub told-idle : (result : Result Unit Fault) → IsOk result → WasDone (done_or_refused result)
 told-idle (Ok unit) was = tt
 told-idle (Err fault) was = absurd (cc was)
 
--- what is true of a call that was done
+-- A clause on success, from the answer.
 pub told-done : (P : Type 0) (result : Result Unit Fault) → WasDone (done_or_refused result) → OnOk result P → P
 told-done P (Ok unit) was holds = holds
 told-done P (Err fault) was holds = absurd was
 
--- what is true of the fault of one that was refused
+-- A clause on the fault, from the answer.
 pub told-marks : (P : Fault → Type 0) (result : Result Unit Fault) → IfErr result P → IfRefused (done_or_refused result) P
 told-marks P (Ok unit) marks = tt
 told-marks P (Err fault) marks = marks
 
--- why a call of the top is refused is why the chain's is,
+-- An error of the top is an error of the chain.
 pub top-failed : {D St : Type 0} (g : Ghosts D St) (old new : D × List D) (fault : Fault) → Fails g old.0 new.0 fault → ChainFails g old new fault
 top-failed g old new fault = failed_left (files g old.0) (files g new.0) (files_of g old.1) (files_of g new.1) fault
 
@@ -73,7 +73,7 @@ pub top-refused : {D St : Type 0} (g : Ghosts D St) (old new : D × List D) (res
 top-refused g old new (Ok unit) failed = tt
 top-refused g old new (Err fault) failed = top-failed g old new fault failed
 
--- and so is one that can't be used or whose storage failed.
+-- An unusable layer or a failed storage is a cause of the image.
 plain-fails : (layer : Layer) (olds news : List StorageState) (fault : Fault) → PlainCause layer olds news fault → ImageCause olds news fault
 plain-fails layer olds news Failed cause = tt
 plain-fails layer olds news MissingData cause = tt
@@ -86,7 +86,7 @@ pub plainly-refused : {D St : Type 0} (g : Ghosts D St) (old new : D × List D) 
 plainly-refused g old new (Ok unit) why = tt
 plainly-refused g old new (Err fault) why = top-failed g old new fault (plain-fails (g.layer old.0) (files g old.0) (files g new.0) fault why)
 
--- where the top can be used, a flush is refused for want of memory and for a fault of a storage alone
+-- If the top is usable, a flush only fails with a resource error.
 pub refused-stays : {D St : Type 0} (g : Ghosts D St) (old new : D × List D) (olds news : List StorageState) (result : Result Unit Fault) → IfErr result (PlainCause (g.layer old.0) olds news)
     → UnlessResourceError result (unusable_fault (g.layer old.0) ≡ None → ChainStays g old new)
 refused-stays g old new olds news (Ok unit) why = tt
@@ -98,12 +98,12 @@ pub flush-names : {D St : Type 0} (g : Ghosts D St) (old new : D × List D) (res
 flush-names g old new (Ok unit) same written counted = (same, λ free. (written free, counted free))
 flush-names g old new (Err fault) same written counted = tt
 
--- what is true whatever was answered is true of a success
+-- A fact that always holds also holds on success.
 pub on-ok : {P : Type 0} (result : Result Unit Fault) → P → OnOk result P
 on-ok (Ok unit) p = p
 on-ok (Err fault) p = tt
 
--- what two clauses say of a success
+-- Combines two clauses on success.
 pub both-named : (P Q : Type 0) (result : Result Unit Fault) → OnOk result P → OnOk result Q → OnOk result (P × Q)
 both-named P Q (Ok unit) p q = (p, q)
 both-named P Q (Err fault) p q = tt
@@ -111,7 +111,7 @@ both-named P Q (Err fault) p q = tt
 pub layer-stays : {D St : Type 0} (g : Ghosts D St) (old new : D × List D) → new.1 ≡ old.1 → g.layer new.0 ≡ g.layer old.0 → ChainStays g old new
 layer-stays g old new below same = rw (below, same) (record { size = refl; value = λ p inside. refl; hold = λ p inside. refl })
 
--- a refusal that leaves the layer leaves the disk
+-- An error that leaves the layer unchanged leaves the disk unchanged.
 pub same-stays : {D St : Type 0} (g : Ghosts D St) (old new : D × List D) (result : Result Unit Fault) → new.1 ≡ old.1 → UnlessResourceError result (TopStays g old new)
     → UnlessResourceError result (TopStays g old new × ChainStays g old new)
 same-stays g old new (Ok unit) below same = tt

@@ -1,4 +1,4 @@
--- What resizes make of the values of a disk.
+-- The effect of resizes on the values of a disk.
 use Rattle.std.proofs.lemmas.Bool.{cases_lt}
 use Rattle.std.proofs.lemmas.Bool.Decides.{nat_tests}
 use Rattle.std.proofs.Common.{◌≡◌, inl, inr, ℕ, ◌<◌, List, arith, refl, subst}
@@ -17,7 +17,7 @@ use Rattle.qimg_calls.specs.Moves.{resize_refusal}
 use Rattle.qimg_calls.specs.Since.{Begun}
 use Rattle.qimg_calls.proofs.Leading.{ValuesBetween}
 
--- what refuses a resize before anything is done, by whether the top has failed, lacks a file, is altered and can be written
+-- The early errors of a resize. The top may have failed, miss a file, or be read-only.
 refused-then : (failed missing alters writable : Bool) (result : Result Unit Fault) (f : Fault)
     → ((e : Fault) → (if failed then Some Failed else if missing then Some MissingData else None) ≡ Some e → IsErrOf result e)
     → ((if failed then Some Failed else if missing then Some MissingData else None) ≡ None → IsTrue alters → IsFalse writable → IsErrOf result ReadOnly)
@@ -31,13 +31,13 @@ refused-then false false false writable result f barred locked is = absurd (cc i
 below : (first second : ℕ) → IsTrue (ltb second first) → second < first
 below first second is = grind (arith, nat_tests)
 
--- a resize to a size that alters the disk, where `second` is below `first`
+-- A resize that changes the size, with `second` below `first`.
 pub resize-refused : {D St : Type 0} (g : Ghosts D St) (first second : ℕ) (result : Result Unit Fault) (old new : D) (f : Fault) → Resizes g first second result old new
     → resize_refusal (g.layer old) (ltb second first) ≡ Some f → IsErrOf result f
 resize-refused g first second result old new f resizes = let layer = g.layer old in
     refused-then layer.failed layer.fixed.missing (ltb second first) layer.fixed.writable result f resizes.early_outcome.refused (λ usable alters locked. (resizes.read_only usable (below first second alters) locked).0)
 
--- a disk that stays shows what it did
+-- An unchanged disk reads as before.
 pub stays-between : (gives : ℕ → Value → Type 0) (old new : Disk) → Stays old new → ValuesBetween gives old new
 stays-between gives old new stays p inside = let was : p < old.size = omega (arith, inside, stays.size) in inl (was, stays.value p was)
 

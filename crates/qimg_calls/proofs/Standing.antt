@@ -1,4 +1,4 @@
--- A target behind a copy, as calls of it rest on.
+-- The target after a copy, as later calls rely on it.
 use Rattle.std.proofs.Common.{◌≡◌, inl, inr, ℕ, ◌<◌, List, arith, sym, ap, ◌∙◌, false}
 use Rattle.std.specs.Prelude.{◌∷◌, Result, map}
 use Rattle.imago_storage.specs.Disk.{Value, byte}
@@ -15,7 +15,7 @@ use Rattle.qimg_calls.specs.Flattening.{AreBytesOf, Chains, GivesRead, HoldsAfte
 use Rattle.qimg_calls.proofs.Leading.{ran-leads}
 use Rattle.qimg_calls.proofs.Lists.{stands-behind}
 
--- what a copy gives at a place of the disk, a write of the source's bytes gives
+-- A value that a copy gives is also given by a write of the source's bytes.
 gives_written : {D St : Type 0} (g : Ghosts D St) (source : D × List D) (bytes : List ℕ) → Each g.coherent (chain source) → AreBytesOf (chain_disk g.layer source) bytes
     → (p : ℕ) (v : Value) → p < (g.layer source.0).size → GivesRead g source p v → GivesBytes 0 bytes p v
 gives_written g source bytes see are p v inside gave =
@@ -23,7 +23,7 @@ gives_written g source bytes see are p v inside gave =
     let has : (chain_disk g.layer source).value p ≡ byte b = sym (gave.1 see) ∙ gave.0.1 in
     (p, omega (arith, inside, are.long), omega arith, gave.0.1 ∙ ap byte (sym (are.same p b inside has)))
 
--- a call of the chain gives no more than what is given at places of its disk
+-- A call of a chain only gives values to bytes of its disk.
 ran_inside : {D St : Type 0} (g : Ghosts D St) (whole : Type 0) (gives more : ℕ → Value → Type 0) (old new : D × List D) → ((p : ℕ) (v : Value) → p < (g.layer old.0).size → gives p v → more p v)
     → ChainRangeChange g whole gives old new → ChainRangeChange g whole more old new
 ran_inside g whole gives more old new weaker ran =

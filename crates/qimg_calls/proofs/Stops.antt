@@ -1,4 +1,4 @@
--- What a stop in one call shows, behind the calls before it.
+-- The crash images of one call, after the calls before it.
 use Rattle.std.proofs.lemmas.Bool.{cases_lt}
 use Rattle.std.proofs.lemmas.Bool.Decides.{nat_tests}
 use Rattle.std.proofs.Common.{◌≡◌, ◌⊎◌, inl, inr, ℕ, ◌<◌, ◌≤◌, ◌∷◌, List, arith, sym, ap, subst, refl, true}
@@ -11,18 +11,18 @@ use Rattle.imago_access.specs.Stops.{shown, May, Left, IsMeant}
 use Rattle.qimg_calls.specs.Since.{Since, Shows, Begun, most_size, begun, flushed, LeftSince, IsSince}
 use Rattle.qimg_calls.specs.Leading.{ShowsBetween}
 
--- what may show before a call begins may show then, too
+-- A value that was allowed before a call begins is still allowed.
 more : (below : List Layer) (since : Since) (disk : Disk) (call : Call) (p : ℕ) (v : Value) → Shows below since p v → Shows below (begun since disk call) p v
 more below since disk call p v (inl same) = inl same
 more below since disk call p v (inr given) = inr (inr given)
 
--- a call that gives nothing
+-- A call that gives no value.
 pub none-given : (below : List Layer) (since : Since) (disk : Disk) (call : Call) (p : ℕ) (v : Value) → (Begun below disk call p v → ⊥) → Shows below (begun since disk call) p v → Shows below since p v
 none-given below since disk call p v none (inl same) = inl same
 none-given below since disk call p v none (inr (inl gave)) = absurd (none gave)
 none-given below since disk call p v none (inr (inr given)) = inr given
 
--- a growth gives anything behind the disk's end, and no other call passes it
+-- A growth gives any value past the disk's end. No other call changes anything there.
 past : (below : List Layer) (disk : Disk) (call : Call) (p : ℕ) (v : Value) → disk.size ≤ p → p < most_size disk call → Begun below disk call p v
 past below disk (grow size fill) p v behind inside = behind
 past below disk call p v behind inside = absurd (omega (arith, behind, inside))
@@ -37,7 +37,7 @@ module _ (below : List Layer) (sound : ℕ → List ℕ → Type 0) (entry : Lay
   shows-below p v in_disk known (inr (inl value)) = more below since (disk_of below entry) call p v (subst (Shows below since p) (sym value) (is.disk p in_disk known))
   shows-below p v in_disk known (inr (inr gave)) = inr (inl gave)
 
-  -- a file that a stop in the call leaves, seen from the last flush
+  -- A crash image of the call, in relation to the last flush.
   pub left-since : IsTrue entry.fixed.exact → (f : List ℕ) → Left below entry file sound 0 (most_size (disk_of below entry) call) (Begun below (disk_of below entry) call) f → LeftSince below entry.fixed sound after f
   left-since exact f left = record {
     is_sound = left.is_sound;
@@ -47,7 +47,7 @@ module _ (below : List Layer) (sound : ℕ → List ℕ → Type 0) (entry : Lay
     ];
   }
 
-  -- what stands behind the call
+  -- The state after the call.
   pub since-on : (new : Layer) (new_file : List ℕ) → new.fixed ≡ entry.fixed → ShowsBetween (Begun below (disk_of below entry) call) below entry new
       → ((new_file ≡ file) ⊎ LeftSince below entry.fixed sound after new_file) → IsSince below new new_file after
   since-on new new_file fixed values how = record {
@@ -64,7 +64,7 @@ module _ (below : List Layer) (sound : ℕ → List ℕ → Type 0) (entry : Lay
     ];
   }
 
--- .. and behind a flush with nothing prepared
+-- The state after a flush with no mapping prepared.
 through-same : (below : List Layer) (layer : Layer) (bytes : List ℕ) (p : ℕ) → IsMeant layer bytes → p < layer.size → shown below layer.fixed.means bytes p ≡ at (layer ∷ below) p
 through-same below layer bytes p meant inside =
     let one : ltb p (layer.fixed.means bytes).size ≡ true = grind (arith, nat_tests, meant.size) in

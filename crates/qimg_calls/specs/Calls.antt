@@ -1,4 +1,5 @@
--- The calls of a list, as calls of a disk.
+-- Specifies which answers a call of a list can have, and when it is allowed. A mapping is kept from its preparation to its commit or
+-- cancel.
 use Rattle.std.specs.Prelude.{⊤, Bool, false, true, not, ◌&&◌, IsFalse, Option, Some, None}
 use Rattle.imago_storage.specs.declared.fault.Fault.{Fault}
 use Rattle.imago_storage.specs.Steps.{Answer as DiskAnswer, done, bytes_read, run, found, prepared}
@@ -9,7 +10,7 @@ use Rattle.qimg_calls.specs.declared.call.Call.TheVariants as calls
 use Rattle.qimg_calls.specs.declared.call.Answer.{Answer}
 use Rattle.qimg_calls.specs.declared.call.Answer.TheVariants as told
 
--- it only looks, or writes what is held in memory
+-- The call only reads, or only writes dirty data.
 abbrev pub is_look : Call → Bool
 is_look (calls.Read offset n) = true
 is_look (calls.GetMapping offset n) = true
@@ -18,26 +19,26 @@ is_look calls.Flush = true
 is_look calls.Sync = true
 is_look call = false
 
--- the call is for a mapping where none is kept, or changes the disk where one is
+-- The call is for a mapping and none is kept, or it changes the disk while one is kept.
 abbrev pub is_out_of_place : Bool → Call → Bool
 is_out_of_place kept calls.CommitDataMapping = not kept
 is_out_of_place kept calls.Cancel = not kept
 is_out_of_place kept (calls.WriteMapped guest place bytes) = not kept
 is_out_of_place kept call = kept && not (is_look call)
 
--- it changes the disk, and neither prepares a mapping nor needs one
+-- The call changes the disk, and neither prepares a mapping nor needs one.
 abbrev pub is_lone_change : Call → Bool
 is_lone_change (calls.PrepareDataMapping offset n overwrite) = false
 is_lone_change call = not (is_look call) && not (is_out_of_place false call)
 
--- it prepares a mapping, or spends the one that is kept
+-- The call prepares a mapping, or commits or cancels the kept one.
 abbrev pub is_of_mapping : Call → Bool
 is_of_mapping (calls.PrepareDataMapping offset n overwrite) = true
 is_of_mapping calls.CommitDataMapping = true
 is_of_mapping calls.Cancel = true
 is_of_mapping call = false
 
--- it is answered with what it finds or maps, where it isn't refused
+-- The answer to a successful call has data: bytes or a run.
 abbrev pub tells_something : Call → Bool
 tells_something (calls.Read offset n) = true
 tells_something (calls.PrepareDataMapping offset n overwrite) = true
@@ -46,7 +47,7 @@ tells_something (calls.GetMapping offset n) = true
 tells_something (calls.GetShallowMapping offset n) = true
 tells_something call = false
 
--- the answer is of a kind that the call has
+-- The answer is of a kind that the call can have.
 abbrev pub Fits : Call → Answer → Type 0
 Fits call (told.Refused fault) = ⊤
 Fits call told.Done = IsFalse (tells_something call)
@@ -57,7 +58,7 @@ Fits (calls.GetMapping offset n) (told.Mapped mapping count) = ⊤
 Fits (calls.GetShallowMapping offset n) (told.Shallow mapping count) = ⊤
 Fits call answer = ⊥
 
--- what an answer says of the disk, if it is one to this call and no refusal
+-- The answer as one of the disk, if it fits the call and isn't an error.
 abbrev pub said : Call → Answer → Option DiskAnswer
 said call told.Done = Some done
 said call (told.Bytes bytes) = Some (bytes_read bytes.items)
@@ -67,22 +68,22 @@ said (calls.GetShallowMapping offset asked) (told.Shallow mapping n) = Some (fou
 said (calls.PrepareDataMapping offset asked overwrite) (told.Prepared storage place n state) = Some (prepared n state)
 said call answer = None
 
--- neither want of memory nor a storage that failed cut it off
+-- The answer isn't `Memory` or `Storage` (a resource error).
 abbrev pub GoesOn : Answer → Type 0
 GoesOn (told.Refused fault) = IsNotResourceError fault
 GoesOn answer = ⊤
 
--- it wasn't refused
+-- The call succeeded.
 abbrev pub WasDone : Answer → Type 0
 WasDone (told.Refused fault) = ⊥
 WasDone answer = ⊤
 
--- P of the fault, where it was refused
+-- If the call failed, `P` holds for its fault.
 abbrev pub IfRefused : Answer → (Fault → Type 0) → Type 0
 IfRefused (told.Refused fault) P = P fault
 IfRefused answer P = ⊤
 
--- P where it holds, and else Q
+-- `P` if the condition is true, and `Q` otherwise.
 abbrev pub Either : Bool → Type 0 → Type 0 → Type 0
 Either true P Q = P
 Either false P Q = Q

@@ -1,4 +1,5 @@
--- What a copy of one chain's disk into another's does, by the drivers of both before and after: those of the source, and of the target.
+-- Specifies `flatten`: how the source and the target are related before and after the copy of a chain's disk into another's, and the
+-- errors.
 use Rattle.std.specs.Prelude.{◌≡◌, ◌⊎◌, ⊤, ℕ, ◌*◌, ◌-◌, ◌<◌, ◌≤◌, min, List, None, Result, Ok, OnOk, IfErr, IsTrue, length, map, slice_index}
 use Rattle.imago_storage.specs.Disk.{Value, byte, Disk, Shows}
 use Rattle.imago_storage.specs.Steps.{IsIn, IsOut, write}
@@ -17,36 +18,36 @@ use Rattle.qimg_calls.specs.Held.{IsReady}
 use Rattle.qimg_calls.specs.Runs.{HoldsSince}
 use Rattle.qimg_calls.specs.Since.{Since, begun}
 
--- the drivers of two chains: of a source, and of a target
+-- The drivers of two chains: the source and the target.
 abbrev pub Chains : Type 0 → Type 0 → Type 0
 Chains S T = (S × List S) × (T × List T)
 
--- Lookups in the source are true, and the target is as promises on its values rest on.
+-- The source is coherent (it has in memory what its files say). The target's top is well-formed, and the images below it are coherent.
 pub record IsSoundPair {S P T Q : Type 0} (g : Ghosts S P) (h : Ghosts T Q) (chains : Chains S T) : Type 0 where
   pub source : Each g.coherent (chain chains.0)
   pub target : IsIntactChain h chains.1
 
--- it is a byte, and no place that can't be read
+-- The value is a byte, so it can be read.
 abbrev pub HasByte : Value → Type 0
 HasByte v = (b : ℕ) × (v ≡ byte b)
 
--- What a copy of so many bytes takes: both chains can be used, and the target was opened for writing if there is anything to write.
+-- The conditions to copy `n` bytes: both chains are usable, and the target is writable if `n` isn't 0.
 pub record MayCopy {S P T Q : Type 0} (g : Ghosts S P) (h : Ghosts T Q) (n : ℕ) (chains : Chains S T) : Type 0 where
   pub source : unusable_fault (g.layer chains.0.0) ≡ None
   pub target : unusable_fault (h.layer chains.1.0) ≡ None
   pub writable : 0 < n → IsTrue (h.layer chains.1.0).fixed.writable
 
--- what a copy may give at a place: a byte, which is the source's where lookups in the source are true
+-- The value that a copy may give to a byte. If the source is coherent, it is the source's byte.
 abbrev pub GivesRead : {D St : Type 0} → Ghosts D St → D × List D → ℕ → Value → Type 0
 GivesRead g source p v = HasByte v × (Each g.coherent (chain source) → v ≡ (chain_disk g.layer source).value p)
 
--- The places of a range have a byte in the source, which the target shows now, and every other place of the target shows what it did.
+-- Each offset of the range has a byte in the source, and the target now reads as that byte. The target is unchanged outside the range.
 pub record IsRangeCopied (source old new : Disk) (offset n : ℕ) : Type 0 where
   pub size : new.size ≡ old.size
   pub range : (p : ℕ) → IsIn offset n p → HasByte (source.value p) × (new.value p ≡ source.value p)
   pub others : (p : ℕ) → p < old.size → IsOut offset n p → new.value p ≡ old.value p
 
--- A range is copied in part: each of its places shows what it did, or the source's byte, and every other place of the target what it did.
+-- A range is copied in part: each of its bytes is old or the source's. The target is unchanged outside the range.
 pub record IsRangeCopiedInPart (source old new : Disk) (offset n : ℕ) : Type 0 where
   pub size : new.size ≡ old.size
   pub range : (p : ℕ) → p < old.size → IsIn offset n p
@@ -60,17 +61,17 @@ abbrev pub CopiesInPart : {S P T Q : Type 0} → Ghosts S P → Ghosts T Q → �
 CopiesInPart g h offset n old new =
     IsRangeCopiedInPart (chain_disk g.layer old.0) (chain_disk h.layer old.1) (chain_disk h.layer new) offset n
 
--- the target, as large as the source, shows all of its disk then
+-- The target has the size of the source, and reads as the source everywhere.
 abbrev pub CopiesDisk : {S P T Q : Type 0} → Ghosts S P → Ghosts T Q → Chains S T → T × List T → Type 0
 CopiesDisk g h old new = ((h.layer old.1.0).size ≡ (g.layer old.0.0).size) × CopiesRange g h 0 (g.layer old.0.0).size old new
 
--- A read of the source was refused, of every image; nothing has cut the target off.
+-- A read of the source failed. The target had no resource error (`Memory` or `Storage`).
 pub record SourceFails {S P T Q : Type 0} (g : Ghosts S P) (h : Ghosts T Q) (old new : Chains S T) (fault : Fault) : Type 0 where
   pub cause : ChainFails g old.0 new.0 fault
   pub marks_failed : MarksSomeFailed g (chain old.0) (chain new.0) fault
   pub target : ChainRangeChange h ⊤ (GivesRead g old.0) old.1 new.1
 
--- A write of the target was refused, of every image; nothing has cut the source off.
+-- A write of the target failed. The source had no resource error.
 pub record TargetFails {S P T Q : Type 0} (g : Ghosts S P) (h : Ghosts T Q) (old new : Chains S T) (fault : Fault) : Type 0 where
   pub cause : ChainFails h old.1 new.1 fault
   pub marks_failed : MarksTopFailed h (below_ghosts h) old.1 new.1 fault
@@ -79,8 +80,8 @@ pub record TargetFails {S P T Q : Type 0} (g : Ghosts S P) (h : Ghosts T Q) (old
 abbrev pub CopyFails : {S P T Q : Type 0} → Ghosts S P → Ghosts T Q → Chains S T → Chains S T → Fault → Type 0
 CopyFails g h old new fault = SourceFails g h old new fault ⊎ TargetFails g h old new fault
 
--- A range is copied: the source is only looked at, and places of the target take what the source shows, also where that is refused. A copy
--- that ends well has given all of the range.
+-- A range is copied. The source is only read, and bytes of the target become the source's, even if the copy fails. A successful copy has
+-- copied the whole range.
 pub record Copies {S P T Q : Type 0} (g : Ghosts S P) (h : Ghosts T Q) (offset n : ℕ) (result : Result Unit Fault)
     (old new : Chains S T) : Type 0 where
   pub source : Pairs (LookupCall g (HadNoResourceError result)) (chain old.0) (chain new.0)
@@ -90,7 +91,7 @@ pub record Copies {S P T Q : Type 0} (g : Ghosts S P) (h : Ghosts T Q) (offset n
   pub copied : IsSoundPair g h old → OnOk result (CopiesRange g h offset n old new.1)
   pub failed : IfErr result (CopyFails g h old new)
 
--- Why a piece is refused: by a read of the source, or by a write of the bytes that it shows to the target as it is then.
+-- The error of a piece: a read of the source failed, or a write of the source's bytes to the target.
 abbrev pub PieceUnread : {D St : Type 0} → Ghosts D St → ℕ → ℕ → D × List D → D × List D → Fault → Type 0
 PieceUnread g offset n old new = let layers = map g.layer (chain old) in
     ReadCause layers (at layers) (unit_of_chain layers) offset n (files_of g (chain old)) (files_of g (chain new))
@@ -109,19 +110,19 @@ PieceCause g h offset n old new fault =
 abbrev pub PieceRefused : {S P T Q : Type 0} → Ghosts S P → Ghosts T Q → ℕ → ℕ → Result Unit Fault → Chains S T → Chains S T → Type 0
 PieceRefused g h offset n result old new = IsSoundPair g h old → IfErr result (PieceCause g h offset n old new)
 
--- a piece that is refused, and not cut off, is copied in part
+-- A piece that fails without a resource error is copied in part.
 abbrev pub PieceCrashImages : {S P T Q : Type 0} → Ghosts S P → Ghosts T Q → ℕ → ℕ → Result Unit Fault → Chains S T → T × List T → Type 0
 PieceCrashImages g h offset n result old new = IsSoundPair g h old → UnlessResourceError result (CopiesInPart g h offset n old new)
 
--- a piece of a disk: from a multiple of 65,536 bytes on so many bytes, or those up to the disk's end
+-- A piece of a disk: `n` bytes from a multiple of 65,536 on, or those up to the disk's end.
 pub record IsPiece (size offset n : ℕ) : Type 0 where
   pub index : ℕ
   pub start : offset ≡ index * 65536
   pub inside : offset ≤ size
   pub long : n ≡ min 65536 (size - offset)
 
--- Why a copy is refused: at a piece, behind those before it, which are copied. Where it wasn't cut off, that piece is copied in part and no
--- place behind it has changed.
+-- The cause of a failed copy: a piece failed, after all pieces before it were copied. Without a resource error, that piece is copied in
+-- part, and no byte after it has changed.
 pub record CopyCause {S P T Q : Type 0} (g : Ghosts S P) (h : Ghosts T Q) (old new : Chains S T) (fault : Fault) : Type 0 where
   pub offset : ℕ
   pub n : ℕ
@@ -134,13 +135,13 @@ pub record CopyCause {S P T Q : Type 0} (g : Ghosts S P) (h : Ghosts T Q) (old n
 abbrev pub CopyRefused : {S P T Q : Type 0} → Ghosts S P → Ghosts T Q → Result Unit Fault → Chains S T → Chains S T → Type 0
 CopyRefused g h result old new = IsSoundPair g h old → IfErr result (CopyCause g h old new)
 
--- these are the bytes of a disk, at each of its places that has one, and any at the others
+-- The list has the bytes of a disk. At offsets without a byte it may have any value.
 pub record AreBytesOf (disk : Disk) (bytes : List ℕ) : Type 0 where
   pub long : length bytes ≡ disk.size
   pub same : (p b : ℕ) → p < disk.size → disk.value p ≡ byte b → slice_index bytes p ≡ b
 
--- What stands behind a copy that wasn't cut off: the target is as promises on calls rest on, and shows what it may since the last flush,
--- as if a write of the source's bytes had begun.
+-- The state after a copy without a resource error: the target is ready for more calls. Each byte of its file and disk has a value that
+-- `Since` allows, as if a write of the source's bytes had begun.
 abbrev pub HoldsAfter : {S P T Q : Type 0} → Ghosts S P → Ghosts T Q → Result Unit Fault → Chains S T → T × List T → Type 0
 HoldsAfter g h result old new = (since : Since) (bytes : List ℕ) → Each g.coherent (chain old.0)
     → AreBytesOf (chain_disk g.layer old.0) bytes → IsReady h old.1 → HoldsSince h since old.1 → HadNoResourceError result

@@ -1,4 +1,4 @@
--- A chain with the mapping that is kept, and what calls of it rest on.
+-- A chain (an image and its backing files) with its kept mapping, and the conditions under which the effects of calls are specified.
 use Rattle.std.specs.Prelude.{◌≡◌, ◌+◌, ◌<◌, ◌^◌, List, length, map, Option, Some, None, is_some}
 use Rattle.imago_storage.specs.Steps.{Call as DiskCall, read, write, write_zeroes, discard_to_zero, discard_to_any, discard_to_backing, prepare, cancel, ensure, write_mapped, lookup, flush, sync, grow, shrink}
 use Rattle.imago_access.specs.declared.driver_model.DriverModel.{Ghosts}
@@ -14,7 +14,7 @@ use Rattle.imago_access.specs.Spending.{IsMine, is_own}
 use Rattle.qimg_calls.specs.declared.call.Call.{Call}
 use Rattle.qimg_calls.specs.declared.call.Call.TheVariants as calls
 
--- the drivers of a chain, the top first, and the mapping that is prepared in it and not yet spent, if one is kept
+-- The drivers of a chain, the top first, and the mapping that is prepared and not yet committed or cancelled, if any.
 pub record ChainWithMapping (D St : Type 0) : Type 0 where
   pub drivers : D × List D
   pub kept_mapping : Option (PreparedDataMapping St)
@@ -22,24 +22,25 @@ pub record ChainWithMapping (D St : Type 0) : Type 0 where
 abbrev pub chain_with_mapping : {D St : Type 0} → D × List D → Option (PreparedDataMapping St) → ChainWithMapping D St
 chain_with_mapping drivers kept = record { drivers = drivers; kept_mapping = kept }
 
--- the state of the mapping that is kept, if one is and has state
+-- The state of the kept mapping, if it has one.
 abbrev pub state_of : {St : Type 0} → Option (PreparedDataMapping St) → Option St
 state_of None = None
 state_of (Some m) = m.state
 
--- the mapping that is kept is the one that the top driver has prepared, and where none is kept that has state none is
+-- The kept mapping is the one that the top driver has prepared. If no mapping with state is kept, none is prepared.
 pub record MappingIsPrepared {D St : Type 0} (g : Ghosts D St) (h : ChainWithMapping D St) : Type 0 where
   pub mine : IsMine g (state_of h.kept_mapping) (g.layer h.drivers.0)
   pub free : state_of h.kept_mapping ≡ None → IsFree (g.layer h.drivers.0)
 
--- What promises on values and on stops rest on: the chain is intact, each of its layers can be used, and nothing waits below the top.
+-- The condition under which values and crash images are specified: the chain is well-formed, each layer is usable, and nothing is dirty
+-- below the top.
 pub record IsReady {D St : Type 0} (g : Ghosts D St) (c : D × List D) : Type 0 where
   pub intact : IsIntactChain g c
   pub usable : Each (λ l. unusable_fault l ≡ None) (map g.layer (chain c))
   pub has_no_dirty_data : Each g.has_no_dirty_data c.1
   pub layers_bounded : length (map g.layer c.1) + 1 < 2 ^ 64
 
--- the call as one of the disk
+-- The call as a call of the disk.
 abbrev pub disk_call : {D St : Type 0} → Ghosts D St → ChainWithMapping D St → Call → DiskCall
 disk_call g h (calls.Read offset n) = read offset n
 disk_call g h (calls.Write offset bytes) = write offset bytes.items

@@ -1,4 +1,4 @@
--- What a call leaves to the next one, and to a stop.
+-- Specifies the state that a call leaves for the next call, and the crash images (the file after a crash between two requests) of the call.
 use Rattle.std.specs.Prelude.{◌≡◌, ◌⊎◌, ℕ, ◌<◌, List, ◌∷◌, map}
 use Rattle.imago_storage.specs.Calls.{IsFaultless}
 use Rattle.imago_storage.specs.Disk.{Value}
@@ -13,18 +13,18 @@ use Rattle.imago_access.specs.Going.{KeepsExcessRefcounts}
 use Rattle.qimg_calls.specs.Since.{Begun, most_size}
 use Rattle.qimg_calls.specs.Held.{IsReady}
 
--- each place shows what it did, or what the call gives there
+-- Each byte of the disk reads as before, or as the call gives it.
 abbrev pub ShowsBetween : (ℕ → Value → Type 0) → List Layer → Layer → Layer → Type 0
 ShowsBetween gives below old new = (p : ℕ) → p < new.size
     → ((p < old.size) × (at (new ∷ below) p ≡ at (old ∷ below) p)) ⊎ gives p (at (new ∷ below) p)
 
--- What a call of a chain leaves, where `whole` says that it was not cut off by want of memory or by a storage that failed.
+-- The state after a call of a chain. `whole` says that the call had no resource error (`Memory` or `Storage`).
 pub record LeavesForNext {D St : Type 0} (g : Ghosts D St) (whole : Type 0) (call : Call) (old new : D × List D) : Type 0 where
   pub fixed : (g.layer new.0).fixed ≡ (g.layer old.0).fixed
   pub counts_not_fallen : IsLater (g.image old.0) (g.image new.0)
-  pub no_change_refused : whole → IsReady g old → IsFaultless (g.image old.0) (g.image new.0)
+  pub faults : whole → IsReady g old → IsFaultless (g.image old.0) (g.image new.0)
   pub excess_refcount : whole → IsReady g old → KeepsExcessRefcounts g old.0 new.0
-  -- no file below changes
+  -- No file below the top changes.
   pub layers_below : Each g.has_no_dirty_data old.1 → Pairs IsKeptFile (files_of g old.1) (files_of g new.1) × Each g.has_no_dirty_data new.1
   pub below : whole → IsReady g old → map g.layer new.1 ≡ map g.layer old.1
   pub ready : whole → IsReady g old → IsReady g new

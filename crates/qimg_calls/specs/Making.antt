@@ -1,4 +1,4 @@
--- What each call of a list is proved to do by itself, whatever was flushed before.
+-- Specifies one call of a list: its effect on a chain (an image and its backing files), and its errors. Earlier flushes don't matter here.
 use Rattle.std.specs.Prelude.{◌≡◌, List, [], ◌∷◌, is_some, IsFalse, Option, Some, None, MatchOption, Result, Ok, Err}
 use Rattle.imago_storage.specs.declared.fault.Fault.{Fault}
 use Rattle.imago_storage.specs.declared.fault.Fault.TheVariants.{BadArgument}
@@ -18,10 +18,10 @@ use Rattle.qimg_calls.specs.Marking.{MarksRefusedFailed}
 use Rattle.qimg_calls.specs.Moves.{IsIdle, CallEffect, RestsOn, refusal_at_once}
 use Rattle.qimg_calls.specs.RoomTaken.{LeavesRoomFor, SettlesUnits}
 
--- The answer fits the call, which is refused at once where it has to be and done where it has nothing to do, moves the disk, takes and
--- gives up room as it may, marks an image that failed, and leaves what the next one rests on; and what is kept is still the mapping that
--- is prepared. Over every chain, sound or not, it is refused by a number that calls of images answer, and for a storage's fault only where
--- one has failed. A mapping is always given up.
+-- The outcome of one call. If a cause is known before anything is done, the answer is that error. A call with nothing to do succeeds. The
+-- call has its specified effect on the disk, allocates and deallocates within its limits, marks failed images, and leaves what the next
+-- call relies on. The kept mapping is still the prepared one. On any chain, consistent or not, the fault is one of an image's call, and
+-- `Storage` only if a storage has failed. A cancel always succeeds.
 pub record CallOutcome {D St : Type 0} (g : Ghosts D St) (call : Call) (answer : Answer) (old new : ChainWithMapping D St) : Type 0 where
   pub fits : Fits call answer
   pub early_outcome : (f : Fault) → refusal_at_once g call old ≡ Some f → answer ≡ told.Refused f
@@ -37,21 +37,21 @@ pub record CallOutcome {D St : Type 0} (g : Ghosts D St) (call : Call) (answer :
   pub mapping_prepared : MappingIsPrepared g old → MappingIsPrepared g new
   pub same : IsFalse (is_of_mapping call) → new.kept_mapping ≡ old.kept_mapping
 
--- what a call is answered with that answers nothing else
+-- The answer to a call that only succeeds or fails.
 abbrev pub done_or_refused : Result Unit Fault → Answer
 done_or_refused (Ok unit) = told.Done
 done_or_refused (Err fault) = told.Refused fault
 
--- a call that may be made whatever is kept
+-- The outcome of a call that is allowed whether or not a mapping is kept.
 abbrev pub MakesBeside : {D St : Type 0} → Ghosts D St → Call → Answer → D × List D → D × List D → Type 0
 MakesBeside {D} {St} g call answer old new =
     (kept : Option (PreparedDataMapping St)) → MappingIsPrepared g (chain_with_mapping old kept) → CallOutcome g call answer (chain_with_mapping old kept) (chain_with_mapping new kept)
 
--- a call that is made where nothing is kept
+-- The outcome of a call that is made while no mapping is kept.
 abbrev pub MakesAlone : {D St : Type 0} → Ghosts D St → Call → Answer → D × List D → D × List D → Type 0
 MakesAlone g call answer old new = CallOutcome g call answer (chain_with_mapping old None) (chain_with_mapping new None)
 
--- one call of a list: out of place it isn't made, and all is as it was
+-- One call of a list. If `is_out_of_place` holds, the call isn't made, and nothing changes.
 abbrev pub Answers : {D St : Type 0} → Ghosts D St → Call → Answer → ChainWithMapping D St → ChainWithMapping D St → Type 0
 Answers g call answer old new =
     Either (is_out_of_place (is_some old.kept_mapping) call) ((answer ≡ told.Refused BadArgument) × (new ≡ old)) (CallOutcome g call answer old new)
@@ -62,16 +62,16 @@ AnswersAll {D} {St} g (call ∷ calls) (answer ∷ answers) old new =
     (mid : ChainWithMapping D St) × Answers g call answer old mid × AnswersAll g calls answers mid new
 AnswersAll g _ _ old new = ⊥
 
--- The mapping that is kept is cancelled, and nothing is asked of the top's file.
+-- The kept mapping is cancelled, without a request to the top's file.
 abbrev pub CancelsKept : {D St : Type 0} → Ghosts D St → ChainWithMapping D St → D × List D → Type 0
 CancelsKept g h new = MatchOption h.kept_mapping (new ≡ h.drivers)
     (λ m. CallOutcome g calls.Cancel told.Done h (chain_with_mapping new None) × (g.image new.0 ≡ g.image h.drivers.0))
 
--- A list of calls is made with nothing kept at first, and what is kept at its end is given up.
+-- A list of calls is made with no mapping kept at first. A mapping that is left at the end is cancelled.
 abbrev pub MadeAll : {D St : Type 0} → Ghosts D St → List Call → List Answer → D × List D → D × List D → Type 0
 MadeAll {D} {St} g list answers old new =
     (last : ChainWithMapping D St) × AnswersAll g list answers (chain_with_mapping old None) last × CancelsKept g last new
 
--- a list of calls that is made with nothing kept before it and behind it
+-- A list of calls is made with no mapping kept before and after it.
 abbrev pub AnswersAlone : {D St : Type 0} → Ghosts D St → List Call → List Answer → D × List D → D × List D → Type 0
 AnswersAlone g list answers old new = AnswersAll g list answers (chain_with_mapping old None) (chain_with_mapping new None)

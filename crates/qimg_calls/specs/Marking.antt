@@ -1,4 +1,4 @@
--- What a refused call of a list leaves of images that are of a format that marks failures.
+-- The images that a failed call of a list marks failed (they must be opened again), for formats that do so.
 use Rattle.std.specs.Prelude.{List, IsTrue}
 use Rattle.imago_storage.specs.declared.fault.Fault.{Fault}
 use Rattle.imago_access.specs.declared.driver_model.DriverModel.{Ghosts}
@@ -10,8 +10,8 @@ use Rattle.imago_access.specs.Spending.{IsSpending}
 use Rattle.qimg_calls.specs.declared.call.Call.{Call}
 use Rattle.qimg_calls.specs.declared.call.Call.TheVariants as calls
 
--- Behind a storage's fault the image has failed whose storage it was, and behind want of memory the top has, or is as it was or safe. A
--- commit that has spent its mapping leaves a top that has failed, whatever its format.
+-- After `Storage`, the image with the failed storage is marked failed. After `Memory`, the top is marked failed, or is unchanged or
+-- well-formed. If a failed commit has consumed its mapping, the top is marked failed, in every format.
 abbrev pub MarksRefusedFailed : {D St : Type 0} → Ghosts D St → Call → D × List D → D × List D → Fault → Type 0
 MarksRefusedFailed g (calls.Read offset n) old new fault = MarksSomeFailed g (chain old) (chain new) fault
 MarksRefusedFailed g (calls.GetMapping offset n) old new fault = MarksSomeFailed g (chain old) (chain new) fault

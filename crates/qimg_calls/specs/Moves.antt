@@ -1,4 +1,4 @@
--- What a call of a list does to the disk, what it names, why it is refused, and what it makes of the mapping that is kept.
+-- Specifies the effect of a call of a list on the disk and on the kept mapping, and the causes of its errors.
 use Rattle.std.specs.Prelude.{◌≡◌, true, ◌<◌, ◌≤◌, ◌^◌, ◌&&◌, ⊤, ℕ, Bool, List, Some, None, if◌then◌else◌, is_some, length, ltb, map, not, Option}
 use Rattle.imago_storage.specs.Steps.{Answer as DiskAnswer, shrink}
 use Rattle.imago_storage.specs.declared.fault.Fault.{Fault}
@@ -27,21 +27,21 @@ use Rattle.qimg_calls.specs.declared.call.Answer.TheVariants as told
 use Rattle.qimg_calls.specs.Calls.{said}
 use Rattle.qimg_calls.specs.Held.{ChainWithMapping, disk_call, state_of}
 
--- the top shows, holds and maps what it did
+-- The top image is unchanged: the values of its bytes, which of them a prepared mapping holds, and its mappings.
 abbrev pub TopStays : {D St : Type 0} → Ghosts D St → D × List D → D × List D → Type 0
 TopStays g old new = g.layer new.0 ≡ g.layer old.0
 
--- an answer of a lookup names a layer and a storage that there are, and says of a place that it can be written wherever it can be
+-- A lookup's answer has a layer and a storage that exist. It reports a byte as writable if the byte is.
 pub record NamesOneThere {D St : Type 0} (g : Ghosts D St) (offset asked : ℕ) (mapping : Mapping) (c : D × List D) : Type 0 where
   pub layer : IsDeepBelow (length (chain c)) mapping
   pub storage : IsThere g (chain c) mapping
   pub writable : DeepNamesWritable (map g.layer (chain c)) offset asked mapping
 
--- Which places an answer names: of storages that there are, what their bytes are and where the run can be written, and by the top layer
--- none of those that it has no room for. A lookup's zero is explicit exactly where the top layer states it. A look, a flush and a sync
--- leave the top as it was. A flush with nothing prepared is done where the top's file by itself means the disk, and leaks what each cluster
--- is counted beyond what names it, and a sync writes nothing. An empty range that is ensured has no length, and is at the start of the
--- storage 0.
+-- The storage locations in an answer. They are in storages that exist, have the bytes of the run, and are reported as writable if the run
+-- is. A shallow lookup only returns locations that the top layer has allocated. A zero is explicit exactly if the top layer itself maps the
+-- byte as 0. Reads, lookups, flush and sync leave the top unchanged. After a flush with no mapping prepared, the top's file describes the
+-- disk without data from memory, and leaks exactly the excess refcounts (refcounts above the references). A sync writes nothing. An empty
+-- range that is ensured has length 0, at the start of storage 0.
 abbrev pub Names : {D St : Type 0} → Ghosts D St → Call → Answer → D × List D → D × List D → Type 0
 Names g (calls.Read offset n) answer old new = TopStays g old new
 Names g (calls.GetMapping offset asked) (told.Mapped mapping n) old new =
@@ -65,15 +65,15 @@ Names g calls.Flush told.Done old new = TopStays g old new × (IsFree (g.layer o
 Names g calls.Sync told.Done old new = TopStays g old new × Pairs UnchangedButMoreFaults (files g old.0) (files g new.0)
 Names g call answer old new = ⊤
 
--- the mapping that an answer tells of
+-- The mapping `m` has the fields of an answer.
 pub record IsTold {St : Type 0} (m : PreparedDataMapping St) (storage place n : ℕ) (state : Bool) : Type 0 where
   pub storage_is : m.storage ≡ storage
   pub place_is : m.offset ≡ place
   pub length_is : m.length ≡ n
   pub state_is : is_some m.state ≡ state
 
--- What becomes of the mapping that is kept: one that is prepared is kept, with its places writable where it says, one that is committed or
--- cancelled is spent, and else it stays. The mapping of an empty range has no length and no state, and is at the start of the storage 0.
+-- The kept mapping after a call. A prepared mapping is kept, and its bytes are writable at its location. A committed or cancelled mapping
+-- is gone. Otherwise it is unchanged. The mapping of an empty range has length 0 and no state, at the start of storage 0.
 abbrev pub KeepsMapping : {D St : Type 0} → Ghosts D St → Call → Answer → ChainWithMapping D St → ChainWithMapping D St → Type 0
 KeepsMapping {D} {St} g (calls.PrepareDataMapping offset asked overwrite) (told.Prepared storage place n state) old new =
     (m : PreparedDataMapping St)
@@ -85,12 +85,12 @@ KeepsMapping g calls.CommitDataMapping told.Done old new = new.kept_mapping ≡ 
 KeepsMapping g calls.Cancel told.Done old new = new.kept_mapping ≡ None
 KeepsMapping g call answer old new = new.kept_mapping ≡ old.kept_mapping
 
--- a call that was done is a step of the disk
+-- A successful call has its specified effect on the disk (`Step`).
 abbrev pub Does : {D St : Type 0} → Ghosts D St → Call → Answer → ChainWithMapping D St → ChainWithMapping D St → Type 0
 Does g call answer old new = (says : DiskAnswer) × (said call answer ≡ Some says)
     × ChainSteps g (disk_call g old call) says old.drivers new.drivers × Names g call answer old.drivers new.drivers
 
--- why it is refused
+-- The causes for which a call may fail.
 abbrev pub Refuses : {D St : Type 0} → Ghosts D St → Call → Fault → ChainWithMapping D St → ChainWithMapping D St → Type 0
 Refuses g (calls.Read offset n) fault old new = let layers = map g.layer (chain old.drivers) in
     ReadCause layers (at layers) (unit_of_chain layers) offset n (files_of g (chain old.drivers)) (files_of g (chain new.drivers)) fault
@@ -111,8 +111,8 @@ Refuses g (calls.ResizeShrink size) fault old new = let below = map g.layer old.
     (files_of g (chain old.drivers)) (files_of g (chain new.drivers)) fault
 Refuses g call fault old new = OwnCause g (disk_call g old call) old.drivers new.drivers fault
 
--- What a refusal leaves that isn't for want of memory or a storage's fault: a write, a zeroing or a discard may be done in part, and any
--- other call leaves the disk as it was, a flush and a sync where the top can be used. A look and a `WriteMapped` leave the top as it was.
+-- The state after an error other than `Memory` and `Storage`. A write, zeroing or discard may be done in part. Any other call leaves the
+-- disk unchanged; for a flush and a sync this needs a usable top. A lookup, a read and a `WriteMapped` leave the top unchanged.
 abbrev pub Leaves : {D St : Type 0} → Ghosts D St → Call → ChainWithMapping D St → ChainWithMapping D St → Type 0
 Leaves g (calls.Write offset bytes) old new = ChainPartly g (disk_call g old (calls.Write offset bytes)) old.drivers new.drivers
 Leaves g (calls.WriteZeroes offset n) old new = ChainPartly g (disk_call g old (calls.WriteZeroes offset n)) old.drivers new.drivers
@@ -128,22 +128,22 @@ Leaves g calls.Flush old new = unusable_fault (g.layer old.drivers.0) ≡ None �
 Leaves g calls.Sync old new = unusable_fault (g.layer old.drivers.0) ≡ None → ChainStays g old.drivers new.drivers
 Leaves g call old new = ChainStays g old.drivers new.drivers
 
--- What a call does: it is a step of the disk, or is refused for a cause and leaves what is said where it wasn't cut off, by want of memory
--- or a storage's fault.
+-- The effect of a call: it succeeds as `Does` says, or fails for a cause in `Refuses`. After an error other than `Memory` and `Storage`,
+-- the state is that of `Leaves`.
 abbrev pub CallEffect : {D St : Type 0} → Ghosts D St → Call → Answer → ChainWithMapping D St → ChainWithMapping D St → Type 0
 CallEffect g call (told.Refused fault) old new =
     Refuses g call fault old new × (IsNotResourceError fault → Leaves g call old new × KeepsMapping g call (told.Refused fault) old new)
 CallEffect g call answer old new = Does g call answer old new × KeepsMapping g call answer old new
 
--- What it rests on that a call moves the disk so: for one that only looks, that lookups are true, and for any other, that the chain is
--- intact.
+-- The condition under which a call has its specified effect. A read or a lookup needs layers that have in memory what their files say, any
+-- other call needs a well-formed chain.
 abbrev pub RestsOn : {D St : Type 0} → Ghosts D St → Call → D × List D → Type 0
 RestsOn g (calls.Read offset n) c = Each g.coherent (chain c)
 RestsOn g (calls.GetMapping offset n) c = Each g.coherent (chain c) × (length (chain c) < 2 ^ 64)
 RestsOn g (calls.GetShallowMapping offset n) c = Each g.coherent (chain c)
 RestsOn g call c = IsIntactChain g c
 
--- the call has nothing to do: its range is empty, its size is the disk's or on the other side of it, or the mapping has no state
+-- The call has nothing to do: its range is empty, its size doesn't change the disk in its direction, or its mapping has no state.
 abbrev pub IsIdle : {D St : Type 0} → Ghosts D St → Call → ChainWithMapping D St → Type 0
 IsIdle g (calls.Read offset n) h = n ≡ 0
 IsIdle g (calls.Write offset bytes) h = length bytes.items ≡ 0
@@ -161,7 +161,7 @@ IsIdle g (calls.ResizeShrink size) h = (g.layer h.drivers.0).size ≤ size
 IsIdle g calls.CommitDataMapping h = state_of h.kept_mapping ≡ None
 IsIdle g call h = ⊥
 
--- the first cause why a resize is refused before anything is done, by whether it alters the disk
+-- The first cause for which a resize fails before anything is done. `alters` says if it changes the size.
 abbrev pub resize_refusal : Layer → Bool → Option Fault
 resize_refusal layer alters =
     if layer.failed then Some Failed
@@ -169,7 +169,7 @@ resize_refusal layer alters =
     else if alters && not layer.fixed.writable then Some ReadOnly
     else None
 
--- the first cause why a call is refused before anything is done, by the order of causes
+-- The first cause for which a call fails before anything is done.
 abbrev pub refusal_at_once : {D St : Type 0} → Ghosts D St → Call → ChainWithMapping D St → Option Fault
 refusal_at_once g (calls.Read offset n) h = chain_look_refusal g h.drivers offset n
 refusal_at_once g (calls.Write offset bytes) h = chain_refusal g h.drivers offset (length bytes.items)

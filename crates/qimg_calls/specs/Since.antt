@@ -1,4 +1,4 @@
--- What a disk may show since the last flush.
+-- The values that a byte of a disk or of its crash image may have: the one at the last flush, and those of calls begun since.
 use Rattle.std.specs.Prelude.{◌≡◌, ◌⊎◌, ℕ, ◌<◌, max, true, Some, None, List, [], ◌∷◌}
 use Rattle.imago_storage.specs.Disk.{Value, byte, Hold, held, Disk}
 use Rattle.imago_storage.specs.Steps.{Call, write, write_zeroes, discard_to_zero, discard_to_any, discard_to_backing, commit, ensure, write_mapped, grow, shrink, IsByte}
@@ -6,13 +6,13 @@ use Rattle.imago_access.specs.Layer.{Layer, Fixed}
 use Rattle.imago_access.specs.Chain.{at}
 use Rattle.imago_access.specs.Stops.{shown, GivesBytes, GivesZero, GivesAny, GivesBelow, GivesBelowPast, GivesPast}
 
--- what a held place may become by a commit: the byte that was written to it, or any byte where that was announced
+-- A value that a commit may give to a held byte (one of a prepared mapping): the one written to it, or any byte if a write was announced.
 abbrev pub MayTake : Hold → Value → Type 0
 MayTake (held (Some b) announced) v = v ≡ byte b
 MayTake (held None true) v = IsByte v
 MayTake hold v = ⊥
 
--- What a begun call may show at a place, by the disk that it begins on, and nothing else: also where it is refused or cut off.
+-- The only values that a begun call may give to a byte, from the disk on which it began. This includes calls that fail.
 abbrev pub Begun : List Layer → Disk → Call → ℕ → Value → Type 0
 Begun below disk (write offset bytes) = GivesBytes offset bytes
 Begun below disk (write_mapped offset bytes) = GivesBytes offset bytes
@@ -26,40 +26,40 @@ Begun below disk (grow size fill) = GivesPast disk.size
 Begun below disk (shrink size) = GivesBelowPast below size
 Begun below disk call = λ p v. ⊥
 
--- the greatest size that it passes through
+-- The greatest size of the disk during the call.
 abbrev pub most_size : Disk → Call → ℕ
 most_size disk (grow size fill) = max disk.size size
 most_size disk call = disk.size
 
--- The disk at the last flush, and the calls begun since, each with the disk that it began on, the newest first.
+-- The disk at the last flush, and the calls begun since, each with the disk on which it began, the newest first.
 pub record Since : Type 0 where
   pub size : ℕ
   pub value : ℕ → Value
   pub calls : List (Disk × Call)
 
--- one of the calls gives this
+-- One of the calls gives the value.
 abbrev pub Given : List Layer → List (Disk × Call) → ℕ → Value → Type 0
 Given below [] p v = ⊥
 Given below (b ∷ before) p v = Begun below b.0 b.1 p v ⊎ Given below before p v
 
--- the place showed it at the last flush, or a call begun since gives it
+-- The byte had the value at the last flush, or a call begun since gives it.
 abbrev pub Shows : List Layer → Since → ℕ → Value → Type 0
 Shows below since p v = (v ≡ since.value p) ⊎ Given below since.calls p v
 
--- a flush is done, or a call has begun
+-- The state after a flush, and after a call has begun.
 abbrev pub flushed : Disk → Since
 flushed disk = record { size = disk.size; value = disk.value; calls = [] }
 
 abbrev pub begun : Since → Disk → Call → Since
 begun since disk call = record { size = since.size; value = since.value; calls = (disk, call) ∷ since.calls }
 
--- A file that a stop leaves: it is sound and shows, at each place below its size and the size at the last flush, what the disk showed then
--- or what a call begun since gives.
+-- A valid crash image: it is consistent. Each offset below its size and below the size at the last flush reads as at that flush, or as a
+-- call begun since gives it.
 pub record LeftSince (below : List Layer) (fixed : Fixed) (sound : ℕ → List ℕ → Type 0) (since : Since) (f : List ℕ) : Type 0 where
   pub is_sound : sound fixed.kind f
   pub shows : (p : ℕ) → p < (fixed.means f).size → p < since.size → Shows below since p (shown below fixed.means f p)
 
--- What stands between two calls: so do the file and the disk show.
+-- The state between two calls: the file and the disk only have values that `Shows` allows.
 pub record IsSince (below : List Layer) (layer : Layer) (bytes : List ℕ) (since : Since) : Type 0 where
   pub file : (p : ℕ) → p < (layer.fixed.means bytes).size → p < since.size → Shows below since p (shown below layer.fixed.means bytes p)
   pub disk : (p : ℕ) → p < layer.size → p < since.size → Shows below since p (at (layer ∷ below) p)

@@ -1,82 +1,82 @@
-// Calls of a chain, and what they are answered with. They have the names of imago's `FormatAccess`. A mapping that is prepared is qemu's
-// `QCowL2Meta`, and imago's `PreparedDataMapping`.
+// The calls that a list for `drive` can make on a disk, and their answers. Definitions: specs/Calls.antt.
 ghost use Rattle.std.specs.Prelude.{◌≡◌};
 ghost use Rattle.qimg_calls.specs.Calls.{is_look, is_out_of_place};
 
 use imago_access::{Mapping, PreallocateMode, ShallowMapping};
 use imago_storage::Fault;
 
-/// A call of a chain. Offsets, lengths and sizes are in bytes.
+/// A call on a chain (an image and its backing files). Offsets, lengths and sizes are in bytes.
 ///
-/// A mapping that is prepared is kept until it is committed or cancelled. These two calls and `WriteMapped` are for the mapping that is
-/// kept; while one is, no other call that changes the disk may be made.
+/// A prepared mapping (a run that is written before it is committed) is kept for later calls of the list until it is committed or
+/// cancelled. `CommitDataMapping`, `Cancel` and `WriteMapped` work on the kept mapping. While a mapping is kept, no other call that changes
+/// the disk is allowed.
 #[derive(Debug, Drop)]
 pub enum Call {
-    /// Reads the disk's bytes in a range.
+    /// Reads a range of the disk.
     Read {
         offset: u64,
         length: usize,
     },
-    /// Writes bytes from an offset on.
+    /// Writes bytes from `offset` on.
     Write {
         offset: u64,
         bytes: Vec<u8>,
     },
-    /// Makes a range 0.
+    /// Makes a range read as 0.
     WriteZeroes {
         offset: u64,
         length: u64,
     },
-    /// The same, and what is allocated for it is given up.
+    /// Makes a range read as 0, and deallocates the units (clusters of qcow2) that it covers completely.
     DiscardToZero {
         offset: u64,
         length: u64,
     },
-    /// Gives a range up, which may show anything then.
+    /// Discards a range. Each of its bytes may then have any value.
     DiscardToAny {
         offset: u64,
         length: u64,
     },
-    /// Gives a range up, which may show the layer below then.
+    /// Discards a range. Each of its bytes then reads as before, or as in the backing file.
     DiscardToBacking {
         offset: u64,
         length: u64,
     },
-    /// Maps a run of a range, to be written and committed. With `overwrite` all of it will be written.
+    /// Prepares a run of a range for writing. With `overwrite` the whole run will be written before the commit.
     PrepareDataMapping {
         offset: u64,
         length: u64,
         overwrite: bool,
     },
-    /// Makes the mapping that is kept part of the disk.
+    /// Commits the kept mapping: its data becomes part of the disk.
     CommitDataMapping,
-    /// Gives the mapping up that is kept.
+    /// Cancels the kept mapping: what was written to it doesn't become part of the disk.
     Cancel,
-    /// Maps a run of a range as part of the disk.
+    /// Maps a run of a range so that it can be written directly in its storage.
     EnsureDataMapping {
         offset: u64,
         length: u64,
         overwrite: bool,
     },
-    /// Writes bytes to a range of the disk that is mapped from a place of a storage on.
+    /// Writes bytes at `place` of a storage, to which the range of the disk from `guest` on is mapped.
     WriteMapped {
         guest: u64,
         place: u64,
         bytes: Vec<u8>,
     },
-    /// Looks up where the places of a range lie in the chain.
+    /// Looks up the mapping of a range through the chain.
     GetMapping {
         offset: u64,
         length: u64,
     },
-    /// Looks up what the top layer alone says of a range.
+    /// Looks up the mapping of a range in the top layer only.
     GetShallowMapping {
         offset: u64,
         length: u64,
     },
-    /// Writes what is held in memory.
+    /// Writes dirty data to the storages.
     Flush,
-    /// Asks the storages to make lasting what they were given.
+    /// Makes the written data durable.
     Sync,
     /// Makes the disk longer.
     ResizeGrow {
@@ -90,7 +90,7 @@ pub enum Call {
 }
 
 impl Call {
-    // Whether it is for a mapping where none is kept, or changes the disk where one is.
+    // Returns true if the call is for a mapping and none is kept, or if it changes the disk while one is kept.
     pub(crate) fn is_out_of_place(&self, kept: bool) -> bool
         ensures { result ≡ is_out_of_place kept self.now }
     {
@@ -100,7 +100,7 @@ impl Call {
         }
     }
 
-    // Whether it only looks, or writes what is held in memory: it may be made whatever is kept.
+    // Returns true if the call only reads, or only writes dirty data. Such a call is always allowed.
     pub(crate) fn is_look(&self) -> bool
         ensures { result ≡ is_look self.now }
     {
@@ -115,28 +115,28 @@ impl Call {
     }
 }
 
-/// What a call is answered with.
+/// The answer to a call.
 #[derive(Debug, Drop)]
 pub enum Answer {
-    /// It was done.
+    /// The call succeeded.
     Done,
     /// The bytes of a range.
     Bytes(Vec<u8>),
-    /// What the chain says of a run of places, and how long the run is, in bytes.
+    /// The mapping of a run through the chain, and the length of the run in bytes.
     Mapped(Mapping, u64),
-    /// What the top layer says of a run of places, and how long the run is, in bytes.
+    /// The mapping of a run in the top layer, and the length of the run in bytes.
     Shallow(ShallowMapping, u64),
     /// A run is prepared.
     Prepared {
-        /// The number of the storage that it lies in, by the top driver.
+        /// The number of the storage that contains the run, as the top driver counts its storages.
         storage: usize,
-        /// Where it begins there, in bytes.
+        /// The offset of the run in the storage, in bytes.
         offset: u64,
-        /// How long it is, in bytes.
+        /// The length of the run in bytes.
         length: u64,
-        /// There is something to commit.
+        /// True if the mapping has something to commit.
         state: bool,
     },
-    /// It was refused.
+    /// The call failed.
     Refused(Fault),
 }

@@ -1,5 +1,4 @@
-// A list of calls over a chain. A chain is qemu's backing chain. A mapping that is prepared is qemu's `QCowL2Meta`, and imago's
-// `PreparedDataMapping`.
+// `drive`: makes a list of calls on a chain, one after another. Definitions: specs/Runs.antt and specs/Since.antt.
 ghost use Rattle.std.specs.Prelude.{◌≡◌, ◌≤◌, ◌<◌, [], None, length, IfOk, IfErr, OnOk, OnErr, IsOkUnless, take, vec_capacity};
 ghost use Rattle.imago_access.specs.Layer.{IsFree};
 ghost use Rattle.imago_access.specs.Chain.{Each};
@@ -15,22 +14,42 @@ use imago_access::{FormatAccess, FormatDriverInstance};
 use imago_storage::Fault;
 use std::alloc::{AllocError, Global};
 
-/// Makes calls of a chain, one behind the other, and answers what each was answered with. Nothing may be prepared in the chain.
+/// Makes each call of a list on a chain (an image and its backing files), and returns the answer to each.
 ///
-/// A mapping that is prepared is kept until it is committed or cancelled; what is kept at the end is cancelled. A call that is out of place
-/// isn't made, and answered with `Fault::BadArgument`: a commit, a cancel or a `WriteMapped` where no mapping is kept, and while one is,
-/// with something to commit or not, any other call that changes the disk.
+/// A prepared mapping (a run that is written before it is committed) is kept until a later call commits or cancels it. A mapping that is
+/// left at the end is cancelled. If a call isn't allowed, it isn't made, and its answer is `Fault::BadArgument`. A commit, a cancel and a
+/// `WriteMapped` need a kept mapping. While a mapping is kept, no other call that changes the disk is allowed, even if the mapping has
+/// nothing to commit.
 ///
-/// It refuses with `Fault::Memory` alone, where room for an answer is refused: before the call is made, and no later call is.
+/// A chain is ready (`IsReady`) if the driver's invariant holds for the top image, the images below have in memory what their files say, no
+/// image has failed, and nothing is dirty below the top. On a ready chain the calls read and change the guest disk:
 ///
-/// Where the chain is ready (its top is as an image that was found sound has to be, lookups in the layers below are true, none has failed)
-/// the calls read and change one flat disk, moment by moment: each is a step of it, or is refused for a cause that is stated, and first for
-/// one that bars it at once; one that has nothing to do is done. A discard gives up each whole unit of its range that the format can, and a
-/// zeroing zeroes it. No file below changes. A stop in a call leaves the top's file, where it states the size of its disk, sound, and
-/// showing at each place what it did at the last flush before that or what a call begun since gives. The first answer of `Fault::Memory`
-/// or `Fault::Storage` ends what is promised, but that no file below changes, and that a qcow2 top has failed where its own storage did.
+/// - Each call has its specified effect on the disk (`Step`), or fails for a specified cause. If a cause is known before anything is done,
+///   the first such cause is the answer. A call that has nothing to do succeeds.
+/// - A discard deallocates each unit (cluster of qcow2) that its range covers completely and that the format can deallocate. A zeroing
+///   zeroes each unit that its range covers completely.
+/// - No file below the top changes.
 ///
-/// Of any chain, ready or not, each answer fits its call, and is one that the call may have for what lookups tell of the disk.
+/// On any chain, ready or not, each answer fits its call, and is one that the call can have, given what lookups report of the disk.
+///
+/// # Preconditions
+///
+/// No mapping is prepared in the chain.
+///
+/// # Errors
+///
+/// - `Fault::Memory` if memory for an answer runs out. That call and all later ones aren't made.
+///
+/// # On error
+///
+/// After the first answer `Fault::Memory` or `Fault::Storage` on a ready chain, only this holds: no file below the top changes, and a qcow2
+/// top has failed if its own storage has.
+///
+/// # Crash safety
+///
+/// On a ready chain with a top file that stores the size of its disk, each crash image (the top's file after a crash between two requests)
+/// of a call is consistent. At each offset the crash image reads as at the last flush before the call, or as a call that has begun since
+/// then writes it.
 pub fn drive<D: FormatDriverInstance>(
     alloc: Global,
     chain: &mut FormatAccess<D>,
@@ -58,7 +77,8 @@ pub fn drive<D: FormatDriverInstance>(
     Ok(answers)
 }
 
-/// Gives up the mapping that is kept, if one is.
+/// Cancels the mapping that the list has prepared and neither committed nor cancelled, if any. No request is made, and guest data doesn't
+/// change. In a qcow2 image the clusters that were allocated for the mapping go to the free list.
 fn give_up<D: FormatDriverInstance>(chain: &mut FormatAccess<D>, kept: Kept<D::State>)
     requires mapping_prepared { MappingIsPrepared D.DriverModel (chain_with_mapping chain.old kept) }
     ensures { CancelsKept D.DriverModel (chain_with_mapping chain.old kept) chain.new }
@@ -68,7 +88,7 @@ fn give_up<D: FormatDriverInstance>(chain: &mut FormatAccess<D>, kept: Kept<D::S
     }
 }
 
-/// Makes one call, or answers that it is out of place.
+/// Makes one call, or answers `Fault::BadArgument` if the call isn't allowed with, or without, a kept mapping.
 fn answer<D: FormatDriverInstance>(
     alloc: Global,
     chain: &mut FormatAccess<D>,
@@ -85,7 +105,7 @@ fn answer<D: FormatDriverInstance>(
     make(alloc, chain, kept, call)
 }
 
-/// Makes calls, and adds the answer to each, up to one that room is refused for. There is room for the answers.
+/// Makes calls and appends the answer to each, until memory for an answer runs out. `answers` has the capacity for all of them.
 fn make_all<D: FormatDriverInstance>(
     alloc: Global,
     chain: &mut FormatAccess<D>,

@@ -1,4 +1,4 @@
-// A copy of one chain's disk into another's. `qemu-img convert -n` makes such a copy. imago has no call for it.
+// `flatten`: copies the disk of one chain into another, like `qemu-img convert -n`. Definitions: specs/Flattening.antt.
 ghost use Rattle.std.specs.Prelude.{◌≡◌, ◌≢◌, ◌≤◌, ◌+◌, length, OnOk, IfErr, IsErrOf};
 ghost use Rattle.imago_storage.specs.declared.fault.Fault.TheVariants.{BadArgument};
 ghost use Rattle.imago_access.specs.Layer.{IsFree, KeepsLayerState};
@@ -13,10 +13,10 @@ use imago_access::{FormatAccess, FormatDriverInstance};
 use imago_storage::Fault;
 use std::alloc::Global;
 
-// The most bytes that are copied at once.
+// The most bytes that are copied by one read and write.
 const PIECE: u64 = 65_536;
 
-// Copies a range that lies in the source's disk, as long as the buffer.
+// Copies a range inside the source's disk that is as long as the buffer.
 fn copy_piece<S: FormatDriverInstance, T: FormatDriverInstance>(
     alloc: Global,
     source: &mut FormatAccess<S>,
@@ -35,8 +35,8 @@ fn copy_piece<S: FormatDriverInstance, T: FormatDriverInstance>(
     target.write(alloc, buf, offset)
 }
 
-// Copies all of the source's disk, which is as large as the target's, piece by piece: at least one, so that a chain that can't be used
-// refuses an empty disk, too.
+// Copies the whole disk of the source to the target of the same size, piece by piece. There is at least one piece, so an unusable chain is
+// an error for an empty disk too.
 fn copy_all<S: FormatDriverInstance, T: FormatDriverInstance>(
     alloc: Global,
     source: &mut FormatAccess<S>,
@@ -62,23 +62,42 @@ fn copy_all<S: FormatDriverInstance, T: FormatDriverInstance>(
     }
 }
 
-/// Copies the disk of one chain into another of the same size, in pieces of 65,536 bytes. Nothing may be prepared in the target.
+/// Copies the disk of one chain (an image and its backing files) into another of the same size, in pieces of 65,536 bytes.
 ///
-/// Where it succeeds, each place of the source's disk has a byte, and the target shows it. The source is only read: its disk stays, and no
-/// file of a layer changes in which nothing waits to be written. Nor does one below the target. Zeroes are written as other bytes are, so a
-/// disk with holes becomes full, and the target isn't flushed.
+/// After success, each offset of the source's disk has a byte, and the target reads as that byte. The source is only read: its disk doesn't
+/// change. If an image of the source, or one below the target's top, has no dirty data, its files don't change. Zeroes are written like
+/// other bytes, so a target with holes becomes full. The target isn't flushed.
 ///
-/// It refuses with `Fault::BadArgument` where the sizes differ, and there alone; then all is as it was. Where room for a piece is refused
-/// it refuses with `Fault::Memory`. Else it is refused as a read of a piece from the source is, or as its write to the target: where a
-/// layer can't be used, for a place of the source that has no byte (`Fault::Barred`, `Fault::DamagedTable`), where the end of the piece,
-/// rounded up to a chain's alignment, passes `u64` (`Fault::RangeOverflow`), with `Fault::ReadOnly`, with causes of the target's driver,
-/// and with `Fault::Memory` and `Fault::Storage`. The pieces before that one are copied, and for another cause than these two none of the
-/// places behind it has changed.
+/// After a copy that ended without `Fault::Memory` and `Fault::Storage`, more calls may be made on the target. For their crash images the
+/// copy counts as a write of the source's bytes.
 ///
-/// A refusal for another cause than `Memory` and `Storage` leaves the source's disk as it was, and each place of the target as it was or
-/// with the source's byte. Whatever is answered, each file that a stop leaves for the target's top is sound, and shows at each place what
-/// it or the disk did before, or the source's byte. Calls may be made of the target behind a copy that wasn't cut off: for stops and what
-/// they show it stands as behind a write of the source's bytes.
+/// # Preconditions
+///
+/// No mapping is prepared in the target.
+///
+/// # Errors
+///
+/// - `Fault::BadArgument` if and only if the sizes differ. Nothing changes.
+/// - `Fault::Memory` if memory for a piece runs out.
+///
+/// The read of a piece from the source, and its write to the target, can fail with:
+///
+/// - `Fault::Failed` or `Fault::MissingData` if a layer is unusable.
+/// - `Fault::Barred` or `Fault::DamagedTable` if an offset of the source has no byte.
+/// - `Fault::RangeOverflow` if the end of the piece, rounded up to a chain's alignment, doesn't fit `u64`.
+/// - `Fault::ReadOnly` if the target is read-only.
+/// - An error of the target's driver.
+/// - `Fault::Memory`, `Fault::Storage`.
+///
+/// # On error
+///
+/// The pieces before the one that failed are copied. If the fault is neither `Fault::Memory` nor `Fault::Storage`, the source's disk is
+/// unchanged. Each byte of the target is then old or the source's, and no byte after the failed piece has changed.
+///
+/// # Crash safety
+///
+/// In every case, each crash image of the target's top (its file after a crash between two requests) is consistent. At each offset the
+/// crash image reads as the file or the disk did before, or as the source's byte.
 pub fn flatten<S: FormatDriverInstance, T: FormatDriverInstance>(
     alloc: Global,
     source: &mut FormatAccess<S>,

@@ -1,5 +1,5 @@
-//! Lists of calls over a chain of image layers: each reads and changes one flat disk. A chain is qemu's backing chain, and what imago's
-//! `FormatAccess` stands over.
+//! Lists of calls on a chain (an image and its backing files), and a copy of one chain's disk into another. Each call of a list reads or
+//! changes the guest disk. Terms are explained in docs/GLOSSARY.md.
 #![tactic(auto)]
 
 mod call;

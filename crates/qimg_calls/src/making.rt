@@ -1,5 +1,4 @@
-// The calls of a list, each made by one function: a call is proved with all that is stated of a chain. A chain is qemu's backing chain, and
-// imago's `FormatAccess` with its backing.
+// One function for each call of a list. Its contract states everything that is proved of that call on a chain.
 mod changing;
 mod looking;
 mod mapping;

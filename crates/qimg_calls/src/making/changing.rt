@@ -1,5 +1,4 @@
-// Calls that change the disk where nothing is kept. Names are those of imago's `FormatAccess`. qemu's calls are `blk_pwrite`,
-// `blk_pwrite_zeroes`, `blk_pdiscard` and `blk_truncate`.
+// Calls that change the disk while no mapping is kept.
 ghost use Rattle.std.specs.Prelude.{IsTrue};
 ghost use Rattle.imago_access.specs.Layer.{IsFree};
 ghost use Rattle.qimg_calls.specs.Calls.{is_lone_change};
@@ -11,7 +10,11 @@ use crate::call::{Answer, Call};
 use imago_access::{FormatAccess, FormatDriverInstance, PreallocateMode};
 use std::alloc::Global;
 
-/// Writes bytes.
+/// Writes bytes from an offset on.
+///
+/// # Preconditions
+///
+/// No mapping is prepared in the top image.
 pub fn write<D: FormatDriverInstance>(
     alloc: Global,
     chain: &mut FormatAccess<D>,
@@ -24,7 +27,11 @@ pub fn write<D: FormatDriverInstance>(
     told(chain.write(alloc, bytes, offset))
 }
 
-/// Makes a range 0.
+/// Makes a range read as 0.
+///
+/// # Preconditions
+///
+/// No mapping is prepared in the top image.
 pub fn write_zeroes<D: FormatDriverInstance>(
     alloc: Global,
     chain: &mut FormatAccess<D>,
@@ -37,7 +44,11 @@ pub fn write_zeroes<D: FormatDriverInstance>(
     told(chain.write_zeroes(alloc, offset, length))
 }
 
-/// Makes a range 0, and gives up what is allocated for it.
+/// Makes a range read as 0, and deallocates the units (clusters of qcow2) that it covers completely.
+///
+/// # Preconditions
+///
+/// No mapping is prepared in the top image.
 pub fn discard_to_zero<D: FormatDriverInstance>(
     alloc: Global,
     chain: &mut FormatAccess<D>,
@@ -50,7 +61,11 @@ pub fn discard_to_zero<D: FormatDriverInstance>(
     told(chain.discard_to_zero(alloc, offset, length))
 }
 
-/// Gives a range up, which may show anything then.
+/// Discards a range. Each of its bytes may then have any value.
+///
+/// # Preconditions
+///
+/// No mapping is prepared in the top image.
 pub fn discard_to_any<D: FormatDriverInstance>(
     alloc: Global,
     chain: &mut FormatAccess<D>,
@@ -63,7 +78,11 @@ pub fn discard_to_any<D: FormatDriverInstance>(
     told(chain.discard_to_any(alloc, offset, length))
 }
 
-/// Gives a range up, which may show the layer below then.
+/// Discards a range. Each of its bytes then reads as before, or as in the backing file.
+///
+/// # Preconditions
+///
+/// No mapping is prepared in the top image.
 pub fn discard_to_backing<D: FormatDriverInstance>(
     alloc: Global,
     chain: &mut FormatAccess<D>,
@@ -76,7 +95,11 @@ pub fn discard_to_backing<D: FormatDriverInstance>(
     told(chain.discard_to_backing(alloc, offset, length))
 }
 
-/// Maps a run of a range as part of the disk.
+/// Maps a run of a range so that it can be written directly in its storage.
+///
+/// # Preconditions
+///
+/// No mapping is prepared in the top image.
 pub fn ensure_data_mapping<D: FormatDriverInstance>(
     alloc: Global,
     chain: &mut FormatAccess<D>,
@@ -94,6 +117,10 @@ pub fn ensure_data_mapping<D: FormatDriverInstance>(
 }
 
 /// Makes the disk longer.
+///
+/// # Preconditions
+///
+/// No mapping is prepared in the top image.
 pub fn resize_grow<D: FormatDriverInstance>(
     alloc: Global,
     chain: &mut FormatAccess<D>,
@@ -107,6 +134,10 @@ pub fn resize_grow<D: FormatDriverInstance>(
 }
 
 /// Makes the disk shorter.
+///
+/// # Preconditions
+///
+/// No mapping is prepared in the top image.
 pub fn resize_shrink<D: FormatDriverInstance>(
     alloc: Global,
     chain: &mut FormatAccess<D>,
@@ -118,7 +149,11 @@ pub fn resize_shrink<D: FormatDriverInstance>(
     told(chain.resize_shrink(alloc, size))
 }
 
-/// Makes a call that changes the disk, and keeps no mapping.
+/// Makes a call that changes the disk and keeps no mapping.
+///
+/// # Preconditions
+///
+/// No mapping is prepared in the top image. The call changes the disk, and neither prepares nor uses a mapping.
 pub fn change<D: FormatDriverInstance>(
     alloc: Global,
     chain: &mut FormatAccess<D>,

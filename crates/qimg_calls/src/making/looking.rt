@@ -1,5 +1,4 @@
-// Calls that only look, and those that write what is held in memory: they may be made whatever is kept. A lookup is imago's `get_mapping`,
-// and qemu's `bdrv_block_status_above`.
+// Calls that only read, and calls that write dirty data. They are allowed whether or not a mapping is kept.
 ghost use Rattle.std.specs.Prelude.{◌≡◌, IfOk, IfErr};
 ghost use Rattle.qimg_calls.specs.declared.call.Call.TheVariants as calls;
 ghost use Rattle.qimg_calls.specs.declared.call.Answer.TheVariants as told;
@@ -10,7 +9,7 @@ use imago_access::{FormatAccess, FormatDriverInstance};
 use imago_storage::Fault;
 use std::alloc::{AllocError, Global};
 
-/// What a call is answered with that answers nothing else.
+/// Returns the answer to a call that only succeeds or fails.
 pub fn told(outcome: Result<(), Fault>) -> Answer
     ensures { result ≡ done_or_refused outcome }
 {
@@ -20,7 +19,7 @@ pub fn told(outcome: Result<(), Fault>) -> Answer
     }
 }
 
-/// Reads the disk's bytes. It is refused for want of room for them, before the call is made.
+/// Reads a range of the disk. If memory for the bytes runs out, the call fails before it is made.
 pub fn read<D: FormatDriverInstance>(
     alloc: Global,
     chain: &mut FormatAccess<D>,
@@ -37,7 +36,7 @@ pub fn read<D: FormatDriverInstance>(
     }
 }
 
-/// Looks up where places of the chain lie.
+/// Looks up the mapping of a range through the chain.
 pub fn get_mapping<D: FormatDriverInstance>(
     alloc: Global,
     chain: &mut FormatAccess<D>,
@@ -52,7 +51,7 @@ pub fn get_mapping<D: FormatDriverInstance>(
     }
 }
 
-/// Looks up what the top layer alone says of places.
+/// Looks up the mapping of a range in the top layer only.
 pub fn get_shallow_mapping<D: FormatDriverInstance>(
     alloc: Global,
     chain: &mut FormatAccess<D>,
@@ -67,14 +66,14 @@ pub fn get_shallow_mapping<D: FormatDriverInstance>(
     }
 }
 
-/// Writes what is held in memory.
+/// Writes dirty data to the storages.
 pub fn flush<D: FormatDriverInstance>(alloc: Global, chain: &mut FormatAccess<D>) -> Answer
     ensures { MakesBeside D.DriverModel calls.Flush result chain.old chain.new }
 {
     told(chain.flush(alloc))
 }
 
-/// Asks the storages to make lasting what they were given.
+/// Makes the written data durable.
 pub fn sync<D: FormatDriverInstance>(chain: &mut FormatAccess<D>) -> Answer
     ensures { MakesBeside D.DriverModel calls.Sync result chain.old chain.new }
 {

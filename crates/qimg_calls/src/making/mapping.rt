@@ -1,4 +1,5 @@
-// Calls of the mapping that is kept, and each call by what is kept. It is qemu's `QCowL2Meta`, and imago's `PreparedDataMapping`.
+// Calls that prepare a mapping and keep it for later calls, calls on the kept mapping, and the dispatch of a call by whether a mapping is
+// kept.
 ghost use Rattle.std.specs.Prelude.{◌≡◌, None, Some, IfOk, IfErr, IsFalse, IsTrue, false, true, is_some};
 ghost use Rattle.imago_access.specs.Layer.{IsFree};
 ghost use Rattle.imago_access.specs.Spending.{IsMine};
@@ -14,10 +15,10 @@ use imago_access::{FormatAccess, FormatDriverInstance, PreparedDataMapping};
 use imago_storage::Fault;
 use std::alloc::{AllocError, Global};
 
-/// The mapping that is prepared and not yet spent, if one is kept.
+/// The mapping that is prepared and not yet committed or cancelled, if any.
 pub(crate) type Kept<S> = Option<PreparedDataMapping<S>>;
 
-/// Maps a run of a range, and keeps the mapping.
+/// Prepares a run of a range, and keeps the mapping.
 fn prepare<D: FormatDriverInstance>(
     alloc: Global,
     chain: &mut FormatAccess<D>,
@@ -43,7 +44,7 @@ fn prepare<D: FormatDriverInstance>(
     }
 }
 
-/// Makes the mapping that is kept part of the disk. One that is given back is kept.
+/// Commits the kept mapping. If the commit fails and returns the mapping, the mapping stays kept.
 fn commit<D: FormatDriverInstance>(
     alloc: Global,
     chain: &mut FormatAccess<D>,
@@ -58,7 +59,7 @@ fn commit<D: FormatDriverInstance>(
     }
 }
 
-/// Gives the mapping up that is kept. It is never refused, since the mapping was prepared in this chain.
+/// Cancels the kept mapping. This never fails, because the mapping was prepared in this chain.
 pub(crate) fn cancel<D: FormatDriverInstance>(
     chain: &mut FormatAccess<D>,
     mapping: PreparedDataMapping<D::State>,
@@ -73,7 +74,7 @@ pub(crate) fn cancel<D: FormatDriverInstance>(
     }
 }
 
-/// Writes bytes to a range that is mapped, in the chain or by the mapping that is kept.
+/// Writes bytes to a range that is mapped by the chain or by the kept mapping.
 fn write_mapped<D: FormatDriverInstance>(
     alloc: Global,
     chain: &mut FormatAccess<D>,
@@ -86,7 +87,7 @@ fn write_mapped<D: FormatDriverInstance>(
     told(chain.write_mapped(alloc, guest, place, bytes))
 }
 
-/// Makes a call that only looks or writes what is held in memory.
+/// Makes a call that only reads, or writes dirty data.
 fn look<D: FormatDriverInstance>(
     alloc: Global,
     chain: &mut FormatAccess<D>,
@@ -110,7 +111,7 @@ fn look<D: FormatDriverInstance>(
     }
 }
 
-/// Makes a call of the mapping that is kept.
+/// Makes a call on the kept mapping.
 fn spend<D: FormatDriverInstance>(
     alloc: Global,
     chain: &mut FormatAccess<D>,
@@ -142,7 +143,7 @@ fn spend<D: FormatDriverInstance>(
     }
 }
 
-/// Makes a call that changes the disk where nothing is kept.
+/// Makes a call that changes the disk while no mapping is kept.
 fn change<D: FormatDriverInstance>(
     alloc: Global,
     chain: &mut FormatAccess<D>,
@@ -163,7 +164,7 @@ fn change<D: FormatDriverInstance>(
     }
 }
 
-/// Makes a call that isn't out of place. It is refused where room for what it reads is refused, before it is made.
+/// Makes a call that is allowed (not `is_out_of_place`). If memory for the bytes of a read runs out, the call fails before it is made.
 pub(crate) fn make<D: FormatDriverInstance>(
     alloc: Global,
     chain: &mut FormatAccess<D>,

@@ -9,7 +9,6 @@ use Rattle.qimg_calls.proofs.Driven.{driven-made, going-made-all, none-kept}
 use Rattle.qimg_calls.proofs.Lists.{as-many}
 use Rattle.qimg_calls.proofs.driving.drive.Goals as goal
 
--- there is a call where there is not none
 some-call : (n : ℕ) → (n ≡ 0 → ⊥) → 0 < n
 some-call zero never = absurd (never refl)
 some-call (suc n) never = omega arith

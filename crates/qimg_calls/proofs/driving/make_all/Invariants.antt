@@ -3,7 +3,7 @@ use Rattle.qimg_calls.specs.Held.{chain_with_mapping, MappingIsPrepared}
 use Rattle.qimg_calls.specs.Making.{AnswersAll}
 use Rattle.qimg_calls.proofs.driving.make_all.Given as goal
 
--- The calls so far are made, each with its answer, and there is room for the others.
+-- The calls up to here are made, each with its answer. The vector has capacity for the others.
 abbrev pub invariant-loop-call : goal.invariant-loop-call
 invariant-loop-call g l =
     AnswersAll g.D.DriverModel (take l.call-index l.calls) l.answers.items (chain_with_mapping l.fn.chain None) (chain_with_mapping l.chain l.kept)

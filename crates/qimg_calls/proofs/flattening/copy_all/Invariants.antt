@@ -2,7 +2,7 @@ use Rattle.std.specs.Prelude.{◌≡◌, ◌⊎◌, ◌<◌, ◌*◌, ◌-◌, �
 use Rattle.qimg_calls.specs.Flattening.{Copies}
 use Rattle.qimg_calls.proofs.flattening.copy_all.Given as goal
 
--- The pieces so far are copied.
+-- The pieces up to `done` are copied.
 abbrev pub invariant-loop-done : goal.invariant-loop-done
 invariant-loop-done g l = record {
   inside : l.done ≤ l.size;

@@ -11,7 +11,7 @@ use Rattle.qimg_calls.specs.declared.call.Answer.TheVariants as told
 use Rattle.qimg_calls.proofs.Leading.{ran-leads}
 use Rattle.qimg_calls.proofs.making.changing.ensure_data_mapping.Goals as goal
 
--- what an ensured mapping may give is what the call may show
+-- The values that an ensured mapping may give are those of the call.
 announced : (below : List Layer) (disk : Disk) (offset n : ℕ) (overwrite : Bool) (p : ℕ) (v : Value) → GivesAnnounced overwrite offset n p v → Begun below disk (ensure offset n overwrite) p v
 announced below disk offset n true p v gave = gave
 announced below disk offset n false p v gave = gave

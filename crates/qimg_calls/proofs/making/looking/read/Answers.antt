@@ -7,7 +7,7 @@ use Rattle.qimg_calls.specs.declared.call.Answer.TheVariants as told
 use Rattle.qimg_calls.proofs.Leading.{like-kept, look-leads, looked-stays}
 use Rattle.qimg_calls.proofs.making.looking.read.Goals as goal
 
--- a buffer that is filled is what fills it
+-- A buffer that is filled completely equals the bytes.
 filled : (bytes rest : List ℕ) (len : ℕ) {n : ℕ} → length bytes ≡ n → len ≡ n → take len (bytes ++ rest) ≡ bytes
 filled bytes rest len same all = rw (all ∙ sym same) (take-append_seam bytes rest)
 
