@@ -1,4 +1,4 @@
--- What the parts of an image name.
+-- The references of the parts of an image.
 pub mod Image
 pub mod L2Table
 pub mod L2Tables

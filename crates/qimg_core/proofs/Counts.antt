@@ -1,4 +1,4 @@
--- Counters beside names, and the verdict.
+-- Refcounts compared with references, and the verdict.
 pub mod Blocks
 pub mod Comparison
 pub mod Verdicts

@@ -1,4 +1,4 @@
--- How often clusters are named, as cells and lists keep it.
+-- The references to each cluster, in cells and lists.
 pub mod Clusters
 pub mod Entries
 pub mod Ranges

@@ -1,4 +1,4 @@
--- What plain reads show, and why they are refused.
+-- The results of plain reads.
 pub mod Files
 pub mod Image
 pub mod Pieces

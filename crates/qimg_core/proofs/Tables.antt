@@ -1,4 +1,4 @@
--- Tables as they are loaded, without the words past the file's end.
+-- Tables whose entries past the end of the file aren't loaded.
 pub mod BlockPlaces
 pub mod FewerWords
 pub mod L2Words

@@ -1,4 +1,4 @@
--- What the checker answers, and what its parts find.
+-- Specifies what the checker and its parts return: findings about a qcow2 file, or errors.
 use Rattle.std.specs.Prelude.{◌≡◌, ℕ, IsTrue, IsFalse, Err, List, Any, Option}
 use Rattle.imago_storage.specs.State.{StorageState, HasRisen}
 use Rattle.imago_storage.specs.declared.fault.Fault.{Fault}
@@ -13,7 +13,7 @@ use Rattle.qimg_core.specs.declared.check.search.Question.TheVariants as questio
 use Rattle.qimg_core.specs.declared.check.CheckFault.{CheckFault}
 use Rattle.qimg_core.specs.declared.check.CheckFault.TheVariants.{Header, Snapshots, External, Table, SharedTable, FalseCopied, UnderCounted, Memory, Storage}
 
--- What was found, or why the checker gave up: a finding that this holds of, want of memory, or a fault of the storage.
+-- The check failed with a finding for which `P` holds, because memory ran out, or because the storage failed.
 abbrev pub Found : StorageState → StorageState → (Finding → Type 0) → CheckFault → Type 0
 Found old new P Header = P header × (new.faults ≡ old.faults)
 Found old new P Snapshots = P snapshots × (new.faults ≡ old.faults)
@@ -25,7 +25,7 @@ Found old new P (UnderCounted c) = P (under_counted c) × (new.faults ≡ old.fa
 Found old new P Memory = new.faults ≡ old.faults
 Found old new P Storage = HasRisen old.faults new.faults
 
--- The finding is this verdict on the file.
+-- `finding` is the verdict on the file.
 abbrev pub IsFinding : Bytes → Finding → Type 0
 IsFinding f finding = IsVerdict f (Err finding)
 
@@ -34,11 +34,11 @@ abbrev pub IsUnsound : Bytes → Fields → Finding → Type 0
 IsUnsound f h table = IsFalse (tables_sound f h)
 IsUnsound f h finding = ⊥
 
--- There is no finding.
+-- No finding satisfies this.
 abbrev pub NoFinding : Finding → Type 0
 NoFinding finding = ⊥
 
--- The finding is that the L2 table at this place is damaged, or one of those at these places.
+-- The finding is that the L2 table at `place` is damaged, or one of those at `places`.
 abbrev pub IsDamagedTable : Bytes → Fields → ℕ → Finding → Type 0
 IsDamagedTable f h place table = IsFalse (l2_table_sound f h place)
 IsDamagedTable f h place finding = ⊥
@@ -47,23 +47,23 @@ abbrev pub IsOneDamaged : Bytes → Fields → List ℕ → Finding → Type 0
 IsOneDamaged f h places table = Any (λ place. IsFalse (l2_table_sound f h place)) places
 IsOneDamaged f h places finding = ⊥
 
--- The finding is the least cluster that is counted less often than it is named.
+-- The finding is the lowest cluster whose refcount is less than the number of its references.
 abbrev pub IsUnder : Bytes → Fields → Finding → Type 0
 IsUnder f h (under_counted c) = IsLeast (is_under_counted f h) c
 IsUnder f h finding = ⊥
 
--- The first finding among clusters that are named more than once.
+-- The fault is the first finding among clusters that are referenced more than once.
 abbrev pub SharesFirst : Tallies → CheckFault → Type 0
 SharesFirst names (SharedTable c) = IsLeast (is_such question.Shared names) c
 SharesFirst names (FalseCopied c) = Nowhere (is_such question.Shared names) × IsLeast (is_such question.FalselyCopied names) c
 SharesFirst names fault = ⊥
 
--- The first cluster between two bounds that is named.
+-- The fault is that of the first referenced cluster between two bounds.
 abbrev pub NamesFirst : Tallies → ℕ → Option ℕ → CheckFault → Type 0
 NamesFirst names low high (UnderCounted c) = IsFirstWithin (is_such question.AtAll names) low high c
 NamesFirst names low high fault = ⊥
 
--- what the checker answers where something isn't loaded: the same, or this in place of any other fault
+-- The checker's fault for a failed load: memory and storage faults keep their kind, and any other becomes `other`.
 abbrev pub fault_of_load : CheckFault → Fault → CheckFault
 fault_of_load other fault.Memory = Memory
 fault_of_load other fault.Storage = Storage

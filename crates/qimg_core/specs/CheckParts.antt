@@ -1,4 +1,4 @@
--- What the parts of the checker read of an image.
+-- Definitions for the parts of the checker: the tables, the refcount blocks and the sums over them.
 use Rattle.std.specs.Prelude.{◌≡◌, ◌≢◌, ℕ, ◌+◌, ◌*◌, ◌<◌, ◌≤◌, ⊤, not, ◌==◌, min, true, IsTrue, IsFalse, Ok, List, map, length, slice_index, All, Option, Some, None}
 use Rattle.std.specs.Int.{div_ceil}
 use Rattle.std.specs.List.{sum_by, filter, range_with_len}
@@ -13,86 +13,86 @@ use Rattle.qcow2_metadata.specs.Blocks.{Block}
 use Rattle.qimg_core.specs.Names.{Total, referenced_by, structure_part, mapped_part, copied_part}
 use Rattle.qimg_core.specs.declared.check.names.Tallies.{Tallies}
 
--- The header that loads for writing is this one, but for the names of feature bits.
+-- `header` is the header that loads for writing, except for the feature names.
 abbrev pub HasHeader : Bytes → Header → Type 0
 HasHeader f header = (names : List Feature) × (header_of true f ≡ Ok (record header { features = names }))
 
--- this is what the image names, for each cluster
+-- For each cluster, the tallies have the number of its references in the image.
 pub record Tells (f : Bytes) (h : Fields) (names : Tallies) : Type 0 where
   pub structure : (c : ℕ) → referenced_by structure_part c names ≡ structure f h (meets h c)
   pub mapped : (c : ℕ) → referenced_by mapped_part c names ≡ contents f h (of_mapping h (meets h c))
   pub copied : (c : ℕ) → referenced_by copied_part c names ≡ contents f h (of_copied h (meets h c))
 
--- the places of the L2 tables that the words of the L1 table name, in their order
+-- The offsets of the L2 tables that the L1 entries reference, in their order.
 unfoldable pub tables_of : Bytes → Fields → List ℕ
 tables_of f h = filter (λ t. not (t == 0)) (map (l2_table f h) (range_with_len 0 h.l1_entries))
 
--- counter j of a block that may be missing
+-- Refcount `j` of a block that may be missing.
 abbrev pub counter_in : Option Block → ℕ → ℕ
 counter_in None j = 0
 counter_in (Some block) j = slice_index block.counters j
 
--- what is given by each place, summed
+-- The sum of a function over a list of offsets.
 abbrev pub sum_over : (ℕ → ℕ) → List ℕ → ℕ
 sum_over of places = sum_by of places
 
--- summed over the first cluster, the L1 table and the refcount table
+-- The sum of a weight over the first cluster, the L1 table and the refcount table.
 abbrev pub start_over : Fields → Total
 start_over h weight = weight 0 (cluster_size h) + weight h.l1_offset (h.l1_entries * 8) + weight h.refcount_table_offset
     (h.refcount_table_clusters * cluster_size h)
 
--- Summed over the structure, by the places of its tables and blocks.
+-- The sum of a weight over the structure (header, tables and refcount blocks), given the offsets of its L2 tables and refcount blocks.
 unfoldable pub structure_over : Fields → List ℕ → List ℕ → Total
 structure_over h tables blocks weight =
     start_over h weight
     + sum_over (of_cluster h weight) blocks
     + sum_over (of_cluster h weight) tables
 
--- what these words mean, summed
+-- The sum of a function over the mappings of L2 entries.
 unfoldable pub entries_over : Fields → (Mapping → ℕ) → List ℕ → ℕ
 entries_over h of raw_entries = sum_by (λ w. of (mapping_of (layout_of h) w)) raw_entries
 
--- each of these places is one of a cluster
+-- Each of these offsets is one of a cluster.
 abbrev pub AreTables : ℕ → List ℕ → Type 0
 AreTables cluster_bits places = All (λ place. IsTrue (is_cluster_offset cluster_bits place)) places
 
--- These are the places of the blocks; those that are missing at the end are 0.
+-- `blocks` are the offsets of the refcount blocks. Offsets that are missing at the end are 0.
 pub record IsBlocks (f : Bytes) (h : Fields) (blocks : List ℕ) : Type 0 where
   pub each : (i : ℕ) → slice_index blocks i ≡ block_at f h i
   pub count_bounded : length blocks ≤ refcount_table_entries h
   pub placed : (i : ℕ) → IsTrue (is_cluster_offset h.cluster_bits (slice_index blocks i))
 
--- All the blocks that there are stand before this index, and one of them just before it.
+-- All blocks that exist are before this index, and one of them is just before it.
 pub record IsBlocksEnd (blocks : List ℕ) (end : ℕ) : Type 0 where
   pub after : (i : ℕ) → end ≤ i → slice_index blocks i ≡ 0
   pub last : (i : ℕ) → i + 1 ≡ end → slice_index blocks i ≢ 0
 
--- how many clusters of a file of so many bytes the first so many blocks count
+-- The number of clusters of a file of `size` bytes that the first `blocks` refcount blocks cover.
 abbrev pub counted_clusters : Fields → ℕ → ℕ → ℕ
 counted_clusters h size blocks = min (div_ceil size (cluster_size h)) (blocks * counters_of_block h)
 
--- There are so many cells: for the clusters of a file of so many bytes, as far as the blocks count them.
+-- There is one cell for each cluster of a file of `size` bytes that the refcount blocks cover.
 abbrev pub HasCells : ℕ → Fields → List ℕ → Tallies → Type 0
 HasCells size h blocks names = (end : ℕ) × IsBlocksEnd blocks end × (length names.cells.items ≡ counted_clusters h size end)
 
--- The places of the tables and of the blocks.
+-- `tables` and `blocks` are the offsets of the L2 tables and of the refcount blocks, and both top-level tables are valid.
 pub record HoldsPlaces (f : Bytes) (h : Fields) (tables blocks : List ℕ) : Type 0 where
   pub in_order : tables ≡ tables_of f h
   pub are_blocks : IsBlocks f h blocks
   pub l1_sound : IsTrue (l1_table_sound f h)
   pub refcounts_sound : IsTrue (refcount_table_sound f h)
 
--- the counters of a block that may be missing have this length
+-- If the block exists, `j` is an index of its refcounts.
 abbrev pub IsIn : Option Block → ℕ → Type 0
 IsIn None j = ⊤
 IsIn (Some block) j = j < length block.counters
 
--- a block that may be missing holds the counters of the refcount table's word at an index
+-- `block` has the refcounts of the refcount table entry at `index`.
 pub record HoldsCounters (f : Bytes) (h : Fields) (index : ℕ) (block : Option Block) : Type 0 where
   pub counts : (j : ℕ) → j < counters_of_block h → counter_in block j ≡ count f h (index * counters_of_block h + j)
   pub whole : (j : ℕ) → j < counters_of_block h → IsIn block j
 
--- The clusters before this one are counted often enough, and these are their leaks.
+-- The refcounts of the clusters before `c` are high enough, and `found` are the leaks among them.
 pub record AreCompared (f : Bytes) (h : Fields) (found : List (ℕ × ℕ)) (c : ℕ) : Type 0 where
   pub enough : (d : ℕ) → d < c → IsFalse (is_under_counted f h d)
   pub are_leaks : found ≡ leaks_below f h c

@@ -1,4 +1,4 @@
--- What a new image is: its bytes, by the places where they stand, and its header.
+-- The bytes and the header of a new image.
 use Rattle.std.specs.Prelude.{◌≡◌, ℕ, ◌+◌, ◌-◌, ◌/◌, ◌<◌, ◌==◌, None, List, [], ◌∷◌, ◌++◌, length, replicate, codes, IsTrue, if◌then◌else◌}
 use Rattle.std.specs.Int.{w32, w64, to_be_bytes}
 use Rattle.imago_storage.specs.State.{StorageState, unit_of}
@@ -10,11 +10,11 @@ use Rattle.qcow2_types.specs.Header.{Fields, Header}
 use Rattle.qcow2_types.specs.Switched.{with_size}
 use Rattle.qcow2_metadata.specs.Loading.{file}
 
--- how many words of the L1 table cover a disk of this size: each covers 64 clusters of 512 bytes
+-- The number of L1 entries for a disk of this size: each covers 64 clusters of 512 bytes.
 abbrev pub l1_entries_of : ℕ → ℕ
 l1_entries_of size = (size + 32767) / 32768
 
--- a feature's name in 48 bytes: its kind, its bit, and its text, filled up with 0
+-- A feature name entry of 48 bytes: its kind, its bit, and its text, padded with zeroes.
 abbrev pub feature_bytes : ℕ → ℕ → List ℕ → List ℕ
 feature_bytes kind bit name = kind ∷ bit ∷ name ++ replicate (46 - length name) 0
 
@@ -27,30 +27,31 @@ extension_bytes =
     ++ feature_bytes 0 2 (codes "external data file")
     ++ replicate 8 0
 
--- bytes at a place
+-- Bytes and their offset.
 abbrev pub Piece : Type 0
 Piece = ℕ × List ℕ
 
--- the file with these pieces, one after the other
+-- The file with these pieces written, one after another.
 abbrev pub with_pieces : Bytes → List Piece → Bytes
 with_pieces f [] = f
 with_pieces f (piece ∷ rest) = with_pieces (splice f piece.0 piece.1) rest
 
--- a file of zeroes
+-- A file of zeroes.
 unfoldable pub nothing_in : Bytes
 nothing_in i = 0
 
--- the L1 table follows the block, in cluster 3; without entries there is none
+-- The L1 table follows the block, in cluster 3. Without entries its offset is 0.
 abbrev pub l1_offset_for : ℕ → ℕ
 l1_offset_for entries = if entries == 0 then 0 else 1536
 
--- a count of 1 for each of the first clusters: header, refcount table and block, and the L1 table where there is one
+-- A refcount of 1 for each of the first clusters: the header, the refcount table, the block, and the L1 table, if any.
 abbrev pub first_counts : ℕ → List ℕ
 first_counts entries = if entries == 0 then 0 ∷ 1 ∷ 0 ∷ 1 ∷ 0 ∷ 1 ∷ 0 ∷ 0 ∷ [] else 0 ∷ 1 ∷ 0 ∷ 1 ∷ 0 ∷ 1 ∷ 0 ∷ 1 ∷ []
 
--- What is not 0 in a new image of size 0 with so many entries in its L1 table: the magic number, version 3, clusters of 2 ^ 9 bytes,
--- the L1 table's length and place, the refcount table's place (512) and clusters (1), counters of 2 ^ 4 bits, a header of 104 bytes
--- and its extensions; in cluster 1 the refcount table, whose first word names the block at 1024; in cluster 2 that block.
+-- The bytes other than 0 in a new image of size 0 whose L1 table has `entries` entries. First comes the header: the magic number, version
+-- 3, clusters of 2 ^ 9 bytes, and the L1 table's length and offset. Then it has the refcount table's offset (512) and clusters (1),
+-- refcounts of 2 ^ 4 bits, a header length of 104 bytes, and the extensions. Cluster 1 is the refcount table, whose first entry references
+-- the block at 1024. Cluster 2 is that block.
 abbrev pub blank_pieces : ℕ → List Piece
 blank_pieces entries =
     (0, to_be_bytes w32 0x5146_49fb)
@@ -67,19 +68,19 @@ blank_pieces entries =
     ∷ (1024, first_counts entries)
     ∷ []
 
--- its bytes
+-- The bytes of a new image of size 0.
 unfoldable pub blank : ℕ → Bytes
 blank entries = with_pieces nothing_in (blank_pieces entries)
 
--- a new image of this size, which stands at place 24
+-- The bytes of a new image of this size. The size is at offset 24.
 unfoldable pub created : ℕ → Bytes
 created size = splice (blank (l1_entries_of size)) 24 (to_be_bytes w64 size)
 
--- its length in bytes: three clusters, and one for the L1 table where there is one
+-- The length of a new image in bytes: three clusters, and one for the L1 table, if any.
 abbrev pub created_length : ℕ → ℕ
 created_length size = if size == 0 then 1536 else 2048
 
--- the fields and the header of a new image of size 0 with so many entries, and of one of this size
+-- The header fields of a new image of size 0 whose L1 table has `entries` entries.
 abbrev pub blank_fields : ℕ → Fields
 blank_fields entries = record {
   version = 3;
@@ -101,7 +102,7 @@ blank_fields entries = record {
   header_length = 104;
 }
 
--- its header, with the names of three features
+-- The header of a new image of size 0 whose L1 table has `entries` entries, with the names of three features.
 abbrev pub blank_header : ℕ → Header
 blank_header entries = record {
   fields = blank_fields entries;
@@ -115,18 +116,18 @@ blank_header entries = record {
       ∷ [];
 }
 
--- the header of a new image of this size
+-- The header of a new image of this size.
 abbrev pub new_header : ℕ → Header
 new_header size = with_size (blank_header (l1_entries_of size)) size
 
--- The storage was cut to nothing, and holds a new image: padded by zeroes to whole units of its requests.
+-- The storage was truncated and holds a new image, padded with zeroes to whole units of its requests.
 pub record Creates (size : ℕ) (old new : StorageState) : Type 0 where
   pub shape : new.shape ≡ old.shape
   pub faults : new.faults ≡ old.faults
   pub length : length new.bytes ≡ round_up (unit_of old.shape) (created_length size)
   pub file : IsTrue old.shape.keeps → file new ≡ created size
 
--- why an image isn't made: its size, or the storage
+-- The fault is a reason why an image isn't made: its size, or the storage.
 abbrev pub NotCreated : ℕ → Fault → Type 0
 NotCreated size (Limit n) = (n ≡ size) × (65536 < size)
 NotCreated size Unsupported = Unit {0}

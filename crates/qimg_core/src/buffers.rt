@@ -1,7 +1,7 @@
-//! Buffers.
+//! Helpers for byte buffers.
 ghost use Rattle.std.specs.Prelude.{◌≡◌, ℕ, slice_index};
 
-/// Fills the buffer with zeroes.
+/// Fills `buf` with zeroes.
 pub fn blank(buf: &mut [u8])
     ensures { (i : ℕ) → slice_index buf.new i ≡ 0 }
 {

@@ -1,7 +1,5 @@
-//! The checker: whether an image is consistent, and what it leaks, from the bytes of its file.
-//!
-//! Where qemu and imago say that an entry of a table references a cluster, a word of it names the cluster here. What counts a
-//! cluster is its refcount, which stands in a block: a refcount block, imago's `RefBlock`.
+//! The checker. It reads the bytes of a qcow2 file, reports the first finding, or lists the leaked clusters of a consistent image. It uses
+//! no cache and no driver.
 ghost use Rattle.std.specs.Prelude.{◌≡◌, length, true, false, Ok, OnOk, IfOk, IfErr, IsTrue};
 ghost use Rattle.imago_storage.specs.Calls.{UnchangedButFaults};
 ghost use Rattle.qcow2_types.specs.Header.{Limited, Shaped, header_of, has_external_data};
@@ -28,9 +26,9 @@ mod tables;
 use counts::compare;
 use names::{Tallies, no_references, sort_references};
 use search::{Question, least_such};
-use tables::{Places, name_contents, places_of, reference_structure};
+use tables::{Places, places_of, reference_contents, reference_structure};
 
-/// What is wrong with an image, or why it wasn't checked. It is displayed as `error N`.
+/// A finding about an image, or the reason why the image couldn't be checked. It is displayed as `error N`.
 #[derive(Clone, Copy, Debug, PartialEq, Eq, Error)]
 pub enum CheckFault {
     /// The header doesn't load for writing.
@@ -42,22 +40,22 @@ pub enum CheckFault {
     /// The data is in an external file.
     #[error("error 24")]
     External,
-    /// A word of a table has no meaning.
+    /// A table has an invalid entry.
     #[error("error 5")]
     Table,
-    /// This cluster of the header, a table or a block is named more than once.
+    /// This cluster of the header, a table or a refcount block is referenced more than once.
     #[error("error 25")]
     SharedTable(u64),
-    /// This cluster is named as copied, and named more than once.
+    /// This cluster has the COPIED flag in an L2 entry, and is referenced more than once.
     #[error("error 26")]
     FalseCopied(u64),
-    /// This cluster is counted less often than it is named.
+    /// The refcount of this cluster is less than the number of its references.
     #[error("error 27")]
     UnderCounted(u64),
-    /// Want of memory.
+    /// Memory ran out.
     #[error("error 20")]
     Memory,
-    /// The storage failed, and has counted it.
+    /// The storage failed, and has counted the fault.
     #[error("error 21")]
     Storage,
 }
@@ -78,7 +76,7 @@ impl<T: Drop> From<AllocFailed<T>> for CheckFault {
     }
 }
 
-/// The finding where something isn't loaded: this one, but for want of memory and a fault of the storage.
+/// Returns the fault of a failed load: `Memory` and `Storage` stay what they are, and any other fault becomes `other`.
 fn load_fault(fault: Fault, other: CheckFault) -> CheckFault
     ensures { result ≡ fault_of_load other fault }
 {
@@ -89,7 +87,7 @@ fn load_fault(fault: Fault, other: CheckFault) -> CheckFault
     }
 }
 
-/// The header of an image whose tables can be checked.
+/// Loads the header and checks that the image's tables can be checked: it has no snapshots and no external data file.
 fn readable_header<S: Storage>(alloc: Global, image: &mut S) -> Result<Header, CheckFault>
     ensures loads { IfOk result (λ header. header_of true (file (S.state image.old)) ≡ Ok header) }
     ensures snapshots { IfOk result (λ header. header.fields.snapshots ≡ 0) }
@@ -111,7 +109,7 @@ fn readable_header<S: Storage>(alloc: Global, image: &mut S) -> Result<Header, C
     Ok(header)
 }
 
-/// How many blocks there are up to the last one, where a place of 0 is none.
+/// Returns the number of `blocks` up to the last one that exists. An offset of 0 means that there is no block.
 fn blocks_end(blocks: &[u64]) -> usize
     ensures { IsBlocksEnd blocks.now result }
 {
@@ -125,8 +123,8 @@ fn blocks_end(blocks: &[u64]) -> usize
     0
 }
 
-/// How many cells to count in: one for each cluster of a file of so many bytes, as far as so many blocks count them. A sound image
-/// names few others.
+/// Returns how many cells to allocate: one for each cluster of a file of `size` bytes, but only for clusters that the first `blocks`
+/// refcount blocks cover. A consistent image references few other clusters.
 fn cell_count(header: &Header, size: u64, blocks: usize) -> usize
     ensures { result ≡ counted_clusters header.now.fields size blocks }
 {
@@ -135,7 +133,7 @@ fn cell_count(header: &Header, size: u64, blocks: usize) -> usize
     clusters.min(counted) as usize
 }
 
-/// How often each cluster is named, and the places of the blocks.
+/// Counts the references to each cluster, and also returns the offsets of the refcount blocks.
 fn names_of<S: Storage>(
     alloc: Global,
     image: &mut S,
@@ -159,19 +157,19 @@ fn names_of<S: Storage>(
     let mut names = no_references(alloc, count)?;
     reference_structure(&mut names, header, &places)?;
     let Places { tables, blocks } = places;
-    name_contents(alloc, image, header, tables, &mut names)?;
+    reference_contents(alloc, image, header, tables, &mut names)?;
     sort_references(&mut names);
     Ok((names, blocks))
 }
 
-/// The first finding among clusters that are named more than once, if there is one.
+/// Returns the first finding among clusters that are referenced more than once, if any.
 fn check_shared(names: &Tallies) -> Result<(), CheckFault>
     requires { AreRising names.now.others }
     ensures shared { OnOk result (Nowhere (is_such question.Shared names.now)) }
     ensures copied { OnOk result (Nowhere (is_such question.FalselyCopied names.now)) }
     ensures err { IfErr result (SharesFirst names.now) }
 {
-    // One look at each cluster is enough where nothing is wrong.
+    // If nothing is wrong, one pass over the clusters is enough.
     if least_such(names, Question::Either).is_none() {
         return Ok(());
     }
@@ -184,19 +182,27 @@ fn check_shared(names: &Tallies) -> Result<(), CheckFault>
     Ok(())
 }
 
-/// Checks the image in a storage.
+/// Checks the qcow2 image in `image`, and returns its leaks.
 ///
-/// The image is consistent where its header loads for writing, it has no snapshots and no external data file, each word of its
-/// tables has a meaning, each cluster of the header, a table or a block and each that an L2 word names as copied is named
-/// once, and each cluster is counted at least as often as it is named. The answer is its leaks then: the clusters that are
-/// counted more often than they are named, by rising cluster, each with the difference. A cluster is told by its number, which
-/// is its place in the file divided by the size of a cluster.
+/// The image is consistent if all of these hold:
 ///
-/// Else the first finding is answered, in the order of `CheckFault`, with the least such cluster. `CheckFault::Memory` and
-/// `CheckFault::Storage` come whenever memory is wanting or the storage fails. Nothing is written, so the file stays as it was.
-/// The rules are those of the format's sections "Header", "Host cluster management" and "Cluster mapping".
+/// - The header loads for writing. The image has no snapshots and no external data file.
+/// - Each entry of the L1 table, the L2 tables and the refcount table is valid.
+/// - Each cluster of the header, a table or a refcount block is referenced once.
+/// - Each cluster to which an L2 entry with the COPIED flag points is referenced once.
+/// - The refcount of each cluster is at least the number of its references.
 ///
-/// What lies past the file's end is 0, and isn't read.
+/// A leak is a cluster whose refcount is greater than the number of its references. The result lists the leaks by rising cluster number,
+/// each with its excess refcount. A cluster number is the offset in the file divided by the cluster size.
+///
+/// Bytes past the end of the file count as 0, and aren't read. The file isn't changed. The rules are those of the format's sections
+/// "Header", "Host cluster management" and "Cluster mapping".
+///
+/// # Errors
+///
+/// - The first finding, in the order of `CheckFault`, with the lowest such cluster.
+/// - `CheckFault::Memory` if memory runs out.
+/// - `CheckFault::Storage` if the storage fails.
 pub fn check<S: Storage>(alloc: Global, image: &mut S) -> Result<Vec<(u64, u64)>, CheckFault>
     ensures ok { IfOk result (λ found. IsVerdict (file (S.state image.old)) (Ok found.items)) }
     ensures err { IfErr result (Found (S.state image.old) (S.state image.new) (IsFinding (file (S.state image.old)))) }
@@ -204,7 +210,7 @@ pub fn check<S: Storage>(alloc: Global, image: &mut S) -> Result<Vec<(u64, u64)>
     ensures faults { OnOk result ((S.state image.new).faults ≡ (S.state image.old).faults) }
 {
     let mut header = readable_header(alloc, image)?;
-    // All that is listed stands beside the header.
+    // The lists below are in memory at the same time as the header, so the feature names are dropped first.
     header.forget_feature_names();
     let places = places_of(alloc, image, &header)?;
     let (names, blocks) = names_of(alloc, image, &header, places)?;

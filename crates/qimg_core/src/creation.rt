@@ -1,4 +1,4 @@
-//! The making of qcow2 images in memory, of at most 65,536 bytes.
+//! Makes small qcow2 images, of at most 65,536 bytes.
 ghost use Rattle.std.specs.Prelude.{◌≡◌, ℕ, ◌+◌, ◌<◌, ◌≤◌, ◌^◌, [], length, IfOk, IfErr, IsErrOf, OnOk, IsTrue};
 ghost use Rattle.imago_storage.specs.State.{unit_of};
 ghost use Rattle.imago_storage.specs.Calls.{Spliced};
@@ -12,10 +12,10 @@ ghost use Rattle.qimg_core.specs.Created.{Creates, NotCreated, new_header, nothi
 use imago_storage::{Fault, PreallocateMode, Storage, StorageExt, larger_alignment};
 use std::alloc::Global;
 
-/// The greatest size of a disk, in bytes.
+/// The largest size of a disk, in bytes.
 const MAX_SIZE: u64 = 65536;
 
-/// What stands behind the fields of a new header: the names of three features, and the end of the extensions.
+/// The bytes after the fields of a new header: the names of three features, and the end of the extensions.
 const EXTENSIONS: [u8; 160] = [
     // type and length
     104, 3, 248, 87, 0, 0, 0, 144,
@@ -32,7 +32,7 @@ const EXTENSIONS: [u8; 160] = [
     0, 0, 0, 0, 0, 0, 0, 0,
 ];
 
-/// Writes bytes over those that stand in a buffer.
+/// Overwrites bytes of a buffer, from index `at` on.
 fn put_in(buffer: &mut [u8], at: usize, bytes: &[u8])
     requires { at + length bytes.now ≤ length buffer.old }
     ensures spliced { Spliced buffer.old at bytes.now buffer.new }
@@ -42,7 +42,7 @@ fn put_in(buffer: &mut [u8], at: usize, bytes: &[u8])
     buffer[at..at + bytes.len()].copy_from_slice(bytes);
 }
 
-/// Writes a new image of size 0, with so many entries in its L1 table.
+/// Writes a new image of size 0 whose L1 table has `entries` entries.
 fn put_blank(buffer: &mut [u8], entries: u32)
     requires length { length buffer.old ≡ 2048 }
     requires zeroes { bytes_of buffer.old ≡ nothing_in }
@@ -65,7 +65,7 @@ fn put_blank(buffer: &mut [u8], entries: u32)
     put_in(buffer, 1024, &[0, 1, 0, 1, 0, 1, 0, last_count]);
 }
 
-/// Makes the image's file: cuts it to nothing, and writes a new image of at most 65,536 bytes.
+/// Truncates the storage to 0 bytes, and writes a new image with a disk of `size` bytes.
 fn write_new<S: Storage>(image: &mut S, alloc: Global, size: u64) -> Result<(), Fault>
     requires unit { unit_of (S.state image.old).shape ≤ 2 ^ 20 }
     requires small { size ≤ 65536 }
@@ -80,13 +80,21 @@ fn write_new<S: Storage>(image: &mut S, alloc: Global, size: u64) -> Result<(), 
     image.write(alloc, &buffer[..length], 0)
 }
 
-/// Makes a new image of this size, in bytes, in the storage, whose old bytes are cut.
+/// Makes a new image with a disk of `size` bytes in the storage. The old bytes of the storage are removed.
 ///
-/// It has version 3, clusters of 512 bytes and counters (refcounts) of 16 bits, counts just its own clusters, and shows zeroes. Its header
-/// names no backing file. So in memory it is a chain by itself, also for writing: `qimg_chain::laws::a_consistent_image_may_be_written`. It
-/// refuses with `Fault::Limit(size)` where the size is above 65,536, before it asks anything of the storage; with
-/// `Fault::Unsupported` where the storage can't be cut; and with `Fault::Memory` and `Fault::Storage`. A refusal drops the
-/// storage.
+/// The image has version 3, clusters of 512 bytes and refcounts of 16 bits. Only its own clusters have a refcount, and the disk reads as
+/// zeroes. Its header has no backing file. So an image in memory can be opened without other files, also for writing:
+/// `qimg_chain::laws::a_consistent_image_may_be_written`.
+///
+/// # Errors
+///
+/// - `Fault::Limit(size)` if `size` is above 65,536. The storage hasn't been accessed then.
+/// - `Fault::Unsupported` if the storage can't be truncated.
+/// - `Fault::Memory`, `Fault::Storage`.
+///
+/// # On error
+///
+/// The storage is dropped.
 pub fn create<S: Storage>(alloc: Global, mut image: S, size: u64) -> Result<S, Fault>
     ensures ok { IfOk result (λ made. Creates size (S.state image) (S.state made)) }
     ensures consistent { IfOk result (λ made. IsTrue (S.state image).shape.keeps → IsConsistent (file (S.state made)) (new_header size)) }
@@ -98,7 +106,7 @@ pub fn create<S: Storage>(alloc: Global, mut image: S, size: u64) -> Result<S, F
     if size > MAX_SIZE {
         return Err(Fault::Limit(size));
     }
-    // Asked for what it tells: a unit is small, so no place of the new image passes 2^64.
+    // This call is needed for its contract: the alignment is small, so no offset of the new image passes 2^64.
     let _unit = larger_alignment(image.req_align(), image.mem_align());
     write_new(&mut image, alloc, size)?;
     Ok(image)

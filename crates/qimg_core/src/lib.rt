@@ -1,4 +1,5 @@
-//! Tools over disk images: a checker, a plain reader, and the making of small images.
+//! Tools for disk images: a checker for qcow2 images, a reader without driver and cache (the plain reader), and a function that makes small
+//! images. Terms are explained in docs/GLOSSARY.md.
 #![tactic(auto)]
 
 mod buffers;

@@ -1,5 +1,5 @@
-//! A plain reader of images: it reads their bytes anew at each call, and keeps nothing. The file below an image is its backing
-//! file, a word of a table its entry, and a place of the disk a guest offset.
+//! The plain reader. It reads a range of the disk from the bytes of an image file, without a driver. It loads the tables at each call, and
+//! keeps nothing in memory between calls.
 ghost use Rattle.std.specs.Prelude.{◌≡◌, ◌<◌, length, Ok, false, IsTrue, IsFalse, OnOk, IfOk, IfErr, IsErrOf};
 ghost use Rattle.std.specs.Result.{result_err};
 ghost use Rattle.imago_storage.specs.Calls.{UnchangedButFaults};
@@ -18,18 +18,18 @@ use pieces::read_tables;
 use qcow2_metadata::{Header, L1Table, Table};
 use std::alloc::Global;
 
-/// A file of a chain.
+/// A file of a chain (an image and its backing chain).
 #[derive(Drop)]
 pub struct ChainFile<S> {
-    /// What it is read as.
+    /// The format of the file.
     pub format: Format,
-    /// The file.
+    /// The storage of the file.
     pub image: S,
-    /// The files that it names for its data, with their names.
+    /// The other files that have data of the image (VMDK extents), each with the name by which the image asks for it.
     pub extras: Vec<(String, S)>,
 }
 
-/// Checks that an image's data is in it and that it names no file below.
+/// Checks that an image has neither an external data file nor a backing file.
 fn check_alone(header: &Header) -> Result<(), Fault>
     ensures { alone_fault header.now ≡ result_err result }
 {
@@ -42,7 +42,7 @@ fn check_alone(header: &Header) -> Result<(), Fault>
     Ok(())
 }
 
-/// Loads the words of the L1 table that begin before the file's end, of an image whose header loads.
+/// Loads the L1 entries that begin before the end of the file. The header has been loaded.
 fn load_l1<S: Storage>(image: &mut S, alloc: Global, header: &Header) -> Result<L1Table, Fault>
     requires { header_of false (file (S.state image.old)) ≡ Ok header.now }
     ensures raw_entries { IfOk result (λ table. NamesTables (file (S.state image.old)) header.now.fields table.raw_entries) }
@@ -52,12 +52,12 @@ fn load_l1<S: Storage>(image: &mut S, alloc: Global, header: &Header) -> Result<
     ensures faults { OnOk result ((S.state image.new).faults ≡ (S.state image.old).faults) }
 {
     let offset = header.l1_table_offset();
-    let raw_entries = entries_before(image.size(), offset.0, header.l1_table_entries());
+    let count = entries_before(image.size(), offset.0, header.l1_table_entries());
     let cluster = offset.cluster(header.cluster_bits());
-    L1Table::load(alloc, image, header, cluster, raw_entries)
+    L1Table::load(alloc, image, header, cluster, count)
 }
 
-/// Reads a range of an image whose header has loaded, with the L1 table that it has, where the range's end fits 64 bits.
+/// Reads a range of an image whose header and L1 table are loaded. The end of the range fits 64 bits.
 fn read_disk<S: Storage>(
     image: &mut S,
     alloc: Global,
@@ -84,7 +84,7 @@ fn read_disk<S: Storage>(
     read_tables(image, alloc, header, l1, &mut buf[..inside], offset)
 }
 
-/// Reads a range of a qcow2 image with its data inside and no file below.
+/// Reads a range of a qcow2 image without an external data file and without a backing file.
 fn read_image<S: Storage>(
     image: &mut S,
     alloc: Global,
@@ -105,18 +105,31 @@ fn read_image<S: Storage>(
     read_disk(image, alloc, &header, &l1, offset, buf)
 }
 
-/// Fills the buffer with the bytes that a chain of files shows from an offset, in bytes, on; past its size with zeroes. The top
-/// comes first. So far one qcow2 file is read, with its data inside and no file below. It reads the files' bytes as they are
-/// now, by the sections "Header" and "Cluster mapping" of the format.
+/// Reads `buf.len()` bytes of a chain of files at `offset` (in bytes). Bytes past the size of the disk are 0.
 ///
-/// It is refused with the first of these: `Fault::MissingBelow` for no files; `Fault::Unsupported` for several, or one of another
-/// format; what `qcow2_metadata::Header::load` refuses for reading; `Fault::DamagedTable` for a damaged L1 table;
-/// `Fault::Unsupported` for an external data file; `Fault::MissingBelow` for a named backing file; `Fault::RangeOverflow` where the
-/// range's end passes `u64`; and where a place of the range below the size can't be read, what the first such place asks for:
-/// `Fault::DamagedTable` where its table is damaged, `Fault::Barred` where it is compressed. `Fault::Memory` and
-/// `Fault::Storage` come whenever they are met. A refusal leaves the buffer open; the files stay as they were.
+/// The top file comes first. Currently the only readable chain is one qcow2 file without an external data file and without a backing file.
+/// The bytes of the file are read as they are now, by the sections "Header" and "Cluster mapping" of the format. L1 entries past the end of
+/// the file are 0, and aren't read.
 ///
-/// Words of the L1 table past a file's end are 0, and aren't read.
+/// # Errors
+///
+/// The call fails with the first of these that applies:
+///
+/// - `Fault::MissingBelow` if `files` is empty.
+/// - `Fault::Unsupported` if `files` has more than one file, or its file isn't qcow2.
+/// - The error of `qcow2_metadata::Header::load` for reading.
+/// - `Fault::DamagedTable` if the L1 table has an invalid entry.
+/// - `Fault::Unsupported` if the image has an external data file.
+/// - `Fault::MissingBelow` if the image has a backing file.
+/// - `Fault::RangeOverflow` if the end of the range doesn't fit `u64`.
+/// - The error of the first byte, in the range and below the size of the disk, that can't be read: `Fault::DamagedTable` if its L2 table is
+///   damaged, `Fault::Barred` if it is compressed.
+///
+/// After the first two checks, `Fault::Memory` and `Fault::Storage` can occur at any point.
+///
+/// # On error
+///
+/// The contents of the buffer are unspecified. The files don't change.
 pub fn plain_read<S: Storage>(
     alloc: Global,
     files: &mut [ChainFile<S>],

@@ -1,4 +1,4 @@
--- What an image names, as the checker counts it.
+-- The references of a whole image, as the checker sums them.
 use Rattle.std.proofs.Common.{◌≡◌, ℕ, ◌+◌, refl, arith, ap, sym, ◌∙◌, List}
 use Rattle.std.specs.Prelude.{if◌then◌else◌, slice_index}
 use Rattle.std.specs.List.{sum_by}
@@ -17,23 +17,22 @@ use Rattle.qimg_core.proofs.Tables.Tests.{not-same}
 use Rattle.qimg_core.proofs.Contents.TableList.{sum-tables, sum-list}
 
 module _ (f : Bytes) (H : Header) (tables blocks : List ℕ) (holds : HoldsPlaces f H.fields tables blocks) where
-  -- by the list of tables, the sum over all L2 tables
+  -- The sum over the list of L2 tables is the sum over all L2 tables.
   contents-listed : (of : Mapping → ℕ) → sum_over (of_table f H.fields of) tables ≡ contents f H.fields of
   unfolding contents tables_of
   contents-listed of = ap (sum_by (of_table f H.fields of)) holds.in_order ∙ sum-tables f H.fields (of_table f H.fields of) (of_table_or_none f H.fields of) refl (λ t there. ap (λ b. if b then 0 else of_table f H.fields of t) (not-same t 0 there)) H.fields.l1_entries
 
-  -- the sum over the clusters of the L2 tables
+  -- The sum over the clusters of the listed L2 tables is the sum over the L1 entries.
   tables-listed : (w : Weight) → sum_over (of_cluster H.fields w) tables ≡ sum_below H.fields.l1_entries (λ i. of_cluster H.fields w (l2_table f H.fields i))
   unfolding tables_of
   tables-listed w = ap (sum_by (of_cluster H.fields w)) holds.in_order ∙ sum-tables f H.fields (of_cluster H.fields w) (of_cluster H.fields w) refl (λ t there. refl) H.fields.l1_entries
 
-  -- and of the blocks
+  -- The sum over the listed refcount blocks is the sum over the refcount table entries.
   blocks-listed : (w : Weight) → sum_over (of_cluster H.fields w) blocks ≡ sum_below (refcount_table_entries H.fields) (λ i. of_cluster H.fields w (block_at f H.fields i))
   blocks-listed w =
       sym (sum-list (of_cluster H.fields w) refl blocks (refcount_table_entries H.fields) holds.are_blocks.count_bounded)
       ∙ sum-same (refcount_table_entries H.fields) (λ i. of_cluster H.fields w (slice_index blocks i)) (λ i. of_cluster H.fields w (block_at f H.fields i)) (λ i lt. ap (of_cluster H.fields w) (holds.are_blocks.each i))
 
-  -- so the structure
   structure-listed : (w : Weight) → structure_over H.fields tables blocks w ≡ structure f H.fields w
   unfolding structure structure_over
   structure-listed w =
@@ -42,7 +41,7 @@ module _ (f : Bytes) (H : Header) (tables blocks : List ℕ) (holds : HoldsPlace
       omega arith
 
   module _ (start between given : Tallies) (none : TellsNothing start) (adds-structure : AddsStructure H.fields start between tables blocks) (adds-contents : AddsTables f H.fields between given tables) where
-    -- What is entered then is what the image names.
+    -- The references added to the tallies are those of the image.
     told-structure : (c : ℕ) → referenced_by structure_part c given ≡ structure f H.fields (meets H.fields c)
     told-structure c =
         let a : referenced_by structure_part c start ≡ 0 = ap structure_part (none c) in

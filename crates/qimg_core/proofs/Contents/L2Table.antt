@@ -1,4 +1,4 @@
--- What an L2 table names, by its words as they are loaded.
+-- The references of an L2 table, from its loaded entries.
 use Rattle.std.proofs.Common.{◌≡◌, ℕ, zero, suc, ◌+◌, ◌*◌, ◌/◌, ◌^◌, ◌≤◌, refl, arith, ap, sym, ◌∙◌, List, length}
 use Rattle.std.specs.Prelude.{true, not, IsTrue}
 use Rattle.std.proofs.Math.Nat.{pow-le-pow_right}
@@ -28,7 +28,7 @@ use Rattle.qimg_core.proofs.Tables.FewerWords.{past-word}
 use Rattle.qimg_core.proofs.Tables.L2Words.{l2-unsound}
 use Rattle.qcow2_types.proofs.Changes.WriteBack.{place-whole}
 
--- the sum over the first n words
+-- The sum over the first `n` entries.
 words-summed : (f : Bytes) (h : Fields) (of : Mapping → ℕ) (place n : ℕ) → entries_over h of (raw_entries_in f place n) ≡ sum_below n (λ i. of (l2_mapping f h place i))
 unfolding entries_over
 words-summed f h of place zero = sym (sum-none (λ i. of (l2_mapping f h place i)))
@@ -46,12 +46,12 @@ words-summed f h of place (suc n) =
     turned : (a b : ℕ) → a + b ≡ b + a
     turned a b = omega arith
 
--- and over all of them
+-- The sum over all entries.
 table-summed : (f : Bytes) (h : Fields) (of : Mapping → ℕ) (place : ℕ) (raw_entries : List ℕ) → raw_entries ≡ raw_entries_in f place (entries_of_cluster h) → entries_over h of raw_entries ≡ of_table f h of place
 unfolding of_table
 table-summed f h of place raw_entries is = ap (entries_over h of) is ∙ words-summed f h of place (entries_of_cluster h)
 
--- So the words that are entered are the table's.
+-- Adding the loaded entries adds what the table references.
 pub adds-table : (f : Bytes) (h : Fields) (times : ℕ) (old new : Tallies) (place : ℕ) (raw_entries : List ℕ) → raw_entries ≡ raw_entries_in f place (entries_of_cluster h)
     → AddsRawEntries h times old new raw_entries → AddsTable f h times old new place
 adds-table f h times old new place raw_entries is adds = record {
@@ -62,13 +62,13 @@ adds-table f h times old new place raw_entries is adds = record {
   spares = adds.spares;
 }
 
--- past the file's end
+-- A table past the end of the file.
 module _ (bytes : List ℕ) (h : Fields) (place : ℕ) (past : length bytes ≤ place) where
-  -- each word leaves its guest cluster unmapped,
+  -- Each entry leaves its guest cluster unmapped.
   past-mapping : (i : ℕ) → l2_mapping (bytes_of bytes) h place i ≡ unmapped
   past-mapping i = ap (mapping_of (layout_of h)) (past-word bytes place i (omega (arith, past))) ∙ zero-word (layout_of h)
 
-  -- so a table names nothing,
+  -- The table references nothing.
   past-table : (of : Mapping → ℕ) → of unmapped ≡ 0 → of_table (bytes_of bytes) h of place ≡ 0
   unfolding of_table
   past-table of none = sum-zero (entries_of_cluster h) (λ i. of (l2_mapping (bytes_of bytes) h place i)) (λ i lt. ap of (past-mapping i) ∙ none)
@@ -85,21 +85,19 @@ module _ (bytes : List ℕ) (h : Fields) (place : ℕ) (past : length bytes ≤ 
       nothing : (n x : ℕ) → x ≡ 0 → n ≡ n + times * x
       nothing n x e = rw e (grind arith)
 
-  -- and is sound
+  -- The table is valid.
   pub past-sound : l2_table_sound (bytes_of bytes) h place ≡ true
   unfolding l2_table_sound
   past-sound = all-below-holds (entries_of_cluster h) (λ i. not (is_damaged (l2_mapping (bytes_of bytes) h place i))) (λ i lt. ap (λ m. not (is_damaged m)) (past-mapping i))
 
 module _ (f : Bytes) (h : Fields) (place cluster : ℕ) (is : IsTrue (is_cluster_offset h.cluster_bits place)) (begins : cluster ≡ place / 2 ^ h.cluster_bits) where
-  -- it begins with a cluster
   pub l2-begin : cluster * cluster_size h ≡ place
   l2-begin = ap (λ k. k * 2 ^ h.cluster_bits) begins ∙ place-whole h.cluster_bits place is
 
-  -- its words as they are loaded
   pub l2-words : (raw_entries : List ℕ) → raw_entries ≡ raw_entries_in f (cluster * cluster_size h) (entries_of_cluster h) → raw_entries ≡ raw_entries_in f place (entries_of_cluster h)
   l2-words raw_entries loaded = loaded ∙ ap (λ p. raw_entries_in f p (entries_of_cluster h)) l2-begin
 
--- So the table isn't loaded, and that is the finding.
+-- If the L2 table isn't loaded because it is damaged, that is the finding.
 pub l2-finding : (old new : StorageState) (h : Fields) (place cluster : ℕ) → IsTrue (is_cluster_offset h.cluster_bits place) → cluster ≡ place / 2 ^ h.cluster_bits → h.cluster_bits ≤ 21 → (fault : Fault)
     → WhyNotLoaded l2_table_kind (layout_of h) (raw_entries_in (file old) (cluster * cluster_size h) (entries_of_cluster h)) old.faults new.faults fault → Found old new (IsDamagedTable (file old) h place) (fault_of_load Table fault)
 l2-finding old new h place cluster is begins high Memory why = why

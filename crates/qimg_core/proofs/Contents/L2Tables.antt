@@ -1,4 +1,4 @@
--- What the L2 tables at a list of places name, place by place; places that are the same and follow each other are entered as one.
+-- The references of a sorted list of L2 tables. Equal offsets that follow each other are added in one step.
 use Rattle.std.proofs.Common.{◌≡◌, ℕ, ◌+◌, ◌*◌, ◌<◌, ◌≤◌, refl, arith, ap, sym, subst, ◌∙◌, List, length, take, inl, inr, ◌⊎◌}
 use Rattle.std.specs.Prelude.{slice_index, IsTrue, IsFalse, All, Any}
 use Rattle.std.specs.List.{sum_by, Contains}
@@ -25,7 +25,8 @@ use Rattle.qimg_core.specs.CheckParts.{AreTables, sum_over}
 use Rattle.qimg_core.proofs.Contents.Places.{places-step}
 use Rattle.qimg_core.specs.Entering.{AddsTable, AddsTables}
 
--- What the tables at the first i places name is entered, but for the last of them, so many, which are all at the place that follows.
+-- The references of the first `i` tables are added, except for the last `times` of them. Those are all at the same offset as the table that
+-- follows.
 pub record NamedTo (old now : StorageState) (h : Fields) (before names : Tallies) (places : List ℕ) (times i : ℕ) : Type 0 where
   pub kept : UnchangedButFaults old now
   pub faults : now.faults ≡ old.faults
@@ -39,11 +40,10 @@ pub record NamedTo (old now : StorageState) (h : Fields) (before names : Tallies
   pub sound : (k : ℕ) → k < i → IsTrue (l2_table_sound (file old) h (slice_index places k)) ⊎ ((0 < times) × (slice_index places k ≡ slice_index places i))
 
 module _ (old now : StorageState) (h : Fields) (before names : Tallies) (places : List ℕ) (times i : ℕ) (so_far : NamedTo old now h before names places times i) where
-  -- the file is the same
   pub same-file : file now ≡ file old
   same-file = ap bytes_of so_far.kept.bytes
 
-  -- The next place is the same: it is entered later.
+  -- The next offset is the same, so this table is added later.
   pub named-later : i + 1 < length places → slice_index places (i + 1) ≡ slice_index places i → NamedTo old now h before names places (times + 1) (i + 1)
   named-later inside same = record {
     kept = so_far.kept;
@@ -70,7 +70,7 @@ module _ (old now : StorageState) (h : Fields) (before names : Tallies) (places 
       one-more : (of : ℕ → ℕ) (a b : ℕ) → a + times * of (slice_index places i) ≡ b + sum_over of (take i places) → a + (times + 1) * of (slice_index places (i + 1)) ≡ b + sum_over of (take (i + 1) places)
       one-more of a b sum = ap (λ p. a + (times + 1) * of p) same ∙ step a b _ _ (of (slice_index places i)) times (places-step of places i (omega arith)) sum
 
-  -- It is entered with those that wait.
+  -- The next offset is another one, so the pending tables are added with this one.
   pub named-now : (new : StorageState) (names' : Tallies) → i < length places → UnchangedButFaults now new → new.faults ≡ now.faults → AddsTable (file now) h (times + 1) names names' (slice_index places i) → IsTrue (l2_table_sound (file now) h (slice_index places i))
       → NamedTo old new h before names' places 0 (i + 1)
   named-now new names' inside kept faults adds sound = record {
@@ -113,7 +113,7 @@ module _ (old now : StorageState) (h : Fields) (before names : Tallies) (places 
       all-now : (of : ℕ → ℕ) (a b d : ℕ) → d ≡ a + (times + 1) * of (slice_index places i) → a + times * of (slice_index places i) ≡ b + sum_over of (take i places) → d + 0 * of (slice_index places (i + 1)) ≡ b + sum_over of (take (i + 1) places)
       all-now of a b d p q = step a b d _ _ (of (slice_index places i)) (of (slice_index places (i + 1))) times (places-step of places i inside) p q
 
-  -- At the end all is entered, whatever the order of the places.
+  -- At the end all tables are added, in any order of the list.
   module _ (all : i ≡ length places) (given : List ℕ) (permuted : IsPermutation given places) where
     pub named-all : AddsTables (file old) h before names given
     named-all = record {
@@ -137,7 +137,7 @@ module _ (old now : StorageState) (h : Fields) (before names : Tallies) (places 
           | inr waits ↦ absurd (omega (arith, waits.0, so_far.last all))
         ]))
 
-  -- a table that isn't entered
+  -- If a table isn't added because it is damaged, one of the list is damaged.
   pub one-damaged : (new : StorageState) (given : List ℕ) → IsPermutation given places → i < length places → (fault : CheckFault) → Found now new (IsDamagedTable (file now) h (slice_index places i)) fault → Found old new (IsOneDamaged (file old) h given) fault
   one-damaged new given permuted inside Table found = (damaged, found.1 ∙ so_far.faults)
     where
@@ -153,6 +153,5 @@ module _ (old now : StorageState) (h : Fields) (before names : Tallies) (places 
       rose = record { not_fallen = omega (arith, found.not_fallen, so_far.faults); rose = λ few. let more = found.rose few in omega (arith, more, so_far.faults) }
   one-damaged new given permuted inside fault found = absurd found.0
 
--- each place is one of a cluster, in any order
 pub placed-at : (bits : ℕ) (given places : List ℕ) (i : ℕ) → IsPermutation given places → i < length places → AreTables bits given → IsTrue (is_cluster_offset bits (slice_index places i))
 placed-at bits given places i permuted inside are = All-get_or (λ place. IsTrue (is_cluster_offset bits place)) places i 0 inside (All-permutation (λ place. IsTrue (is_cluster_offset bits place)) given places permuted are)

@@ -1,4 +1,4 @@
--- The clusters at a list of places, place by place.
+-- Adding the clusters at a list of offsets, one offset after another.
 use Rattle.std.proofs.Common.{◌≡◌, ◌≢◌, ℕ, ◌+◌, ◌*◌, ◌<◌, refl, arith, ap, ◌∙◌, List, length, take, subst}
 use Rattle.std.specs.Prelude.{slice_index}
 use Rattle.std.specs.List.{sum_by}
@@ -12,14 +12,14 @@ use Rattle.qimg_core.specs.declared.check.names.Times.{Times}
 use Rattle.qimg_core.specs.Entering.{AddsRange, AddsPlaces, AddsStart, AddsStructure}
 use Rattle.qimg_core.specs.CheckParts.{sum_over, structure_over}
 
--- once, as a part of the structure
+-- One reference by the structure.
 abbrev once : Times
 once = record { structure = 1; mapped = 0; copied = 0 }
 
 pub places-step : (of : ℕ → ℕ) (places : List ℕ) (i : ℕ) → i < length places → sum_over of (take (i + 1) places) ≡ sum_over of (take i places) + of (slice_index places i)
 places-step of places i lt = ap (sum_by of) (take_more places i 0 lt) ∙ sum_by_push of (take i places) (slice_index places i)
 
--- one more place, where 0 is none
+-- The next offset is 0, so nothing is added.
 pub adds-no-place : (h : Fields) (old now : Tallies) (places : List ℕ) (i : ℕ) → i < length places → slice_index places i ≡ 0 → AddsPlaces h old now (take i places) → AddsPlaces h old now (take (i + 1) places)
 adds-no-place h old now places i lt none adds = record {
   structure = λ c. nothing c _ _ (adds.structure c) (places-step (of_cluster h (meets h c)) places i lt);
@@ -61,7 +61,6 @@ adds-no-places h xs places = record { structure = λ c. omega arith; mapped = λ
 pub adds-all-places : (h : Fields) (old new : Tallies) (places : List ℕ) (i : ℕ) → i ≡ length places → AddsPlaces h old new (take i places) → AddsPlaces h old new places
 adds-all-places h old new places i all adds = subst (AddsPlaces h old new) (take_all i places (omega arith)) adds
 
--- The first cluster and the two tables, one after the other, are the start.
 pub adds_start : (h : Fields) (old one two new : Tallies) (size l1 l1_size table table_size : ℕ) → size ≡ cluster_size h → l1 ≡ h.l1_offset → l1_size ≡ h.l1_entries * 8 → table ≡ h.refcount_table_offset → table_size ≡ h.refcount_table_clusters * cluster_size h
     → AddsRange h old one 0 size once → AddsRange h one two l1 l1_size once → AddsRange h two new table table_size once → AddsStart h old new
 adds_start h old one two new size l1 l1_size table table_size is is-2 is-3 is-4 is-5 a b d = record {
@@ -78,7 +77,6 @@ adds_start h old one two new size l1 l1_size table table_size is is-2 is-3 is-4 
     none : (k l m n x y z : ℕ) → l ≡ k + 0 * x → m ≡ l + 0 * y → n ≡ m + 0 * z → n ≡ k + 0
     none k l m n x y z p q r = omega (arith, p, q, r)
 
--- The start, the blocks and the tables, one after the other, are the structure.
 pub adds_structure : (h : Fields) (old start with_blocks new : Tallies) (tables blocks : List ℕ)
     → AddsStart h old start
     → AddsPlaces h start with_blocks blocks

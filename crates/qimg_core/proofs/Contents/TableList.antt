@@ -1,4 +1,4 @@
--- The L2 tables as a list: which there are, and sums over them.
+-- The list of the L2 tables, and sums over it.
 use Rattle.std.proofs.Common.{◌≡◌, ◌≢◌, ℕ, zero, suc, ◌+◌, ◌*◌, ◌^◌, ◌<◌, ◌≤◌, refl, arith, ap, sym, subst, ◌∙◌, List, [], ◌∷◌, length, take, inl, inr}
 use Rattle.std.specs.Prelude.{Bool, true, false, ◌&&◌, ◌||◌, ◌==◌, nat_lt, slice_index, IsTrue, IsFalse, All, Any}
 use Rattle.std.specs.List.{sum_by, Contains}
@@ -30,11 +30,10 @@ use Rattle.qimg_core.proofs.Tables.TablePlaces.{tables_to, tables-more, tables-s
 use Rattle.qimg_core.proofs.Tables.Tests.{tests-miss, not-same}
 
 module _ (f : Bytes) (h : Fields) where
-  -- no word, no table
   pub tables-none : tables_to f h 0 ≡ []
   tables-none = refl
 
-  -- each table that a word names is in the list,
+  -- Each table that an L1 entry references is in the list.
   pub table-listed : (n i : ℕ) → i < n → l2_table f h i ≢ 0 → Contains (tables_to f h n) (l2_table f h i)
   table-listed zero i lt there = absurd (omega arith)
   table-listed (suc n) i lt there = subst (λ m. Contains (tables_to f h m) (l2_table f h i)) (let next : n + 1 ≡ suc n = omega arith in next) (elim (cases_lt i n) [
@@ -47,7 +46,7 @@ module _ (f : Bytes) (h : Fields) where
         subst (λ k. Contains (tables_to f h (n + 1)) (l2_table f h k)) (sym last) (subst (λ l. Contains l (l2_table f h n)) (sym (tables-more f h n (l2_table f h n) refl (λ none. there (ap (l2_table f h) last ∙ none)))) (Contains-push (tables_to f h n) (l2_table f h n)))
   ])
 
-  -- and what is in the list is named by a word.
+  -- Each table in the list is referenced by an L1 entry.
   abbrev NamedBelow : ℕ → ℕ → Type 0
   NamedBelow n t = (i : ℕ) × (i < n) × (l2_table f h i ≡ t) × (t ≢ 0)
 
@@ -72,14 +71,14 @@ module _ (f : Bytes) (h : Fields) where
       let next : suc n ≡ n + 1 = omega arith in
       subst (λ m. NamedBelow m t) (sym next) (listed-step n t (listed-named n t) (subst (λ m. Contains (tables_to f h m) t) next found))
 
-  -- what holds of each table that a word names, holds of all in the list
+  -- If a property holds for each table that an L1 entry references, it holds for the whole list.
   pub all-listed : (P : ℕ → Type 0) → ((i : ℕ) → i < h.l1_entries → l2_table f h i ≢ 0 → P (l2_table f h i)) → All P (tables_of f h)
   unfolding tables_of
   all-listed P holds = All-weaker (Contains (tables_of f h)) P (λ t found.
       let at = listed-named h.l1_entries t found in
       subst P at.2 (holds at.0 at.1 (λ none. at.3 (sym at.2 ∙ none)))) (tables_of f h) (All-contains_itself (tables_of f h))
 
-  -- a sum over the words, where a word that names none gives nothing
+  -- The sum over the list is the sum over the L1 entries, as empty entries add 0.
   pub sum-tables : (of each : ℕ → ℕ) → each 0 ≡ 0 → ((t : ℕ) → t ≢ 0 → each t ≡ of t) → (n : ℕ) → sum_over of (tables_to f h n) ≡ sum_below n (λ i. each (l2_table f h i))
   sum-tables of each none there zero = ap (sum_by of) tables-none ∙ sym (sum-none (λ i. each (l2_table f h i)))
   sum-tables of each none there (suc n) = subst (λ m. sum_over of (tables_to f h m) ≡ sum_below m (λ i. each (l2_table f h i))) (let next : n + 1 ≡ suc n = omega arith in next) (elim (cases_eq (l2_table f h n) 0) [
@@ -97,7 +96,7 @@ module _ (f : Bytes) (h : Fields) where
         omega arith
   ])
 
-  -- Each table stands at a place where the L1 table is sound.
+  -- If the L1 table is valid, each L2 table is at the offset of a cluster.
   pub table-placed : IsTrue (l1_table_sound f h) → (i : ℕ) → i < h.l1_entries → IsTrue (is_cluster_offset h.cluster_bits (l2_table f h i))
   unfolding l1_table_sound
   table-placed sound i lt =
@@ -108,7 +107,7 @@ module _ (f : Bytes) (h : Fields) where
   pub tables-placed : IsTrue (l1_table_sound f h) → AreTables h.cluster_bits (tables_of f h)
   tables-placed sound = all-listed (λ place. IsTrue (is_cluster_offset h.cluster_bits place)) (λ i lt there. table-placed sound i lt)
 
-  -- The image's tables are sound where those of the list are,
+  -- If the listed tables are valid, all tables of the image are.
   pub sound-by-list : IsTrue (l1_table_sound f h) → IsTrue (refcount_table_sound f h) → All (λ place. IsTrue (l2_table_sound f h place)) (tables_of f h) → IsTrue (tables_sound f h)
   unfolding tables_sound tables_of
   sound-by-list l1 blocks tables = all-three (all-below-holds h.l1_entries (λ i. (l2_table f h i == 0) || l2_table_sound f h (l2_table f h i)) (λ i lt. elim (cases_eq (l2_table f h i) 0) [
@@ -121,7 +120,7 @@ module _ (f : Bytes) (h : Fields) where
       all-three : {last : Bool} → last ≡ true → (l1_table_sound f h && refcount_table_sound f h && last) ≡ true
       all-three {last} e = rw (l1, blocks, e) refl
 
-  -- and aren't where one of the list isn't.
+  -- If a listed table is damaged, the image has a damaged table.
   pub damaged-by-list : Any (λ place. IsFalse (l2_table_sound f h place)) (tables_of f h) → IsFalse (tables_sound f h)
   unfolding tables_sound tables_of
   damaged-by-list found =
@@ -136,7 +135,7 @@ module _ (f : Bytes) (h : Fields) where
       last-false true false e = refl
       last-false false b e = refl
 
--- A sum over indices, of which those past the end of a list give nothing, is one over the list.
+-- A sum over indices is a sum over the list, as indices past its end add 0.
 sum-first : (each : ℕ → ℕ) → each 0 ≡ 0 → (xs : List ℕ) (n : ℕ) → sum_below n (λ i. each (slice_index xs i)) ≡ sum_by each (take n xs)
 sum-first each none xs zero = sum-none (λ i. each (slice_index xs i))
 sum-first each none xs (suc n) = subst (λ m. sum_below m (λ i. each (slice_index xs i)) ≡ sum_by each (take m xs)) (let next : n + 1 ≡ suc n = omega arith in next) (
@@ -155,14 +154,13 @@ sum-first each none xs (suc n) = subst (λ m. sum_below m (λ i. each (slice_ind
 pub sum-list : (each : ℕ → ℕ) → each 0 ≡ 0 → (xs : List ℕ) (n : ℕ) → length xs ≤ n → sum_below n (λ i. each (slice_index xs i)) ≡ sum_by each xs
 sum-list each none xs n all = sum-first each none xs n ∙ ap (sum_by each) (take_all n xs all)
 
--- the places of clusters are small
 pub places-bounded : (xs ys : List ℕ) (bits : ℕ) → xs ≡ ys → AreTables bits ys → (i : ℕ) → slice_index xs i ≤ max_offset
 places-bounded xs ys bits same placed i = elim (cases_lt i (length xs)) [
   | inl lt ↦ place-near bits (slice_index xs i) (subst (AreTables bits) (sym same) placed i 0 lt)
   | inr ge ↦ let past : slice_index xs i ≡ 0 = past_end xs i ge in omega arith
 ]
 
--- the bytes of the refcount table
+-- The length of the refcount table in bytes.
 pub table-bytes : (h : Fields) → Shaped h → h.refcount_table_clusters * cluster_size h ≡ refcount_table_entries h * 8
 table-bytes h shaped =
     let size : 2 ^ 9 ≤ 2 ^ h.cluster_bits = pow-le-pow_right (omega arith) shaped.low in
@@ -170,7 +168,7 @@ table-bytes h shaped =
     let a : h.refcount_table_clusters * (entries_of_cluster h * 8) ≡ h.refcount_table_clusters * cluster_size h = ap (λ x. h.refcount_table_clusters * x) raw_entries in
     omega arith
 
--- So that is the finding.
+-- If a listed table is damaged, that is the finding.
 pub damaged-finding : (old new : StorageState) (h : Fields) (tables : List ℕ) → tables ≡ tables_of (file old) h → (fault : CheckFault) → Found old new (IsOneDamaged (file old) h tables) fault → Found old new (IsUnsound (file old) h) fault
 damaged-finding old new h tables is Table found = (damaged-by-list (file old) h (subst (Any (λ place. IsFalse (l2_table_sound (file old) h place))) is found.0), found.1)
 damaged-finding old new h tables is Memory found = found

@@ -1,4 +1,4 @@
--- What the words of an L2 table name, word by word.
+-- The references of an L2 table, entry by entry.
 use Rattle.std.proofs.Common.{◌≡◌, ℕ, ◌+◌, ◌*◌, ◌<◌, refl, arith, ap, sym, ◌∙◌, List, length, take, ◌%◌, subst}
 use Rattle.std.specs.Prelude.{slice_index}
 use Rattle.std.specs.List.{sum_by}
@@ -14,12 +14,10 @@ use Rattle.qimg_core.specs.Entering.{AddsMapping, AddsRawEntries}
 use Rattle.qimg_core.specs.Names.{referenced_by, mapped_part, copied_part}
 use Rattle.qimg_core.specs.CheckParts.{entries_over}
 
--- no words
 words-none : (h : Fields) (of : Mapping → ℕ) (raw_entries : List ℕ) → entries_over h of (take 0 raw_entries) ≡ 0
 unfolding entries_over
 words-none h of raw_entries = refl
 
--- one more word
 words-step : (h : Fields) (of : Mapping → ℕ) (raw_entries : List ℕ) (i : ℕ) → i < length raw_entries → entries_over h of (take (i + 1) raw_entries) ≡ entries_over h of (take i raw_entries) + of (mapping_of (layout_of h) (slice_index raw_entries i))
 unfolding entries_over
 words-step h of raw_entries i lt =
@@ -54,11 +52,10 @@ adds-word h times old now new raw_entries i m lt is before here = record {
     more : (of : Mapping → ℕ) (a b d : ℕ) → b ≡ a + times * entries_over h of (take i raw_entries) → d ≡ b + times * of m → d ≡ a + times * entries_over h of (take (i + 1) raw_entries)
     more of a b d p q = step a b d (of m) (entries_over h of (take i raw_entries)) (entries_over h of (take (i + 1) raw_entries)) q p (words-step h of raw_entries i lt ∙ ap (λ n. entries_over h of (take i raw_entries) + of n) (sym is))
 
--- what a table's word means, by the header
+-- The mapping of an entry, by the layout in the header.
 pub word-meant : (h : Fields) (layout : Layout) (raw_entries : List ℕ) (i : ℕ) (m : Mapping) → layout ≡ layout_of h → i < entries_of_cluster h → m ≡ mapping_of layout (slice_index raw_entries (i % l2_entries layout.cluster_bits)) → m ≡ mapping_of (layout_of h) (slice_index raw_entries i)
 word-meant h layout raw_entries i m same lt is =
     is ∙ ap (λ (l : Layout). mapping_of l (slice_index raw_entries (i % l2_entries l.cluster_bits))) same ∙ ap (λ k. mapping_of (layout_of h) (slice_index raw_entries k)) (mod-eq_of_lt lt)
 
--- all words
 pub adds-all-words : (h : Fields) (times : ℕ) (old new : Tallies) (raw_entries : List ℕ) (i : ℕ) → i ≡ length raw_entries → AddsRawEntries h times old new (take i raw_entries) → AddsRawEntries h times old new raw_entries
 adds-all-words h times old new raw_entries i all adds = subst (AddsRawEntries h times old new) (take_all i raw_entries (omega arith)) adds

@@ -1,4 +1,4 @@
--- Counters compared with names, cluster by cluster.
+-- Refcounts compared with the references, cluster by cluster.
 use Rattle.std.proofs.Common.{◌≡◌, ℕ, suc, ◌+◌, ◌-◌, ◌*◌, ◌/◌, ◌<◌, ◌≤◌, refl, true, false, arith, ap, sym, subst, ◌∙◌, List, [], ◌∷◌, ◌++◌, length, inl, inr}
 use Rattle.std.specs.Prelude.{nat_lt, if◌then◌else◌, slice_index, IsFalse, Option, Some, None}
 use Rattle.std.proofs.lemmas.Bool.{cases_lt, lt-ltb, le-ltb, ltb-true, ltb-false}
@@ -28,7 +28,6 @@ use Rattle.qimg_core.proofs.Calls.{kept-file}
 use Rattle.qimg_core.proofs.Counts.Verdicts.{named-refs, named-same}
 
 module _ (f : Bytes) (h : Fields) where
-  -- nothing is compared yet
   compared-none : AreCompared f h [] 0
   unfolding leaks_below
   compared-none = record { enough = λ d lt. absurd (omega arith); are_leaks = refl }
@@ -36,7 +35,6 @@ module _ (f : Bytes) (h : Fields) where
   pub compared-start : (found : List (ℕ × ℕ)) → found ≡ [] → AreCompared f h found (0 * counters_of_block h)
   compared-start found is = subst (λ l. AreCompared f h l (0 * counters_of_block h)) (sym is) (subst (AreCompared f h []) (let none : 0 ≡ 0 * counters_of_block h = omega arith in none) compared-none)
 
-  -- whether a cluster is counted often enough
   is-under : (c : ℕ) → count f h c < refs f h c → is_under_counted f h c ≡ true
   unfolding is_under_counted
   is-under c lt = lt-ltb _ _ lt
@@ -45,11 +43,10 @@ module _ (f : Bytes) (h : Fields) where
   unfolding is_under_counted
   not-under c le = le-ltb _ _ le
 
-  -- the first that isn't
+  -- The first cluster whose refcount is too low is the lowest such cluster.
   pub first-under : (found : List (ℕ × ℕ)) (c : ℕ) → AreCompared f h found c → count f h c < refs f h c → IsLeast (is_under_counted f h) c
   first-under found c so_far lt = (is-under c lt, so_far.enough)
 
-  -- one more that is
   enough-next : (c : ℕ) → ((d : ℕ) → d < c → IsFalse (is_under_counted f h d)) → refs f h c ≤ count f h c → (d : ℕ) → d < c + 1 → IsFalse (is_under_counted f h d)
   enough-next c before le d lt = elim (cases_lt d c) [
     | inl less ↦ before d less
@@ -61,7 +58,7 @@ module _ (f : Bytes) (h : Fields) where
   leaks-more c = let next : c + 1 ≡ suc c = omega arith in ap (leaks_below f h) next
 
   module _ (found : List (ℕ × ℕ)) (c value references : ℕ) (so_far : AreCompared f h found c) (counted : count f h c ≡ value) (named : references ≡ refs f h c) where
-    -- and is leaked,
+    -- The next cluster is leaked.
     pub compared-leak : (new : List (ℕ × ℕ)) → references < value → new ≡ found ++ (c, value - references) ∷ [] → AreCompared f h new (c + 1)
     compared-leak new less pushed = record {
       enough = enough-next c so_far.enough (omega arith);
@@ -74,7 +71,7 @@ module _ (f : Bytes) (h : Fields) where
             ap (λ r. if nat_lt r (count f h c) then (c, count f h c - r) ∷ [] else []) (sym named)
             ∙ (ap (λ n. if nat_lt references n then (c, n - references) ∷ [] else []) counted ∙ ap (λ b. if b then (c, value - references) ∷ [] else []) test)
 
-    -- or isn't.
+    -- The next cluster isn't leaked.
     pub compared-equal : references ≡ value → AreCompared f h found (c + 1)
     compared-equal same = record {
       enough = enough-next c so_far.enough (omega arith);
@@ -86,16 +83,16 @@ module _ (f : Bytes) (h : Fields) where
             let test : nat_lt (refs f h c) (count f h c) ≡ false = le-ltb (refs f h c) (count f h c) (omega arith) in
             ap (λ b. if b then (c, count f h c - refs f h c) ∷ [] else []) test
 
-  -- Clusters from this one on that aren't counted, up to a bound.
+  -- The clusters from `low` on, up to a bound, have no refcounts.
   module _ (names : Tallies) (told : Tells f h names) (found : List (ℕ × ℕ)) (low : ℕ) (high : Option ℕ) (so_far : AreCompared f h found low) where
-    -- this one isn't named
+    -- A cluster without references has a refcount that is high enough.
     not_referenced : (d : ℕ) → (low ≤ d → is_such AtAll names d ≡ false) → IsFalse (is_under_counted f h d)
     not_referenced d test = elim (cases_lt d low) [
       | inl less ↦ so_far.enough d less
       | inr ge ↦ let zero : refs f h d ≤ 0 = ltb-false 0 (refs f h d) (sym (named-same f h names told d) ∙ test ge) in not-under d (omega arith)
     ]
 
-    -- one of them is
+    -- One of the clusters is referenced, so its refcount is too low.
     pub first-uncounted : (c : ℕ) → count f h c ≡ 0 → IsFirstWithin (is_such AtAll names) low high c → IsLeast (is_under_counted f h) c
     first-uncounted c none first = (
       is-under c (let some : 0 < refs f h c = ltb-true 0 (refs f h c) (sym (named-same f h names told c) ∙ first.is) in omega arith),
@@ -103,7 +100,7 @@ module _ (f : Bytes) (h : Fields) where
     )
 
   module _ (names : Tallies) (told : Tells f h names) (found : List (ℕ × ℕ)) where
-    -- Those that a block would count, if there were one.
+    -- The clusters of a missing block.
     module _ (index low high : ℕ) (low-is : low ≡ index * counters_of_block h) (high-is : high ≡ (index + 1) * counters_of_block h) (holds : HoldsCounters f h index None) (before : AreCompared f h found (index * counters_of_block h)) where
       so_far : AreCompared f h found low
       so_far = subst (AreCompared f h found) (sym low-is) before
@@ -124,7 +121,7 @@ module _ (f : Bytes) (h : Fields) where
             so_far.are_leaks ∙ (sym (leaks-skip f h low (counters_of_block h) (λ c ge lt. uncounted c ge (omega arith))) ∙ ap (leaks_below f h) next);
       })
 
-    -- Those past the last block.
+    -- The clusters past the last block.
     module _ (blocks : List ℕ) (i low : ℕ) (are : IsBlocks f h blocks) (some : 0 < counters_of_block h) (all : i ≡ length blocks) (low-is : low ≡ i * counters_of_block h) (before : AreCompared f h found (i * counters_of_block h)) where
       rest-so_far : AreCompared f h found low
       rest-so_far = subst (AreCompared f h found) (sym low-is) before
@@ -149,7 +146,7 @@ module _ (f : Bytes) (h : Fields) where
           to-end : (m : ℕ) → i + m ≡ refcount_table_entries h → low + m * counters_of_block h ≡ refcount_table_entries h * counters_of_block h
           to-end m is = omega (arith, low-is, ap (λ n. n * counters_of_block h) is)
 
--- One counter of a block.
+-- One refcount of a block.
 module _ (f : Bytes) (h : Fields) (names : Tallies) (told : Tells f h names) (found : List (ℕ × ℕ)) (index place cluster value : ℕ) (n : Times) (block : Block) (is : cluster ≡ index * counters_of_block h + place) (holds : HoldsCounters f h index (Some block))
     (inside : place < counters_of_block h) (got : value ≡ slice_index block.counters place) (at : n ≡ times_at names cluster) (so_far : AreCompared f h found (index * counters_of_block h + place)) where
   counter-is : count f h (index * counters_of_block h + place) ≡ value
@@ -170,14 +167,14 @@ module _ (f : Bytes) (h : Fields) (names : Tallies) (told : Tells f h names) (fo
   pub counter-equal : n.structure + n.mapped ≤ value → value ≤ n.structure + n.mapped → AreCompared f h found (index * counters_of_block h + (place + 1))
   counter-equal le ge = subst (AreCompared f h found) next (compared-equal f h found (index * counters_of_block h + place) value (n.structure + n.mapped) so_far counter-is refs-are (omega arith))
 
--- A finding after a state that is the same.
+-- A finding also holds for an earlier state with the same bytes.
 pub under-since : (old now new : StorageState) (h : Fields) → UnchangedButFaults old now → now.faults ≡ old.faults → (fault : CheckFault) → Found now new (IsUnder (file now) h) fault → Found old new (IsUnder (file old) h) fault
 under-since old now new h kept same (fault.UnderCounted c) found = (subst (λ f. IsLeast (is_under_counted f h) c) (kept-file old now kept) found.0, found.1 ∙ same)
 under-since old now new h kept same fault.Memory found = found ∙ same
 under-since old now new h kept same fault.Storage found = subst (λ n. HasRisen n new.faults) same found
 under-since old now new h kept same fault found = absurd found.0
 
--- A named cluster that isn't counted is the finding.
+-- A referenced cluster without a refcount is the finding.
 pub uncounted-finding : (old new : StorageState) (h : Fields) (names : Tallies) (low : ℕ) (high : Option ℕ) → new.faults ≡ old.faults → ((c : ℕ) → IsFirstWithin (is_such AtAll names) low high c → IsLeast (is_under_counted (file old) h) c)
     → (fault : CheckFault) → NamesFirst names low high fault → Found old new (IsUnder (file old) h) fault
 uncounted-finding old new h names low high same least (fault.UnderCounted c) first = (least c first, same)

@@ -1,4 +1,4 @@
--- From what is counted to the verdict on the file.
+-- From the tallies to the verdict on the file.
 use Rattle.std.proofs.Common.{◌≡◌, ℕ, ◌+◌, arith, ap, sym, subst, ◌∙◌, List, Ok}
 use Rattle.std.specs.Prelude.{Bool, true, false, ◌&&◌, not, ◌==◌, nat_lt, IsTrue}
 use Rattle.imago_storage.specs.State.{StorageState, HasRisen}
@@ -18,7 +18,7 @@ use Rattle.qimg_core.specs.CheckParts.{Tells}
 use Rattle.qimg_core.specs.Check.{IsUnsound, SharesFirst, IsUnder, Found, IsFinding}
 use Rattle.qimg_core.proofs.Calls.{kept-both, kept-file}
 
--- What is asked of the names is what is asked of the file.
+-- The tests on the tallies are the tests on the file.
 module _ (f : Bytes) (h : Fields) (names : Tallies) (told : Tells f h names) where
   pub named-refs : (c : ℕ) → (times_at names c).structure + (times_at names c).mapped ≡ refs f h c
   unfolding refs
@@ -39,25 +39,23 @@ module _ (f : Bytes) (h : Fields) (names : Tallies) (told : Tells f h names) whe
   unfolding is_such
   named-same c = ap (nat_lt 0) (named-refs c)
 
--- tests that are the same pass at the same clusters
 nowhere-same : (p q : ℕ → Bool) → ((c : ℕ) → p c ≡ q c) → Nowhere p → Nowhere q
 nowhere-same p q same none c = sym (same c) ∙ none c
 
 least-same : (p q : ℕ → Bool) → ((c : ℕ) → p c ≡ q c) → (c : ℕ) → IsLeast p c → IsLeast q c
 least-same p q same c least = (sym (same c) ∙ least.0, λ d lt. sym (same d) ∙ least.1 d lt)
 
--- faults counted since a state with the same count
 rose-since : (old now new : StorageState) → now.faults ≡ old.faults → HasRisen now.faults new.faults → HasRisen old.faults new.faults
 rose-since old now new same rose = subst (λ n. HasRisen n new.faults) same rose
 
--- The header loads, and the image is one that can be checked.
+-- The header loads, and the image has no snapshots and no external data file.
 pub record CanCheck (f : Bytes) (H : Header) : Type 0 where
   pub loads : header_of true f ≡ Ok H
   pub no_snapshots : H.fields.snapshots ≡ 0
   pub data_inside : has_external_data H.fields ≡ false
 
 module _ (old : StorageState) (H : Header) (can : CanCheck (file old) H) where
-  -- a table is damaged
+  -- A table is damaged.
   pub table-verdict : (now new : StorageState) → UnchangedButFaults old now → now.faults ≡ old.faults → (fault : CheckFault) → Found now new (IsUnsound (file now) H.fields) fault → Found old new (IsFinding (file old)) fault
   table-verdict now new kept same fault.Table found = ((H, can.loads, (can.no_snapshots, can.data_inside, ap (λ f. tables_sound f H.fields) (sym (kept-file old now kept)) ∙ found.0)), found.1 ∙ same)
   table-verdict now new kept same fault.Memory found = found ∙ same
@@ -65,7 +63,7 @@ module _ (old : StorageState) (H : Header) (can : CanCheck (file old) H) where
   table-verdict now new kept same fault found = absurd found.0
 
   module _ (names : Tallies) (sound : IsTrue (tables_sound (file old) H.fields)) (told : Tells (file old) H.fields names) where
-    -- a cluster is named more than once
+    -- A cluster is referenced more than once.
     pub shared-verdict : (now : StorageState) → now.faults ≡ old.faults → (fault : CheckFault) → SharesFirst names fault → Found old now (IsFinding (file old)) fault
     shared-verdict now same (fault.SharedTable c) found = ((H, can.loads, (can.no_snapshots, can.data_inside, sound, least-same (is_such Shared names) (shares_structure (file old) H.fields) (shared-same (file old) H.fields names told) c found)), same)
     shared-verdict now same (fault.FalseCopied c) found =
@@ -73,7 +71,7 @@ module _ (old : StorageState) (H : Header) (can : CanCheck (file old) H) where
     shared-verdict now same fault found = absurd found
 
     module _ (apart : Nowhere (is_such Shared names)) (true_copies : Nowhere (is_such FalselyCopied names)) where
-      -- a cluster is counted too little
+      -- The refcount of a cluster is too low.
       pub under-verdict : (now new : StorageState) → UnchangedButFaults old now → now.faults ≡ old.faults → (fault : CheckFault) → Found now new (IsUnder (file now) H.fields) fault → Found old new (IsFinding (file old)) fault
       under-verdict now new kept same (fault.UnderCounted c) found = (
         (
@@ -94,7 +92,7 @@ module _ (old : StorageState) (H : Header) (can : CanCheck (file old) H) where
       under-verdict now new kept same fault.Storage found = rose-since old now new same found
       under-verdict now new kept same fault found = absurd found.0
 
-      -- nothing is wrong
+      -- No finding.
       pub sound-verdict : (now : StorageState) → UnchangedButFaults old now → Nowhere (is_under_counted (file now) H.fields) → (found : List (ℕ × ℕ)) → found ≡ leaks (file old) H.fields → IsVerdict (file old) (Ok found)
       sound-verdict now kept counted found is = (
         H,
@@ -107,7 +105,7 @@ module _ (old : StorageState) (H : Header) (can : CanCheck (file old) H) where
         is,
       )
 
--- What is counted is what the file names, whose tables are sound, and nothing has changed.
+-- The tallies are the references of the file, its tables are valid, and its bytes haven't changed.
 pub record Named (old now : StorageState) (H : Header) (names : Tallies) : Type 0 where
   pub can : CanCheck (file old) H
   pub kept : UnchangedButFaults old now
@@ -115,7 +113,7 @@ pub record Named (old now : StorageState) (H : Header) (names : Tallies) : Type 
   pub sound : IsTrue (tables_sound (file old) H.fields)
   pub told : Tells (file old) H.fields names
 
--- as it is after the stages that enter the names
+-- `Named` holds after the stages that count references.
 pub named-since : (old first second now : StorageState) (H : Header) (names : Tallies) → CanCheck (file old) H → UnchangedButFaults old first → first.faults ≡ old.faults → UnchangedButFaults first second → second.faults ≡ first.faults → UnchangedButFaults second now → now.faults ≡ second.faults
     → IsTrue (tables_sound (file second) H.fields) → Tells (file second) H.fields names → Named old now H names
 named-since old first second now H names can kept same kept-2 same-2 kept-3 same-3 sound told =

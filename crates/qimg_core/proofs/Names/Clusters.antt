@@ -1,4 +1,4 @@
--- One cluster and one more are entered.
+-- Adding references to clusters, one cluster after another.
 use Rattle.std.proofs.Common.{◌≡◌, ◌≢◌, ℕ, ◌+◌, ◌*◌, ◌<◌, ◌≤◌, refl, arith, ap, sym, subst, ◌∙◌, List, [], length, inl, inr}
 use Rattle.std.specs.Prelude.{slice_index_or, slice_set, replicate}
 use Rattle.std.specs.List.{sum_by}
@@ -14,7 +14,6 @@ use Rattle.qimg_core.specs.declared.check.names.Tallies.{Tallies}
 use Rattle.qimg_core.specs.declared.check.names.Others.{Others}
 use Rattle.qimg_core.specs.Names.{structure_part, mapped_part, copied_part, no_times, no_few_times, cell_at, weight_in, weight_of, other_at, together, times_at, referenced_by, is_between, FitsCell, ListsOnlyOverflow, HasRoom, HasRoomAt, KeepsCells, IsSum, IsFewSum, IsRising, TellsNothing, Total, Adds, AddsClusters, AddsWeight, AddsEntry}
 
--- a range of no clusters
 pub adds-none : (names : Tallies) (low : ℕ) (times : Times) → AddsClusters names names low low times
 adds-none names low times = record {
   structure = λ c. none (referenced_by structure_part c names) times.structure c;
@@ -30,7 +29,6 @@ adds-none names low times = record {
     none : (n x c : ℕ) → n ≡ n + x * is_between low low c
     none n x c = rw (between c) (omega arith)
 
--- one more cluster
 pub adds-more : (old now new : Tallies) (low k : ℕ) (times : Times) → low ≤ k → AddsClusters old now low k times → AddsClusters now new k (k + 1) times → AddsClusters old new low (k + 1) times
 adds-more old now new low k times le before here = record {
   structure = λ c. more times.structure c _ _ _ (before.structure c) (here.structure c);
@@ -52,7 +50,7 @@ times-of s m p = record { structure = s; mapped = m; copied = p }
 pub as-times : {s t m n p q : ℕ} → s ≡ t → m ≡ n → p ≡ q → times-of s m p ≡ times-of t n q
 as-times {s} {t} {m} {n} {p} {q} is is-2 is-3 = ap (λ x. times-of x m p) is ∙ (ap (λ x. times-of t x p) is-2 ∙ ap (times-of t n) is-3)
 
--- One cluster is entered, where no other changes, and the lists go on to name none that a cell can count.
+-- References are added to one cluster. No other cluster changes, and the lists still have no items that would fit a cell.
 module _ (old new : Tallies) (k : ℕ) (times : Times) (sum : IsSum (times_at old k) times (times_at new k)) (apart : (c : ℕ) → c ≢ k → times_at new c ≡ times_at old c) (kept : KeepsCells old new)
     (spared : (c : ℕ) → c < length old.cells.items → FitsCell (times_at new c) → other_at old.others c ≡ no_times → other_at new.others c ≡ no_times) where
   at-one : (part : Times → ℕ) (x : ℕ) → part (times_at new k) ≡ part (times_at old k) + x → (c : ℕ) → part (times_at new c) ≡ part (times_at old c) + x * is_between k (k + 1) c
@@ -77,11 +75,10 @@ module _ (old new : Tallies) (k : ℕ) (times : Times) (sum : IsSum (times_at ol
     spares = λ before c lt fits. let has : c < length old.cells.items = omega (arith, lt, kept) in spared c has fits (before c has (less c fits));
   }
     where
-      -- it was named less often
       less : (c : ℕ) → FitsCell (times_at new c) → FitsCell (times_at old c)
       less c fits = (omega (arith, fits.0, at-one structure_part times.structure sum.structure c), omega (arith, fits.1, at-one mapped_part times.mapped sum.mapped c), omega (arith, fits.2, at-one copied_part times.copied sum.copied c))
 
--- in its cell
+-- The references are added to the cell.
 pub adds-in-cell : (old new : Tallies) (k : ℕ) (times : Times) (cell sum : FewTimes) → k < length old.cells.items → cell ≡ slice_index_or old.cells.items k cell → IsFewSum cell times sum → new.cells.items ≡ slice_set old.cells.items k sum → new.others ≡ old.others
     → AddsClusters old new k (k + 1) times
 unfolding times_at cell_at
@@ -110,7 +107,7 @@ adds-in-cell old new k times cell sum lt is room cells others =
     step : (a b d e s r x : ℕ) → a ≡ s → b ≡ r → d ≡ e → s ≡ r + x → a + d ≡ b + e + x
     step a b d e s r x p q u t = omega (arith, p, q, u, t)
 
--- in the lists, where it has no cell or that no room
+-- The references are added to the lists, as the cluster has no cell or the cell can't hold them.
 pub adds-in-entry : (old new : Tallies) (k : ℕ) (times : Times) → (HasRoomAt old k times → ⊥) → AddsEntry old.others new.others k times → new.cells.items ≡ old.cells.items → AddsClusters old new k (k + 1) times
 unfolding times_at
 adds-in-entry old new k times full adds cells =
@@ -136,7 +133,7 @@ adds-in-entry old new k times full adds cells =
     less : (a b d e x n : ℕ) → a ≡ b → d ≡ e + x → a + d < n → b + x < n
     less a b d e x n p q lt = omega (arith, p, q, lt)
 
-    -- what it is named in all would have had room
+    -- If the sum fits a cell, the cell could have held it.
     roomy : FitsCell (times_at new k) → HasRoom (cell_at old.cells.items k) times
     roomy fits = (
       less _ _ _ _ _ _ (ap (λ (n : FewTimes). n.structure) same) adds.here.structure fits.0,
@@ -144,7 +141,6 @@ adds-in-entry old new k times full adds cells =
       less _ _ _ _ _ _ (ap (λ (n : FewTimes). n.copied) same) adds.here.copied fits.2,
     )
 
--- it is entered in each list
 pub adds-entry : (old new : Others) (k : ℕ) (times : Times) → AddsWeight old.structure.items new.structure.items k times.structure → AddsWeight old.mapped.items new.mapped.items k times.mapped → AddsWeight old.copied.items new.copied.items k times.copied → AddsEntry old new k times
 unfolding other_at
 adds-entry old new k times structure mapped copied = record {
@@ -152,12 +148,11 @@ adds-entry old new k times structure mapped copied = record {
   others = λ d ne. as-times (structure.others d ne) (mapped.others d ne) (copied.others d ne);
 }
 
--- no name stands in the lists
 pub no-others : (others : Others) (c : ℕ) → others.structure.items ≡ [] → others.mapped.items ≡ [] → others.copied.items ≡ [] → other_at others c ≡ no_times
 unfolding other_at
 no-others others c structure mapped copied = as-times (ap (sum_by (weight_in c)) structure) (ap (sum_by (weight_in c)) mapped) (ap (sum_by (weight_in c)) copied)
 
--- no name, with n cells
+-- New tallies with `n` cells have no references.
 pub no-names : (names : Tallies) (n : ℕ) → names.cells.items ≡ replicate n no_few_times → names.others.structure.items ≡ [] → names.others.mapped.items ≡ [] → names.others.copied.items ≡ [] → TellsNothing names
 unfolding times_at cell_at
 no-names names n cells structure mapped copied c =
@@ -170,7 +165,7 @@ no-names names n cells structure mapped copied c =
       | inr ge ↦ get_or_past (replicate n no_few_times) c no_few_times (omega (arith, length-replicate n no_few_times))
     ]
 
--- the lists are put in order
+-- The lists are sorted.
 module _ (old new : Tallies) (cells : new.cells.items ≡ old.cells.items) (structure : IsPermutation old.others.structure.items new.others.structure.items) (mapped : IsPermutation old.others.mapped.items new.others.mapped.items) (copied : IsPermutation old.others.copied.items new.others.copied.items) where
   sorted-others : (c : ℕ) → other_at new.others c ≡ other_at old.others c
   unfolding other_at
@@ -191,13 +186,11 @@ adds-since h old now new s m p same kept spares adds = record { structure = λ c
 pub sorted-rising : (list : List ℕ) → IsSorted nat_cmp list → IsRising list
 sorted-rising list sorted i j d le lt = let up = IsNonDecreasingBy-from_sort (λ n. n) list sorted i j d le lt in omega (arith, up)
 
--- a cell and the lists together
 pub together-is : (names : Tallies) (c : ℕ) (cell : FewTimes) (s m p : ℕ) → cell ≡ cell_at names.cells.items c → s ≡ weight_of names.others.structure.items c → m ≡ weight_of names.others.mapped.items c → p ≡ weight_of names.others.copied.items c
     → times-of (cell.structure + s) (cell.mapped + m) (cell.copied + p) ≡ times_at names c
 unfolding times_at other_at
 together-is names c cell s m p is structure mapped copied = ap (λ x. together x (times-of s m p)) is ∙ ap (together (cell_at names.cells.items c)) (as-times structure mapped copied)
 
--- the cell alone, where the lists say nothing
 pub cell-alone : (names : Tallies) (c : ℕ) (cell : FewTimes) → cell ≡ cell_at names.cells.items c → other_at names.others c ≡ no_times → times-of cell.structure cell.mapped cell.copied ≡ times_at names c
 unfolding times_at
 cell-alone names c cell is none = as-times (omega arith) (omega arith) (omega arith) ∙ (ap (λ x. together x no_times) is ∙ ap (together (cell_at names.cells.items c)) (sym none))

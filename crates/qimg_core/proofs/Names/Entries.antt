@@ -1,4 +1,4 @@
--- Lists of names.
+-- The lists of items: adding items, their sum, and the cut at a cluster.
 use Rattle.std.proofs.Common.{◌≡◌, ◌≢◌, ℕ, ◌+◌, ◌*◌, ◌/◌, ◌%◌, ◌^◌, ◌<◌, ◌≤◌, refl, arith, ap, sym, subst, ◌∙◌, List, [], ◌∷◌, ◌++◌, length, take, drop, inl, inr}
 use Rattle.std.specs.Prelude.{Some, None, slice_index, slice_index_or, if◌then◌else◌}
 use Rattle.std.specs.List.{sum_by}
@@ -11,20 +11,17 @@ use Rattle.std.proofs.lemmas.List.Sums.{sum_by_push, sum_by-le, sum_by-take-drop
 use Rattle.qimg_core.specs.Names.{cluster_of, count_of, weight_in, weight_of, IsRising, AddsWeight}
 use Rattle.qimg_core.specs.Searches.{IsListed, IsCut, IsFrom}
 
--- what a name says of its cluster, and of another
 weight-here : (c name : ℕ) → cluster_of name ≡ c → weight_in c name ≡ count_of name
 weight-here c name is = ap (λ b. if b then count_of name else 0) (eq-eqb (name / 2048) c is)
 
 weight-other : (c name : ℕ) → cluster_of name ≢ c → weight_in c name ≡ 0
 weight-other c name ne = ap (λ b. if b then count_of name else 0) (ne_eqb (name / 2048) c ne)
 
--- names of other clusters
 pub weight-none : (c : ℕ) (list : List ℕ) → ((k : ℕ) → k < length list → cluster_of (slice_index list k) ≢ c) → sum_by (weight_in c) list ≡ 0
 weight-none c list apart =
     let least : sum_by (weight_in c) list ≤ length list * 0 = sum_by-le (weight_in c) 0 list (λ k d lt. subst (λ n. weight_in c n ≤ 0) (get_or_default list k 0 d lt) (let none : weight_in c (slice_index list k) ≡ 0 = weight-other c (slice_index list k) (apart k lt) in omega arith)) in
     omega arith
 
--- Digits are entered, from the lowest on.
 digit-more : (n k : ℕ) → n % 2 ^ (8 * (k + 1)) ≡ n / 2 ^ (8 * k) % 256 * 2 ^ (8 * k) + n % 2 ^ (8 * k)
 digit-more n k = ap (λ e. n % 2 ^ e) (let next : 8 * (k + 1) ≡ 8 + 8 * k = omega arith in next) ∙ mod-pow-add n 8 (8 * k)
 
@@ -48,13 +45,13 @@ adds-push old now new c n k digit is small pushed adds =
     more : (d : ℕ) → sum_by (weight_in d) new ≡ sum_by (weight_in d) now + weight_in d (c * 2048 + k * 256 + digit)
     more d = ap (sum_by (weight_in d)) pushed ∙ sum_by_push (weight_in d) now (c * 2048 + k * 256 + digit)
 
--- The digits below a place are entered, by no more names than these.
+-- The digits below `place` are added, with at most one item for each.
 pub record EntersDigits (old now : List ℕ) (c times place : ℕ) : Type 0 where
   pub adds : AddsWeight old now c (times % 2 ^ (8 * place))
   pub few : length now ≤ length old + place
   pub needed : (n : ℕ) → times < 2 ^ (8 * n) → place ≤ n
 
--- A digit is entered only where the number has more.
+-- A digit is added only if the number has that many digits.
 pub digits-reach : (times k : ℕ) → times / 2 ^ (8 * k) ≢ 0 → (n : ℕ) → times < 2 ^ (8 * n) → k + 1 ≤ n
 digits-reach times k some n lt = elim (cases_lt k n) [
   | inl less ↦ omega (arith, less)
@@ -63,7 +60,7 @@ digits-reach times k some n lt = elim (cases_lt k n) [
       absurd (some (div-eq_of_lt (let short : times < 2 ^ (8 * k) = omega (arith, lt, most) in short)))
 ]
 
--- A sum of names is far from 128 bits.
+-- The sum of a list is far below 2^128.
 pub weight-few : (c : ℕ) (list : List ℕ) → length list < 2 ^ 63 → weight_of list c + 2 ^ 63 ≤ 2 ^ 127
 weight-few c list short = let most : sum_by (weight_in c) list ≤ length list * (255 * 2 ^ 56) = sum_by-le (weight_in c) (255 * 2 ^ 56) list (λ k d lt. small (slice_index_or list k d)) in omega (arith, most, short)
   where
@@ -76,7 +73,7 @@ weight-few c list short = let most : sum_by (weight_in c) list ≤ length list *
       | inr ne ↦ omega (arith, weight-other c name ne)
     ]
 
--- What is summed up to an index, from the first name of a cluster on.
+-- The sum of items up to an index, from the first item of a cluster on.
 module _ (list : List ℕ) (c start : ℕ) (bound : start ≤ length list) (before : (i : ℕ) → i < start → cluster_of (slice_index list i) < c) where
   pub sum-start : 0 ≡ sum_by (weight_in c) (take start list)
   sum-start = sym (weight-none c (take start list) (λ k lt is.
@@ -96,7 +93,7 @@ module _ (list : List ℕ) (c start : ℕ) (bound : start ≤ length list) (befo
       let rest : sum_by (weight_in c) (drop i list) ≡ 0 = weight-none c (drop i list) (λ k lt is. apart (i + k) (omega arith) (omega (arith, lt, length-drop i list)) (ap cluster_of (sym (get_or-drop i list k 0)) ∙ is)) in
       omega (arith, rest, so_far, sum_by-take-drop (weight_in c) list i)
 
--- the cluster of the name behind a cut
+-- The item at the cut gives the next cluster.
 pub cut-next : (list : List ℕ) (c index : ℕ) → index < length list → IsRising list → slice_index list index < 2 ^ 64 → IsCut list c (Some c) index
     → IsCut list c (Some (cluster_of (slice_index list index))) index × IsFrom c (Some (cluster_of (slice_index list index)))
 cut-next list c index some rising small cut = (
@@ -104,10 +101,9 @@ cut-next list c index some rising small cut = (
   (cut.next_not_after index (omega arith) some, omega (arith, small)),
 )
 
--- there is none
+-- The cut is at the end of the list.
 pub cut-end : (list : List ℕ) (c index : ℕ) → length list ≤ index → IsCut list c (Some c) index → IsCut list c None index × IsFrom c None
 cut-end list c index past cut = (record { bound = cut.bound; before = cut.before; next_not_after = λ i le lt. absurd (omega arith) }, tt)
 
--- a name of it stands in the list
 pub cut-named : (list : List ℕ) (index : ℕ) → index < length list → IsListed list (cluster_of (slice_index list index))
 cut-named list index some = (index, slice_index list index, some, get_or_default_zero list index (slice_index list index) some, refl)

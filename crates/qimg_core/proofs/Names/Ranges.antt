@@ -12,7 +12,7 @@ use Rattle.qimg_core.specs.declared.check.names.Times.{Times}
 use Rattle.qimg_core.specs.Names.{referenced_by, structure_part, mapped_part, copied_part, is_between, AddsClusters}
 use Rattle.qimg_core.specs.Entering.{AddsRange, AddsMapping}
 
--- a range meets the clusters from that of its first byte to that of its last, with clusters of s bytes
+-- With clusters of `s` bytes, a range meets the clusters from the one of its first byte to the one of its last byte.
 between : (s c first length : ℕ) → 0 < s → 0 < length
     → (if nat_lt 0 length && nat_lt first ((c + 1) * s) && nat_lt (c * s) (first + length) then 1 else 0) ≡ is_between (first / s) ((first + (length - 1)) / s + 1) c
 between s c first length some long = elim (cases_lt c (first / s)) [
@@ -38,11 +38,11 @@ between s c first length some long = elim (cases_lt c (first / s)) [
       ]
 ]
 
--- the same of an image
+-- Like `between`, for an image.
 pub meets-between : (h : Fields) (c first length : ℕ) → 0 < length → meets h c first length ≡ is_between (first / cluster_size h) ((first + (length - 1)) / cluster_size h + 1) c
 meets-between h c first length long = between (2 ^ h.cluster_bits) c first length (pow_pos h.cluster_bits) long
 
--- so the clusters of a range are what it adds
+-- Adding the clusters of a range adds the range.
 pub adds-range : (h : Fields) (old new : Tallies) (first length low high : ℕ) (times : Times) → 0 < length → low ≡ first / cluster_size h → high ≡ (first + (length - 1)) / cluster_size h
     → AddsClusters old new low (high + 1) times
     → AddsRange h old new first length times
@@ -57,7 +57,7 @@ adds-range h old new first length low high times long at til adds = record {
     same : (c : ℕ) → meets h c first length ≡ is_between low (high + 1) c
     same c = meets-between h c first length long ∙ ap (λ a. is_between a ((first + (length - 1)) / cluster_size h + 1) c) (sym at) ∙ ap (λ b. is_between low (b + 1) c) (sym til)
 
--- so a cluster that a word names, so often, is
+-- Adding a host cluster adds the mapping of its L2 entry.
 pub adds-data : (old new : Tallies) (cluster times marked : ℕ) (copied : Bool) → marked ≡ (if copied then times else 0)
     → AddsClusters old new cluster (cluster + 1) (record { structure = 0; mapped = times; copied = marked }) → (h : Fields) → AddsMapping h times old new (data_at cluster copied)
 adds-data old new cluster times marked copied marks entered h = record {
@@ -87,14 +87,13 @@ adds-data old new cluster times marked copied marks entered h = record {
     by-mark true w = refl
     by-mark false w = omega arith
 
--- a cluster whose offset is below 2 to the 57 is too
 pub named-small : (cluster k : ℕ) → 9 ≤ k → cluster * 2 ^ k < 2 ^ 57 → cluster < 2 ^ 53
 named-small cluster k low lt =
     let least : 2 ^ 9 ≤ 2 ^ k = pow-le-pow_right (omega arith) low in
     let less : cluster * 2 ^ 9 ≤ cluster * 2 ^ k = mul-le-mul_left cluster least in
     omega (arith, less, lt)
 
--- the cluster of an offset below 2 to the 62 leaves room for a digit and its place
+-- A list item has space for the cluster, a digit and its position in 64 bits.
 pub cluster-small : (n k : ℕ) → 9 ≤ k → n < 2 ^ 62 → n / 2 ^ k + 1 ≤ 2 ^ 53
 cluster-small n k low lt =
     let least : 2 ^ 9 ≤ 2 ^ k = pow-le-pow_right (omega arith) low in

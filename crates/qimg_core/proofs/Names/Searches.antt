@@ -1,4 +1,4 @@
--- Searches for the least cluster that passes a test.
+-- Searches for the lowest cluster that passes a test.
 use Rattle.std.proofs.Common.{◌≡◌, ◌≢◌, ◌⊎◌, ℕ, List, suc, ◌+◌, ◌-◌, ◌^◌, ◌<◌, ◌≤◌, refl, true, false, arith, ap, sym, subst, ◌∙◌, length, inl, inr, true≢false}
 use Rattle.std.specs.Prelude.{Bool, IsFalse, ◌&&◌, ◌||◌, not, ◌==◌, nat_lt, Option, Some, None, slice_index, IfSome, IsSomeAnd, MatchOption, max}
 use Rattle.std.specs.Option.{is_some}
@@ -17,7 +17,6 @@ use Rattle.qimg_core.specs.Searches.{passes, is_such, IsBelow, NoneWithin, IsFir
 use Rattle.qimg_core.proofs.Names.Clusters.{as-times}
 use Rattle.qimg_core.proofs.Names.Entries.{weight-none}
 
--- the next cluster of a list isn't before the least of them
 not-before : (next one : Option ℕ) (n : ℕ) → ((c : ℕ) → IsBelow next c → IsBelow one c) → IsSomeAnd one (λ e. e ≤ n) → IsSomeAnd next (λ e. e ≤ n)
 not-before next None n below past = absurd past
 not-before None (Some e) n below past = absurd (omega (arith, below n tt, past))
@@ -26,7 +25,7 @@ not-before (Some d) (Some e) n below past = elim (cases_lt n d) [ inl lt ↦ abs
 cut-least : (list : List ℕ) (c index : ℕ) (next one : Option ℕ) → ((d : ℕ) → IsBelow next d → IsBelow one d) → IsCut list c one index → IsCut list c next index
 cut-least list c index next one below cut = record { bound = cut.bound; before = cut.before; next_not_after = λ i le lt. not-before next one (cluster_of (slice_index list i)) below (cut.next_not_after i le lt) }
 
--- the way on from where the lists are cut
+-- The walk from the cuts of the lists.
 pub along-cuts : (others : Others) (c : ℕ) (way : Way) (structure rest mapped copied : Option ℕ) → ((d : ℕ) → IsBelow way.next d → IsBelow structure d × IsBelow rest d) → (way.next ≡ structure) ⊎ (way.next ≡ rest) → ((d : ℕ) → IsBelow rest d → IsBelow mapped d × IsBelow copied d) → (rest ≡ mapped) ⊎ (rest ≡ copied)
     → IsCut others.structure.items c structure way.structure × IsFrom c structure → IsCut others.mapped.items c mapped way.mapped × IsFrom c mapped → IsCut others.copied.items c copied way.copied × IsFrom c copied
     → IfSome structure (IsListed others.structure.items) → IfSome mapped (IsListed others.mapped.items) → IfSome copied (IsListed others.copied.items) → IsAlong others c way
@@ -42,7 +41,7 @@ along-cuts others c way structure rest mapped copied below is below-rest is-rest
     one-of P a b d (inl same) p q = subst (λ o. IfSome o P) (sym same) p
     one-of P a b d (inr same) p q = subst (λ o. IfSome o P) (sym same) q
 
--- no cluster before the next one stands in a list
+-- A cluster before the next one has no item in a list.
 cut-none : (list : List ℕ) (c d index : ℕ) (next : Option ℕ) → c ≤ d → IsBelow next d → IsCut list c next index → weight_of list d ≡ 0
 cut-none list c d index next le below cut = weight-none d list (λ k lt is. elim (cases_lt k index) [
   | inl less ↦ absurd (omega (arith, cut.before k less, is, le))
@@ -57,7 +56,7 @@ pub along-none : (others : Others) (c d : ℕ) (way : Way) → c ≤ d → IsBel
 unfolding other_at
 along-none others c d way le below along = as-times (cut-none _ c d way.structure way.next le below along.structure) (cut-none _ c d way.mapped way.next le below along.mapped) (cut-none _ c d way.copied way.next le below along.copied)
 
--- The way goes on over clusters before the next one, up to that,
+-- The walk can be moved to a later cluster, up to the next one with an item.
 pub along-later : (others : Others) (c d : ℕ) (way : Way) → c ≤ d → IsFrom d way.next → IsAlong others c way → IsAlong others d way
 along-later others c d way le from along = record { structure = later _ _ along.structure; mapped = later _ _ along.mapped; copied = later _ _ along.copied; from = from; named = along.named }
   where
@@ -69,7 +68,7 @@ along-at others c n way is along =
     let from = subst (IsFrom c) is along.from in
     along-later others c n way from.0 (subst (IsFrom n) (sym is) (omega arith, from.1)) along
 
--- and over one that isn't the next.
+-- The walk moves past a cluster that has no item.
 pub along-other : (others : Others) (c : ℕ) (way : Way) → way.next ≢ Some c → IsAlong others c way → IsBelow way.next c × IsAlong others (c + 1) way
 along-other others c way other along =
     let after = by-next way.next other along.from in
@@ -82,12 +81,12 @@ along-other others c way other along =
         (omega (arith, from.0, apart), (omega (arith, from.0, apart), from.1))
 
 module _ (question : Question) (names : Tallies) where
-  -- the test, by what is told of a cluster
+  -- The test of a cluster, from its counted references.
   pub such-is : (c : ℕ) (n : Times) {answer b : Bool} → n ≡ times_at names c → answer ≡ passes question n → answer ≡ b → is_such question names c ≡ b
   unfolding is_such
   such-is c n told is so = ap (passes question) (sym told) ∙ (sym is ∙ so)
 
-  -- It fails where nothing is named, as behind the cells without an entry.
+  -- The test fails for a cluster without references.
   fails : (q : Question) → passes q no_times ≡ false
   fails Shared = refl
   fails FalselyCopied = refl
@@ -98,7 +97,7 @@ module _ (question : Question) (names : Tallies) where
   unfolding is_such times_at cell_at
   such-none c past none = ap (passes question) (ap (λ x. together x (other_at names.others c)) (get_or_past names.cells.items c no_few_times past) ∙ ap (together no_few_times) none) ∙ fails question
 
-  -- how far a search through the lists has come
+  -- The state of a search through the lists.
   abbrev pub IsAhead : ℕ → Option ℕ → Type 0
   IsAhead low next = NoneWithin (is_such question names) low next × IfSome next (λ c. (low ≤ c) × (c < 2 ^ 53))
 
@@ -121,7 +120,7 @@ module _ (question : Question) (names : Tallies) where
       further None from = tt
       further (Some e) from = (omega (arith, from.0, so_far.1.0), from.1)
 
--- how many clusters there are from the next one on, and the end
+-- A number that gets lower with each step of the search.
 abbrev pub left : Option ℕ → ℕ
 left None = 0
 left (Some c) = suc (2 ^ 53 - c)
@@ -131,15 +130,12 @@ left-less c None from = omega arith
 left-less c (Some e) from = omega (arith, from.0, from.1)
 
 module _ (test : ℕ → Bool) (low : ℕ) where
-  -- nothing was tested
   pub none-at-start : NoneWithin test low (Some low)
   none-at-start = record { none = λ d le lt. absurd (omega arith) }
 
-  -- one more
   pub none-next : (c : ℕ) → NoneWithin test low (Some c) → test c ≡ false → NoneWithin test low (Some (c + 1))
   none-next c so_far here = record { none = λ d le lt. elim (cases_lt d c) [ inl less ↦ so_far.none d le less | inr ge ↦ let is : d ≡ c = omega arith in ap test is ∙ here ] }
 
-  -- and up to a lower bound
   pub none-until : (c : ℕ) (high : Option ℕ) → IsSomeAnd high (λ end. end ≤ c) → NoneWithin test low (Some c) → NoneWithin test low high
   none-until c (Some end) le so_far = record { none = λ d from lt. so_far.none d from (omega arith) }
   none-until c None le so_far = absurd le
@@ -147,11 +143,10 @@ module _ (test : ℕ → Bool) (low : ℕ) where
   pub none-bounded : (high : Option ℕ) → NoneWithin test low None → NoneWithin test low high
   none-bounded high none = record { none = λ d le below. none.none d le tt }
 
-  -- the first that passes
   pub first-here : (c : ℕ) (high : Option ℕ) → low ≤ c → IsBelow high c → NoneWithin test low (Some c) → test c ≡ true → IsFirstWithin test low high c
   first-here c high le below so_far here = record { from = le; below = below; is = here; before = λ d from lt. so_far.none d from lt }
 
-  -- Cells first, then entries.
+  -- First the cells are searched, and then the lists.
   module _ (cells end : ℕ) (high : Option ℕ) (inside : (c : ℕ) → c < cells → IsBelow high c → c < end) (below : (c : ℕ) → c < end → (c < cells) × IsBelow high c) where
     pub first-of-cells : (c : ℕ) → IsFirstWithin test low (Some end) c → IsFirstWithin test low high c
     first-of-cells c first = record { from = first.from; below = (below c first.below).1; is = first.is; before = first.before }
@@ -172,12 +167,11 @@ module _ (test : ℕ → Bool) (low : ℕ) where
         lower None d c lt under = tt
         lower (Some h) d c lt under = omega arith
 
--- over all clusters
 pub over-all : (test : ℕ → Bool) (next : Option ℕ) → MatchOption next (NoneWithin test 0 None) (IsFirstWithin test 0 None) → MatchOption next (Nowhere test) (IsLeast test)
 over-all test None none = λ c. none.none c (omega arith) tt
 over-all test (Some c) first = (first.is, λ d lt. first.before d (omega arith) lt)
 
--- where neither of two questions is so
+-- If neither of two tests passes anywhere, nothing passes `Either`.
 pub neither : (names : Tallies) (found : Option ℕ) → is_some found ≡ false → MatchOption found (Nowhere (is_such Either names)) (IsLeast (is_such Either names)) → Nowhere (is_such Shared names) × Nowhere (is_such FalselyCopied names)
 unfolding is_such
 neither names (Some c) empty least = absurd (true≢false empty)

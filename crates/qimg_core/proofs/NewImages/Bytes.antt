@@ -1,4 +1,4 @@
--- The bytes of a new image, as they are made.
+-- The bytes of a new image, as they are written.
 use Rattle.std.proofs.Common.{◌≡◌, ◌≢◌, ℕ, zero, suc, ◌+◌, ◌-◌, ◌*◌, ◌/◌, ◌^◌, ◌<◌, ◌≤◌, refl, arith, ap, sym, ◌∙◌, List, [], ◌∷◌, length, take, inl, inr, length-take}
 use Rattle.std.specs.Prelude.{Bool, true, false, ◌==◌, cond, max, replicate, IsTrue, Result, Ok, Err, OnOk, IfErr, ◌⊎◌}
 use Rattle.std.specs.Int.{w64, to_be_bytes}
@@ -17,7 +17,7 @@ use Rattle.qcow2_types.specs.Bytes.{Bytes, bytes_of, splice}
 use Rattle.qcow2_types.proofs.Numbers.Splices.{splice-outside, splice-inside}
 use Rattle.qimg_core.specs.Created.{Piece, with_pieces, nothing_in, blank_pieces, blank, first_counts, created, created_length, extension_bytes, l1_entries_of, Creates, NotCreated}
 
--- a list that is another with bytes at a place, by places
+-- A list with bytes spliced in is the file with those bytes spliced in.
 pub spliced-bytes : (old : List ℕ) (at : ℕ) (bytes new : List ℕ) → Spliced old at bytes new → bytes_of new ≡ splice (bytes_of old) at bytes
 spliced-bytes old at bytes new spliced = fun_ext (λ p. elim (cases_lt p at) [
   | inl lt ↦ spliced.before p lt ∙ sym (splice-outside (bytes_of old) at bytes p (inl lt))
@@ -29,29 +29,25 @@ spliced-bytes old at bytes new spliced = fun_ext (λ p. elim (cases_lt p at) [
   ]
 ])
 
--- one piece more
 pub piece-put : (f g made : Bytes) (at : ℕ) (bytes bytes' : List ℕ) → f ≡ g → made ≡ splice f at bytes → bytes ≡ bytes' → made ≡ splice g at bytes'
 piece-put f g made at bytes bytes' same is piece = is ∙ (ap (λ x. splice x at bytes) same ∙ ap (splice g at) piece)
 
--- a buffer of zeroes
 pub zeroes-nothing : (n : ℕ) → bytes_of (replicate n 0) ≡ nothing_in
 unfolding nothing_in
 zeroes-nothing n = fun_ext (λ p. grind (arith, common_steps))
 
--- the counts, by the last of them
 pub counts-none : (e n : ℕ) → e ≡ 0 → n ≡ 0 → 0 ∷ 1 ∷ 0 ∷ 1 ∷ 0 ∷ 1 ∷ 0 ∷ n ∷ [] ≡ first_counts e
 counts-none e n none count = rw (none, count) refl
 
--- the counts, where there is an L1 table
 pub counts-some : (e n : ℕ) → e ≢ 0 → n ≡ 1 → 0 ∷ 1 ∷ 0 ∷ 1 ∷ 0 ∷ 1 ∷ 0 ∷ n ∷ [] ≡ first_counts e
 counts-some e n some count = let there : (e == 0) ≡ false = grind (arith, nat_tests) in rw (there, count) refl
 
--- where the last piece ends
+-- The end of the last piece.
 abbrev pieces_end : List Piece → ℕ
 pieces_end [] = 0
 pieces_end (piece ∷ rest) = max (piece.0 + length piece.1) (pieces_end rest)
 
--- behind the last piece nothing changes
+-- After the last piece nothing changes.
 pieces-past : (pieces : List Piece) (f : Bytes) (p : ℕ) → pieces_end pieces ≤ p → with_pieces f pieces p ≡ f p
 pieces-past [] f p le = refl
 pieces-past (piece ∷ rest) f p le =
@@ -59,7 +55,6 @@ pieces-past (piece ∷ rest) f p le =
     let later : pieces_end rest ≤ max (piece.0 + length piece.1) (pieces_end rest) = le-max_right _ _ in
     pieces-past rest (splice f piece.0 piece.1) p (omega arith) ∙ splice-outside f piece.0 piece.1 p (inr (omega arith))
 
--- behind its pieces a new image of size 0 is 0
 blank-past : (e : ℕ) → e ≤ 2 → (p : ℕ) → 1032 ≤ p → blank e p ≡ 0
 unfolding blank nothing_in extension_bytes
 blank-past zero few p le = pieces-past (blank_pieces zero) nothing_in p le
@@ -67,12 +62,10 @@ blank-past (suc zero) few p le = pieces-past (blank_pieces (suc zero)) nothing_i
 blank-past (suc (suc zero)) few p le = pieces-past (blank_pieces (suc (suc zero))) nothing_in p le
 blank-past (suc (suc (suc e))) few p le = absurd (omega arith)
 
--- behind its pieces a new image is 0
 pub created-past : (size p : ℕ) → size ≤ 65536 → 1032 ≤ p → created size p ≡ 0
 unfolding created
 created-past size p small le = splice-outside (blank (l1_entries_of size)) 24 (to_be_bytes w64 size) p (inr (omega arith)) ∙ blank-past (l1_entries_of size) (omega arith) p le
 
--- between three and four clusters
 length-most : (size : ℕ) → (1536 ≤ created_length size) × (created_length size ≤ 2048)
 length-most size = pick (size == 0)
   where
@@ -80,7 +73,7 @@ length-most size = pick (size == 0)
     pick true = (omega arith, omega arith)
     pick false = (omega arith, omega arith)
 
--- The storage was cut to nothing, and the bytes were written.
+-- The storage was truncated, and the bytes were written.
 pub creates : (result : Result (Unit {0}) Fault) (old cut new : StorageState) (size n : ℕ) (buffer : List ℕ) → size ≤ 65536 → Resized old cut 0 → OnOk result (WriteSucceeded cut new 0 (take n buffer))
     → n ≡ created_length size → length buffer ≡ 2048 → bytes_of buffer ≡ created size → OnOk result (Creates size old new)
 creates (Ok _) old cut new size n buffer small resized through long whole is =
@@ -111,13 +104,11 @@ creates (Ok _) old cut new size n buffer small resized through long whole is =
         splice-outside (bytes_of cut.bytes) 0 (take n buffer) p (inr (omega arith)) ∙ (get_or_past cut.bytes p 0 (omega arith) ∙ sym (created-past size p small (omega arith)))
 creates (Err _) old cut new size n buffer small resized through long whole is = tt
 
--- a cause of the storage
 not-created : (size before after : ℕ) (fault : Fault) → Cause before after fault → NotCreated size fault
 not-created size before after Memory h = tt
 not-created size before after Storage h = tt
 not-created size before after fault h = absurd h
 
--- a range well below 2^64 doesn't pass it
 overflows-not : (unit at n : ℕ) → unit ≤ 2 ^ 20 → at + n ≤ 2 ^ 60 → Overflows unit at n → ⊥
 unfolding round_up
 overflows-not unit at n small low passes =
@@ -125,12 +116,11 @@ overflows-not unit at n small low passes =
     let high : 2 ^ 64 ≤ (at + n + (unit - 1)) / unit * unit = passes.1 in
     omega arith
 
--- other refusals than of overflow give their cause
 unless-overflow : (P : Type 0) (old new : StorageState) (Q R : Fault → Type 0) → (P → ⊥) → ((fault : Fault) → Q fault → R fault) → (fault : Fault) → UnlessOverflow P old new Q fault → R fault
 unless-overflow P old new Q R never give RangeOverflow h = absurd (never h.0)
 unless-overflow P old new Q R never give fault h = give fault h
 
--- a write that is refused refuses the new image
+-- A failed write is a reason why the image isn't made.
 pub created-refused : (result : Result (Unit {0}) Fault) (old new : StorageState) (size : ℕ) (bytes : List ℕ) → unit_of old.shape ≤ 2 ^ 20 → 0 + length bytes ≤ 2 ^ 60
     → IfErr result (WriteFailed old new 0 bytes) → IfErr result (NotCreated size)
 created-refused (Ok _) old new size bytes small low h = tt

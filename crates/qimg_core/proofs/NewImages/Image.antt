@@ -1,4 +1,4 @@
--- A new image, whatever its size: consistent, without leaks, and 0 everywhere.
+-- A new image of any size: it is consistent, has no leaks, and reads as 0.
 use Rattle.std.proofs.Common.{◌≡◌, ℕ, zero, suc, ◌-◌, ◌/◌, ◌^◌, ◌<◌, ◌≤◌, refl, arith, ap, ◌∙◌, [], None, Ok, inl, inr}
 use Rattle.std.specs.Prelude.{Bool, true, false, cond, nat_lt, Result}
 use Rattle.std.specs.Int.{w64, to_be_bytes}
@@ -22,11 +22,11 @@ use Rattle.qimg_core.specs.Plain.{value_at}
 use Rattle.qimg_core.specs.Created.{blank, blank_fields, blank_header, created, new_header, nothing_in, extension_bytes, l1_entries_of}
 use Rattle.qimg_core.proofs.NewImages.Blank.{blank-consistent, blank-leaks, blank-no_table}
 
--- an image of size 0 with another size in its header
+-- The image of size 0 with another size in its header.
 abbrev resized : ℕ → ℕ → Bytes
 resized e size = splice (blank e) 24 (to_be_bytes w64 size)
 
--- its other fields
+-- The other fields of the header.
 other-fields : (e size : ℕ) → e ≤ 2 → fields_of (resized e size) ≡ sized (blank_fields e) (be (resized e size) 24 8)
 unfolding fields_of be blank splice nothing_in extension_bytes
 other-fields zero size few = refl
@@ -34,11 +34,10 @@ other-fields (suc zero) size few = refl
 other-fields (suc (suc zero)) size few = refl
 other-fields (suc (suc (suc e))) size few = absurd (omega arith)
 
--- all its fields
 fields-kept : (e size : ℕ) → e ≤ 2 → size < 2 ^ 64 → fields_of (resized e size) ≡ sized (blank_fields e) size
 fields-kept e size few fits = other-fields e size few ∙ ap (sized (blank_fields e)) (be-written (blank e) 24 size fits)
 
--- the magic number and the version are right
+-- The magic number and the version are valid.
 kind-kept : (e size : ℕ) → e ≤ 2 → first_fault (rules_of_kind (resized e size)) ≡ None
 unfolding be blank splice nothing_in extension_bytes
 kind-kept zero size few = refl
@@ -46,14 +45,13 @@ kind-kept (suc zero) size few = refl
 kind-kept (suc (suc zero)) size few = refl
 kind-kept (suc (suc (suc e))) size few = absurd (omega arith)
 
--- sizes and places are within their limits
+-- The sizes and offsets are within their limits.
 sizes-kept : (e size : ℕ) → e ≤ 2 → size ≤ 2 ^ 63 - 1 → first_fault (rules_of_size (sized (blank_fields e) size)) ≡ None
 sizes-kept zero size few small = let low : nat_lt (2 ^ 63 - 1) size ≡ false = le-ltb _ _ small in rw low refl
 sizes-kept (suc zero) size few small = let low : nat_lt (2 ^ 63 - 1) size ≡ false = le-ltb _ _ small in rw low refl
 sizes-kept (suc (suc zero)) size few small = let low : nat_lt (2 ^ 63 - 1) size ≡ false = le-ltb _ _ small in rw low refl
 sizes-kept (suc (suc (suc e))) size few small = absurd (omega arith)
 
--- its texts
 texts-kept : (e size : ℕ) → e ≤ 2 → texts_of (resized e size) (sized (blank_fields e) size) ≡ Ok (with_size (blank_header e) size)
 unfolding texts_of extensions_at extension_at be run blank splice nothing_in extension_bytes is_utf8 chars encode_utf8
 texts-kept zero size few = refl
@@ -61,54 +59,46 @@ texts-kept (suc zero) size few = refl
 texts-kept (suc (suc zero)) size few = refl
 texts-kept (suc (suc (suc e))) size few = absurd (omega arith)
 
--- the image may be written
+-- The image can be opened for writing.
 writing-kept : (writing : Bool) (e size : ℕ) → first_fault (rules_of_writing writing (sized (blank_fields e) size)) ≡ None
 writing-kept true e size = refl
 writing-kept false e size = refl
 
--- so its header loads
 header-kept : (writing : Bool) (e size : ℕ) → e ≤ 2 → size ≤ 2 ^ 63 - 1 → header_of writing (resized e size) ≡ Ok (with_size (blank_header e) size)
 header-kept writing e size few small =
     header-made writing (resized e size) (sized (blank_fields e) size) (with_size (blank_header e) size) (kind-kept e size few) (fields-kept e size few (omega arith)) refl (sizes-kept e size few small) (texts-kept e size few) (writing-kept writing e size)
 
--- and what else the image holds stays
+-- Only the size in the header differs.
 image-kept : (e size : ℕ) → e ≤ 2 → size ≤ 2 ^ 63 - 1 → SizeSwitched (blank e) (resized e size) (blank_header e) size
 image-kept e size few small =
     size-switched (blank e) (resized e size) (blank_header e) (blank-consistent e few) size (header-kept true e size few small)
     (λ p apart. splice-outside (blank e) 24 (to_be_bytes w64 size) p (elim apart [ inl low ↦ absurd (omega arith) | inr high ↦ inr (omega arith) ]))
 
 module _ (size : ℕ) (small : size ≤ 65536) where
-  -- at most two words in the L1 table
   few : l1_entries_of size ≤ 2
   few = omega arith
 
-  -- it is the one of size 0, but for its size
   kept : SizeSwitched (blank (l1_entries_of size)) (created size) (blank_header (l1_entries_of size)) size
   unfolding created
   kept = image-kept (l1_entries_of size) size few (omega arith)
 
-  -- its header loads
   created-loads : (writing : Bool) → header_of writing (created size) ≡ Ok (new_header size)
   unfolding created
   created-loads writing = header-kept writing (l1_entries_of size) size few (omega arith)
 
-  -- it is consistent
   pub created-consistent : IsConsistent (created size) (new_header size)
   created-consistent = kept.consistent
 
-  -- it leaks nothing
   pub created-leaks : leaks (created size) (new_header size).fields ≡ []
   created-leaks = kept.leaks ∙ blank-leaks (l1_entries_of size) few
 
-  -- no L2 table is named
+  -- No L2 table is referenced.
   created-no_table : (i : ℕ) → l2_table (created size) (new_header size).fields i ≡ 0
   created-no_table i = kept.tables i ∙ blank-no_table (l1_entries_of size) few i
 
-  -- each guest cluster is unmapped
   created-unmapped : (guest : ℕ) → entry (created size) (new_header size).fields guest ≡ unmapped
   created-unmapped guest = entry-slot (created size) (new_header size).fields guest created-consistent.readable.tables ∙ rw (created-no_table (guest / entries_of_cluster (new_header size).fields)) refl
 
-  -- each place shows 0
   pub created-zeroes : (p : ℕ) → value_at (created size) p ≡ byte 0
   unfolding value_at header_of
   created-zeroes p =

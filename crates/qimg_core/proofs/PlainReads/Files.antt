@@ -1,4 +1,4 @@
--- What a plain read of a list of files answers.
+-- The result of a plain read of a list of files.
 use Rattle.std.proofs.Common.{◌≡◌, ℕ, ◌<◌, ◌≤◌, refl, arith, ap, sym, subst, ◌∙◌, List, [], ◌∷◌, length, get_or, inl, inr}
 use Rattle.std.specs.Prelude.{◌⊎◌, slice_set, Result, Ok, Err, OnOk, IfErr}
 use Rattle.imago_storage.specs.State.{StorageState}
@@ -13,19 +13,17 @@ use Rattle.qimg_core.specs.Plain.{SeenFile, seen_files, extras_of, faults_of, Fi
 use Rattle.qimg_core.proofs.Calls.{kept-none}
 use Rattle.qimg_core.proofs.PlainReads.Image.{image-must}
 
--- files that nothing was asked of
 pub files-kept : (files : List SeenFile) → FilesKept files files
 files-kept [] = tt
 files-kept (x ∷ xs) = (refl, kept-none x.state, files-kept xs)
 
--- a file of a format that isn't read
+-- A file of a format that can't be read.
 pub other-format : (format : Format) → (format ≡ Qcow2 → ⊥) → (f : ℕ → ℕ) (offset n : ℕ) (fault : Fault) → (FileRefuses format f offset n fault → fault ≡ Unsupported) × (fault ≡ Unsupported → FileRefuses format f offset n fault)
 other-format Qcow2 other f offset n fault = absurd (other refl)
 other-format Raw other f offset n fault = (λ e. e, λ e. e)
 other-format Vmdk other f offset n fault = (λ e. e, λ e. e)
 
 module _ {S : Type 0} (state : S → StorageState) (offset n : ℕ) where
-  -- no files
   pub none-refuses : (files : List (ChainFile S)) → length files ≡ 0 → Refuses (seen_files state files) offset n MissingBelow
   unfolding seen_files
   none-refuses [] none = refl
@@ -36,7 +34,6 @@ module _ {S : Type 0} (state : S → StorageState) (offset n : ℕ) where
   none-must [] none fault refuses = sym refuses
   none-must (x ∷ xs) none fault refuses = absurd (omega arith)
 
-  -- several files
   pub several-refuse : (files : List (ChainFile S)) → 1 < length files → Refuses (seen_files state files) offset n Unsupported
   unfolding seen_files
   several-refuse [] several = absurd (omega arith)
@@ -49,7 +46,7 @@ module _ {S : Type 0} (state : S → StorageState) (offset n : ℕ) where
   several-must (x ∷ []) several fault refuses = absurd (omega arith)
   several-must (x ∷ y ∷ rest) several fault refuses = sym refuses
 
-  -- one qcow2 file
+  -- One qcow2 file.
   pub one-read : (result : Result (Unit {0}) Fault) (files : List (ChainFile S)) (d : ChainFile S) (buffer : List ℕ) → 0 < length files → length files ≤ 1 → (get_or files 0 d).format ≡ Qcow2
       → OnOk result (IsImageRead (file (state (get_or files 0 d).image)) offset buffer) → OnOk result (IsPlainRead (seen_files state files) offset buffer)
   unfolding seen_files
@@ -78,7 +75,7 @@ module _ {S : Type 0} (state : S → StorageState) (offset n : ℕ) where
       image-must result (state x.image) (state image) offset n buffer long read why fault (subst (λ k. FileRefuses k (file (state x.image)) offset n fault) format refuses)
   one-must result (x ∷ y ∷ rest) d image buffer some few format long read why fault refuses = absurd (omega arith)
 
-  -- its storage is as it was
+  -- The storage of the file is unchanged.
   pub one-kept : (files : List (ChainFile S)) (d : ChainFile S) (image : S) → 0 < length files → length files ≤ 1 → UnchangedButFaults (state (get_or files 0 d).image) (state image) → FilesKept (seen_files state files) (seen_files state (slice_set files 0 (record (get_or files 0 d) { image = image })))
   unfolding seen_files
   one-kept [] d image some few kept = absurd (omega arith)
@@ -99,7 +96,7 @@ module _ {S : Type 0} (state : S → StorageState) (offset n : ℕ) where
   one-faults (Ok _) (x ∷ []) d image some few same = ap (λ k. k ∷ []) same
   one-faults (Ok _) (x ∷ y ∷ rest) d image some few same = absurd (omega arith)
 
-  -- one file of another format
+  -- One file of another format.
   pub other-refuses : (files : List (ChainFile S)) (d : ChainFile S) → 0 < length files → length files ≤ 1 → ((get_or files 0 d).format ≡ Qcow2 → ⊥) → Refuses (seen_files state files) offset n Unsupported
   unfolding seen_files
   other-refuses [] d some few other = absurd (omega arith)
@@ -112,13 +109,11 @@ module _ {S : Type 0} (state : S → StorageState) (offset n : ℕ) where
   other-must (x ∷ []) d some few other fault refuses = sym ((other-format x.format other (file (state x.image)) offset n fault).0 refuses)
   other-must (x ∷ y ∷ rest) d some few other fault refuses = absurd (omega arith)
 
--- an only file that stays
 pub same-file : {S : Type 0} (files : List (ChainFile S)) (d : ChainFile S) → 0 < length files → length files ≤ 1 → slice_set files 0 (get_or files 0 d) ≡ files
 same-file [] d some few = absurd (omega arith)
 same-file (x ∷ []) d some few = refl
 same-file (x ∷ y ∷ rest) d some few = absurd (omega arith)
 
--- neither of the other formats is qcow2
 pub not-qcow2 : (format : Format) → (format ≡ Raw) ⊎ (format ≡ Vmdk) → format ≡ Qcow2 → ⊥
 not-qcow2 format (inl e) q = let bad : Raw ≡ Qcow2 = sym e ∙ q in absurd cc
 not-qcow2 format (inr e) q = let bad : Vmdk ≡ Qcow2 = sym e ∙ q in absurd cc

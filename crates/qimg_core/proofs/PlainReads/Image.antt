@@ -1,4 +1,4 @@
--- What a plain read of an image answers as a whole.
+-- The result of a plain read of a whole image.
 use Rattle.std.proofs.Common.{◌≡◌, ℕ, ◌+◌, ◌-◌, ◌^◌, ◌<◌, ◌≤◌, refl, arith, ap, sym, subst, ◌∙◌, List, [], ◌∷◌, ◌++◌, length, drop, length-append, length-drop, inl, inr}
 use Rattle.std.specs.Prelude.{Bool, true, false, cond, not, nat_le, nat_lt, ◌⊎◌, slice_index, Result, Ok, Err, OnOk, IfErr, Option, Some, None}
 use Rattle.std.specs.Option.{is_some, SomeIff}
@@ -19,7 +19,7 @@ use Rattle.qimg_core.specs.Plain.{value_at, chain_of, ShowsRange, IsFirstFault, 
 use Rattle.qimg_core.proofs.PlainReads.Tables.{unshown-as}
 use Rattle.qimg_core.proofs.Calls.{kept-none, kept-file}
 
--- the value of a place of the chain
+-- The value at an offset of the chain is that of the image.
 pub value-image : (f : Bytes) (H : Header) (p : ℕ) → header_of false f ≡ Ok H → value_at f p ≡ image_value f H.fields p
 unfolding value_at image_value
 value-image f H p loads =
@@ -30,7 +30,7 @@ value-image f H p loads =
     both-same true v = refl
     both-same false v = refl
 
--- the front of a range is read, and the rest is blank
+-- The start of the range is read, and the rest is 0.
 pub front-read : (result : Result (Unit {0}) Fault) (f : Bytes) (H : Header) (offset inside : ℕ) (front whole : List ℕ) → header_of false f ≡ Ok H → inside ≤ length whole → length front ≡ inside → ((i : ℕ) → i < length whole → offset + i < H.fields.size → i < inside)
     → ((i : ℕ) → i < inside → offset + i < H.fields.size) → ((i : ℕ) → slice_index whole i ≡ 0) → OnOk result (Shows (image_value f H.fields) offset front) → OnOk result (ShowsRange f H.fields.size offset (front ++ drop inside whole))
 front-read (Err _) f H offset inside front whole loads most long low back blank shows = tt
@@ -44,24 +44,22 @@ front-read (Ok _) f H offset inside front whole loads most long low back blank s
   ];
 }
 
--- a range past the size is blank
 pub past-read : (f : Bytes) (size offset : ℕ) (whole : List ℕ) → ((i : ℕ) → i < length whole → size ≤ offset + i) → ((i : ℕ) → slice_index whole i ≡ 0) → ShowsRange f size offset whole
 past-read f size offset whole past blank = record {
   below = λ i lt less. absurd (let b : size ≤ offset + i = past i lt in omega arith);
   past = λ i lt more. blank i;
 }
 
--- the front isn't read
+-- Reading the start of the range failed.
 pub front-unread : (result : Result (Unit {0}) Fault) (old new : StorageState) (H : Header) (offset n k : ℕ) → header_of false (file old) ≡ Ok H → n ≡ k → IfErr result (NotShown (image_value (file old) H.fields) old new offset n) → IfErr result (NotShown (value_at (file old)) old new offset k)
 front-unread result old new H offset n k loads same why =
     unshown-as result (value_at (file old)) (image_value (file old) H.fields) old old new offset k (kept-none old) refl (λ i lt. value-image (file old) H (offset + i) loads)
     (subst (λ m. IfErr result (NotShown (image_value (file old) H.fields) old new offset m)) same why)
 
--- the size of the chain
 size-loaded : (f : Bytes) (H : Header) → header_of false f ≡ Ok H → chain_size (chain_of f) ≡ H.fields.size
 size-loaded f H loads = ap size_in_header loads
 
--- the rules in order
+-- The rules of a read, in order.
 module _ (f : Bytes) (H : Header) (loads : header_of false f ≡ Ok H) (offset n : ℕ) where
   fault-loaded : image_fault f offset n ≡ first_fault (rules_of_reading f H offset n)
   fault-loaded = ap (λ r. loaded_fault f r offset n) loads
@@ -78,18 +76,17 @@ module _ (f : Bytes) (H : Header) (loads : header_of false f ≡ Ok H) (offset n
       pick false true fault e = subst (λ x. Some MissingBelow ≡ elim x [ None ↦ r | Some e ↦ Some e ]) e refl
       pick false false fault e = subst (λ x. first_fault ((nat_le (2 ^ 64) (offset + n), RangeOverflow) ∷ []) ≡ elim x [ None ↦ r | Some e ↦ Some e ]) e last
 
-  -- an external data file or a file below
+  -- The first broken rule is an external data file or a backing file.
   pub alone-first : (fault : Fault) → l1_table_sound f H.fields ≡ true → alone_fault H ≡ Some fault → image_fault f offset n ≡ Some fault
   alone-first fault sound alone = alone-next (Some fault) sound alone _ refl
 
-  -- the range's end
+  -- The first broken rule is the end of the range.
   pub range-first : l1_table_sound f H.fields ≡ true → alone_fault H ≡ None → 2 ^ 64 ≤ offset + n → image_fault f offset n ≡ Some RangeOverflow
   range-first sound alone far = let test : nat_le (2 ^ 64) (offset + n) ≡ true = grind (arith, nat_tests) in alone-next None sound alone (Some RangeOverflow) (rw test refl)
 
   pub none-first : l1_table_sound f H.fields ≡ true → alone_fault H ≡ None → offset + n < 2 ^ 64 → image_fault f offset n ≡ None
   none-first sound alone near = let test : nat_le (2 ^ 64) (offset + n) ≡ false = grind (arith, nat_tests) in alone-next None sound alone None (rw test refl)
 
--- the data is in the image
 pub alone-inside : (H : Header) → alone_fault H ≡ None → has_external_data H.fields ≡ false
 alone-inside H alone = pick (has_external_data H.fields) (is_some H.backing_name) alone
   where
@@ -97,20 +94,19 @@ alone-inside H alone = pick (has_external_data H.fields) (is_some H.backing_name
     pick false b e = refl
     pick true b e = absurd cc
 
--- a header that doesn't load
 pub header-unread : (old new : StorageState) (offset n : ℕ) (fault : Fault) → NotLoaded (header_of false (file old)) old new fault → NotImageRead old new offset n fault
 header-unread old new offset n Memory why = why
 header-unread old new offset n Storage why = why
 header-unread old new offset n fault why = (inl (ap (λ r. loaded_fault (file old) r offset n) why.0), why.1)
 
--- the L1 table isn't loaded
+-- The L1 table isn't loaded.
 pub l1-unread : (old now new : StorageState) (H : Header) (offset n : ℕ) (fault : Fault) → header_of false (file old) ≡ Ok H → file now ≡ file old → now.faults ≡ old.faults → NoL1 now new H.fields fault → NotImageRead old new offset n fault
 l1-unread old now new H offset n Memory loads same faults why = why ∙ faults
 l1-unread old now new H offset n Storage loads same faults why = record { not_fallen = omega (arith, why.not_fallen); rose = λ few. omega (arith, why.rose few) }
 l1-unread old now new H offset n DamagedTable loads same faults why = (inl (l1-first (file old) H loads offset n (ap (λ (f : Bytes). l1_table_sound f H.fields) (sym same) ∙ why.0)), why.1 ∙ faults)
 l1-unread old now new H offset n fault loads same faults why = absurd why
 
--- the data isn't in the image, or a file is below it
+-- The image has an external data file or a backing file.
 pub alone-unread : (old new : StorageState) (H : Header) (offset n : ℕ) (fault : Fault) → header_of false (file old) ≡ Ok H → l1_table_sound (file old) H.fields ≡ true → new.faults ≡ old.faults → alone_fault H ≡ Some fault → NotImageRead old new offset n fault
 alone-unread old new H offset n fault loads sound faults alone = pick (has_external_data H.fields) (is_some H.backing_name) alone
   where
@@ -122,11 +118,11 @@ alone-unread old new H offset n fault loads sound faults alone = pick (has_exter
     pick false true e = let same : MissingBelow ≡ fault = cc in subst (NotImageRead old new offset n) same (inl (first ∙ ap Some (sym same)), faults)
     pick false false e = absurd cc
 
--- the range's end passes 64 bits
+-- The end of the range doesn't fit 64 bits.
 pub range-unread : (old new : StorageState) (H : Header) (offset n : ℕ) → header_of false (file old) ≡ Ok H → l1_table_sound (file old) H.fields ≡ true → new.faults ≡ old.faults → alone_fault H ≡ None → 2 ^ 64 ≤ offset + n → NotImageRead old new offset n RangeOverflow
 range-unread old new H offset n loads sound faults alone far = (inl (range-first (file old) H loads offset n sound alone far), faults)
 
--- the range is read
+-- The range is read.
 pub disk-read : (result : Result (Unit {0}) Fault) (f g : Bytes) (H : Header) (offset : ℕ) (buffer : List ℕ) → header_of false f ≡ Ok H → l1_table_sound f H.fields ≡ true → alone_fault H ≡ None → offset + length buffer < 2 ^ 64 → g ≡ f
     → OnOk result (ShowsRange g H.fields.size offset buffer) → OnOk result (IsImageRead f offset buffer)
 disk-read (Err _) f g H offset buffer loads sound alone near same shows = tt
@@ -135,7 +131,7 @@ disk-read (Ok _) f g H offset buffer loads sound alone near same shows = record 
   shows = subst (λ size. ShowsRange f size offset buffer) (sym (size-loaded f H loads)) (subst (λ (x : Bytes). ShowsRange x H.fields.size offset buffer) same shows);
 }
 
--- it isn't, for one of its values
+-- A value of the range can't be read.
 value-unread : (old new : StorageState) (offset n : ℕ) (fault : Fault) → image_fault (file old) offset n ≡ None → NotShown (value_at (file old)) old new offset (below_size (chain_size (chain_of (file old))) offset n) fault → NotImageRead old new offset n fault
 value-unread old new offset n Memory passed why = why
 value-unread old new offset n Storage passed why = why
@@ -150,7 +146,7 @@ disk-unread (Err fault) old now new H offset n loads sound alone near kept fault
     value-unread old new offset n fault (none-first (file old) H loads offset n sound alone near)
     (subst (λ size. NotShown (value_at (file old)) old new offset (below_size size offset n) fault) (sym (size-loaded (file old) H loads)) here)
 
--- the first value that can't be read is one
+-- The first value that can't be read is unique.
 first-unique : (value : ℕ → Value) (offset n : ℕ) (a b : Fault) → IsFirstFault value offset n a → IsFirstFault value offset n b → a ≡ b
 first-unique value offset n a b x y = elim (cases_lt x.place y.place) [
   | inl lt ↦ let none : value_fault (value (offset + x.place)) ≡ None = y.before x.place lt in let some : Some a ≡ None = sym x.faulty ∙ none in absurd cc
@@ -163,14 +159,12 @@ first-unique value offset n a b x y = elim (cases_lt x.place y.place) [
   ]
 ]
 
--- an image is refused in one way
 refusal-unique : (f : Bytes) (offset n : ℕ) (a b : Fault) → ImageRefuses f offset n a → ImageRefuses f offset n b → a ≡ b
 refusal-unique f offset n a b (inl x) (inl y) = let both : Some a ≡ Some b = sym x ∙ y in cc
 refusal-unique f offset n a b (inl x) (inr y) = let both : Some a ≡ None = sym x ∙ y.0 in absurd cc
 refusal-unique f offset n a b (inr x) (inl y) = let both : None ≡ Some b = sym x.0 ∙ y in absurd cc
 refusal-unique f offset n a b (inr x) (inr y) = first-unique (value_at f) offset (below_size (chain_size (chain_of f)) offset n) a b x.1 y.1
 
--- an image that is read isn't refused
 read-passes : (f : Bytes) (offset : ℕ) (buffer : List ℕ) (fault : Fault) → IsImageRead f offset buffer → ImageRefuses f offset (length buffer) fault → ⊥
 read-passes f offset buffer fault read (inl e) = let both : None ≡ Some fault = sym read.passed ∙ e in absurd cc
 read-passes f offset buffer fault read (inr y) =
@@ -181,7 +175,7 @@ read-passes f offset buffer fault read (inr y) =
     let both : None ≡ Some fault = sym none ∙ first.faulty in
     absurd cc
 
--- an image that is to be refused is
+-- If a rule refuses the read, the fault is the one of that rule, `Memory` or `Storage`.
 err-must : (old new : StorageState) (offset n : ℕ) (found fault : Fault) → NotImageRead old new offset n found → ImageRefuses (file old) offset n fault → (found ≡ fault) ⊎ ((found ≡ Memory) ⊎ (found ≡ Storage))
 err-must old new offset n Memory fault why refuses = inr (inl refl)
 err-must old new offset n Storage fault why refuses = inr (inr refl)
@@ -191,13 +185,11 @@ pub image-must : (result : Result (Unit {0}) Fault) (old new : StorageState) (of
 image-must (Ok _) old new offset n buffer long read why fault refuses = read-passes (file old) offset buffer fault read (subst (λ k. ImageRefuses (file old) offset k fault) (sym long) refuses)
 image-must (Err found) old new offset n buffer long read why fault refuses = err-must old new offset n found fault why refuses
 
--- a sum that fits 64 bits
 pub sum-fits : (found : Option ℕ) (b : Bool) (a v : ℕ) → SomeIff found (a < 2 ^ 64) v → is_some found ≡ not b → b ≡ false → a < 2 ^ 64
 sum-fits (Some x) b a v iff is e = iff.0
 sum-fits None true a v iff is e = absurd cc
 sum-fits None false a v iff is e = absurd cc
 
--- or one that doesn't
 pub sum-passes : (found : Option ℕ) (b : Bool) (a v : ℕ) → SomeIff found (a < 2 ^ 64) v → is_some found ≡ not b → b ≡ true → 2 ^ 64 ≤ a
 sum-passes (Some x) true a v iff is e = absurd cc
 sum-passes (Some x) false a v iff is e = absurd cc

@@ -1,4 +1,4 @@
--- What plain reads of pieces of a range show, by the words that map them.
+-- The results of reading the pieces of a range, from the entries that map them.
 use Rattle.std.proofs.Common.{◌≡◌, ℕ, ◌+◌, ◌-◌, ◌*◌, ◌/◌, ◌%◌, ◌^◌, ◌<◌, ◌≤◌, arith, ap, sym, ◌∙◌, List, ◌++◌, length, take, drop, get_or, inl, inr, length-take, length-drop, length-append}
 use Rattle.std.specs.Prelude.{Bool, slice_index, Result, Ok, Err, OnOk, IfErr}
 use Rattle.std.proofs.lemmas.Bool.{cases_lt}
@@ -17,7 +17,6 @@ use Rattle.qcow2_types.specs.Words.{data_at}
 use Rattle.qimg_core.specs.Plain.{IsFirstFault, NotShown, mapped_value, value_fault}
 use Rattle.qimg_core.proofs.Calls.{kept-both}
 
--- a place a little further in the same unit
 pub mod-near : (at i unit : ℕ) → at % unit + i < unit → (at + i) % unit ≡ at % unit + i
 mod-near at i unit near =
     let split : at / unit * unit + (at % unit + i) ≡ at + i = omega (arith, apart at unit) in
@@ -34,7 +33,7 @@ div-near at i unit near =
     apart : (n k : ℕ) → n / k * k + n % k ≡ n
     apart n k = omega (arith, div-add-mod n k)
 
--- data that is read from its host cluster
+-- Data that is read from its host cluster.
 pub data-shown : (result : Result (Unit {0}) Fault) (bytes : List ℕ) (bits cluster place at : ℕ) (copied : Bool) (buffer : List ℕ) → place ≡ cluster * 2 ^ bits + at % 2 ^ bits → at % 2 ^ bits + length buffer ≤ 2 ^ bits → OnOk result (Reads bytes place buffer)
     → OnOk result (Shows (mapped_value (bytes_of bytes) bits (data_at cluster copied)) at buffer)
 data-shown (Err _) bytes bits cluster place at copied buffer is fits reads = tt
@@ -43,7 +42,6 @@ data-shown (Ok _) bytes bits cluster place at copied buffer is fits reads = λ i
     let spot : cluster * 2 ^ bits + (at + i) % 2 ^ bits ≡ place + i = omega arith in
     ap byte (ap (bytes_of bytes) spot ∙ sym (reads i lt))
 
--- a call that only counts faults
 pub counts-unshown : (result : Result (Unit {0}) Fault) (value : ℕ → Value) (old new : StorageState) (at n : ℕ) → CountsFaults old.faults new.faults result → IfErr result (NotShown value old new at n)
 counts-unshown (Ok _) value old new at n counts = tt
 counts-unshown (Err Memory) value old new at n counts = counts
@@ -54,14 +52,13 @@ pub counts-same : (result : Result (Unit {0}) Fault) (old new : StorageState) �
 counts-same (Ok _) old new counts = counts
 counts-same (Err _) old new counts = tt
 
--- What a loop over pieces keeps: the bytes before this one are read.
+-- The invariant of a loop over pieces: the bytes before this offset are read.
 pub record ShownSoFar (value : ℕ → Value) (old now : StorageState) (offset done : ℕ) (buffer : List ℕ) : Type 0 where
   pub kept : UnchangedButFaults old now
   pub faults : now.faults ≡ old.faults
   pub most : done ≤ length buffer
   pub read : (i : ℕ) → i < done → value (offset + i) ≡ byte (slice_index buffer i)
 
--- one piece more
 pub shown-more : (value value' : ℕ → Value) (old now new : StorageState) (offset done n at k : ℕ) (buffer piece : List ℕ) → ShownSoFar value old now offset done buffer → k ≡ n → length piece ≡ n → done + n ≤ length buffer → at ≡ offset + done
     → ((i : ℕ) → i < n → value (at + i) ≡ value' (at + i)) → Shows value' at piece → UnchangedButFaults now new → new.faults ≡ now.faults → ShownSoFar value old new offset (done + n) (put_mid done k buffer piece)
 shown-more value value' old now new offset done n at k buffer piece so is long fits place same shows kept faults =
@@ -88,7 +85,7 @@ shown-more value value' old now new offset done n at k buffer piece so is long f
     here : take (done + n) (put_mid done k buffer piece) ≡ take done buffer ++ piece → (i : ℕ) → i < done + n → get_or (put_mid done k buffer piece) i 0 ≡ get_or (take done buffer ++ piece) i 0
     here whole i lt = sym (get_or-take (done + n) (put_mid done k buffer piece) i 0 lt) ∙ ap (λ xs. get_or xs i 0) whole
 
--- the first value that can't be read is in a piece after what is read
+-- The first value that can't be read is in this piece, as all before it were read.
 fault-later : (value value' : ℕ → Value) (old now : StorageState) (offset done n at length_ : ℕ) (buffer : List ℕ) (fault : Fault) → ShownSoFar value old now offset done buffer → done + n ≤ length_ → at ≡ offset + done
     → ((i : ℕ) → i < n → value (at + i) ≡ value' (at + i)) → IsFirstFault value' at n fault → IsFirstFault value offset length_ fault
 fault-later value value' old now offset done n at length_ buffer fault so fits place same first = record {
@@ -107,7 +104,7 @@ fault-later value value' old now offset done n at length_ buffer fault so fits p
   ];
 }
 
--- a piece that isn't read
+-- Reading a piece failed.
 pub shown-short : (value value' : ℕ → Value) (old now new : StorageState) (offset done n at length_ : ℕ) (buffer : List ℕ) (fault : Fault) → ShownSoFar value old now offset done buffer → done + n ≤ length_ → at ≡ offset + done
     → ((i : ℕ) → i < n → value (at + i) ≡ value' (at + i)) → NotShown value' now new at n fault → NotShown value old new offset length_ fault
 shown-short value value' old now new offset done n at length_ buffer Memory so fits place same why = why ∙ so.faults

@@ -1,4 +1,4 @@
--- What plain reads show by the tables that are loaded.
+-- The values of a disk, from the tables that are loaded.
 use Rattle.std.proofs.Common.{◌≡◌, ◌≢◌, ℕ, ◌+◌, ◌-◌, ◌*◌, ◌/◌, ◌%◌, ◌^◌, ◌<◌, ◌≤◌, refl, arith, ap, sym, ◌∙◌, List, [], length}
 use Rattle.std.specs.Prelude.{true, false, cond, ◌==◌, slice_index, IsTrue, IsFalse, Result, Ok, Err, OnOk, IfErr, Some, None}
 use Rattle.std.proofs.lemmas.Bool.Decides.{nat_tests}
@@ -22,7 +22,7 @@ use Rattle.qimg_core.proofs.Tables.Places.{none-place, some-place, l2-place}
 use Rattle.qimg_core.proofs.Tables.L2Words.{l2-word, l2-sound, l2-unsound}
 use Rattle.qimg_core.proofs.PlainReads.Pieces.{ShownSoFar, shown-short, div-near}
 
--- the value by the mapping, where the data is in the image
+-- The value by the mapping, if the image has no external data file.
 by-mapping : (f : Bytes) (h : Fields) (p : ℕ) (m : Mapping) → has_external_data h ≡ false → shown_by m (host_byte f (λ _. 0) h p) (byte 0) ≡ mapped_value f h.cluster_bits m p
 by-mapping f h p (data_at c copied) inside = rw inside refl
 by-mapping f h p (zeroes c copied) inside = refl
@@ -31,56 +31,56 @@ by-mapping f h p unmapped inside = refl
 by-mapping f h p damaged inside = refl
 
 module _ (f : Bytes) (h : Fields) (sound : IsTrue (l1_table_sound f h)) (inside : IsFalse (has_external_data h)) (p : ℕ) where
-  -- the value by the guest cluster's entry
+  -- The value by the entry of the guest cluster.
   by-entry : (m : Mapping) → entry_through f h (l2_table f h (p / cluster_size h / entries_of_cluster h)) (p / cluster_size h % entries_of_cluster h) ≡ m → image_value f h p ≡ mapped_value f h.cluster_bits m p
   unfolding image_value entry
   by-entry m is =
       let here : entry f h (p / cluster_size h) ≡ m = ap (λ b. cond b (entry_through f h (l2_table f h (p / cluster_size h / entries_of_cluster h)) (p / cluster_size h % entries_of_cluster h)) damaged) sound ∙ is in
       ap (λ x. shown_by x (host_byte f (λ _. 0) h p) (byte 0)) here ∙ by-mapping f h p m (inside)
 
-  -- where there is no L2 table
+  -- The L2 table doesn't exist.
   pub value-none : l2_table f h (p / cluster_size h / entries_of_cluster h) ≡ 0 → image_value f h p ≡ byte 0
   value-none none = by-entry unmapped (through (l2_table f h (p / cluster_size h / entries_of_cluster h)) none)
     where
       through : (t : ℕ) → t ≡ 0 → entry_through f h t (p / cluster_size h % entries_of_cluster h) ≡ unmapped
       through t e = rw e refl
 
-  -- where there is one, with a meaning
+  -- The L2 table is valid.
   pub value-there : (t : ℕ) → l2_table f h (p / cluster_size h / entries_of_cluster h) ≡ t → t ≢ 0 → l2_table_sound f h t ≡ true → image_value f h p ≡ mapped_value f h.cluster_bits (mapping_of (layout_of h) (raw_entry f t (p / cluster_size h % entries_of_cluster h))) p
   value-there t is there sound' =
       let some : (t == 0) ≡ false = grind (arith, nat_tests) in
       by-entry (mapping_of (layout_of h) (raw_entry f t (p / cluster_size h % entries_of_cluster h)))
       (ap (λ k. entry_through f h k (p / cluster_size h % entries_of_cluster h)) is ∙ (rw (some, sound') refl))
 
-  -- where there is one without
+  -- The L2 table is damaged.
   pub value-damaged : (t : ℕ) → l2_table f h (p / cluster_size h / entries_of_cluster h) ≡ t → t ≢ 0 → l2_table_sound f h t ≡ false → image_value f h p ≡ damaged_place
   value-damaged t is there unsound =
       let some : (t == 0) ≡ false = grind (arith, nat_tests) in
       by-entry damaged (ap (λ k. entry_through f h k (p / cluster_size h % entries_of_cluster h)) is ∙ (rw (some, unsound) refl))
 
--- places that one L2 table maps
+-- Nearby offsets are mapped by the same L2 table.
 pub same-table : (bits at i : ℕ) → let mapped = l2_entries bits * 2 ^ bits in at % mapped + i < mapped → (at + i) / 2 ^ bits / l2_entries bits ≡ at / 2 ^ bits / l2_entries bits
 same-table bits at i near =
     let turned : 2 ^ bits * l2_entries bits ≡ l2_entries bits * 2 ^ bits = omega arith in
     div-div-eq-div-mul (at + i) (2 ^ bits) (l2_entries bits)
     ∙ (ap (λ n. (at + i) / n) turned ∙ (div-near at i (l2_entries bits * 2 ^ bits) near ∙ (ap (λ n. at / n) (sym turned) ∙ sym (div-div-eq-div-mul at (2 ^ bits) (l2_entries bits)))))
 
--- the two indices of a place, by the numbers that the code has them as
+-- The two table indices of an offset, as the code computes them.
 module _ (f : Bytes) (h : Fields) (sound : IsTrue (l1_table_sound f h)) (inside : IsFalse (has_external_data h)) (raw_entries : List ℕ) (are : NamesTables f h raw_entries)
     (at n index : ℕ) (is : index ≡ at / 2 ^ h.cluster_bits / l2_entries h.cluster_bits) (one : at % (l2_entries h.cluster_bits * 2 ^ h.cluster_bits) + n ≤ l2_entries h.cluster_bits * 2 ^ h.cluster_bits) where
-  -- the L2 table of each place of the range
+  -- Each byte of the range has the same L2 table.
   its-table : (i : ℕ) → i < n → l2_table f h ((at + i) / cluster_size h / entries_of_cluster h) ≡ table_offset (slice_index raw_entries index)
   its-table i lt =
       let near : (at + i) / 2 ^ h.cluster_bits / l2_entries h.cluster_bits ≡ at / 2 ^ h.cluster_bits / l2_entries h.cluster_bits = same-table h.cluster_bits at i (omega arith) in
       ap (l2_table f h) (near ∙ sym is) ∙ are.each index
 
-  -- without an L2 table the range is zeroes
+  -- Without an L2 table the range reads as zeroes.
   pub none-shown : None ≡ offset_or_none (table_offset (slice_index raw_entries index)) → (buffer : List ℕ) → length buffer ≡ n → ((i : ℕ) → slice_index buffer i ≡ 0) → Shows (image_value f h) at buffer
   none-shown none buffer long blank i lt =
       let less : i < n = omega arith in
       value-none f h sound inside (at + i) (its-table i less ∙ none-place (table_offset (slice_index raw_entries index)) none) ∙ ap byte (sym (blank i))
 
-  -- the place of the table
+  -- The offset of the L2 table.
   pub table-place : (place : ℕ) → Some place ≡ offset_or_none (table_offset (slice_index raw_entries index)) → (place / 2 ^ h.cluster_bits * 2 ^ h.cluster_bits ≡ place) × (place ≤ max_offset)
   table-place place some =
       let there = some-place (table_offset (slice_index raw_entries index)) place some in
@@ -100,7 +100,7 @@ module _ (f : Bytes) (h : Fields) (sound : IsTrue (l1_table_sound f h)) (inside 
     named-here : (i : ℕ) → i < n → l2_table f h ((at + i) / cluster_size h / entries_of_cluster h) ≡ place
     named-here i lt = its-table i lt ∙ sym (some-place (table_offset (slice_index raw_entries index)) place some).0
 
-    -- the values of the loaded table are those of the image
+    -- The values by the loaded table are those of the image.
     pub loaded-values : 9 ≤ h.cluster_bits → (g : Bytes) (table : TableValue) → g ≡ f → table ≡ table_in f h cluster (entries_of_cluster h) → AreSound l2_table_kind (layout_of h) (raw_entries_in f (cluster * cluster_size h) (entries_of_cluster h))
         → (i : ℕ) → i < n → image_value f h (at + i) ≡ table_value g table (at + i)
     loaded-values low g table same loaded sound' i lt =
@@ -112,7 +112,7 @@ module _ (f : Bytes) (h : Fields) (sound : IsTrue (l1_table_sound f h)) (inside 
         ∙ (ap (λ w. mapped_value f h.cluster_bits (mapping_of (layout_of h) w) (at + i)) (sym own)
         ∙ (ap (λ t. table_value f t (at + i)) (sym loaded) ∙ ap (λ (x : Bytes). table_value x table (at + i)) (sym same)))
 
-    -- where the table is damaged the first of them is
+    -- If the table is damaged, the first byte of the range is the first that can't be read.
     pub damaged-first : 0 < n → HasUnsound l2_table_kind (layout_of h) (raw_entries_in f (cluster * cluster_size h) (entries_of_cluster h)) → IsFirstFault (image_value f h) at n DamagedTable
     damaged-first some' unsound = record {
       place = 0;
@@ -121,7 +121,7 @@ module _ (f : Bytes) (h : Fields) (sound : IsTrue (l1_table_sound f h)) (inside 
       before = λ i less. absurd (omega arith);
     }
 
-    -- why the table isn't loaded is why the range isn't read
+    -- If the table isn't loaded, the range isn't read, for the same reason.
     pub table-refused : (old new : StorageState) → h.cluster_bits ≤ 21 → 0 < n → (fault : Fault) → WhyNotLoaded l2_table_kind (layout_of h) (raw_entries_in f (cluster * cluster_size h) (entries_of_cluster h)) old.faults new.faults fault → NotShown (image_value f h) old new at n fault
     table-refused old new high some' Memory why = why
     table-refused old new high some' Storage why = why
@@ -131,11 +131,9 @@ module _ (f : Bytes) (h : Fields) (sound : IsTrue (l1_table_sound f h)) (inside 
         absurd (omega (arith, why.0, why.1, words_long f (cluster * cluster_size h) (entries_of_cluster h)))
     table-refused old new high some' fault why = absurd why
 
--- nothing is read yet
 pub shown-none : (value : ℕ → Value) (old now : StorageState) (offset : ℕ) (buffer : List ℕ) → UnchangedButFaults old now → now.faults ≡ old.faults → ShownSoFar value old now offset 0 buffer
 shown-none value old now offset buffer kept faults = record { kept = kept; faults = faults; most = omega arith; read = λ i lt. absurd (omega arith) }
 
--- the same values in other words
 pub shown-as : (result : Result (Unit {0}) Fault) (value value' : ℕ → Value) (at : ℕ) (buffer : List ℕ) → ((i : ℕ) → i < length buffer → value (at + i) ≡ value' (at + i)) → OnOk result (Shows value' at buffer) → OnOk result (Shows value at buffer)
 shown-as (Err _) value value' at buffer same shows = tt
 shown-as (Ok _) value value' at buffer same shows = λ i lt. same i lt ∙ shows i lt

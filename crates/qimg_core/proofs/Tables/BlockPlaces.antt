@@ -1,4 +1,4 @@
--- The places of the refcount blocks, word by word of the refcount table, of which the words past the file's end aren't loaded.
+-- The offsets of the refcount blocks, if only the refcount table entries before the end of the file are loaded.
 use Rattle.std.proofs.Common.{◌≡◌, ℕ, ◌+◌, ◌*◌, ◌/◌, ◌^◌, ◌<◌, ◌≤◌, refl, arith, ap, sym, ◌∙◌, List, [], ◌∷◌, ◌++◌, length, inl, inr}
 use Rattle.std.specs.Prelude.{Bool, true, false, cond, ◌&&◌, nat_lt, slice_index, Ok, IsTrue}
 use Rattle.std.proofs.lemmas.Bool.{cases_lt, le-ltb}
@@ -27,7 +27,6 @@ use Rattle.qimg_core.proofs.Tables.FewerWords.{past-word}
 use Rattle.qcow2_types.proofs.Changes.WriteBack.{place-whole, place-near}
 use Rattle.qimg_core.proofs.Tables.Tests.{tests-miss}
 
--- a damaged refcount table
 blocks-damaged : (f : Bytes) (h : Fields) → refcount_table_sound f h ≡ false → tables_sound f h ≡ false
 unfolding tables_sound
 blocks-damaged f h broken = rw broken (either (l1_table_sound f h) _)
@@ -37,7 +36,7 @@ blocks-damaged f h broken = rw broken (either (l1_table_sound f h) _)
     either false b = refl
 
 module _ (f : Bytes) (H : Header) (loads : header_of true f ≡ Ok H) (cluster : ℕ) (is : cluster ≡ H.fields.refcount_table_offset / 2 ^ H.fields.cluster_bits) where
-  -- The refcount table begins with a cluster that words can name.
+  -- The refcount table is at an addressable cluster.
   pub blocks-place : (cluster * 2 ^ H.fields.cluster_bits ≡ H.fields.refcount_table_offset) × (cluster * 2 ^ H.fields.cluster_bits ≤ max_offset)
   blocks-place =
       let limited : Limited H.fields = header-limited true f H loads in
@@ -46,7 +45,7 @@ module _ (f : Bytes) (H : Header) (loads : header_of true f ≡ Ok H) (cluster :
       let at : cluster * 2 ^ H.fields.cluster_bits ≡ H.fields.refcount_table_offset = ap (λ c. c * 2 ^ H.fields.cluster_bits) is ∙ whole in
       (at, omega (arith, near))
 
-  -- word i of it, by the words that were loaded
+  -- Entry `i` of the refcount table is the loaded one.
   word-loaded : (n i : ℕ) → i < n → slice_index (raw_entries_in f (cluster * cluster_size H.fields) n) i ≡ raw_entry f H.fields.refcount_table_offset i
   word-loaded n i lt = words_at f _ _ i lt ∙ ap (λ p. raw_entry f p i) blocks-place.0
 
@@ -55,7 +54,7 @@ module _ (f : Bytes) (H : Header) (loads : header_of true f ≡ Ok H) (cluster :
       let inside : nat_lt i (refcount_table_entries H.fields) ≡ true = grind (arith, nat_tests) in
       ap (λ b. cond b (block_offset (raw_entry f H.fields.refcount_table_offset i)) 0) inside ∙ ap block_offset (sym (word-loaded n i lt))
 
-  -- One of the first words has no meaning.
+  -- If a loaded entry is invalid, the refcount table is damaged.
   blocks-unsound : (n : ℕ) → n ≤ refcount_table_entries H.fields → HasUnsound refcount_table_kind (layout_of H.fields) (raw_entries_in f (cluster * cluster_size H.fields) n) → refcount_table_sound f H.fields ≡ false
   unfolding refcount_table_sound
   blocks-unsound n few unsound =
@@ -63,7 +62,7 @@ module _ (f : Bytes) (H : Header) (loads : header_of true f ≡ Ok H) (cluster :
       tests-miss (refcount_table_entries H.fields) unsound.0 (λ k. reftable_entry_valid H.fields.cluster_bits (raw_entry f H.fields.refcount_table_offset k)) (omega (arith, lt, few))
       (ap (reftable_entry_valid H.fields.cluster_bits) (sym (word-loaded n unsound.0 lt)) ∙ unsound.2)
 
--- So the refcount table isn't loaded, and that is the finding.
+-- If the refcount table isn't loaded because it is damaged, that is the finding.
 pub blocks-finding : (old new : StorageState) (H : Header) → header_of true (file old) ≡ Ok H → (cluster n : ℕ) → cluster ≡ H.fields.refcount_table_offset / 2 ^ H.fields.cluster_bits → n ≤ refcount_table_entries H.fields → (fault : Fault)
     → WhyNotLoaded refcount_table_kind (layout_of H.fields) (raw_entries_in (file old) (cluster * cluster_size H.fields) n) old.faults new.faults fault → Found old new (IsUnsound (file old) H.fields) (fault_of_load Table fault)
 blocks-finding old new H loads cluster n is few Memory why = why
@@ -74,7 +73,7 @@ blocks-finding old new H loads cluster n is few (Limit m) why =
     absurd (omega (arith, why.0, why.1, words_long (file old) (cluster * cluster_size H.fields) n, limited.refcount_entries, few))
 blocks-finding old new H loads cluster n is few fault why = absurd why
 
--- The words of the refcount table have a meaning where the first do, and the others are past the file's end.
+-- All entries past the end of the file are 0. So the refcount table is valid if its first `n` entries are.
 pub blocks-sound-by-first : (bytes : List ℕ) (H : Header) → header_of true (bytes_of bytes) ≡ Ok H → (cluster n : ℕ) → cluster ≡ H.fields.refcount_table_offset / 2 ^ H.fields.cluster_bits
     → AreSound refcount_table_kind (layout_of H.fields) (raw_entries_in (bytes_of bytes) (cluster * cluster_size H.fields) n) → ((i : ℕ) → n ≤ i → i < refcount_table_entries H.fields → length bytes ≤ H.fields.refcount_table_offset + 8 * i)
     → refcount_table_sound (bytes_of bytes) H.fields ≡ true
@@ -86,12 +85,11 @@ blocks-sound-by-first bytes H loads cluster n is sound past = all-below-holds (r
   | inr ge ↦ ap (reftable_entry_valid H.fields.cluster_bits) (past-word bytes H.fields.refcount_table_offset i (past i ge lt)) ∙ zero-place H.fields.cluster_bits
 ])
 
--- the places that the first words name, 0 for none
+-- `blocks` are the offsets in the first `n` entries, with 0 for an empty entry.
 pub record BlocksTo (f : Bytes) (h : Fields) (n : ℕ) (blocks : List ℕ) : Type 0 where
   pub long : length blocks ≡ n
   pub each : (i : ℕ) → i < n → slice_index blocks i ≡ block_at f h i
 
--- one more word
 pub blocks-more : (f : Bytes) (h : Fields) (n place : ℕ) (before now : List ℕ) → BlocksTo f h n before → now ≡ before ++ place ∷ [] → block_at f h n ≡ place → BlocksTo f h (n + 1) now
 blocks-more f h n place before now to is here = record {
   long = ap length is ∙ length-append before (place ∷ []) ∙ ap (λ k. k + 1) to.long;
@@ -103,7 +101,6 @@ blocks-more f h n place before now to is here = record {
   ];
 }
 
--- each block is where a cluster can begin
 block-placed : (f : Bytes) (h : Fields) (i : ℕ) → IsTrue (refcount_table_sound f h) → is_cluster_offset h.cluster_bits (block_at f h i) ≡ true
 unfolding refcount_table_sound
 block-placed f h i sound = elim (cases_lt i (refcount_table_entries h)) [
@@ -120,7 +117,7 @@ block-placed f h i sound = elim (cases_lt i (refcount_table_entries h)) [
     last true b e = e
     last false b e = absurd cc
 
--- past the file's end there is none
+-- An entry past the end of the file references no block.
 block-past : (bytes : List ℕ) (h : Fields) (n i : ℕ) → n ≤ i → ((k : ℕ) → n ≤ k → k < refcount_table_entries h → length bytes ≤ h.refcount_table_offset + 8 * k) → block_at (bytes_of bytes) h i ≡ 0
 block-past bytes h n i le past = elim (cases_lt i (refcount_table_entries h)) [
   | inl lt ↦
@@ -131,7 +128,7 @@ block-past bytes h n i le past = elim (cases_lt i (refcount_table_entries h)) [
       ap (λ b. cond b (block_offset (raw_entry (bytes_of bytes) h.refcount_table_offset i)) 0) outside
 ]
 
--- The first words name all blocks where the others are past the file's end.
+-- If the other entries are past the end of the file, the first `n` entries give all blocks.
 pub blocks-all : (bytes : List ℕ) (h : Fields) (n : ℕ) (blocks : List ℕ) → n ≤ refcount_table_entries h → IsTrue (refcount_table_sound (bytes_of bytes) h)
     → ((i : ℕ) → n ≤ i → i < refcount_table_entries h → length bytes ≤ h.refcount_table_offset + 8 * i) → BlocksTo (bytes_of bytes) h n blocks → IsBlocks (bytes_of bytes) h blocks
 blocks-all bytes h n blocks few sound past to = record {

@@ -1,4 +1,4 @@
--- Tables of which the words past the file's end aren't loaded.
+-- Tables whose entries past the end of the file aren't loaded.
 use Rattle.std.proofs.Common.{◌≡◌, ℕ, ◌+◌, ◌*◌, ◌/◌, ◌^◌, ◌<◌, ◌≤◌, refl, arith, ap, sym, ◌∙◌, List, length, inl, inr}
 use Rattle.std.proofs.lemmas.Bool.{cases_lt}
 use Rattle.std.specs.Prelude.{true, false, slice_index, Result, Ok, Err, OnOk, IfErr}
@@ -24,24 +24,20 @@ use Rattle.qimg_core.specs.Plain.{NoL1}
 use Rattle.qimg_core.proofs.Tables.Places.{l1-place}
 use Rattle.qimg_core.proofs.Tables.Tests.{tests-miss}
 
--- the cluster where a table begins, by what is read of the header
 pub cluster-at : (cluster place bits place' bits' : ℕ) → cluster ≡ place / 2 ^ bits → place ≡ place' → bits ≡ bits' → cluster ≡ place' / 2 ^ bits'
 cluster-at cluster place bits place' bits' is same same' = is ∙ (ap (λ p. p / 2 ^ bits) same ∙ ap (λ b. place' / 2 ^ b) same')
 
--- as many words are loaded as were asked for
 pub loaded-count : (f : Bytes) (h : Fields) (cluster n entries : ℕ) (t : TableValue) → t ≡ table_in f h cluster n → entries ≡ length t.raw_entries → entries ≡ n
 loaded-count f h cluster n entries t is count = count ∙ (ap (λ v. length v.raw_entries) is ∙ words_long f (cluster * cluster_size h) n)
 
--- the words as they are in the file
 pub loaded-word : (f : Bytes) (h : Fields) (cluster n i word' : ℕ) (t : TableValue) → t ≡ table_in f h cluster n → word' ≡ slice_index t.raw_entries i → slice_index (raw_entries_in f (cluster * cluster_size h) n) i ≡ word'
 loaded-word f h cluster n i word' t is read = sym (read ∙ ap (λ v. slice_index v.raw_entries i) is)
 
--- an L1 table that is damaged
 l1-damaged : (f : Bytes) (h : Fields) → l1_table_sound f h ≡ false → tables_sound f h ≡ false
 unfolding tables_sound
 l1-damaged f h broken = rw broken refl
 
--- One of the first words of the L1 table has no meaning.
+-- If one of the first `n` L1 entries is invalid, the L1 table is damaged.
 l1-unsound : (f : Bytes) (H : Header) → header_of false f ≡ Ok H → (cluster n : ℕ) → cluster ≡ H.fields.l1_offset / 2 ^ H.fields.cluster_bits → n ≤ H.fields.l1_entries
     → HasUnsound l1_table_kind (layout_of H.fields) (raw_entries_in f (cluster * cluster_size H.fields) n) → l1_table_sound f H.fields ≡ false
 unfolding l1_table_sound
@@ -51,7 +47,7 @@ l1-unsound f H loads cluster n is few unsound =
     let same : slice_index (raw_entries_in f (cluster * cluster_size H.fields) n) unsound.0 ≡ raw_entry f H.fields.l1_offset unsound.0 = words_at f _ _ unsound.0 lt ∙ ap (λ p. raw_entry f p unsound.0) (l1-place f H loads cluster is).0 in
     tests-miss H.fields.l1_entries unsound.0 (λ k. l1_entry_valid H.fields.cluster_bits (raw_entry f H.fields.l1_offset k)) (omega (arith, lt, few)) (ap (l1_entry_valid H.fields.cluster_bits) (sym same) ∙ unsound.2)
 
--- So the L1 table isn't loaded, and that is the finding.
+-- If the L1 table isn't loaded because it is damaged, that is the finding.
 pub l1-finding : (old new : StorageState) (H : Header) → header_of false (file old) ≡ Ok H → (cluster n : ℕ) → cluster ≡ H.fields.l1_offset / 2 ^ H.fields.cluster_bits → n ≤ H.fields.l1_entries → (fault : Fault)
     → WhyNotLoaded l1_table_kind (layout_of H.fields) (raw_entries_in (file old) (cluster * cluster_size H.fields) n) old.faults new.faults fault → Found old new (IsUnsound (file old) H.fields) (fault_of_load Table fault)
 l1-finding old new H loads cluster n is few Memory why = why
@@ -62,7 +58,7 @@ l1-finding old new H loads cluster n is few (Limit m) why =
     absurd (omega (arith, why.0, why.1, words_long (file old) (cluster * cluster_size H.fields) n, limited.l1_entries, few))
 l1-finding old new H loads cluster n is few fault why = absurd why
 
--- So it isn't loaded for a plain read.
+-- Like `l1-finding`, for a plain read.
 l1-why : (old new : StorageState) (H : Header) → header_of false (file old) ≡ Ok H → (cluster n : ℕ) → cluster ≡ H.fields.l1_offset / 2 ^ H.fields.cluster_bits → n ≤ H.fields.l1_entries → (fault : Fault)
     → WhyNotLoaded l1_table_kind (layout_of H.fields) (raw_entries_in (file old) (cluster * cluster_size H.fields) n) old.faults new.faults fault → NoL1 old new H.fields fault
 l1-why old new H loads cluster n is few Memory why = why
@@ -78,12 +74,11 @@ pub l1-refused : (result : Result TableValue Fault) (old new : StorageState) (H 
 l1-refused (Ok _) old new H loads cluster n is few why = tt
 l1-refused (Err fault) old new H loads cluster n is few why = l1-why old new H loads cluster n is few fault why
 
--- a word past the file's end
 pub past-word : (bytes : List ℕ) (place i : ℕ) → length bytes ≤ place + 8 * i → raw_entry (bytes_of bytes) place i ≡ 0
 unfolding raw_entry
 past-word bytes place i past = be-zeroes (bytes_of bytes) (place + 8 * i) 8 (λ k lt. past_end bytes (place + 8 * i + k) (omega arith))
 
--- The words of the L1 table have a meaning where the first do, and the others are past the file's end.
+-- All entries past the end of the file are 0. So the L1 table is valid if its first `n` entries are.
 pub l1-sound-by-first : (bytes : List ℕ) (H : Header) → header_of false (bytes_of bytes) ≡ Ok H → (cluster n : ℕ) → cluster ≡ H.fields.l1_offset / 2 ^ H.fields.cluster_bits
     → AreSound l1_table_kind (layout_of H.fields) (raw_entries_in (bytes_of bytes) (cluster * cluster_size H.fields) n) → ((i : ℕ) → n ≤ i → i < H.fields.l1_entries → length bytes ≤ H.fields.l1_offset + 8 * i)
     → l1_table_sound (bytes_of bytes) H.fields ≡ true

@@ -1,4 +1,4 @@
--- The words of an L2 table as they are loaded, with a meaning or without.
+-- The entries of a loaded L2 table, valid or not.
 use Rattle.std.proofs.Common.{◌≡◌, ℕ, ◌*◌, ◌<◌, arith, ap, sym, ◌∙◌, length}
 use Rattle.std.specs.Prelude.{true, false, not, slice_index}
 use Rattle.qcow2_types.specs.Bytes.{Bytes, raw_entry}
@@ -11,18 +11,18 @@ use Rattle.qcow2_metadata.proofs.TableFacts.{words_long, words_at}
 use Rattle.qimg_core.proofs.Tables.Tests.{tests-miss}
 
 module _ (f : Bytes) (h : Fields) (place cluster : ℕ) (begin : cluster * cluster_size h ≡ place) where
-  -- a word as it is in the file
+  -- A loaded entry is the one in the file.
   pub l2-word : (j : ℕ) → j < entries_of_cluster h → slice_index (raw_entries_in f (cluster * cluster_size h) (entries_of_cluster h)) j ≡ raw_entry f place j
   l2-word j lt = words_at f _ _ j lt ∙ ap (λ p. raw_entry f p j) begin
 
-  -- All of them have a meaning,
+  -- If all entries are valid, the table is.
   pub l2-sound : AreSound l2_table_kind (layout_of h) (raw_entries_in f (cluster * cluster_size h) (entries_of_cluster h)) → l2_table_sound f h place ≡ true
   unfolding l2_table_sound
   l2-sound sound = all-below-holds (entries_of_cluster h) (λ j. not (is_damaged (l2_mapping f h place j))) (λ j lt.
       let inside : j < length (raw_entries_in f (cluster * cluster_size h) (entries_of_cluster h)) = omega (arith, words_long f (cluster * cluster_size h) (entries_of_cluster h)) in
       ap (λ w. not (is_damaged (mapping_of (layout_of h) w))) (sym (l2-word j lt)) ∙ sound j inside)
 
-  -- or one of them has none.
+  -- If one entry is invalid, the table is damaged.
   pub l2-unsound : HasUnsound l2_table_kind (layout_of h) (raw_entries_in f (cluster * cluster_size h) (entries_of_cluster h)) → l2_table_sound f h place ≡ false
   unfolding l2_table_sound
   l2-unsound unsound =

@@ -1,4 +1,4 @@
--- Where a table begins, by the word or the field that names it.
+-- The offset of a table, from the entry or header field that references it.
 use Rattle.std.proofs.Common.{◌≡◌, ◌≢◌, ℕ, ◌-◌, ◌*◌, ◌/◌, ◌^◌, ◌≤◌, refl, arith, ap, ◌∙◌, inl, inr}
 use Rattle.std.specs.Prelude.{Bool, true, false, cond, ◌&&◌, ◌==◌, nat_lt, IsTrue, Ok, Some, None}
 use Rattle.std.proofs.lemmas.Bool.{cases_lt, le-ltb}
@@ -12,7 +12,6 @@ use Rattle.qcow2_types.proofs.Fields.HeaderLimits.{header-limited}
 use Rattle.qcow2_types.proofs.Changes.WriteBack.{place-whole, place-near}
 use Rattle.qcow2_metadata.specs.Tables.{offset_or_none}
 
--- a place, or none
 pub none-place : (offset : ℕ) → None ≡ offset_or_none offset → offset ≡ 0
 none-place offset is = pick (offset == 0) refl is
   where
@@ -28,7 +27,7 @@ some-place offset place is = pick (offset == 0) refl is
     pick false e is = (cc, λ none. grind (arith, nat_tests))
 
 module _ (f : Bytes) (H : Header) (loads : header_of false f ≡ Ok H) where
-  -- the L1 table begins with a cluster that words can name
+  -- The L1 table is at an addressable cluster.
   pub l1-place : (cluster : ℕ) → cluster ≡ H.fields.l1_offset / 2 ^ H.fields.cluster_bits → (cluster * 2 ^ H.fields.cluster_bits ≡ H.fields.l1_offset) × (cluster * 2 ^ H.fields.cluster_bits ≤ max_offset)
   l1-place cluster is =
       let limited : Limited H.fields = header-limited false f H loads in
@@ -37,7 +36,7 @@ module _ (f : Bytes) (H : Header) (loads : header_of false f ≡ Ok H) where
       let at : cluster * 2 ^ H.fields.cluster_bits ≡ H.fields.l1_offset = ap (λ c. c * 2 ^ H.fields.cluster_bits) is ∙ whole in
       (at, omega (arith, near))
 
--- where it begins with a cluster
+-- An L2 table is at an addressable cluster.
 pub l2-place : (f : Bytes) (h : Fields) (i : ℕ) → IsTrue (l1_table_sound f h) → l2_table f h i ≢ 0 → (l2_table f h i / 2 ^ h.cluster_bits * 2 ^ h.cluster_bits ≡ l2_table f h i) × (l2_table f h i ≤ max_offset)
 unfolding l1_table_sound
 l2-place f h i sound there = elim (cases_lt i h.l1_entries) [

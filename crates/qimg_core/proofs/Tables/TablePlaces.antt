@@ -1,4 +1,4 @@
--- The places of the L2 tables, word by word of the L1 table.
+-- The offsets of the L2 tables, collected entry by entry from the L1 table.
 use Rattle.std.proofs.Common.{◌≡◌, ◌≢◌, ℕ, zero, suc, ◌+◌, ◌-◌, ◌*◌, ◌/◌, ◌^◌, ◌<◌, ◌≤◌, refl, arith, ap, sym, subst, ◌∙◌, List, [], ◌∷◌, ◌++◌, length, inl, inr}
 use Rattle.std.specs.Prelude.{Bool, true, false, not, cond, ◌==◌, nat_lt, map, slice_index, Result, Ok, Err, IfOk}
 use Rattle.std.specs.List.{filter, range_with_len}
@@ -18,15 +18,14 @@ use Rattle.qimg_core.specs.Plain.{NamesTables}
 use Rattle.qimg_core.proofs.Tables.Places.{l1-place}
 use Rattle.qimg_core.proofs.Tables.FewerWords.{past-word}
 
--- the places that the first n words name
+-- The offsets that the first `n` L1 entries reference.
 abbrev pub tables_to : Bytes → Fields → ℕ → List ℕ
 tables_to f h n = filter (λ t. not (t == 0)) (map (l2_table f h) (range_with_len 0 n))
 
--- one more word
 tables-step : (f : Bytes) (h : Fields) (n : ℕ) → tables_to f h (n + 1) ≡ tables_to f h n ++ cond (not (l2_table f h n == 0)) (l2_table f h n ∷ []) []
 tables-step f h n = filter_of_map_range_with_len_more (λ t. not (t == 0)) (l2_table f h) 0 n n (omega arith)
 
--- which names a place,
+-- The next entry references a table.
 pub tables-more : (f : Bytes) (h : Fields) (n place : ℕ) → l2_table f h n ≡ place → place ≢ 0 → tables_to f h (n + 1) ≡ tables_to f h n ++ place ∷ []
 tables-more f h n place is there = tables-step f h n ∙ ap (λ t. tables_to f h n ++ cond (not (t == 0)) (t ∷ []) []) is ∙ pick (place == 0) refl
   where
@@ -34,22 +33,22 @@ tables-more f h n place is there = tables-step f h n ∙ ap (λ t. tables_to f h
     pick true e = absurd (there (grind (arith, nat_tests)))
     pick false e = refl
 
--- which is pushed,
+-- Like `tables-more`, for a list to which the offset is pushed.
 pub tables-pushed : (f : Bytes) (h : Fields) (n place : ℕ) (before now : List ℕ) → before ≡ tables_to f h n → now ≡ before ++ place ∷ [] → l2_table f h n ≡ place → place ≢ 0 → now ≡ tables_to f h (n + 1)
 tables-pushed f h n place before now is pushed names there = pushed ∙ (ap (λ items. items ++ place ∷ []) is ∙ sym (tables-more f h n place names there))
 
--- or none
+-- The next entry references nothing.
 pub tables-skip : (f : Bytes) (h : Fields) (n : ℕ) → l2_table f h n ≡ 0 → tables_to f h (n + 1) ≡ tables_to f h n
 tables-skip f h n none = tables-step f h n ∙ ap (λ t. tables_to f h n ++ cond (not (t == 0)) (t ∷ []) []) none ∙ append-nil (tables_to f h n)
 
--- and more words that name none
+-- The next `d` entries reference nothing.
 tables-rest : (f : Bytes) (h : Fields) (n d : ℕ) → ((i : ℕ) → n ≤ i → i < n + d → l2_table f h i ≡ 0) → tables_to f h (n + d) ≡ tables_to f h n
 tables-rest f h n zero none = ap (tables_to f h) (omega arith)
 tables-rest f h n (suc d) none =
     let next : n + suc d ≡ n + d + 1 = omega arith in
     ap (tables_to f h) next ∙ tables-skip f h (n + d) (none (n + d) (omega arith) (omega arith)) ∙ tables-rest f h n d (λ i le lt. none i le (omega arith))
 
--- word i of the L1 table, by the words that were loaded
+-- Entry `i` of the L1 table is the loaded one.
 pub l2-loaded : (f : Bytes) (H : Header) → header_of false f ≡ Ok H → (cluster n i : ℕ) → cluster ≡ H.fields.l1_offset / 2 ^ H.fields.cluster_bits → n ≤ H.fields.l1_entries → i < n
     → l2_table f H.fields i ≡ table_offset (slice_index (raw_entries_in f (cluster * cluster_size H.fields) n) i)
 l2-loaded f H loads cluster n i is few lt =
@@ -57,13 +56,13 @@ l2-loaded f H loads cluster n i is few lt =
     let same : slice_index (raw_entries_in f (cluster * cluster_size H.fields) n) i ≡ raw_entry f H.fields.l1_offset i = words_at f _ _ i lt ∙ ap (λ p. raw_entry f p i) (l1-place f H loads cluster is).0 in
     ap (λ b. cond b (table_offset (raw_entry f H.fields.l1_offset i)) 0) inside ∙ ap table_offset (sym same)
 
--- past the file's end it names none
+-- An entry past the end of the file references nothing.
 l2-past : (bytes : List ℕ) (h : Fields) (i : ℕ) → i < h.l1_entries → length bytes ≤ h.l1_offset + 8 * i → l2_table (bytes_of bytes) h i ≡ 0
 l2-past bytes h i lt past =
     let inside : nat_lt i h.l1_entries ≡ true = grind (arith, nat_tests) in
     ap (λ b. cond b (table_offset (raw_entry (bytes_of bytes) h.l1_offset i)) 0) inside ∙ ap table_offset (past-word bytes h.l1_offset i past)
 
--- or its entries
+-- Like `l2-past`, but also for an index past the entries of the table.
 l2-none : (bytes : List ℕ) (h : Fields) (n i : ℕ) → n ≤ i → ((i : ℕ) → n ≤ i → i < h.l1_entries → length bytes ≤ h.l1_offset + 8 * i) → l2_table (bytes_of bytes) h i ≡ 0
 l2-none bytes h n i ge past = elim (cases_lt i h.l1_entries) [
   | inl lt ↦ l2-past bytes h i lt (past i ge lt)
@@ -72,7 +71,7 @@ l2-none bytes h n i ge past = elim (cases_lt i h.l1_entries) [
       ap (λ b. cond b (table_offset (raw_entry (bytes_of bytes) h.l1_offset i)) 0) outside
 ]
 
--- The first words name all places where the others are past the file's end.
+-- If the other entries are past the end of the file, the first `n` entries give all L2 tables.
 pub tables-all : (bytes : List ℕ) (h : Fields) (n : ℕ) (places : List ℕ) → n ≤ h.l1_entries → ((i : ℕ) → n ≤ i → i < h.l1_entries → length bytes ≤ h.l1_offset + 8 * i)
     → places ≡ tables_to (bytes_of bytes) h n → places ≡ tables_of (bytes_of bytes) h
 unfolding tables_of
@@ -80,7 +79,7 @@ tables-all bytes h n places few past is =
     let whole : n + (h.l1_entries - n) ≡ h.l1_entries = omega arith in
     is ∙ sym (ap (tables_to (bytes_of bytes) h) (sym whole) ∙ tables-rest (bytes_of bytes) h n (h.l1_entries - n) (λ i le lt. l2-past bytes h i (omega arith) (past i le (omega arith))))
 
--- The first words of the L1 table name its tables where the others are past the file's end.
+-- If the other entries are past the end of the file, the first `n` raw entries reference all L2 tables.
 first-name : (bytes : List ℕ) (H : Header) → header_of false (bytes_of bytes) ≡ Ok H → (cluster n : ℕ) → cluster ≡ H.fields.l1_offset / 2 ^ H.fields.cluster_bits → n ≤ H.fields.l1_entries
     → ((i : ℕ) → n ≤ i → i < H.fields.l1_entries → length bytes ≤ H.fields.l1_offset + 8 * i) → NamesTables (bytes_of bytes) H.fields (raw_entries_in (bytes_of bytes) (cluster * cluster_size H.fields) n)
 first-name bytes H loads cluster n is few past = record {

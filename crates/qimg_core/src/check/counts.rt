@@ -1,4 +1,4 @@
-// Counters, which qemu calls refcounts, against what is named, or referenced.
+// Compares the refcounts of an image with the number of references to each cluster.
 ghost use Rattle.std.specs.Prelude.{◌≡◌, ℕ, ◌+◌, ◌*◌, ◌<◌, ◌≤◌, ◌^◌, OnOk, IfOk, IfErr};
 ghost use Rattle.imago_storage.specs.Calls.{UnchangedButFaults};
 ghost use Rattle.qcow2_types.specs.Header.{Limited, Shaped};
@@ -19,8 +19,13 @@ use qcow2_metadata::{Header, RefBlock};
 use qcow2_types::{HostCluster, HostOffset};
 use std::alloc::Global;
 
-/// The refcount block (imago's refblock) at an index of the refcount table, or none where there is none or it is past the file's
-/// end: all its counters are 0 then.
+/// Loads the refcount block at `index` of the refcount table. Returns `None` if the block doesn't exist, or is past the end of the file.
+/// All its refcounts are 0 then.
+///
+/// # Errors
+///
+/// - `CheckFault::Memory` if memory runs out.
+/// - `CheckFault::Storage` if the storage fails.
 fn block_of<S: Storage>(
     alloc: Global,
     image: &mut S,
@@ -44,7 +49,7 @@ fn block_of<S: Storage>(
     }
 }
 
-/// The first cluster that the block at an index counts.
+/// Returns the first cluster that the refcount block at `index` covers.
 fn first_counted(header: &Header, index: usize) -> u64
     requires { index < 2 ^ 21 }
     ensures { result ≡ index * counters_of_block header.now.fields }
@@ -53,7 +58,11 @@ fn first_counted(header: &Header, index: usize) -> u64
     cluster
 }
 
-/// Looks for a cluster that is named, from `low` on and up to `high`, if that is given.
+/// Checks that no cluster from `low` up to, but not including, `high` is referenced. Without `high` there is no upper bound.
+///
+/// # Errors
+///
+/// - `CheckFault::UnderCounted` with the lowest referenced cluster.
 fn check_unreferenced(names: &Tallies, low: u64, high: Option<u64>) -> Result<(), CheckFault>
     requires { AreRising names.now.others }
     ensures ok { OnOk result (NoneWithin (is_such question.AtAll names.now) low high) }
@@ -65,7 +74,13 @@ fn check_unreferenced(names: &Tallies, low: u64, high: Option<u64>) -> Result<()
     }
 }
 
-/// Compares the counters of one block with the names of the clusters that they count, and enters the leaks among them.
+/// Compares the refcounts of one block with the references to its clusters, and appends the leaks among them to `leaks`.
+///
+/// # Errors
+///
+/// - `CheckFault::UnderCounted` with the lowest cluster whose refcount is less than the number of its references.
+/// - `CheckFault::Memory` if memory runs out.
+/// - `CheckFault::Storage` if the storage fails.
 fn compare_block<S: Storage>(
     alloc: Global,
     image: &mut S,
@@ -106,8 +121,14 @@ fn compare_block<S: Storage>(
     Ok(())
 }
 
-/// Looks for the least cluster that is counted less often than it is named. The answer is the leaks where there is none, by rising
-/// cluster: the clusters that are counted more often than they are named. Each block is read once.
+/// Returns the leaks, by rising cluster: the clusters whose refcount is greater than the number of their references, each with the
+/// difference. Each block is read once.
+///
+/// # Errors
+///
+/// - `CheckFault::UnderCounted` with the lowest cluster whose refcount is less than the number of its references.
+/// - `CheckFault::Memory` if memory runs out.
+/// - `CheckFault::Storage` if the storage fails.
 pub fn compare<S: Storage>(
     alloc: Global,
     image: &mut S,

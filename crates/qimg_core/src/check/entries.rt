@@ -1,12 +1,16 @@
-// Lists of names, or references. A name is 2048 times its cluster, 256 times a place below 8, and a digit below 256: it counts for
-// the digit at that place of a number to the base of 256.
+// Lists that count references. An item is `cluster * 2048 + place * 256 + digit`, with `place` below 8 and `digit` below 256. It counts
+// `digit * 256^place` references to the cluster.
 ghost use Rattle.std.specs.Prelude.{◌≡◌, ℕ, ◌+◌, ◌*◌, ◌/◌, ◌<◌, ◌≤◌, ◌^◌, nat_lt, Some, IfSome, OnOk, IsOkUnless};
 ghost use Rattle.qimg_core.specs.Names.{AddsWeight, TakesFew, IsRising, weight_of};
 ghost use Rattle.qimg_core.specs.Searches.{IsListed, IsCut, IsFrom};
 
 use super::CheckFault;
 
-/// Enters a cluster, so often: by a name for each digit of that to the base of 256, but for those that are 0.
+/// Adds `times` references to a cluster: one item for each digit of `times` to base 256 that isn't 0.
+///
+/// # Errors
+///
+/// - `CheckFault::Memory` if memory runs out.
 pub fn enter(list: &mut Vec<u64>, cluster: u64, times: u64) -> Result<(), CheckFault>
     requires { cluster < 2 ^ 53 }
     ensures ok { OnOk result (AddsWeight list.old.items list.new.items cluster times) }
@@ -26,7 +30,7 @@ pub fn enter(list: &mut Vec<u64>, cluster: u64, times: u64) -> Result<(), CheckF
     Ok(())
 }
 
-/// Where a list is cut at a cluster: how many names there are of clusters before it.
+/// Returns the cut of a list at `cluster`: the number of items of lower clusters.
 pub fn cut_at(list: &[u64], cluster: u64) -> usize
     requires { IsRising list.now }
     ensures { IsCut list.now cluster (Some cluster) result }
@@ -38,7 +42,7 @@ pub fn cut_at(list: &[u64], cluster: u64) -> usize
     )
 }
 
-/// How often the names of a cluster name it, where the list is cut at it. Then it is cut behind them.
+/// Returns how many references to `cluster` the list counts, and moves `cut` from this cluster's first item past its last one.
 pub fn weight_from(list: &[u64], cut: &mut usize, cluster: u64) -> u128
     requires rising { IsRising list.now }
     requires cut { IsCut list.now cluster (Some cluster) cut.old }
@@ -58,7 +62,7 @@ pub fn weight_from(list: &[u64], cut: &mut usize, cluster: u64) -> u128
     sum
 }
 
-/// The cluster of the name behind a cut, if there is one.
+/// Returns the cluster of the item at `cut`, if any.
 pub fn next_in(list: &[u64], cut: usize) -> Option<u64>
     requires { IsRising list.now }
     ensures next { (c : ℕ) → IsCut list.now c (Some c) cut → IsCut list.now c result cut × IsFrom c result }

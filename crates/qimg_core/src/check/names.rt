@@ -1,4 +1,4 @@
-// How often each host cluster is named: referenced, as qemu and imago say.
+// Counts the references to each host cluster.
 ghost use Rattle.std.specs.Prelude.{◌≡◌, ℕ, ◌+◌, ◌*◌, ◌<◌, ◌≤◌, ◌^◌, length, OnOk, IfOk, IsOk, IfSome, IsSome, IsOkUnless};
 ghost use Rattle.qimg_core.specs.Entering.{AddsRange};
 ghost use Rattle.qimg_core.specs.Names.{AddsClusters, AddsEntry, KeepsCells, IsFewSum, HasRoom, HasRoomAt, ListsOnlyOverflow, AreRising, TellsNothing, cell_at, times_at};
@@ -9,18 +9,18 @@ use qcow2_metadata::Header;
 use qcow2_types::{HostCluster, HostOffset};
 use std::alloc::Global;
 
-/// How often something is named, and how.
+/// A number of references to a cluster, by kind.
 #[derive(Clone, Copy, Debug)]
 pub struct Times {
-    /// As a part of the structure.
+    /// References to the cluster as a part of the structure: header, tables and refcount blocks.
     pub structure: u64,
-    /// By words, or entries, of L2 tables.
+    /// References by entries of L2 tables.
     pub mapped: u64,
-    /// By those of them that are marked as copied: `QCOW_OFLAG_COPIED`, imago's copied bit.
+    /// The part of `mapped` from L2 entries that have the COPIED flag (`QCOW_OFLAG_COPIED`).
     pub copied: u64,
 }
 
-/// How often something is named in all, however many names there are.
+/// The total number of references to a cluster, by kind. It can't overflow.
 #[derive(Clone, Copy, Debug)]
 pub struct AllTimes {
     pub structure: u128,
@@ -28,7 +28,7 @@ pub struct AllTimes {
     pub copied: u128,
 }
 
-/// The same as `Times`, in few bytes.
+/// Like `Times`, in four bytes.
 #[derive(Clone, Copy, Debug)]
 pub struct FewTimes {
     pub mapped: u16,
@@ -42,17 +42,17 @@ const NO_FEW_TIMES: FewTimes = FewTimes {
     copied: 0,
 };
 
-/// How often each cluster is named: what its cell and the lists say, together.
+/// The number of references to each cluster: the sum of the cluster's cell and its items in the lists.
 #[derive(Drop)]
 pub struct Tallies {
-    /// Four bytes for each cluster, from the first one of the file on.
+    /// A cell of four bytes for each cluster, from the first cluster of the file on.
     pub cells: Vec<FewTimes>,
-    /// What has no room in the cells: names behind them, and more of a cluster than a cell can count.
+    /// The references that the cells can't count: to clusters without a cell, and more to a cluster than its cell can hold.
     pub others: Others,
 }
 
-/// How often each cluster is named, by lists of names of eight bytes each, which `sort_references` puts in order. A name by a word that is
-/// marked as copied stands in two.
+/// References to clusters, by kind, as lists of 8-byte items. `sort_references` sorts them. A reference by an L2 entry with the COPIED flag
+/// is in both `mapped` and `copied`.
 #[derive(Drop)]
 pub struct Others {
     pub structure: Vec<u64>,
@@ -60,7 +60,11 @@ pub struct Others {
     pub copied: Vec<u64>,
 }
 
-/// Nothing is named, with so many cells.
+/// Returns tallies with `count` cells and no references.
+///
+/// # Errors
+///
+/// - `CheckFault::Memory` if memory runs out.
 pub fn no_references(alloc: Global, count: usize) -> Result<Tallies, CheckFault>
     ensures ok { IfOk result TellsNothing }
     ensures cells { IfOk result (λ names. length names.cells.items ≡ count) }
@@ -77,7 +81,7 @@ pub fn no_references(alloc: Global, count: usize) -> Result<Tallies, CheckFault>
     })
 }
 
-/// What a cell counts with more, if there is room.
+/// Adds `more` to a cell. Returns `None` if the cell can't hold the sum.
 #[inline(always)]
 fn cell_with(cell: FewTimes, more: Times) -> Option<FewTimes>
     ensures sum { IfSome result (IsFewSum cell more) }
@@ -96,7 +100,7 @@ fn cell_with(cell: FewTimes, more: Times) -> Option<FewTimes>
     })
 }
 
-/// What a cluster's cell says.
+/// Returns the cell of a cluster, or zeroes if the cluster has no cell.
 #[inline(always)]
 pub fn cell_of(cells: &[FewTimes], cluster: u64) -> FewTimes
     ensures { result ≡ cell_at cells.now cluster }
@@ -108,7 +112,11 @@ pub fn cell_of(cells: &[FewTimes], cluster: u64) -> FewTimes
     }
 }
 
-/// Adds to a cluster's names in the lists.
+/// Adds references to a cluster to the lists.
+///
+/// # Errors
+///
+/// - `CheckFault::Memory` if memory runs out.
 fn enter_other(others: &mut Others, cluster: u64, times: Times) -> Result<(), CheckFault>
     requires { cluster < 2 ^ 53 }
     ensures ok { OnOk result (AddsEntry others.old others.new cluster times) }
@@ -119,7 +127,11 @@ fn enter_other(others: &mut Others, cluster: u64, times: Times) -> Result<(), Ch
     enter(&mut others.copied, cluster, times.copied)
 }
 
-/// Enters one cluster: in its cell, if that has room.
+/// Adds references to one cluster: to its cell if the cell can hold them, and otherwise to the lists.
+///
+/// # Errors
+///
+/// - `CheckFault::Memory` if memory runs out, and the cell can't hold the references.
 #[inline(always)]
 pub fn reference_cluster(names: &mut Tallies, cluster: u64, times: Times) -> Result<(), CheckFault>
     requires { cluster < 2 ^ 53 }
@@ -137,7 +149,11 @@ pub fn reference_cluster(names: &mut Tallies, cluster: u64, times: Times) -> Res
     enter_other(&mut names.others, cluster, times)
 }
 
-/// Enters the clusters from `low` up to `end`, which isn't one of them.
+/// Adds references to each cluster from `low` up to, but not including, `end`.
+///
+/// # Errors
+///
+/// - `CheckFault::Memory` if memory runs out.
 fn reference_clusters(
     names: &mut Tallies,
     low: u64,
@@ -155,7 +171,11 @@ fn reference_clusters(
     Ok(())
 }
 
-/// Enters a range of bytes: each cluster that it meets.
+/// Adds references to each cluster that meets a range of `length` bytes from offset `first` on.
+///
+/// # Errors
+///
+/// - `CheckFault::Memory` if memory runs out.
 pub fn reference_range(
     names: &mut Tallies,
     header: &Header,
@@ -176,7 +196,7 @@ pub fn reference_range(
     reference_clusters(names, low, high + 1, times)
 }
 
-/// Puts the lists in order.
+/// Sorts the lists by cluster.
 pub fn sort_references(names: &mut Tallies)
     ensures same { (c : ℕ) → times_at names.new c ≡ times_at names.old c }
     ensures cells { KeepsCells names.old names.new }

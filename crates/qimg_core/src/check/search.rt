@@ -1,4 +1,4 @@
-// The least cluster whose names, or references, are of some kind.
+// Searches for the lowest cluster that is referenced in a given way, such as more than once.
 ghost use Rattle.std.specs.Prelude.{◌≡◌, ◌⊎◌, ℕ, ◌+◌, ◌<◌, ◌≤◌, ◌^◌, length, MatchOption, IsSomeAnd, Some, IsTrue, IsFalse};
 ghost use Rattle.qcow2_types.specs.Consistency.{Nowhere, IsLeast};
 ghost use Rattle.qimg_core.specs.Names.{AreRising, all_times, times_at};
@@ -7,20 +7,20 @@ ghost use Rattle.qimg_core.specs.Searches.{passes as passes_of, is_such, IsBelow
 use super::entries::{cut_at, next_in, weight_from};
 use super::names::{AllTimes, Others, Tallies, cell_of};
 
-/// What is asked of how often a cluster is named.
+/// A question about the references to a cluster.
 #[derive(Clone, Copy, Debug)]
 pub enum Question {
-    /// As a part of the structure, and more than once?
+    /// Is it a part of the structure (header, tables and refcount blocks), and referenced more than once?
     Shared,
-    /// As copied (`QCOW_OFLAG_COPIED`, the copied bit), and more than once?
+    /// Is it referenced by an L2 entry with the COPIED flag (`QCOW_OFLAG_COPIED`), and more than once?
     FalselyCopied,
-    /// One of these two?
+    /// Is it `Shared` or `FalselyCopied`?
     Either,
-    /// At all?
+    /// Is it referenced at all?
     AtAll,
 }
 
-/// Whether the answer is yes.
+/// Returns true if the answer to the question is yes for these numbers of references.
 fn passes(question: Question, times: AllTimes) -> bool
     requires { times.structure + times.mapped < 2 ^ 128 }
     ensures { result ≡ passes_of question (all_times times) }
@@ -34,7 +34,7 @@ fn passes(question: Question, times: AllTimes) -> bool
     }
 }
 
-/// The lesser of two bounds, where none is past all clusters.
+/// Returns the lower of two bounds. `None` is above all clusters.
 fn lesser(one: Option<u64>, other: Option<u64>) -> Option<u64>
     ensures below { (c : ℕ) → IsBelow result c → IsBelow one c × IsBelow other c }
     ensures is { (result ≡ one) ⊎ (result ≡ other) }
@@ -46,18 +46,18 @@ fn lesser(one: Option<u64>, other: Option<u64>) -> Option<u64>
     }
 }
 
-/// A way along the clusters, by rising number.
+/// A walk along the clusters, in rising order.
 #[derive(Clone, Copy, Debug)]
 pub struct Way {
-    /// Where each list is cut: before its first name of a cluster that isn't passed.
+    /// The cut of each list: the index of its first item of a cluster that isn't passed yet.
     structure: usize,
     mapped: usize,
     copied: usize,
-    /// The next cluster that stands in a list.
+    /// The next cluster that has an item in a list.
     next: Option<u64>,
 }
 
-/// The way on from where the lists are cut.
+/// Returns the walk that continues from the cuts of the lists.
 fn way_of(others: &Others, structure: usize, mapped: usize, copied: usize) -> Way
     requires { AreRising others.now }
     ensures { (c : ℕ) → AreCut others.now c structure mapped copied → IsAlong others.now c result }
@@ -74,7 +74,7 @@ fn way_of(others: &Others, structure: usize, mapped: usize, copied: usize) -> Wa
     }
 }
 
-/// The way from a cluster on: one search in each list.
+/// Returns a walk that starts at the cluster `low`. It searches each list once.
 pub fn way_from(others: &Others, low: u64) -> Way
     requires { AreRising others.now }
     ensures { IsAlong others.now low result }
@@ -85,7 +85,7 @@ pub fn way_from(others: &Others, low: u64) -> Way
     way_of(others, structure, mapped, copied)
 }
 
-/// How often the next cluster of the way is named. The way goes on behind it.
+/// Counts the references to the next listed cluster of the walk, and moves the walk past it.
 fn times_listed(names: &Tallies, cluster: u64, way: &mut Way) -> AllTimes
     requires rising { AreRising names.now.others }
     requires along { IsAlong names.now.others cluster way.old }
@@ -107,7 +107,7 @@ fn times_listed(names: &Tallies, cluster: u64, way: &mut Way) -> AllTimes
     }
 }
 
-/// How often a cluster is named, where the way has come to it. The way goes on behind it.
+/// Counts the references to `cluster`, which the walk has reached, and moves the walk past it.
 #[inline(always)]
 fn times_along(names: &Tallies, cluster: u64, way: &mut Way) -> AllTimes
     requires rising { AreRising names.now.others }
@@ -127,7 +127,7 @@ fn times_along(names: &Tallies, cluster: u64, way: &mut Way) -> AllTimes
     }
 }
 
-/// How often it is in all, as a part of the structure and by words. The way goes on behind it.
+/// Like `times_along`, but returns the total of the references by the structure and by L2 entries.
 #[inline(always)]
 pub fn references_along(names: &Tallies, cluster: u64, way: &mut Way) -> u128
     requires rising { AreRising names.now.others }
@@ -143,7 +143,7 @@ pub fn references_along(names: &Tallies, cluster: u64, way: &mut Way) -> u128
     cell.structure as u128 + cell.mapped as u128
 }
 
-/// Whether a cluster isn't below the bound, if there is one.
+/// Returns true if `cluster` isn't below the bound, if any.
 fn is_past(high: Option<u64>, cluster: u64) -> bool
     ensures below { IsFalse result → IsBelow high cluster }
     ensures past { IsTrue result → IsSomeAnd high (λ end. end ≤ cluster) }
@@ -154,7 +154,7 @@ fn is_past(high: Option<u64>, cluster: u64) -> bool
     }
 }
 
-/// The end of the cells, or the bound, if that is lower.
+/// Returns the number of cells, or the bound, if that is lower.
 fn cells_end(cells: u64, high: Option<u64>) -> u64
     ensures inside { (c : ℕ) → c < cells → IsBelow high c → c < result }
     ensures below { (c : ℕ) → c < result → (c < cells) × IsBelow high c }
@@ -165,7 +165,7 @@ fn cells_end(cells: u64, high: Option<u64>) -> u64
     }
 }
 
-/// The least cluster behind the cells, from `low` up to `high`, which isn't one of them, that passes.
+/// Returns the lowest matching cluster from `low` up to, but not including, `high`. Only clusters without a cell are searched.
 fn first_entry(names: &Tallies, question: Question, low: u64, high: Option<u64>) -> Option<u64>
     requires rising { AreRising names.now.others }
     requires after_structure { length names.now.cells.items ≤ low }
@@ -183,7 +183,7 @@ fn first_entry(names: &Tallies, question: Question, low: u64, high: Option<u64>)
     None
 }
 
-/// The least cluster from `low` up to `end`, which isn't one of them, that passes.
+/// Returns the lowest matching cluster from `low` up to, but not including, `end`.
 #[inline(always)]
 fn first_cell(names: &Tallies, question: Question, low: u64, end: u64) -> Option<u64>
     requires { AreRising names.now.others }
@@ -199,7 +199,7 @@ fn first_cell(names: &Tallies, question: Question, low: u64, end: u64) -> Option
     None
 }
 
-/// The least cluster from `low` on that passes, up to `high`, which isn't one of them, if that is given.
+/// Returns the lowest matching cluster from `low` up to, but not including, `high`. Without `high` there is no upper bound.
 #[inline(always)]
 pub fn first_such(names: &Tallies, question: Question, low: u64, high: Option<u64>) -> Option<u64>
     requires { AreRising names.now.others }
@@ -212,7 +212,7 @@ pub fn first_such(names: &Tallies, question: Question, low: u64, high: Option<u6
     }
 }
 
-/// The least cluster that passes.
+/// Returns the lowest matching cluster.
 #[inline(always)]
 pub fn least_such(names: &Tallies, question: Question) -> Option<u64>
     requires { AreRising names.now.others }

@@ -1,4 +1,4 @@
-// What the tables of an image name, or reference. A word of a table is its entry, and a place an offset in the file.
+// Counts the clusters that the tables of an image reference, and those of the tables themselves.
 ghost use Rattle.std.specs.Prelude.{◌≡◌, ℕ, ◌+◌, ◌*◌, ◌<◌, ◌≤◌, ◌^◌, length, slice_index, OnOk, IfOk, IfErr, IsOkUnless, IsTrue, All};
 ghost use Rattle.imago_storage.specs.Calls.{UnchangedButFaults};
 ghost use Rattle.qcow2_types.specs.Words.{max_offset, is_cluster_offset, data_at};
@@ -19,21 +19,27 @@ use qcow2_metadata::{Header, L1Table, L2Mapping, RefTable, StoredL2Table, Table}
 use qcow2_types::{GuestCluster, HostCluster, HostOffset};
 use std::alloc::Global;
 
-/// Once as a part of the structure.
+/// One reference to a cluster as a part of the structure: header, tables and refcount blocks.
 const STRUCTURE: Times = Times {
     structure: 1,
     mapped: 0,
     copied: 0,
 };
 
-/// The places of the L2 tables, and of the refcount blocks, or refblocks.
+/// The offsets of the L2 tables, and of the refcount blocks.
 #[derive(Drop)]
 pub struct Places {
     pub tables: Vec<u64>,
     pub blocks: Vec<u64>,
 }
 
-/// The places of the L2 tables, in the order of the words that name them.
+/// Returns the offsets of the L2 tables, in the order of their L1 entries.
+///
+/// # Errors
+///
+/// - `CheckFault::Table` if a table has an invalid entry.
+/// - `CheckFault::Memory` if memory runs out.
+/// - `CheckFault::Storage` if the storage fails.
 fn table_places<S: Storage>(
     alloc: Global,
     image: &mut S,
@@ -47,9 +53,9 @@ fn table_places<S: Storage>(
     ensures faults { OnOk result ((S.state image.new).faults ≡ (S.state image.old).faults) }
 {
     let offset = header.l1_table_offset();
-    let raw_entries = entries_before(image.size(), offset.0, header.l1_table_entries());
+    let count = entries_before(image.size(), offset.0, header.l1_table_entries());
     let cluster = offset.cluster(header.cluster_bits());
-    let table = match L1Table::load(alloc, image, header, cluster, raw_entries) {
+    let table = match L1Table::load(alloc, image, header, cluster, count) {
         Ok(table) => table,
         Err(fault) => return Err(load_fault(fault, CheckFault::Table)),
     };
@@ -62,7 +68,14 @@ fn table_places<S: Storage>(
     Ok(places)
 }
 
-/// The place that each word of the refcount table names, where 0 is none. The last words may be missing, if they are 0.
+/// Returns the offset of the block that each refcount table entry references, or 0 for an empty entry. Entries at the end may be missing
+/// if they are 0.
+///
+/// # Errors
+///
+/// - `CheckFault::Table` if a table has an invalid entry.
+/// - `CheckFault::Memory` if memory runs out.
+/// - `CheckFault::Storage` if the storage fails.
 fn block_places<S: Storage>(
     alloc: Global,
     image: &mut S,
@@ -76,9 +89,9 @@ fn block_places<S: Storage>(
     ensures faults { OnOk result ((S.state image.new).faults ≡ (S.state image.old).faults) }
 {
     let offset = header.reftable_offset();
-    let raw_entries = entries_before(image.size(), offset.0, header.reftable_entries());
+    let count = entries_before(image.size(), offset.0, header.reftable_entries());
     let cluster = offset.cluster(header.cluster_bits());
-    let table = match RefTable::load(alloc, image, header, cluster, raw_entries) {
+    let table = match RefTable::load(alloc, image, header, cluster, count) {
         Ok(table) => table,
         Err(fault) => return Err(load_fault(fault, CheckFault::Table)),
     };
@@ -93,7 +106,13 @@ fn block_places<S: Storage>(
     Ok(places)
 }
 
-/// The places of the L2 tables, and of the refcount blocks up to the last one.
+/// Returns the offsets of the L2 tables, and of the refcount blocks up to the last one that exists.
+///
+/// # Errors
+///
+/// - `CheckFault::Table` if a table has an invalid entry.
+/// - `CheckFault::Memory` if memory runs out.
+/// - `CheckFault::Storage` if the storage fails.
 pub fn places_of<S: Storage>(
     alloc: Global,
     image: &mut S,
@@ -105,7 +124,7 @@ pub fn places_of<S: Storage>(
     ensures unchanged_but_faults { UnchangedButFaults (S.state image.old) (S.state image.new) }
     ensures faults { OnOk result ((S.state image.new).faults ≡ (S.state image.old).faults) }
 {
-    // Each list has room for a place of each word of its table, and would keep it while the image is checked.
+    // Each list has the capacity for all entries of its table. It is shrunk because it is kept while the image is checked.
     let mut tables = table_places(alloc, image, header)?;
     tables.shrink_to_fit();
     let mut blocks = block_places(alloc, image, header)?;
@@ -115,8 +134,16 @@ pub fn places_of<S: Storage>(
     Ok(Places { tables, blocks })
 }
 
-/// Enters the clusters at these places, as parts of the structure. A place of 0 is none.
-pub fn name_places(names: &mut Tallies, header: &Header, places: &[u64]) -> Result<(), CheckFault>
+/// Adds 1 to the tally of the cluster at each of these offsets, as a table or a refcount block. An offset of 0 is skipped.
+///
+/// # Errors
+///
+/// - `CheckFault::Memory` if memory runs out.
+pub fn reference_places(
+    names: &mut Tallies,
+    header: &Header,
+    places: &[u64],
+) -> Result<(), CheckFault>
     requires { (i : ℕ) → slice_index places.now i ≤ max_offset }
     ensures ok { OnOk result (AddsPlaces header.now.fields names.old names.new places.now) }
     ensures err { IsOkUnless result CheckFault.Memory }
@@ -130,8 +157,12 @@ pub fn name_places(names: &mut Tallies, header: &Header, places: &[u64]) -> Resu
     Ok(())
 }
 
-/// Enters the first cluster, the L1 table and the refcount table.
-fn name_start(names: &mut Tallies, header: &Header) -> Result<(), CheckFault>
+/// Adds 1 to the tally of the first cluster, and of each cluster of the L1 table and the refcount table.
+///
+/// # Errors
+///
+/// - `CheckFault::Memory` if memory runs out.
+fn reference_start(names: &mut Tallies, header: &Header) -> Result<(), CheckFault>
     requires l1 { header.now.fields.l1_offset + header.now.fields.l1_entries * 8 < 2 ^ 62 }
     requires refcounts { header.now.fields.refcount_table_offset + header.now.fields.refcount_table_clusters * cluster_size
         header.now.fields < 2 ^ 62 }
@@ -148,7 +179,11 @@ fn name_start(names: &mut Tallies, header: &Header) -> Result<(), CheckFault>
     reference_range(names, header, reftable_offset, reftable_size, STRUCTURE)
 }
 
-/// Enters the structure of the image.
+/// Adds 1 to the tally of the first cluster, and of each cluster of the tables and the refcount blocks.
+///
+/// # Errors
+///
+/// - `CheckFault::Memory` if memory runs out.
 pub fn reference_structure(
     names: &mut Tallies,
     header: &Header,
@@ -162,12 +197,16 @@ pub fn reference_structure(
     ensures ok { OnOk result (AddsStructure header.now.fields names.old names.new places.now.tables.items places.now.blocks.items) }
     ensures err { IsOkUnless result CheckFault.Memory }
 {
-    name_start(names, header)?;
-    name_places(names, header, &places.blocks)?;
-    name_places(names, header, &places.tables)
+    reference_start(names, header)?;
+    reference_places(names, header, &places.blocks)?;
+    reference_places(names, header, &places.tables)
 }
 
-/// Enters what a word of an L2 table names, so often.
+/// Adds what an L2 entry references, `times` times.
+///
+/// # Errors
+///
+/// - `CheckFault::Memory` if memory runs out.
 #[inline(always)]
 fn reference_mapping(
     names: &mut Tallies,
@@ -184,12 +223,12 @@ fn reference_mapping(
         L2Mapping::DataFile {
             host_cluster,
             copied,
-        } => name_data(names, host_cluster, copied, times),
+        } => reference_data(names, host_cluster, copied, times),
         L2Mapping::Zero {
             host_cluster,
             copied,
         } => match host_cluster {
-            Some(cluster) => name_data(names, cluster, copied, times),
+            Some(cluster) => reference_data(names, cluster, copied, times),
             None => Ok(()),
         },
         L2Mapping::Compressed {
@@ -207,9 +246,13 @@ fn reference_mapping(
     }
 }
 
-/// Enters a cluster that a word of an L2 table names, so often.
+/// Adds a reference to the host cluster of an L2 entry, `times` times.
+///
+/// # Errors
+///
+/// - `CheckFault::Memory` if memory runs out.
 #[inline(always)]
-fn name_data(
+fn reference_data(
     names: &mut Tallies,
     cluster: HostCluster,
     copied: bool,
@@ -227,7 +270,11 @@ fn name_data(
     reference_cluster(names, cluster.0, times)
 }
 
-/// Enters what the words of an L2 table name, so often.
+/// Adds what the entries of an L2 table reference, `times` times.
+///
+/// # Errors
+///
+/// - `CheckFault::Memory` if memory runs out.
 fn reference_entries(
     names: &mut Tallies,
     header: &Header,
@@ -246,7 +293,13 @@ fn reference_entries(
     Ok(())
 }
 
-/// Enters what the L2 table at a place names, so often. Past the file's end it names nothing.
+/// Adds what the L2 table at offset `place` references, `times` times. A table past the end of the file references nothing.
+///
+/// # Errors
+///
+/// - `CheckFault::Table` if the table has an invalid entry.
+/// - `CheckFault::Memory` if memory runs out.
+/// - `CheckFault::Storage` if the storage fails.
 fn reference_table<S: Storage>(
     alloc: Global,
     image: &mut S,
@@ -273,8 +326,14 @@ fn reference_table<S: Storage>(
     }
 }
 
-/// Enters what the L2 tables at these places name. A table that stands there more than once is read once.
-pub fn name_contents<S: Storage>(
+/// Adds what the L2 tables at these offsets reference. A table whose offset is listed more than once is loaded once.
+///
+/// # Errors
+///
+/// - `CheckFault::Table` if one of the tables has an invalid entry.
+/// - `CheckFault::Memory` if memory runs out.
+/// - `CheckFault::Storage` if the storage fails.
+pub fn reference_contents<S: Storage>(
     alloc: Global,
     image: &mut S,
     header: &Header,

@@ -1,5 +1,4 @@
-// Reads of ranges of an image: inside one guest cluster, inside what one L2 table maps, and of any. A place is an offset: of the
-// guest's disk, or of the file.
+// Reads of ranges of an image: inside one guest cluster, inside the area of one L2 table, and of any range.
 ghost use Rattle.std.specs.Prelude.{◌≡◌, ℕ, ◌+◌, ◌*◌, ◌/◌, ◌%◌, ◌<◌, ◌≤◌, ◌^◌, length, slice_index, Ok, false, IsTrue, IsFalse, OnOk, IfErr};
 ghost use Rattle.imago_storage.specs.Calls.{CountsFaults, UnchangedButFaults, Reads};
 ghost use Rattle.imago_storage.specs.Disk.{Shows};
@@ -15,7 +14,12 @@ use qcow2_metadata::{Header, L1Table, L2Mapping, L2Table, Table};
 use qcow2_types::{GuestOffset, HostOffset};
 use std::alloc::Global;
 
-/// Fills the buffer from a place of the file on.
+/// Fills the buffer from offset `at` of the file.
+///
+/// # Errors
+///
+/// - `Fault::Memory` if memory runs out.
+/// - `Fault::Storage` if the storage fails.
 fn read_at<S: Storage>(image: &mut S, alloc: Global, buf: &mut [u8], at: u64) -> Result<(), Fault>
     requires { at + length buf.old ≤ 2 ^ 63 }
     ensures read { OnOk result (Reads (S.state image.old).bytes at buf.new) }
@@ -25,7 +29,13 @@ fn read_at<S: Storage>(image: &mut S, alloc: Global, buf: &mut [u8], at: u64) ->
     image.read(alloc, buf, at)
 }
 
-/// Reads places of one guest cluster, which is mapped so.
+/// Reads a range inside one guest cluster, which has this mapping.
+///
+/// # Errors
+///
+/// - `Fault::Barred` if the cluster is compressed.
+/// - `Fault::Memory` if memory runs out.
+/// - `Fault::Storage` if the storage fails.
 fn read_mapping<S: Storage>(
     image: &mut S,
     alloc: Global,
@@ -57,7 +67,7 @@ fn read_mapping<S: Storage>(
     }
 }
 
-/// How many of the bytes left lie in the guest cluster of a place.
+/// Returns how many of the `left` bytes from guest offset `at` on are in the same guest cluster.
 fn in_cluster(at: u64, left: usize, cluster_bits: u32) -> usize
     requires bits { (9 ≤ cluster_bits) × (cluster_bits ≤ 21) }
     requires nonempty { 0 < left }
@@ -69,7 +79,7 @@ fn in_cluster(at: u64, left: usize, cluster_bits: u32) -> usize
     (GuestOffset(at).remaining_in_cluster(cluster_bits) as usize).min(left)
 }
 
-/// How many of the bytes left are mapped by the L2 table of a place.
+/// Returns how many of the `left` bytes from guest offset `at` on are mapped by the same L2 table.
 fn in_table(at: u64, left: usize, cluster_bits: u32) -> usize
     requires bits { (9 ≤ cluster_bits) × (cluster_bits ≤ 21) }
     requires nonempty { 0 < left }
@@ -83,7 +93,13 @@ fn in_table(at: u64, left: usize, cluster_bits: u32) -> usize
         .min(left as u64) as usize
 }
 
-/// Reads places that a table maps, one guest cluster after the other.
+/// Reads a range that one L2 table maps, one guest cluster after another.
+///
+/// # Errors
+///
+/// - `Fault::Barred` if the first byte that can't be read is compressed.
+/// - `Fault::Memory` if memory runs out.
+/// - `Fault::Storage` if the storage fails.
 fn read_clusters<S: Storage>(
     image: &mut S,
     alloc: Global,
@@ -111,7 +127,14 @@ fn read_clusters<S: Storage>(
     Ok(())
 }
 
-/// Reads places that one L2 table maps, or that have none.
+/// Reads a range that one L2 table maps. If that table doesn't exist, the range reads as zeroes.
+///
+/// # Errors
+///
+/// - `Fault::DamagedTable` if the first byte that can't be read has a damaged L2 table.
+/// - `Fault::Barred` if the first byte that can't be read is compressed.
+/// - `Fault::Memory` if memory runs out.
+/// - `Fault::Storage` if the storage fails.
 fn read_table<S: Storage>(
     image: &mut S,
     alloc: Global,
@@ -144,7 +167,14 @@ fn read_table<S: Storage>(
     read_clusters(image, alloc, &table, buf, at)
 }
 
-/// Reads places of an image, one L2 table after the other.
+/// Reads any range of an image, one L2 table after another.
+///
+/// # Errors
+///
+/// - `Fault::DamagedTable` if the first byte that can't be read has a damaged L2 table.
+/// - `Fault::Barred` if the first byte that can't be read is compressed.
+/// - `Fault::Memory` if memory runs out.
+/// - `Fault::Storage` if the storage fails.
 pub fn read_tables<S: Storage>(
     image: &mut S,
     alloc: Global,

@@ -2,7 +2,7 @@ use Rattle.std.proofs.Common.{◌≡◌, ◌≤◌, ℕ, length}
 use Rattle.std.specs.Prelude.{slice_index}
 use Rattle.qimg_core.proofs.check.blocks_end.Given as goal
 
--- there are no blocks from here on
+-- No blocks exist from this index on.
 abbrev pub invariant-loop-end : goal.invariant-loop-end
 invariant-loop-end l = (l.end ≤ length l.blocks) × ((i : ℕ) → l.end ≤ i → slice_index l.blocks i ≡ 0)
 

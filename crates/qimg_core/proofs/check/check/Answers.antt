@@ -1,4 +1,4 @@
--- Each stage's finding is the first, since the stages before found none.
+-- The finding of each stage is the first, as the stages before found nothing.
 use Rattle.std.proofs.Common.{Ok, Err, [], true, ap, subst, sym, ◌∙◌, ◌≡◌}
 use Rattle.std.proofs.lemmas.Result.{err_from_is_err_and, MatchResult-weaker}
 use Rattle.std.specs.Prelude.{Result, IfOk, OnOk, IsTrue}

@@ -1,4 +1,4 @@
--- The block that a word of the refcount table names.
+-- The block that an entry of the refcount table references.
 use Rattle.std.proofs.Common.{◌∙◌, ◌/◌, ◌^◌, ap, arith}
 use Rattle.std.specs.Prelude.{slice_index}
 use Rattle.qimg_core.proofs.Counts.Blocks.{holds-none, holds-missing, holds-past, holds-loaded}

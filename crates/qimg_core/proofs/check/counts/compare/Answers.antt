@@ -1,4 +1,4 @@
--- One block after the other, and then the clusters that none counts.
+-- The blocks are compared one after another, and then the clusters past the last block.
 use Rattle.std.proofs.Common.{◌≡◌, ◌+◌, ◌*◌, ◌≤◌, refl, sym, ap, arith, subst, ◌∙◌, length}
 use Rattle.std.specs.Prelude.{None}
 use Rattle.std.proofs.lemmas.Result.{err_from_is_err_and}

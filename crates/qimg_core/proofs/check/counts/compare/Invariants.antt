@@ -1,4 +1,4 @@
--- The clusters that the blocks before this one count are compared.
+-- The clusters of the blocks before this one are compared.
 use Rattle.std.proofs.Common.{◌≡◌, ◌*◌}
 use Rattle.imago_storage.specs.Calls.{UnchangedButFaults}
 use Rattle.qcow2_types.specs.Counts.{counters_of_block}

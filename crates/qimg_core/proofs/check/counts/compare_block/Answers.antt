@@ -1,4 +1,4 @@
--- Each counter is compared, or the names where there is none.
+-- Each refcount is compared. Without a block, the references are searched instead.
 use Rattle.std.proofs.Common.{◌≡◌, ◌+◌, ◌-◌, ◌*◌, ◌^◌, ◌≤◌, ℕ, [], ◌∷◌, ◌++◌, refl, arith, ap, sym, subst, ◌∙◌, Vec, Global}
 use Rattle.std.specs.Prelude.{Some}
 use Rattle.std.proofs.lemmas.Nat.{mul-le}

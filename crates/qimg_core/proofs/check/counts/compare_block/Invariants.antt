@@ -1,4 +1,4 @@
--- The clusters before this one are compared, and the way has come to it.
+-- The clusters before this one are compared, and the walk has reached this one.
 use Rattle.std.proofs.Common.{◌+◌, ◌*◌}
 use Rattle.qcow2_types.specs.Counts.{counters_of_block}
 use Rattle.qcow2_metadata.specs.Loading.{file}

@@ -4,7 +4,7 @@ use Rattle.std.specs.List.{sum_by}
 use Rattle.qimg_core.specs.Names.{cluster_of, weight_in}
 use Rattle.qimg_core.proofs.check.entries.weight_from.Given as goal
 
--- the names before this one are summed, and those behind the cut are of the cluster
+-- The items before this one are summed, and those from the cut on are of the cluster.
 abbrev pub invariant-loop-i : goal.invariant-loop-i
 invariant-loop-i l =
     (l.sum ≡ sum_by (weight_in l.cluster) (take l.i l.list))

@@ -4,7 +4,7 @@ use Rattle.qimg_core.specs.Searches.{IsAlong}
 use Rattle.qimg_core.proofs.Names.Searches.{IsAhead, left}
 use Rattle.qimg_core.proofs.check.search.first_entry.Given as goal
 
--- no cluster before the next one passes, to which the way has come
+-- No cluster before the next one passes, and the walk has reached the next one.
 abbrev pub invariant-loop-way : goal.invariant-loop-way
 invariant-loop-way l = IsAhead l.question l.names l.low l.way.next × ((n : ℕ) → l.way.next ≡ Some n → IsAlong l.names.others n l.way)
 

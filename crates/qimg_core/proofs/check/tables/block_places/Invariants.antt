@@ -2,6 +2,6 @@ use Rattle.qcow2_metadata.specs.Loading.{file}
 use Rattle.qimg_core.proofs.Tables.BlockPlaces.{BlocksTo}
 use Rattle.qimg_core.proofs.check.tables.block_places.Given as goal
 
--- the places that the words before this one name are pushed
+-- The offsets of the entries before this one are pushed.
 abbrev pub invariant-loop-index : goal.invariant-loop-index
 invariant-loop-index g l = BlocksTo (file (g.S.Storage.state l.fn.image)) l.header.fields l.index l.places.items

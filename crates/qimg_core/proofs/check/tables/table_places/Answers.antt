@@ -11,8 +11,8 @@ use Rattle.qimg_core.proofs.check.tables.table_places.Goals as goal
 use Rattle.qimg_core.proofs.check.tables.table_places.Goals.{in-Some+in_ok-push, in_default}
 use Rattle.qimg_core.proofs.Tables.TablePlaces.{tables-pushed, tables-skip, tables-all, l2-loaded}
 
-pub entries_before-raw_entries-requires : goal.entries_before-raw_entries-requires
-entries_before-raw_entries-requires g c = let limited : Limited c.args.header.now.fields = header-limited true _ _ c.requires.loads.1 in omega (arith, limited.l1_entries, c.l1_table_entries.ensures)
+pub entries_before-count-requires : goal.entries_before-count-requires
+entries_before-count-requires g c = let limited : Limited c.args.header.now.fields = header-limited true _ _ c.requires.loads.1 in omega (arith, limited.l1_entries, c.l1_table_entries.ensures)
 
 pub load-requires-clause-reach : goal.load-requires-clause-reach
 load-requires-clause-reach g c = (l1-place (file (g.S.Storage.state c.args.image.now)) (record c.args.header.now { features = c.requires.loads.0 }) (header-reading (file (g.S.Storage.state c.args.image.now)) (record c.args.header.now { features = c.requires.loads.0 }) c.requires.loads.1) c.cluster-cluster.result (cluster-at c.cluster-cluster.result _ _ _ _ c.cluster-cluster.ensures c.l1_table_offset-offset.ensures c.cluster_bits.ensures.value)).1
@@ -23,27 +23,27 @@ returns-in-Err-clause-err g c =
     let new = g.S.Storage.state c.load.new.image in
     let loads = header-reading (file (g.S.Storage.state c.args.image.now)) (record c.args.header.now { features = c.requires.loads.0 }) c.requires.loads.1 in
     let at = cluster-at c.cluster-cluster.result _ _ _ _ c.cluster-cluster.ensures c.l1_table_offset-offset.ensures c.cluster_bits.ensures.value in
-    let few : c.entries_before-raw_entries.result ≤ c.args.header.now.fields.l1_entries = omega (arith, c.entries_before-raw_entries.ensures.count_bounded, c.l1_table_entries.ensures) in
-    rw c.load_fault.ensures (l1-finding old new (record c.args.header.now { features = c.requires.loads.0 }) loads c.cluster-cluster.result c.entries_before-raw_entries.result at few c.in-Err.fault c.in-Err.ensures.err)
+    let few : c.entries_before-count.result ≤ c.args.header.now.fields.l1_entries = omega (arith, c.entries_before-count.ensures.count_bounded, c.l1_table_entries.ensures) in
+    rw c.load_fault.ensures (l1-finding old new (record c.args.header.now { features = c.requires.loads.0 }) loads c.cluster-cluster.result c.entries_before-count.result at few c.in-Err.fault c.in-Err.ensures.err)
 
 pub returns-clause-sound : goal.returns-clause-sound
 returns-clause-sound g c =
     let old = g.S.Storage.state c.args.image.now in
     let loads = header-reading (file (g.S.Storage.state c.args.image.now)) (record c.args.header.now { features = c.requires.loads.0 }) c.requires.loads.1 in
     let at = cluster-at c.cluster-cluster.result _ _ _ _ c.cluster-cluster.ensures c.l1_table_offset-offset.ensures c.cluster_bits.ensures.value in
-    l1-sound-by-first old.bytes (record c.args.header.now { features = c.requires.loads.0 }) loads c.cluster-cluster.result c.entries_before-raw_entries.result at c.in-Ok.ensures.sound
-    (λ i past lt. let rest = c.entries_before-raw_entries.ensures.later_past_end i past (omega (arith, lt, c.l1_table_entries.ensures)) in omega (arith, rest, c.size.ensures.value, c.l1_table_offset-offset.ensures))
+    l1-sound-by-first old.bytes (record c.args.header.now { features = c.requires.loads.0 }) loads c.cluster-cluster.result c.entries_before-count.result at c.in-Ok.ensures.sound
+    (λ i past lt. let rest = c.entries_before-count.ensures.later_past_end i past (omega (arith, lt, c.l1_table_entries.ensures)) in omega (arith, rest, c.size.ensures.value, c.l1_table_offset-offset.ensures))
 
 pub loop-index-preserved : goal.loop-index-preserved
 loop-index-preserved g c =
     let f = file (g.S.Storage.state c.args.image.now) in
     let loads = header-reading (file (g.S.Storage.state c.args.image.now)) (record c.args.header.now { features = c.requires.loads.0 }) c.requires.loads.1 in
     let at = cluster-at c.cluster-cluster.result _ _ _ _ c.cluster-cluster.ensures c.l1_table_offset-offset.ensures c.cluster_bits.ensures.value in
-    let few : c.entries_before-raw_entries.result ≤ c.args.header.now.fields.l1_entries = omega (arith, c.entries_before-raw_entries.ensures.count_bounded, c.l1_table_entries.ensures) in
-    let all : c.entries-index-end.result ≡ c.entries_before-raw_entries.result = loaded-count f c.args.header.now.fields c.cluster-cluster.result c.entries_before-raw_entries.result c.entries-index-end.result c.in-Ok.table c.in-Ok.ensures.ok c.entries-index-end.ensures.value in
-    let inside : c.loop-index.index < c.entries_before-raw_entries.result = omega (arith, all, c.loop-index-test.true) in
-    let word' = loaded-word f c.args.header.now.fields c.cluster-cluster.result c.entries_before-raw_entries.result c.loop-index.index c.get.result c.in-Ok.table c.in-Ok.ensures.ok c.get.ensures in
-    let named : l2_table f c.args.header.now.fields c.loop-index.index ≡ table_offset c.get.result = l2-loaded f (record c.args.header.now { features = c.requires.loads.0 }) loads c.cluster-cluster.result c.entries_before-raw_entries.result c.loop-index.index at few inside ∙ ap table_offset word' in
+    let few : c.entries_before-count.result ≤ c.args.header.now.fields.l1_entries = omega (arith, c.entries_before-count.ensures.count_bounded, c.l1_table_entries.ensures) in
+    let all : c.entries-index-end.result ≡ c.entries_before-count.result = loaded-count f c.args.header.now.fields c.cluster-cluster.result c.entries_before-count.result c.entries-index-end.result c.in-Ok.table c.in-Ok.ensures.ok c.entries-index-end.ensures.value in
+    let inside : c.loop-index.index < c.entries_before-count.result = omega (arith, all, c.loop-index-test.true) in
+    let word' = loaded-word f c.args.header.now.fields c.cluster-cluster.result c.entries_before-count.result c.loop-index.index c.get.result c.in-Ok.table c.in-Ok.ensures.ok c.get.ensures in
+    let named : l2_table f c.args.header.now.fields c.loop-index.index ≡ table_offset c.get.result = l2-loaded f (record c.args.header.now { features = c.requires.loads.0 }) loads c.cluster-cluster.result c.entries_before-count.result c.loop-index.index at few inside ∙ ap table_offset word' in
     elim c.match-l2_offset.branch [
       | in-Some+in_ok-push w ↦
           let there = some-place (table_offset c.get.result) w.in-Some.place (sym w.in-Some.is ∙ c.l2_offset.ensures) in
@@ -59,9 +59,9 @@ loop-index-preserved g c =
 pub returns-clause-ok : goal.returns-clause-ok
 returns-clause-ok g c =
     let f = file (g.S.Storage.state c.args.image.now) in
-    let all : c.entries-index-end.result ≡ c.entries_before-raw_entries.result = loaded-count f c.args.header.now.fields c.cluster-cluster.result c.entries_before-raw_entries.result c.entries-index-end.result c.in-Ok.table c.in-Ok.ensures.ok c.entries-index-end.ensures.value in
-    let whole : c.loop-index.index ≡ c.entries_before-raw_entries.result = omega (arith, all, c.loop-index-test.false, c.loop-index.auto.index-end) in
+    let all : c.entries-index-end.result ≡ c.entries_before-count.result = loaded-count f c.args.header.now.fields c.cluster-cluster.result c.entries_before-count.result c.entries-index-end.result c.in-Ok.table c.in-Ok.ensures.ok c.entries-index-end.ensures.value in
+    let whole : c.loop-index.index ≡ c.entries_before-count.result = omega (arith, all, c.loop-index-test.false, c.loop-index.auto.index-end) in
     tables-all (g.S.Storage.state c.args.image.now).bytes c.args.header.now.fields c.loop-index.index c.loop-index.places.items
-    (omega (arith, whole, c.entries_before-raw_entries.ensures.count_bounded, c.l1_table_entries.ensures))
-    (λ i past lt. let rest = c.entries_before-raw_entries.ensures.later_past_end i (omega (arith, whole, past)) (omega (arith, lt, c.l1_table_entries.ensures)) in omega (arith, rest, c.size.ensures.value, c.l1_table_offset-offset.ensures))
+    (omega (arith, whole, c.entries_before-count.ensures.count_bounded, c.l1_table_entries.ensures))
+    (λ i past lt. let rest = c.entries_before-count.ensures.later_past_end i (omega (arith, whole, past)) (omega (arith, lt, c.l1_table_entries.ensures)) in omega (arith, rest, c.size.ensures.value, c.l1_table_offset-offset.ensures))
     c.loop-index.invariant

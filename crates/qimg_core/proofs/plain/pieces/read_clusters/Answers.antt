@@ -12,7 +12,7 @@ use Rattle.qimg_core.proofs.Calls.{kept-file}
 use Rattle.qimg_core.proofs.PlainReads.Pieces.{shown-more, shown-short, div-near}
 use Rattle.qimg_core.proofs.plain.pieces.read_clusters.Goals as goal
 
--- places of one guest cluster have one mapping
+-- All bytes of one guest cluster have the same mapping.
 one-mapping : (f g : Bytes) (table : TableValue) (m : Mapping) (bits at n : ℕ) → g ≡ f → bits ≡ table.layout.cluster_bits → m ≡ mapping_of table.layout (slice_index table.raw_entries (at / 2 ^ bits % l2_entries bits))
     → at % 2 ^ bits + n ≤ 2 ^ bits → (i : ℕ) → i < n → table_value f table (at + i) ≡ mapped_value g bits m (at + i)
 one-mapping f g table m bits at n same is means fits i lt =
@@ -21,7 +21,7 @@ one-mapping f g table m bits at n same is means fits i lt =
     ∙ (ap (λ n. mapped_value f bits (mapping_of table.layout (slice_index table.raw_entries (n % l2_entries bits))) (at + i)) near
     ∙ (ap (λ x. mapped_value f bits x (at + i)) (sym means) ∙ ap (λ (x : Bytes). mapped_value x bits m (at + i)) (sym same)))
 
--- the mapping of the guest cluster of a place
+-- The mapping of the guest cluster of an offset.
 its-mapping : (table : TableValue) (m : Mapping) (cluster bits place : ℕ) → m ≡ mapping_of table.layout (slice_index table.raw_entries (cluster % l2_entries table.layout.cluster_bits)) → cluster ≡ place / 2 ^ bits → bits ≡ table.layout.cluster_bits
     → m ≡ mapping_of table.layout (slice_index table.raw_entries (place / 2 ^ bits % l2_entries bits))
 its-mapping table m cluster bits place means at is =

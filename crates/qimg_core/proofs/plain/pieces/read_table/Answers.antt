@@ -10,7 +10,7 @@ use Rattle.qimg_core.proofs.Calls.{kept-file}
 use Rattle.qimg_core.proofs.PlainReads.Tables.{none-shown, table-place, loaded-values, table-refused, shown-as, unshown-as}
 use Rattle.qimg_core.proofs.plain.pieces.read_table.Goals as goal
 
--- the indices and the word that the code has them as
+-- The L1 index, as the code computes it.
 its-index : (index at bits bits' : ℕ) → index ≡ at / 2 ^ bits / l2_entries bits → bits ≡ bits' → index ≡ at / 2 ^ bits' / l2_entries bits'
 its-index index at bits bits' is same = is ∙ ap (λ b. at / 2 ^ b / l2_entries b) same
 

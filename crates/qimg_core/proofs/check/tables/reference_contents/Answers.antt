@@ -6,10 +6,9 @@ use Rattle.qcow2_types.specs.Words.{is_cluster_offset}
 use Rattle.qcow2_metadata.specs.Loading.{file}
 use Rattle.qimg_core.specs.Check.{IsDamagedTable, Found}
 use Rattle.qimg_core.proofs.Contents.L2Tables.{named-now, named-later, named-all, all-sound, one-damaged, placed-at}
-use Rattle.qimg_core.proofs.check.tables.name_contents.Goals as goal
-use Rattle.qimg_core.proofs.check.tables.name_contents.Goals.{then-i-len+in_ok-reference_table, else-i-len+else-index}
+use Rattle.qimg_core.proofs.check.tables.reference_contents.Goals as goal
+use Rattle.qimg_core.proofs.check.tables.reference_contents.Goals.{then-i-len+in_ok-reference_table, else-i-len+else-index}
 
--- a place as it is read
 read : (places : List ℕ) (i place : ℕ) → i < length places → place ≡ get_or places i place → place ≡ slice_index places i
 read places i place inside is = is ∙ get_or_default_zero places i place inside
 

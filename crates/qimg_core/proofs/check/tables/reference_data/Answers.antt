@@ -2,8 +2,8 @@ use Rattle.std.proofs.Common.{◌+◌, subst}
 use Rattle.std.proofs.lemmas.Result.{on_ok_weaker}
 use Rattle.qimg_core.specs.Names.{AddsClusters}
 use Rattle.qimg_core.proofs.Names.Ranges.{adds-data}
-use Rattle.qimg_core.proofs.check.tables.name_data.Goals as goal
-use Rattle.qimg_core.proofs.check.tables.name_data.Goals.{then-copied, else-copied}
+use Rattle.qimg_core.proofs.check.tables.reference_data.Goals as goal
+use Rattle.qimg_core.proofs.check.tables.reference_data.Goals.{then-copied, else-copied}
 
 pub returns-clause-ok : goal.returns-clause-ok
 returns-clause-ok c = λ h.

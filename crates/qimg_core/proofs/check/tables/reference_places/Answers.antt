@@ -1,7 +1,7 @@
 use Rattle.std.proofs.Common.{◌<◌, arith, length, refl}
 use Rattle.qimg_core.proofs.Contents.Places.{adds-no-places, adds-no-place, adds-place, adds-all-places}
-use Rattle.qimg_core.proofs.check.tables.name_places.Goals as goal
-use Rattle.qimg_core.proofs.check.tables.name_places.Goals.{then-places-i-ne0+in_ok-reference_range, else-places-i-ne0}
+use Rattle.qimg_core.proofs.check.tables.reference_places.Goals as goal
+use Rattle.qimg_core.proofs.check.tables.reference_places.Goals.{then-places-i-ne0+in_ok-reference_range, else-places-i-ne0}
 
 pub loop-i-init : goal.loop-i-init
 loop-i-init c = adds-no-places c.args.header.now.fields c.args.names.now c.args.places.now

@@ -1,7 +1,7 @@
 use Rattle.std.proofs.Common.{◌*◌, ap, ◌∙◌}
 use Rattle.std.proofs.lemmas.Result.{on_ok_weaker}
 use Rattle.qimg_core.proofs.Contents.Places.{adds_start}
-use Rattle.qimg_core.proofs.check.tables.name_start.Goals as goal
+use Rattle.qimg_core.proofs.check.tables.reference_start.Goals as goal
 
 pub returns-clause-ok : goal.returns-clause-ok
 returns-clause-ok c =
