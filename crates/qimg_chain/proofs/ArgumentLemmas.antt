@@ -1,4 +1,4 @@
--- The words of arguments are read in one way.
+-- The program's arguments have at most one meaning.
 use Rattle.std.proofs.Common.{◌≡◌, ◌∙◌, refl, ap, sym, arith, ℕ, List, [], ◌∷◌, ◌++◌, append_assoc, append-nil, get_or, drop, map, length, length-drop, subst, String, Global, ◌+◌, ◌*◌, ◌-◌, ◌<◌, ◌≤◌, inl, inr}
 use Rattle.std.proofs.lemmas.List.{flat_map_more, drop_more, drop_all, length-map, length_push, map_push}
 use Rattle.std.specs.Prelude.{◌≢◌, ◌⊎◌, flat_map, codes, true, false, Bool, string_bytes}
@@ -9,11 +9,10 @@ use Rattle.imago_access.specs.declared.format.Format.TheVariants.{Raw, Qcow2, Vm
 use Rattle.qimg_chain.specs.declared.arguments.LayerArgument.{LayerArgument}
 use Rattle.qimg_chain.specs.Arguments.{AskedLayer, Asked, extra_words, format_word, layer_words, asked_words, AskFor, AreNoFile, IsExtras, IsLayer, WhyNotRead, AskForNone, extra_of, layer_of}
 
--- texts that are equal begin so
 heads : (a b : ℕ) (more others : List ℕ) → a ∷ more ≡ b ∷ others → a ≡ b
 heads a b more others same = cc
 
--- no format is named like a file that a layer is given, or like the choice to open for reading alone
+-- No format is written as `file` or as `-r`.
 pub format-is-no-file : (f : Format) → format_word f ≡ codes "file" → ⊥
 format-is-no-file Raw same = omega (arith, heads 114 102 _ _ same)
 format-is-no-file Qcow2 same = omega (arith, heads 113 102 _ _ same)
@@ -24,7 +23,6 @@ format-is-no-choice Raw same = omega (arith, heads 114 45 _ _ same)
 format-is-no-choice Qcow2 same = omega (arith, heads 113 45 _ _ same)
 format-is-no-choice Vmdk same = omega (arith, heads 118 45 _ _ same)
 
--- a format is known by its word
 pub format-by-word : (f e : Format) → format_word f ≡ format_word e → f ≡ e
 format-by-word Raw Raw same = refl
 format-by-word Qcow2 Qcow2 same = refl
@@ -36,11 +34,10 @@ format-by-word Qcow2 Vmdk same = absurd (omega (arith, heads 113 118 _ _ same))
 format-by-word Vmdk Raw same = absurd (omega (arith, heads 118 114 _ _ same))
 format-by-word Vmdk Qcow2 same = absurd (omega (arith, heads 118 113 _ _ same))
 
--- what is asked for
 abbrev asking : Bool → List AskedLayer → Asked
 asking read_only layers = record { read_only = read_only; layers = layers }
 
--- The words of layers begin with a format.
+-- The arguments of layers begin with a format.
 pub layers-are-no-file : (layers : List AskedLayer) (rest : List (List ℕ)) → flat_map layer_words layers ≡ codes "file" ∷ rest → ⊥
 layers-are-no-file [] rest same = cc
 layers-are-no-file (layer ∷ layers) rest same = let first : format_word layer.format ≡ codes "file" = cc in format-is-no-file layer.format first
@@ -49,13 +46,13 @@ pub layers-are-no-choice : (layers : List AskedLayer) (rest : List (List ℕ)) �
 layers-are-no-choice [] rest same = cc
 layers-are-no-choice (layer ∷ layers) rest same = let first : format_word layer.format ≡ codes "-r" = cc in format-is-no-choice layer.format first
 
--- Some files have been read off the words: however these are files and then layers, the rest is files and these layers.
+-- Some further files are parsed. For each meaning as further files and then layers, the rest is further files and these layers.
 pub record FilesTaken (words rest : List (List ℕ)) (taken : List (List ℕ × List ℕ)) : Type 0 where
   pub words_are : words ≡ flat_map extra_words taken ++ rest
   pub others : (extras : List (List ℕ × List ℕ)) (layers : List AskedLayer) → words ≡ flat_map extra_words extras ++ flat_map layer_words layers
       → (more : List (List ℕ × List ℕ)) × (rest ≡ flat_map extra_words more ++ flat_map layer_words layers)
 
--- one more
+-- One more further file is parsed.
 pub files-more : (words after : List (List ℕ)) (taken : List (List ℕ × List ℕ)) (name path : List ℕ) → FilesTaken words (codes "file" ∷ name ∷ path ∷ after) taken
     → FilesTaken words after (taken ++ (name, path) ∷ [])
 files-more words after taken name path before = record {
@@ -68,7 +65,7 @@ files-more words after taken name path before = record {
     next [] layers are = absurd (layers-are-no-file layers (name ∷ path ∷ after) (sym are))
     next (extra ∷ more) layers are = (more, cc)
 
--- no word of a file stands first
+-- The rest doesn't begin with a further file.
 pub files-end : (words rest : List (List ℕ)) (taken : List (List ℕ × List ℕ)) → FilesTaken words rest taken → AreNoFile rest → IsExtras words taken rest
 files-end words rest taken all none = record { words_are = all.words_are; leaves = λ extras layers are. let left = all.others extras layers are in ends layers left.0 left.1 }
   where
@@ -76,12 +73,12 @@ files-end words rest taken all none = record { words_are = all.words_are; leaves
     ends layers [] is = is
     ends layers (extra ∷ more) is = absurd (none extra.0 extra.1 (flat_map extra_words more ++ flat_map layer_words layers) is)
 
--- Some layers have been read off the words: however these are layers, so is the rest.
+-- Some layers are parsed. If the arguments are layers, so is the rest.
 pub record LayersTaken (words rest : List (List ℕ)) (taken : List AskedLayer) : Type 0 where
   pub words_are : words ≡ flat_map layer_words taken ++ rest
   pub others : (layers : List AskedLayer) → words ≡ flat_map layer_words layers → (more : List AskedLayer) × (rest ≡ flat_map layer_words more)
 
--- one more
+-- One more layer is parsed.
 pub layers-more : (words rest left : List (List ℕ)) (taken : List AskedLayer) (layer : AskedLayer) → LayersTaken words rest taken → IsLayer rest layer left → LayersTaken words left (taken ++ layer ∷ [])
 layers-more words rest left taken layer before is = record {
   words_are = before.words_are ∙ (ap (λ behind. flat_map layer_words taken ++ behind) front
@@ -99,16 +96,15 @@ layers-more words rest left taken layer before is = record {
         let behind : is.words_after ≡ flat_map extra_words one.extras ++ flat_map layer_words more = cc in
         (more, is.extras_are.leaves one.extras more behind)
 
--- the words end, or the rest isn't layers: so the words are these layers, or none
+-- If nothing is left, the arguments are these layers.
 pub layers-end : (words rest : List (List ℕ)) (taken : List AskedLayer) → LayersTaken words rest taken → rest ≡ [] → words ≡ flat_map layer_words taken
 layers-end words rest taken all none = all.words_are ∙ (ap (λ behind. flat_map layer_words taken ++ behind) none ∙ append-nil (flat_map layer_words taken))
 
--- none at all
 pub no-layer : (words : List (List ℕ)) → words ≡ [] → (layers : List AskedLayer) → layers ≢ [] → words ≡ flat_map layer_words layers → ⊥
 no-layer words none [] some are = some refl
 no-layer words none (layer ∷ layers) some are = let same : [] ≡ flat_map layer_words (layer ∷ layers) = sym none ∙ are in cc
 
--- a word that names no format, or stands alone, begins no layers
+-- A list that begins with an argument other than a format, or has only one argument, isn't layers.
 pub no-format : (word : List ℕ) (behind : List (List ℕ)) → ((f : Format) → word ≡ format_word f → ⊥) → (layers : List AskedLayer) → word ∷ behind ≡ flat_map layer_words layers → ⊥
 no-format word behind none [] is = cc
 no-format word behind none (layer ∷ layers) is = let first : word ≡ format_word layer.format = cc in none layer.format first
@@ -117,7 +113,7 @@ pub lone-word : (words : List (List ℕ)) (layers : List AskedLayer) → words �
 lone-word words [] is one = let none : length words ≡ 0 = ap length is in omega arith
 lone-word words (layer ∷ layers) is one = let two : length words ≡ length (flat_map layer_words (layer ∷ layers)) = ap length is in omega arith
 
--- The words from a place on, by those that were read there.
+-- The arguments from an index on, from those that were read there.
 pub word-there : {A : Type 0} (now : A → List ℕ) (xs : List A) (at : ℕ) (a : A) → a ≡ get_or xs at a → at < length xs → map now (drop at xs) ≡ now a ∷ map now (drop (at + 1) xs)
 word-there now xs at a is lt = ap (map now) (drop_more xs at a lt ∙ ap (λ x. x ∷ drop (at + 1) xs) (sym is))
 
@@ -136,7 +132,7 @@ pub no-format-there : {A : Type 0} (now : A → List ℕ) (xs : List A) (at : �
     → (layers : List AskedLayer) → map now (drop at xs) ≡ flat_map layer_words layers → ⊥
 no-format-there now xs at d lt none layers are = no-format (now (get_or xs at d)) (map now (drop (at + 1) xs)) none layers (sym (ap (map now) (drop_more xs at d lt)) ∙ are)
 
--- One more file, and one more layer, as they are read off the words.
+-- One more further file, and one more layer, as they are parsed.
 pub extras-more : {A : Type 0} (now : A → List ℕ) (xs : List A) (at n : ℕ) (old new : List (String Global × String Global)) (name path : String Global) (n-bytes p-bytes : List ℕ) (words : List (List ℕ))
     → FilesTaken words (map now (drop (at + 3 * length old) xs)) (map extra_of old) → n ≡ length old → new ≡ old ++ (name, path) ∷ [] → string_bytes name ≡ n-bytes → string_bytes path ≡ p-bytes
     → map now (drop (at + 3 * n) xs) ≡ codes "file" ∷ n-bytes ∷ p-bytes ∷ map now (drop (at + 3 * n + 3) xs)
@@ -166,11 +162,10 @@ layer-more now xs at n old new layer words before is count items =
     subst (λ taken. LayersTaken words (map now (drop (at + (2 + 3 * n)) xs)) taken) (sym (map_push layer_of old layer) ∙ ap (map layer_of) (sym items))
     (subst (λ k. LayersTaken words (map now (drop k xs)) (map layer_of old ++ layer_of layer ∷ [])) place more)
 
--- nothing is left of the words from their end on
 pub none-left : {A : Type 0} (now : A → List ℕ) (xs : List A) (at : ℕ) → length xs ≤ at → map now (drop at xs) ≡ []
 none-left now xs at past = ap (map now) (drop_all at xs past)
 
--- Where the first word chooses to read alone, the layers stand behind it, and else from it on.
+-- If the first argument is `-r`, the layers are after it. Otherwise they begin with the first argument.
 pub not-read : {A : Type 0} (now : A → List ℕ) (xs : List A) (d : A) (from : ℕ) (fault : Fault) → 0 < length xs
     → ((now (get_or xs 0 d) ≡ codes "-r") × (from ≡ 1)) ⊎ ((now (get_or xs 0 d) ≡ codes "-r" → ⊥) × (from ≡ 0))
     → AskForNone (map now (drop from xs)) fault → WhyNotRead (map now xs) fault
@@ -194,7 +189,7 @@ not-read now (x ∷ xs) d from BadArgument some (inr how) none = ((λ is. cc), �
     fails false layers is more = all layers more is
 not-read now (x ∷ xs) d from fault some how none = absurd none
 
--- Two readings of files and then layers have the same files, and two of layers are the same.
+-- Two parses as further files and then layers have the same files, and two parses as layers are the same.
 files-once : (es fs : List (List ℕ × List ℕ)) (xs ys : List AskedLayer) → flat_map extra_words es ++ flat_map layer_words xs ≡ flat_map extra_words fs ++ flat_map layer_words ys
     → (es ≡ fs) × (flat_map layer_words xs ≡ flat_map layer_words ys)
 files-once [] [] xs ys same = (refl, same)
@@ -228,7 +223,6 @@ layers-once (x ∷ xs) (y ∷ ys) same =
         ∙ (ap (λ p. record { format = y.format; path = p; extras = x.extras } ∷ xs) path
         ∙ (ap (λ e. record { format = y.format; path = y.path; extras = e } ∷ xs) extras ∙ ap (λ l. y ∷ l) rest))
 
--- Words ask for one thing.
 pub asked-once : (words : List (List ℕ)) (a b : Asked) → AskFor words a → AskFor words b → a ≡ b
 asked-once words a b one other = once a.read_only b.read_only a.layers b.layers (sym one.0 ∙ other.0)
   where

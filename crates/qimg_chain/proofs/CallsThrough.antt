@@ -1,4 +1,4 @@
--- Calls of a driver of one kind, as calls of one of several kinds.
+-- Calls of a driver of one format are calls of the driver of an image of any format.
 use Rattle.std.proofs.Common.{◌≡◌, ◌+◌, ◌++◌, ◌∙◌, ℕ, List, refl, ap, subst}
 use Rattle.std.specs.Prelude.{Result, Ok, Err, Some, None, OnOk, IfOk, IfErr, max}
 use Rattle.imago_storage.specs.Steps.{IsIn}
@@ -24,7 +24,7 @@ pub on_ok_weaker : {T F : Type 0} (result : Result T F) (P Q : Type 0) → (P �
 on_ok_weaker (Ok x) P Q more holds = more holds
 on_ok_weaker (Err e) P Q more holds = tt
 
--- a run without state is the same run for each
+-- A mapping without state has the same run for both drivers.
 pub stateless_run : {D E St Su : Type 0} {f : D → E} {h : Ghosts E Su} {g : Ghosts D St} → IsKind f h g → (m : PreparedDataMapping St) (n : PreparedDataMapping Su)
     → n ≡ record { storage = m.storage; offset = m.offset; length = m.length; state = None } → m.state ≡ None → run_of g m ≡ run_of h n
 stateless_run kind m n is none = rw is (rw none refl)
@@ -35,7 +35,7 @@ stateless_nowhere {St} {Su} m n is none =
     let without : PreparedDataMapping St → PreparedDataMapping Su = λ x. record { storage = x.storage; offset = x.offset; length = x.length; state = None } in
     is ∙ ap without none
 
--- two preparations answer the same run, or are refused by the same
+-- Two preparations return the same run, or fail with the same fault.
 abbrev pub SameRuns : {D E St Su : Type 0} → Ghosts D St → Ghosts E Su → Result (PreparedDataMapping St) Fault → Result (PreparedDataMapping Su) Fault → Type 0
 SameRuns g h (Ok m) (Ok n) = run_of g m ≡ run_of h n
 SameRuns g h (Err e) (Err e') = e ≡ e'
@@ -103,7 +103,7 @@ module _ {D E St Su : Type 0} {f : D → E} {h : Ghosts E Su} {g : Ghosts D St} 
         (λ d call now part same. r.cause well_formed coherent d call now part same);
   }
 
-  -- a refused preparation
+  -- A preparation that fails.
   pub prepares_err : {B : Type 0} (u : GhostsBelow B) (x y : B) (asked : Asked) (e : Fault) → Prepares (through f h g) u asked (Err e) (a, x) (b, y) → Prepares h u asked (Err e) (f a, x) (f b, y)
   prepares_err u x y asked e p = let r = run_refused u x y asked (Err e) p.refused in record {
     ok = λ well_formed coherent. tt;
@@ -118,7 +118,7 @@ module _ {D E St Su : Type 0} {f : D → E} {h : Ghosts E Su} {g : Ghosts D St} 
     refused = record { failed = r.failed; marks_failed = r.marks_failed; cause = r.cause };
   }
 
-  -- one that answers the same run
+  -- A preparation that returns the same run.
   pub prepares_ok : {B : Type 0} (u : GhostsBelow B) (x y : B) (asked : Asked) (m : PreparedDataMapping St) (n : PreparedDataMapping Su) → run_of g m ≡ run_of h n
       → Prepares (through f h g) u asked (Ok m) (a, x) (b, y) → Prepares h u asked (Ok n) (f a, x) (f b, y)
   prepares_ok u x y asked m n same p = record {

@@ -8,7 +8,6 @@ use Rattle.imago_access.specs.Files.{IsStorageAt}
 use Rattle.imago_access.specs.declared.format.Format.{Format}
 use Rattle.qimg_chain.specs.FileMeanings.{FileBytes, extra_bytes, with_names}
 
--- one more of the files with their names
 pub named_more : (names : ℕ → List ℕ) (k : ℕ) (ss : List StorageState) (i : ℕ) (s : StorageState) → IsStorageAt ss i s
     → take (i + 1) (with_names names k ss) ≡ take i (with_names names k ss) ++ ((names (k + i), s.bytes) ∷ [])
 named_more names k [] i s is = absurd is
@@ -21,7 +20,7 @@ named_more names k (t ∷ ts) (suc i) s is =
     ap (λ n. take n (with_names names k (t ∷ ts))) more ∙ ap (λ files. (names k, t.bytes) ∷ files) (named_more names (suc k) ts i s is)
     ∙ ap (λ j. (names k, t.bytes) ∷ (take i (with_names names (suc k) ts) ++ ((names j, s.bytes) ∷ []))) same
 
--- a copy that is put behind others
+-- A copy is appended to the list.
 pub pushed : {S : Type 0} (state : S → StorageState) (items : List (String Global × S)) (x : String Global × S) (names : ℕ → List ℕ) (ss : List StorageState) (i : ℕ) (s : StorageState)
     → map (extra_bytes state) items ≡ take i (with_names names 0 ss) → IsStorageAt ss i s → extra_bytes state x ≡ (names i, s.bytes)
     → map (extra_bytes state) (items ++ (x ∷ [])) ≡ take (i + 1) (with_names names 0 ss)
@@ -34,11 +33,9 @@ as_many : (names : ℕ → List ℕ) (k : ℕ) (ss : List StorageState) → leng
 as_many names k [] = refl
 as_many names k (s ∷ ss) = omega (arith, as_many names (suc k) ss)
 
--- all of the files with their names
 pub all_named : (names : ℕ → List ℕ) (ss : List StorageState) (i : ℕ) → length ss ≤ i → take i (with_names names 0 ss) ≡ with_names names 0 ss
 all_named names ss i past = take_all i (with_names names 0 ss) (omega (arith, past, as_many names 0 ss))
 
--- files that agree in each part are one
 pub same_file : (format format' : Format) (bytes bytes' : List ℕ) (extras extras' : List (List ℕ × List ℕ)) → format ≡ format' → bytes ≡ bytes' → extras ≡ extras'
     → ◌≡◌ {A = FileBytes} (record { format = format; bytes = bytes; extras = extras }) (record { format = format'; bytes = bytes'; extras = extras' })
 same_file format format' bytes bytes' extras extras' formats all files = λ i. record { format = formats i; bytes = all i; extras = files i }

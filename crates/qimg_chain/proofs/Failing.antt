@@ -1,4 +1,4 @@
--- Which files of a chain may fail, and that no cause that files give is a storage that failed.
+-- The files of a chain that may fail. No cause that files give is a failed storage.
 use Rattle.std.proofs.Common.{◌≡◌, ◌≢◌, ◌⊎◌, ◌∙◌, ◌∷◌, ◌++◌, [], ℕ, List, ap, inl, inr, map, refl, subst, sym}
 use Rattle.std.specs.Prelude.{Bool, Err, Ok, Result, Some, false, true}
 use Rattle.std.specs.Borrow.{RattleType}
@@ -9,7 +9,7 @@ use Rattle.imago_storage.specs.View.{view_state}
 use Rattle.imago_storage.specs.declared.fault.Fault.{Fault}
 use Rattle.imago_storage.specs.declared.fault.Fault.TheVariants.{Memory, Storage}
 use Rattle.imago_storage.specs.declared.storage.Storage.{Ghosts as StorageGhosts}
-use Rattle.imago_storage.proofs.Failing.{all_flushed}
+use Rattle.imago_storage.proofs.Failing.{stays_without_faults}
 use Rattle.imago_access.specs.Chain.{Each}
 use Rattle.imago_access.specs.Files.{SomeRose, files, files_of}
 use Rattle.imago_access.specs.declared.format.Format.{Format}
@@ -30,19 +30,19 @@ use Rattle.qimg_chain.proofs.Narrowing.{not_of_value}
 use Rattle.qimg_chain.specs.contracts.chain.image_driver.ImageDriverDriverModel.TheImpl as image_seen
 use Rattle.qimg_chain.specs.declared.chain.image_driver.ImageDriver.TheVariants as variant
 
--- bytes that are lent never fail
+-- Borrowed bytes never fail.
 pub view_never : NeverFails view_state
 unfolding view_state
 view_never = λ v. refl
 
--- none of these has ever failed
+-- None of these storages has ever failed.
 abbrev AtRest : List StorageState → Type 0
 AtRest ss = Each (λ s. s.faults ≡ 0) ss
 
 none_rose : (olds news : List StorageState) → AtRest olds → AtRest news → SomeRose olds news → ⊥
 none_rose [] news flushed_metadata rested rose = rose
 none_rose (old ∷ olds) [] flushed_metadata rested rose = rose
-none_rose (old ∷ olds) (new ∷ news) flushed_metadata rested (inl rose) = all_flushed old.faults new.faults flushed_metadata.0 rested.0 rose
+none_rose (old ∷ olds) (new ∷ news) flushed_metadata rested (inl rose) = stays_without_faults old.faults new.faults flushed_metadata.0 rested.0 rose
 none_rose (old ∷ olds) (new ∷ news) flushed_metadata rested (inr rose) = none_rose olds news flushed_metadata.1 rested.1 rose
 
 both_rest : (xs ys : List StorageState) → AtRest xs → AtRest ys → AtRest (xs ++ ys)
@@ -58,7 +58,7 @@ module _ {D St : Type 0} (g : Ghosts D St) where
   chain_rests none [] = tt
   chain_rests none (d ∷ ds) = both_rest (files g d) (files_of g ds) (none d) (chain_rests none ds)
 
-  -- where a file of a chain has failed, one may
+  -- If a file of a chain has failed, it is one that may fail.
   pub file_may_fail : (olds news : List D) → SomeRose (files_of g olds) (files_of g news) → SomeFileMayFail g
   file_may_fail olds news rose = λ none. none_rose (files_of g olds) (files_of g news) (chain_rests none olds) (chain_rests none news) rose
 
@@ -68,11 +68,11 @@ module _ (R : RattleType) (st : StorageGhosts R.Denot) (sd : mir.Syntax.Dict) (d
   driver_rests never (variant.Vmdk d) = (never d.image, all_rest st.state never d.files.items)
   driver_rests never (variant.Qcow2 d) = (never d.tables.file.image, tt)
 
-  -- the files of image drivers are storages: where one may fail, these may
+  -- The files of image drivers are storages. If a file may fail, a storage of that kind may fail.
   pub fails : SomeFileMayFail (image_seen.ghosts R st sd dd) → MayFail st.state
   fails may = λ never. may (driver_rests never)
 
--- ---- What files say.
+-- ---- Faults from the bytes of files.
 
 not_memory : Storage ≡ Memory → ⊥
 not_memory is = cc is
@@ -115,14 +115,14 @@ module _ {S : Type 0} (state : S → StorageState) where
   first_never writable (file ∷ below) (inl many) = cc many.1
   first_never writable (file ∷ below) (inr why) = layers_never writable (file ∷ below) why.1
 
-  -- ---- Files of which none ever fails.
+  -- ---- Files that never fail.
 
   module _ (never : NeverFails state) where
     by_memory : (fault : Fault) → HadResourceError state fault → fault ≡ Memory
     by_memory fault (inl memory) = memory
     by_memory fault (inr failed) = absurd (failed.1 never)
 
-    -- they aren't opened for want of memory or for a cause that they give,
+    -- They aren't opened because memory runs out or for a cause that they give.
     pub unopened : (writable : Bool) (files : List (ChainFile S)) (fault : Fault) → HadResourceError state fault ⊎ FirstCause state writable files fault
         → (fault ≢ Storage) × ((fault ≡ Memory) ⊎ FirstCause state writable files fault)
     unopened writable files fault (inl cut) = let memory = by_memory fault cut in (λ is. absurd (not_memory (sym is ∙ memory)), inl memory)
@@ -133,6 +133,5 @@ module _ {S : Type 0} (state : S → StorageState) where
     unread_never files offset n (inr (inl first)) = first_never false files first
     unread_never files offset n (inr (inr range)) = range_never (files_bytes state files) offset n range.1
 
-    -- and neither are they read
     pub unread : (files : List (ChainFile S)) (offset n : ℕ) (fault : Fault) → NotPlainlyRead state files offset n fault → fault ≢ Storage
     unread files offset n fault why = λ is. unread_never files offset n (subst (NotPlainlyRead state files offset n) is why)

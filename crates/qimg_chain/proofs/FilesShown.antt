@@ -1,4 +1,4 @@
--- What a layer just opened shows is what its file means.
+-- A layer that was just opened shows what its file means.
 use Rattle.std.proofs.Common.{◌≡◌, ◌⊎◌, ◌∙◌, ◌∷◌, ◌<◌, ◌≤◌, ◌+◌, [], ℕ, zero, suc, List, ap, arith, inl, inr, length, refl, subst, sym}
 use Rattle.std.specs.Prelude.{Bool, None, Ok, Result, Some, cond, false, ltb, map, slice_index, true}
 use Rattle.std.specs.Borrow.{RattleType}
@@ -38,7 +38,7 @@ use Rattle.qimg_chain.proofs.FilesTaken.{as_many, opened_bytes}
 
 -- ---- One layer over others.
 
--- a layer that shows what a file means, over layers that show what files mean, and shows them, if there are any
+-- A layer that shows its file, over layers that show their files, shows the disk of all these files.
 pub over : (layer : Layer) (below : List Layer) (file : FileBytes) (files : List FileBytes) → ShowsFile layer file → ((p : ℕ) → at below p ≡ value_of files p)
     → ((p : ℕ) → (layer.fixed.blank ≡ unmapped) ⊎ (at below p ≡ byte 0)) → IsDiskOf (disk_of below layer) (file ∷ files)
 over layer below file files shows same backed = record {
@@ -52,7 +52,7 @@ over layer below file files shows same backed = record {
 
 -- ---- VMDK images.
 
--- an image that lacks no file has at least as many as are asked for
+-- An image without missing files has at least as many files as it refers to.
 lacks_none : (t : Bool) → cond t (Some MissingData) None ≡ None → t ≡ false
 lacks_none true is = absurd (cc is)
 lacks_none false is = refl
@@ -60,7 +60,7 @@ lacks_none false is = refl
 enough : (n asked : ℕ) → ltb n asked ≡ false → asked ≤ n
 enough n asked is = elim (cases_lt n asked) [ inl less ↦ absurd (cc (sym (lt-ltb n asked less) ∙ is)) | inr le ↦ le ]
 
--- the files that were opened for the names of extents have the bytes of those that are taken for them
+-- The files that were opened for the names of the extents have the bytes of those that are taken for these names.
 files_alike : {S : Type 0} (state : S → StorageState) (xs : List (Extent (String Global))) (image : StorageState) (bytes : List ℕ) (handed left : Extras S) (files : List S)
     → files_asked xs ≤ length files → OpensNext Answers (kept_names xs) ([], handed) (files, left)
     → (j q : ℕ) → 1 ≤ j → j < 1 + length (file_names (kept_extents xs))

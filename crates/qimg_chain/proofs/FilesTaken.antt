@@ -37,7 +37,7 @@ as_many (x ∷ xs) = by_access x.access x.source (as_many xs) ∙ sym (sum_by-co
   by_access ReadOnly (Flat name sector) rest = omega (arith, rest)
   by_access ReadOnly Zero rest = omega (arith, rest)
 
--- ---- Files that are taken out of those that were handed in.
+-- ---- Files that are taken out of the supplied ones.
 
 none : (t : Bool) → (t ≡ true → ⊥) → t ≡ false
 none true differs = absurd (differs refl)
@@ -88,7 +88,7 @@ module _ {S : Type 0} (state : S → StorageState) where
   takes names rest name k gate mid file at answered =
       subst (λ (n : List ℕ). TakesFirst gate.files.items n file mid.files.items) (named_at names rest name k at) answered
 
-  -- the files that a gate opened for the names from one on have the bytes of those that are taken for them
+  -- The files that a gate opened for the names from `k` on have the bytes of those that are taken for them.
   pub opened_bytes : (names rest : List (List ℕ)) (k : ℕ) (gate now : Extras S) (files : List S) → drop k names ≡ rest → k + length rest ≡ length names
       → Opens Answers names k gate files now → (i q : ℕ) → i < length rest → i < length files
       → byte_in (map state files) i q ≡ byte_at (taken_for rest (map (extra_bytes state) gate.files.items)) i q

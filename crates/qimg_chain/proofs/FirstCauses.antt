@@ -1,4 +1,4 @@
--- The first cause why files don't form a chain is one, and files that form a chain have none.
+-- Files have at most one first cause why they don't form a chain, and files that form a chain have none.
 use Rattle.std.proofs.Common.{◌≡◌, ◌∙◌, ◌∷◌, ◌++◌, [], ℕ, List, ap, arith, drop, inl, inr, length, refl, subst, sym}
 use Rattle.std.specs.Prelude.{All, Bool, Err, None, Ok, Option, Result, Some, false, map}
 use Rattle.std.specs.String.{string_bytes}
@@ -29,7 +29,7 @@ rest_of_list x y xs ys e = cc e
 -- ---- Files by name.
 
 module _ {S : Type 0} where
-  -- what stands first of its name, and the others
+  -- The first file of a name is unique, and so are the files around it.
   parts_once : (name : List ℕ) (before before' behind behind' : List (String Global × S)) (x y : String Global × S)
       → All (IsOther name) before → All (IsOther name) before' → string_bytes x.0 ≡ name → string_bytes y.0 ≡ name
       → before ++ (x ∷ behind) ≡ before' ++ (y ∷ behind') → (x ≡ y) × (before ++ behind ≡ before' ++ behind')

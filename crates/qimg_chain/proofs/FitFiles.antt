@@ -1,4 +1,4 @@
--- Files that form a chain by themselves, and are fit to be its top.
+-- Files that form a chain by themselves, and can be its top.
 use Rattle.std.proofs.Common.{◌≡◌, ◌∙◌, Bool, true, false, List, ℕ, [], ◌∷◌, Ok, None, refl, sym, subst, ap, arith}
 use Rattle.std.specs.Prelude.{◌&&◌, IsTrue, is_some}
 use Rattle.std.proofs.lemmas.Bool.{and_parts}
@@ -21,12 +21,10 @@ use Rattle.qimg_chain.specs.FileLayers.{IsLayer, asked_of}
 use Rattle.qimg_chain.specs.Refusals.{FormChain}
 use Rattle.qimg_chain.specs.ToldStops.{IsLoggedImage}
 
--- a consistent image loads, for reading and for writing,
 loads : (writable : Bool) (f : Bytes) (h : Header) → IsConsistent f h → header_of writable f ≡ Ok h
 loads true f h sound = sound.readable.loads
 loads false f h sound = header-reading f h sound.readable.loads
 
--- and opens by its header
 opens : (writable : Bool) (f : Bytes) (h : Header) → IsConsistent f h → header_for writable f ≡ Ok h
 unfolding tables_sound
 opens writable f h sound =
@@ -35,18 +33,18 @@ opens writable f h sound =
     none-refused writable f h (loads writable f h sound) sound.readable.data_inside both.0 (λ w. both.1)
 
 module _ {S : Type 0} (state : S → StorageState) where
-  -- one file that names no layer below is a chain
+  -- One file that doesn't refer to a layer below is a chain.
   alone : (writable : Bool) (file : ChainFile S) → IsLayer state writable file false [] → FormChain state writable (file ∷ [])
   alone writable file layer = (omega arith, omega arith, ((false, [], layer, refl), tt))
 
-  -- an image without a backing file is one
+  -- An image without a backing file is a chain.
   image-alone : (writable : Bool) (file : ChainFile S) (h : Header) → file.format ≡ Qcow2 → IsConsistent (bytes_of (state file.image).bytes) h → h.backing_name ≡ None
       → FormChain state writable (file ∷ [])
   image-alone writable file h is sound none =
       let said = opens writable (bytes_of (state file.image).bytes) h sound in
       alone writable file (record { says = rw (is) (ap (asked_of (λ H. is_some H.backing_name)) said ∙ ap (λ name. Ok (is_some name)) none); has = rw (is) refl })
 
-  -- ---- An image in a storage that begins to tell its stops.
+  -- ---- An image in a storage that has just begun to expose its crash images.
 
   pub logged-alone : (writable : Bool) (file : ChainFile S) (is : IsLoggedImage state file) → is.header.backing_name ≡ None → FormChain state writable (file ∷ [])
   logged-alone writable file is none =

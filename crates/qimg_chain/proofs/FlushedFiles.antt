@@ -1,4 +1,4 @@
--- Behind a flush the files of a chain mean its disk by themselves.
+-- After a flush the files of a chain mean its disk by themselves.
 use Rattle.std.proofs.Common.{◌≡◌, ◌⊎◌, ◌∙◌, ◌∷◌, ◌<◌, ◌≤◌, [], ℕ, zero, suc, List, ap, arith, inl, inr, refl, subst, sym, take}
 use Rattle.std.specs.Prelude.{Bool, None, Some, false, is_some, map, slice_get, true}
 use Rattle.std.proofs.lemmas.Bool.{lt-ltb}
@@ -29,13 +29,13 @@ use Rattle.qimg_chain.proofs.ToldStops.{either-way, later-run}
 
 -- ---- Layers over others.
 
--- a layer that shows those below it, if there are any
+-- A layer shows the layers below it, if any.
 pub shows-below : (below : List Layer) (old layer : Layer) → IsInPlace below old → layer.fixed ≡ old.fixed
     → (p : ℕ) → (layer.fixed.blank ≡ unmapped) ⊎ (at below p ≡ byte 0)
 shows-below [] old layer place same p = inr refl
 shows-below (next ∷ below) old layer place same p = inl (ap (λ (x : Fixed). x.blank) same ∙ place)
 
--- A layer whose file means what it says, over layers that show what files mean.
+-- A layer whose file means what the layer says, over layers that show what files mean.
 written-over : (layer : Layer) (below : List Layer) (bytes : List ℕ) (file : FileBytes) (files : List FileBytes) → IsMeant layer bytes
     → MeansFile layer bytes file → ((p : ℕ) → at below p ≡ value_of files p)
     → ((p : ℕ) → (layer.fixed.blank ≡ unmapped) ⊎ (at below p ≡ byte 0)) → ShowDisk layer.fixed.exact (disk_of below layer) (file ∷ files)
@@ -51,7 +51,7 @@ written-over layer below bytes file files written means same backed =
     }
 
 module _ {D St : Type 0} (g : Ghosts D St) (names : D → ℕ → List ℕ) where
-  -- Layers just opened show what their files mean.
+  -- Layers that were just opened show what their files mean.
   shown : {S : Type 0} (state : S → StorageState) (writable : Bool) (number : ℕ) (files : List (ChainFile S)) (ds : List D)
       → AreLayers g state writable number files ds → AreInPlace (map g.layer ds) → Each (FindsByNames g names) ds
       → (p : ℕ) → at (map g.layer ds) p ≡ value_of (map (driver_bytes g names) ds) p
@@ -71,9 +71,9 @@ module _ {D St : Type 0} (g : Ghosts D St) (names : D → ℕ → List ℕ) wher
   below-shown state writable number [] c is p = absurd is.layers
   below-shown state writable number (file ∷ files) c is p = shown state false 0 files c.1 is.layers.1 is.places.1 is.named.1 p
 
-  -- ---- What a list of calls keeps.
+  -- ---- What a list of calls preserves.
 
-  -- What never changes of the top, what its clusters are counted beyond names, the layers below, and their files.
+  -- These are unchanged: the fixed properties of the top, the excess refcounts in its file, the layers below, and their files.
   record Keeps (opened : D × List D) (m : Moment D St) : Type 0 where
     fixed : (g.layer m.now.drivers.0).fixed ≡ (g.layer opened.0).fixed
     excess_refcount : KeepsExcessRefcounts g opened.0 m.now.drivers.0
@@ -94,9 +94,9 @@ module _ {D St : Type 0} (g : Ghosts D St) (names : D → ℕ → List ℕ) wher
   keeps-one opened call answer old new on goes keeps = either-way (is_out_of_place (is_some old.now.kept_mapping) call) _ _ goes (Keeps opened new)
       (λ out. subst (Keeps opened) (sym out.1) keeps) (λ made. keeps-made opened call answer old new on made keeps)
 
-  -- ---- Behind a flush.
+  -- ---- After a flush.
 
-  -- A flush is never out of place.
+  -- A flush can be called at any time.
   flush-made : (kept : Bool) (answer : Answer) (old new : Moment D St) → Either (is_out_of_place kept calls.Flush)
       ((answer ≡ told.Refused BadArgument) × (new ≡ old)) (Made g calls.Flush answer old new) → Made g calls.Flush answer old new
   flush-made true answer old new goes = goes
@@ -163,7 +163,7 @@ module _ {D St : Type 0} (g : Ghosts D St) (names : D → ℕ → List ℕ) wher
   opened-counted state writable number [] c is = absurd is.layers
   opened-counted state writable number (file ∷ files) c is = is.layers.0.opened.counted
 
-  -- Each flush in a list of calls over a chain that was opened so.
+  -- Each flush in a list of calls over a chain that was opened over these files.
   pub each-flush : {S : Type 0} (state : S → StorageState) (writable : Bool) (number : ℕ) (files : List (ChainFile S)) (since : Since)
       (list : List Call) (answers : List Answer) (opened : D × List D) (last : Moment D St) → ((d : D) → g.well_formed d → FindsByNames g names d)
       → IsChainOf g names state writable number files opened → Run g list answers (moment (chain_with_mapping opened None) since) last

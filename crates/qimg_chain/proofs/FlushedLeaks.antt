@@ -1,4 +1,4 @@
--- Behind a flush a qcow2 top leaks what it did as its chain was opened.
+-- After a flush a qcow2 top has the same leaks as when its chain was opened.
 use Rattle.std.proofs.Common.{◌≡◌, ◌∙◌, ℕ, List, ap, refl, sym}
 use Rattle.std.specs.Borrow.{RattleType}
 use Rattle.imago_storage.specs.declared.storage.Storage.{Ghosts}
@@ -12,7 +12,7 @@ use Rattle.qimg_chain.specs.declared.chain.image_driver.ImageDriver.{ImageDriver
 use Rattle.qimg_chain.specs.declared.chain.image_driver.ImageDriver.TheVariants as variant
 
 module _ (R : RattleType) (st : Ghosts R.Denot) (sd : mir.Syntax.Dict) (dd : mir.Syntax.Dict) where
-  -- a qcow2 image tells its leaks by its file
+  -- The leaks of a qcow2 image are those of its file.
   told-leaks : (d : ImageDriver R.Denot st) → ((image_seen.ghosts R st sd dd).layer d).fixed.format ≡ format.Qcow2
       → ((image_seen.ghosts R st sd dd).layer d).fixed.leaks ≡ qcow2_leaks
   told-leaks (variant.Qcow2 d) is = refl

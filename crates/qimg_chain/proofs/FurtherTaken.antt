@@ -1,4 +1,4 @@
--- The files that a VMDK image's builder was given by name, and those that it lacks.
+-- The files that a VMDK image's builder was given by name, and those that are missing.
 use Rattle.std.proofs.Common.{◌≡◌, ◌≤◌, ◌<◌, ◌⊎◌, ◌∙◌, ◌∷◌, ◌++◌, [], ℕ, ◌+◌, ◌^◌, List, ap, arith, get_or, drop, inl, inr, length, refl, subst, sym}
 use Rattle.std.specs.Prelude.{All, Bool, None, Ok, Option, Result, Some, false, true, if◌then◌else◌, ltb, map}
 use Rattle.std.specs.String.{string_bytes}
@@ -26,14 +26,14 @@ use Rattle.qimg_chain.specs.Extras.{IsOther, IsTaken, LacksOne, TakesEach}
 use Rattle.qimg_chain.specs.FurtherFiles.{HasFiles, HasFurther, WhyNotFurther}
 use Rattle.qimg_chain.specs.declared.chain.extras.Extras.{Extras}
 
--- how a name is answered from the files that were handed in
+-- The result for a name, from the supplied files.
 abbrev pub Answers : {S : Type 0} → Extras S → List ℕ → Result S Fault → Extras S → Type 0
 Answers handed name answer left = IsTaken handed.files.items name answer left.files.items
 
 -- ---- One file for each name.
 
 module _ {S : Type 0} (names : List (List ℕ)) where
-  -- where all names were answered with a file, each was taken
+  -- If each name was answered with a file, each file was taken for its name.
   opened_taken : (k : ℕ) (handed left : Extras S) (files : List S) → Opens Answers names k handed files left → length names ≤ k + length files
       → TakesEach handed.files.items (drop k names) files
   opened_taken k handed left [] opens all =
@@ -43,7 +43,7 @@ module _ {S : Type 0} (names : List (List ℕ)) where
       subst (λ (ns : List (List ℕ)). TakesEach {S = S} handed.files.items ns (file ∷ files)) (sym (drop_more names k [] opens.1))
       (opens.0.files.items, opens.2, opened_taken (k + 1) opens.0 left files opens.3 (omega (arith, all, there)))
 
-  -- where the next name has no file, the files lack it
+  -- If the next name has no file, that file is missing from the supplied ones.
   opened_lacks : (k : ℕ) (handed before : Extras S) (files : List S) → Opens Answers names k handed files before → k + length files < length names
       → All (IsOther (get_or names (k + length files) [])) before.files.items → LacksOne handed.files.items (drop k names)
   opened_lacks k handed before [] opens more others =
@@ -115,7 +115,7 @@ reach_given unit [] reach = tt
 reach_given unit (x ∷ xs) reach =
     (subst (λ (n : ℕ). round_up unit n < 2 ^ 64) (end_kept x.access x.source x.sectors) reach.0, reach_given unit xs reach.1)
 
--- an image that can be used has as many files as it asks for
+-- An image that can be used has as many files as it refers to.
 not_missing : (m : Bool) → ◌≡◌ {A = Option Fault} (if m then Some MissingData else None) None → m ≡ false
 not_missing true none = absurd (cc none)
 not_missing false none = refl

@@ -1,4 +1,4 @@
--- Behind a flush the files that were handed in mean the disk of a chain of image files, with the bytes that the top's now has.
+-- After a flush the files that were supplied at opening mean the disk of the chain. The top's file has its current bytes.
 use Rattle.std.proofs.Common.{◌≡◌, ◌∙◌, ◌∷◌, ◌<◌, ◌≤◌, ◌+◌, [], ℕ, zero, suc, List, ap, arith, length, refl, sym, subst}
 use Rattle.std.specs.Prelude.{◌≢◌, Bool, Result, cond, false, ltb, map, slice_index}
 use Rattle.std.specs.Borrow.{RattleType}
@@ -36,7 +36,7 @@ use Rattle.qimg_chain.proofs.FilesShown.{over}
 use Rattle.qimg_chain.proofs.FilesTaken.{left_is, taken_first}
 use Rattle.qimg_chain.proofs.FlushedFiles.{below-shown, shows-below}
 
--- what files show that show the same below the first
+-- Files with the same disk below the first one.
 below-as : (states : Bool) (disk : Disk) (file : FileBytes) (files others : List FileBytes)
     → ((p : ℕ) → value_of files p ≡ value_of others p) → ShowDisk states disk (file ∷ files) → ShowDisk states disk (file ∷ others)
 below-as states disk file files others same shows =
@@ -47,7 +47,7 @@ below-as states disk file files others same shows =
       exactly = λ exact. let is = shows.exactly exact in record { size = is.size; value = λ p. is.value p ∙ all p };
     }
 
--- what files show, of which the first means the same
+-- Files whose first ones mean the same.
 first-as : (states : Bool) (disk : Disk) (file other : FileBytes) (files : List FileBytes) → file_meaning file ≡ file_meaning other
     → ShowDisk states disk (file ∷ files) → ShowDisk states disk (other ∷ files)
 first-as states disk file other files same shows =
@@ -60,14 +60,14 @@ first-as states disk file other files same shows =
       exactly = λ exact. let is = shows.exactly exact in record { size = is.size ∙ size; value = λ p. is.value p ∙ all p };
     }
 
--- an image that isn't a VMDK image means the same whatever further files there are
+-- The meaning of an image other than VMDK doesn't depend on further files.
 by-itself : (f : Format) → f ≢ format.Vmdk → (bytes : List ℕ) (extras others : List (List ℕ × List ℕ))
     → meaning_as f bytes extras ≡ meaning_as f bytes others
 by-itself format.Raw differs bytes extras others = refl
 by-itself format.Qcow2 differs bytes extras others = refl
 by-itself format.Vmdk differs bytes extras others = absurd (differs refl)
 
--- the files that are taken for names have the bytes of those that are found by them
+-- The files that are taken for names have the bytes of those that are found by the names.
 each-taken : {S : Type 0} (state : S → StorageState) (names : List (List ℕ)) (handed : List (String Global × S)) (files : List S)
     → TakesEach handed names files → (i q : ℕ) → i < length names
     → byte_in (map state files) i q ≡ byte_at (taken_for names (map (extra_bytes state) handed)) i q
@@ -79,7 +79,7 @@ each-taken state (name ∷ names) handed (file ∷ files) takes (suc i) q inside
     each-taken state names takes.0 files takes.2 i q (omega (arith, inside))
     ∙ ap (λ left. byte_at (taken_for names left) i q) (sym (left_is state handed takes.0 name file takes.1))
 
--- the same of further files, by their numbers
+-- Like `each-taken`, for further files by number.
 numbered : {S : Type 0} (state : S → StorageState) (image : StorageState) (bytes : List ℕ) (names : List (List ℕ))
     (handed : List (String Global × S)) (files : List S) → TakesEach handed names files → (j q : ℕ) → 1 ≤ j → j < 1 + length names
     → byte_in (image ∷ map state files) j q ≡ byte_at (bytes ∷ taken_for names (map (extra_bytes state) handed)) j q
@@ -87,11 +87,11 @@ numbered state image bytes names handed files takes zero q low high = absurd (om
 numbered state image bytes names handed files takes (suc i) q low high = each-taken state names handed files takes i q (omega (arith, high))
 
 module _ (R : RattleType) (st : Ghosts R.Denot) (sd : mir.Syntax.Dict) (dd : mir.Syntax.Dict) where
-  -- A file as it was handed in, with further ones.
+  -- A supplied file, with further files.
   abbrev handed-as : Format → StorageState → List (String Global × R.Denot) → FileBytes
   handed-as f before handed = record { format = f; bytes = before.bytes; extras = map (extra_bytes st.state) handed }
 
-  -- An image just opened shows what its files mean, as they were handed in.
+  -- An image that was just opened shows what its supplied files mean.
   image-shown : (f : Format) (writable : Bool) (number : ℕ) (before : StorageState) (handed : List (String Global × R.Denot))
       (d : ImageDriver R.Denot st) → IsOpened (image_seen.ghosts R st sd dd) f writable number before d
       → HasFurther st.state f before handed ((image_seen.ghosts R st sd dd).extras d)
@@ -132,7 +132,7 @@ module _ (R : RattleType) (st : Ghosts R.Denot) (sd : mir.Syntax.Dict) (dd : mir
   image-shown format.Vmdk writable number before handed (variant.Raw d) opened has = absurd (cc opened.format_is)
   image-shown format.Vmdk writable number before handed (variant.Qcow2 d) opened has = absurd (cc opened.format_is)
 
-  -- so do all of a chain
+  -- Like `image-shown`, for all images of a chain.
   images-shown : (writable : Bool) (number : ℕ) (files : List (ChainFile R.Denot)) (ds : List (ImageDriver R.Denot st))
       → AreLayers (image_seen.ghosts R st sd dd) st.state writable number files ds
       → AreInPlace (map (image_seen.ghosts R st sd dd).layer ds)
@@ -147,7 +147,7 @@ module _ (R : RattleType) (st : Ghosts R.Denot) (sd : mir.Syntax.Dict) (dd : mir
       (over (layer d) (map layer ds) (file_bytes st.state file) (files_bytes st.state files) shows
       (images-shown false 0 files ds are.1 places.1) (shows-below (map layer ds) (layer d) (layer d) places.0 refl)).value p
 
-  -- Where a chain's files mean its disk, those that were handed in do.
+  -- If a chain's files mean its disk, the supplied files do.
   pub handed-mean : (names : ImageDriver R.Denot st → ℕ → List ℕ) → HandedMeanToo (image_seen.ghosts R st sd dd) names st.state
   handed-mean names writable number file below opened now is means =
       let d = image_seen.ghosts R st sd dd in

@@ -1,4 +1,4 @@
--- The kinds of drivers that a layer of a chain of image files has.
+-- The formats of the layers in a chain of image files.
 use Rattle.std.proofs.Common.{◌≡◌, ℕ, List, refl, sym}
 use Rattle.std.specs.Prelude.{Bool, IsTrue, None, Ok, false, map}
 use Rattle.std.specs.Borrow.{RattleType}
@@ -30,7 +30,7 @@ use Rattle.qimg_chain.specs.declared.chain.image_driver.ImageDriver.{ImageDriver
 use Rattle.qimg_chain.specs.declared.chain.image_driver.ImageDriver.TheVariants as variant
 use Rattle.qimg_chain.proofs.SeenThrough.{IsKind}
 
--- what has begun in a layer of one kind has begun in one of this kind
+-- A call that began in a layer of one format began in the same format of `ImageDriver`.
 module _ {S : Type 0} {st : Ghosts S} (r : Raw S → Call → Raw S → Type 0) (v : Vmdk S → Call → Vmdk S → Type 0) (q : Qcow2 S st → Call → Qcow2 S st → Type 0) where
   raw_alike : (e : ImageDriver S st) (call : Call) (d : Raw S) → began_as r v q e call (variant.Raw d) → (from : Raw S) × (e ≡ variant.Raw from)
   raw_alike (variant.Raw from) call d now = (from, refl)
@@ -57,14 +57,14 @@ module _ (R : RattleType) (st : Ghosts R.Denot) (sd : mir.Syntax.Dict) (dd : mir
   pub qcow2_kind : IsKind {E = ImageDriver R.Denot st} (λ (d : Qcow2 R.Denot st). variant.Qcow2 d) (image_seen.ghosts R st sd dd) (qcow2_seen.ghosts R st sd dd)
   qcow2_kind = record { sound = λ d file s. s; sound_for = λ d file s. s; alike = qcow2_alike _ _ _ }
 
-  -- no place is held where nothing is prepared
+  -- No byte is held if no mapping is prepared.
   pub none_held : (d : ImageDriver R.Denot st) → IsFree ((image_seen.ghosts R st sd dd).layer d) → (p : ℕ) → ((image_seen.ghosts R st sd dd).layer d).held p ≡ loose
   none_held (variant.Raw d) free p = refl
   none_held (variant.Vmdk d) free p = refl
   none_held (variant.Qcow2 d) free p =
       free_loose d.tables.file.header.fields (bytes_of (st.state d.tables.file.image).bytes) (holding_in st d.unspent) p free
 
-  -- whether it keeps what is written, its storages say, and whether a file is sound for it, its format
+  -- The layer keeps writes if its storages do. Its format decides which files are consistent.
   pub keeps_so : (d : ImageDriver R.Denot st) → ((image_seen.ghosts R st sd dd).layer d).fixed.keeps
       ≡ keep_all ((image_seen.ghosts R st sd dd).image d) ((image_seen.ghosts R st sd dd).extras d)
   keeps_so (variant.Raw d) = refl
@@ -77,7 +77,7 @@ module _ (R : RattleType) (st : Ghosts R.Denot) (sd : mir.Syntax.Dict) (dd : mir
   sound_so (variant.Vmdk d) f sound = sound
   sound_so (variant.Qcow2 d) f sound = sound
 
-  -- a qcow2 image states the size of its disk, and its file is sound where it is consistent
+  -- A qcow2 image states the size of its disk.
   pub exact_so : (d : ImageDriver R.Denot st) → ((image_seen.ghosts R st sd dd).layer d).fixed.format ≡ format.Qcow2
       → IsTrue ((image_seen.ghosts R st sd dd).layer d).fixed.exact
   exact_so (variant.Raw d) is = absurd (cc is)
@@ -90,7 +90,7 @@ module _ (R : RattleType) (st : Ghosts R.Denot) (sd : mir.Syntax.Dict) (dd : mir
   consistent_so (variant.Vmdk d) f is sound = absurd (cc is)
   consistent_so (variant.Qcow2 d) f is sound = sound
 
-  -- a VMDK image just opened
+  -- A VMDK image that was just opened.
   pub vmdk_opened : (writable : Bool) (before : StorageState) (d : Vmdk R.Denot) → writable ≡ false → UnchangedButMoreFaults before (st.state d.image) → descriptor_of before.bytes ≡ Ok (kept_extents d.disk.extents.items)
       → unusable_fault ((vmdk_seen.ghosts R st sd dd).layer d) ≡ None → (vmdk_seen.ghosts R st sd dd).coherent d → IsOpened (image_seen.ghosts R st sd dd) format.Vmdk writable 0 before (variant.Vmdk d)
   vmdk_opened writable before d closed kept means usable coherent =

@@ -1,4 +1,3 @@
--- Lemmas.
 mod ArgumentLemmas
 mod BothReads
 mod CallsThrough

@@ -1,4 +1,4 @@
--- The first value of a range that can't be read, found by reads of its parts.
+-- The first value of a range that can't be read is found by reads of its parts.
 use Rattle.std.proofs.Common.{◌≡◌, ◌∙◌, ◌<◌, ◌≤◌, ◌+◌, ◌-◌, ◌%◌, ◌^◌, ℕ, List, ap, arith, inl, inr, length, subst, sym}
 use Rattle.std.specs.Prelude.{None, Some}
 use Rattle.std.proofs.lemmas.Bool.{cases_lt}
@@ -16,13 +16,13 @@ use Rattle.imago_access.specs.declared.driver_model.DriverModel.{Ghosts}
 use Rattle.qimg_core.specs.Plain.{IsFirstFault, value_fault}
 use Rattle.qimg_chain.specs.PlainReads.{HasFault, IsNarrowed, IsOfPlace, NotReadInOrder, SomeFileMayFail}
 
--- a value that can't be read has no other fault
+-- A value that can't be read has no other fault.
 pub not_of_value : (v : Value) (fault : Fault) → (IsOfPlace fault → ⊥) → value_fault v ≡ Some fault → ⊥
 not_of_value (byte n) fault other is = cc is
 not_of_value barred fault other is = let same : Barred ≡ fault = cc is in other (subst IsOfPlace same tt)
 not_of_value damaged_place fault other is = let same : DamagedTable ≡ fault = cc is in other (subst IsOfPlace same tt)
 
--- the first value that can't be read is why none behind it is
+-- The first value that can't be read is the reason why no later one is read.
 pub in_order : {D St : Type 0} (g : Ghosts D St) (value : ℕ → Value) (offset n : ℕ) (fault : Fault) → IsFirstFault value offset n fault
     → NotReadInOrder g value offset n fault
 in_order g value offset n Memory first = tt
@@ -30,32 +30,32 @@ in_order g value offset n Storage first = absurd (not_of_value (value (offset + 
 in_order g value offset n RangeOverflow first = absurd (not_of_value (value (offset + first.place)) RangeOverflow (λ place. place) first.faulty)
 in_order g value offset n fault first = first
 
--- an end that passes 64 bits where it is padded is near that
+-- If the end of a padded range doesn't fit 64 bits, the end is within 2^20 bytes of 2^64.
 near_end : (unit k : ℕ) → IsAlignment unit → 2 ^ 64 ≤ round_up unit k → 2 ^ 64 ≤ k + 2 ^ 20
 near_end unit k aligned high = elim (cases_lt 0 (k % unit)) [
   | inl part ↦ let is = round_up_part unit k aligned.positive part in omega (arith, is, high, aligned.small)
   | inr whole ↦ let is = round_up_whole unit k aligned.positive (omega (arith, whole)) in omega (arith, is, high)
 ]
 
--- such a fault cuts nothing off
+-- Such a fault isn't a resource error.
 pub not_resource_error : (fault : Fault) → IsOfPlace fault → IsNotResourceError fault
 not_resource_error Barred place = tt
 not_resource_error DamagedTable place = tt
 not_resource_error fault place = absurd place
 
--- the cause of a refusal, by layers that are the same
+-- The cause of an error, by equal layers.
 pub moved : (ls layers : List Layer) (begin m : ℕ) (olds news : List StorageState) (fault : Fault) → ls ≡ layers
     → ReadCause ls (at ls) (unit_of_chain ls) begin m olds news fault → ReadCause layers (at layers) (unit_of_chain layers) begin m olds news fault
 moved ls layers begin m olds news fault same why = subst (λ (ys : List Layer). ReadCause ys (at ys) (unit_of_chain ys) begin m olds news fault) same why
 
 module _ (layers : List Layer) (value : ℕ → Value) (unit : ℕ) (usable : (f : Fault) → SomeUnusable layers f → ⊥) (olds news : List StorageState) where
-  -- a read that is refused for a value's sake has met one
+  -- A read that fails because of a value has met such a value.
   pub met : (begin m : ℕ) (fault : Fault) → IsOfPlace fault → ReadCause layers value unit begin m olds news fault → HasFault value begin m fault
   met begin m Barred place why = (why.0, why.1, ap value_fault why.2)
   met begin m DamagedTable place why = (why.0, why.1, ap value_fault why.2)
   met begin m fault place why = absurd place
 
-  -- and one of a part that is refused otherwise is why the whole isn't read
+  -- If the read of a part fails for another reason, that is the reason why the whole range isn't read.
   pub otherwise : {D St : Type 0} (g : Ghosts D St) → (SomeRose olds news → SomeFileMayFail g) → IsAlignment unit → (offset n begin m : ℕ) (fault : Fault)
       → offset ≤ begin → begin + m ≤ offset + n → (IsOfPlace fault → ⊥) → ReadCause layers value unit begin m olds news fault
       → NotReadInOrder g value offset n fault
@@ -70,7 +70,7 @@ module _ (layers : List Layer) (value : ℕ → Value) (unit : ℕ) (usable : (f
   otherwise g fails aligned offset n begin m fault low most place why = absurd why
 
 module _ (value : ℕ → Value) (offset n : ℕ) where
-  -- at first nothing is known but that one can't be read
+  -- At the start it is only known that one value can't be read.
   pub begun : (fault : Fault) → HasFault value offset n fault → IsNarrowed value offset n 0 n fault
   begun fault has = record {
     most = omega arith;
@@ -83,7 +83,7 @@ module _ (value : ℕ → Value) (offset n : ℕ) where
       let same : offset + i ≡ offset + good + (i - good) = omega (arith, low) in
       ap (λ p. value_fault (value p)) same ∙ ap value_fault (shows (i - good) (omega (arith, low, high)))
 
-  -- a part that is read: the one that can't be read is behind it
+  -- The part is read, so the value is after it.
   pub passed : (good end middle : ℕ) (bytes : List ℕ) (fault : Fault) → IsNarrowed value offset n good end fault → middle ≡ good + length bytes
       → Shows value (offset + good) bytes → IsNarrowed value offset n middle end fault
   passed good end middle bytes fault so_far is shows = record {
@@ -98,7 +98,7 @@ module _ (value : ℕ → Value) (offset n : ℕ) where
     ];
   }
 
-  -- a part that isn't: one is in it
+  -- The part isn't read, so a value in it can't be read.
   pub found : (good end middle m : ℕ) (before fault : Fault) → IsNarrowed value offset n good end before → middle ≡ good + m → middle ≤ end
       → HasFault value (offset + good) m fault → IsNarrowed value offset n good middle fault
   found good end middle m before fault so_far is le has =
@@ -109,7 +109,7 @@ module _ (value : ℕ → Value) (offset n : ℕ) where
         faulty = (good + has.0, omega arith, omega (arith, has.1, is), ap (λ p. value_fault (value p)) (sym same) ∙ has.2);
       }
 
-  -- where no two are left, that is the first
+  -- If only one value is left, it is the first.
   pub alone : (good end : ℕ) (fault : Fault) → IsNarrowed value offset n good end fault → end - good ≤ 1 → IsFirstFault value offset n fault
   alone good end fault so_far one = record {
     place = so_far.faulty.0;

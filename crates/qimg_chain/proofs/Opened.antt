@@ -1,4 +1,4 @@
--- A chain just opened is where calls may begin.
+-- A chain that was just opened is ready for calls.
 use Rattle.std.proofs.Common.{◌≡◌, ◌∷◌, ◌++◌, ◌≤◌, ◌∙◌, [], ℕ, List, arith, drop, length, refl, subst, sym, take, true}
 use Rattle.std.specs.Prelude.{◌&&◌, ◌≢◌, All, Bool, IfOk, IsTrue, Err, None, Ok, Result, false, map}
 use Rattle.std.specs.declared.string.String.{String}
@@ -28,17 +28,14 @@ use Rattle.qimg_chain.specs.FileLayers.{is_unmapped}
 use Rattle.qimg_chain.specs.FurtherFiles.{HasFurther}
 use Rattle.qimg_chain.specs.Refusals.{ArePlaced, FormChain, misplaced}
 
--- what holds on success may be said otherwise
 pub on_ok : {T E : Type 0} {P Q : T → Type 0} → ((x : T) → P x → Q x) → (result : Result T E) → IfOk result P → IfOk result Q
 on_ok follows (Ok x) p = follows x p
 on_ok follows (Err e) p = tt
 
--- the same of two facts
 pub on_ok_both : {T E : Type 0} {P Q R : T → Type 0} → ((x : T) → P x → Q x → R x) → (result : Result T E) → IfOk result P → IfOk result Q → IfOk result R
 on_ok_both follows (Ok x) p q = follows x p q
 on_ok_both follows (Err e) p q = tt
 
--- a layer in its place shows those below
 backed : (below : List Layer) (layer : Layer) → IsInPlace below layer → IsBacked below layer
 backed [] layer place = tt
 backed (next ∷ below) layer place = place
@@ -50,7 +47,7 @@ both_true true b first second = second
 both_true false b first second = absurd (cc first)
 
 module _ {S : Type 0} (P : S → Type 0) where
-  -- what each file has, the one that is taken has, and those that are left
+  -- A property of all supplied files holds for the one that is taken and for those that are left.
   taken_has : (files left : List (String Global × S)) (name : List ℕ) (taken : S) → All (λ f. P f.1) files → TakesFirst files name taken left
       → P taken × All (λ (f : String Global × S). P f.1) left
   taken_has files left name taken all t =
@@ -82,7 +79,7 @@ module _ {S : Type 0} (state : S → StorageState) where
   further_keep Vmdk image s handed further all has keeps =
       subst (λ (ts : List StorageState). IsTrue (keep_all s ts)) (sym has.2.2) (each_keeps _ handed has.2.0 s all has.2.1.taken keeps)
 
--- ---- Files whose layers are in their places are in theirs.
+-- ---- Files are at valid positions if their layers are.
 
 last_in_place : (F : Type 0) (blank : Cell) → blank ≢ unmapped → misplaced {F = F} (is_unmapped blank) [] ≡ None
 last_in_place F (own value) shows = refl
@@ -112,9 +109,9 @@ module _ {S D St : Type 0} (g : Ghosts D St) (state : S → StorageState) where
       → AreLayers g state writable number (file ∷ files) (chain c) → AreInPlace (map g.layer (chain c)) → FormChain state writable (file ∷ files)
   formed writable number file files few c are places = (omega arith, few, placed writable number (file ∷ files) (chain c) are places)
 
-  -- ---- What calls rest on.
+  -- ---- The preconditions of calls.
 
-  -- what each driver just opened has, each layer has
+  -- A property of each driver that was just opened holds for each layer.
   each : (P : D → Type 0) → ((format : Format) (writable : Bool) (number : ℕ) (before : StorageState) (d : D) → IsOpened g format writable number before d → P d)
       → (writable : Bool) (number : ℕ) (files : List (ChainFile S)) (ds : List D) → AreLayers g state writable number files ds → Each P ds
   each P has writable number [] [] are = tt
@@ -141,7 +138,7 @@ module _ {S D St : Type 0} (g : Ghosts D St) (state : S → StorageState) where
       → AreLayers g state writable number (file ∷ files) (chain c) → Each g.has_no_dirty_data c.1
   has_no_dirty_data writable number file files c are = each g.has_no_dirty_data (λ f w n b d o. o.has_no_dirty_data) false 0 files c.1 are.1
 
-  -- a driver of a file that may be the top is as a sound image has to be
+  -- The driver of a file that can be the top is well-formed.
   well_formed : ((d : D) → (g.layer d).fixed.keeps ≡ keep_all (g.image d) (g.extras d))
       → ((d : D) (f : List ℕ) → IsSoundAs (g.layer d).fixed.format f → g.sound (g.layer d).fixed.kind f)
       → (writable : Bool) (number : ℕ) (file : ChainFile S) (d : D) → IsLayerOf g state writable number file d → IsFit state file → g.well_formed d

@@ -7,7 +7,7 @@ use Rattle.std.proofs.BufReadLemmas.{Consumes_through, take_through-append, drop
 use Rattle.std.proofs.KnownBytes.{Consumes-nil}
 use Rattle.qimg_chain.specs.ScriptReads.{ReadsPart}
 
--- behind parts without a line feed the rest of the line is read
+-- After parts without a line feed, the rest of the line is read.
 pub line-read : (first left rest : Option (List ℕ)) (old new : List ℕ) (ended : Bool) → ended ≡ true → Consumes first left old → All (λ b. b ≢ 10) old → ReadsPart left rest old new ended
     → IfSome first (λ bytes. new ≡ take_through 10 bytes) × DropsThrough first rest 10
 line-read None left rest old new ended is before none reads = (tt, tt)
@@ -17,7 +17,7 @@ line-read (Some xs) (Some ys) rest old new ended is before none reads = (
   (reads.ends is).1 ∙ ap Some (sym (ap (drop_through 10) before ∙ drop_through-append 10 old ys none)),
 )
 
--- what is taken of a reader's bytes as their first line is that line
+-- The first line of the buffered bytes is the first line of all bytes.
 pub through-read : (left rest : Option (List ℕ)) (shown : List ℕ) (n : ℕ) → n ≤ length shown
     → Consumes left rest (take n shown) × (length shown ≡ 0 → OnSome left (IsAtEnd rest))
     → StopsAt (take n shown) 10 → IsEmptyOrEndsWith (take n shown) 10 → (n ≡ 0 → shown ≡ [])
@@ -27,7 +27,6 @@ through-read left rest shown n inside moved stops ends none =
     Consumes_through 10 left left rest [] (take n shown) (Consumes-nil left) (λ i d lt. absurd (omega arith)) moved.0 stops ends
     (λ empty. moved.1 (ap length (none (sym whole ∙ empty))))
 
--- what is known of bytes that are kept
 pub kept-known : (left now : Option (List ℕ)) (P : List ℕ → Type 0) → Keeps left now → IfSome now P → IfSome left P
 kept-known None now P kept holds = tt
 kept-known (Some xs) None P kept holds = absurd kept

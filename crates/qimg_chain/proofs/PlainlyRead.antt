@@ -1,4 +1,4 @@
--- What a read of opened files shows is what the files mean, and why it is refused.
+-- A read of opened files returns what the files mean, or fails for the same reason.
 use Rattle.std.proofs.Common.{◌≡◌, ◌⊎◌, ◌∙◌, ◌∷◌, ◌<◌, ◌≤◌, ◌+◌, ◌-◌, ◌^◌, [], ℕ, List, ap, arith, inl, inr, length, map, refl, sym}
 use Rattle.std.specs.Prelude.{Bool, IfErr, OnOk, Result, Err, Ok, false, min, slice_index}
 use Rattle.std.proofs.lemmas.Bool.{cases_lt, le-ltb}
@@ -17,14 +17,14 @@ use Rattle.qimg_chain.specs.PlainReads.{IsOutOfReach, IsPlainlyRead, NotPlainlyR
 use Rattle.qimg_chain.specs.Refusals.{FormChain, HadResourceError}
 
 module _ {S D St : Type 0} (g : Ghosts D St) (state : S → StorageState) where
-  -- lookups in each layer just opened are true
+  -- Each layer that was just opened is coherent.
   pub seen : (writable : Bool) (number : ℕ) (files : List (ChainFile S)) (ds : List D) → AreLayers g state writable number files ds → Each g.coherent ds
   seen writable number [] [] are = tt
   seen writable number (file ∷ files) (d ∷ ds) are = (are.0.opened.coherent, seen false 0 files ds are.1)
   seen writable number [] (d ∷ ds) are = absurd are
   seen writable number (file ∷ files) [] are = absurd are
 
-  -- each can be used
+  -- Each layer can be used.
   pub usable : (writable : Bool) (number : ℕ) (files : List (ChainFile S)) (ds : List D) → AreLayers g state writable number files ds
       → (f : Fault) → SomeUnusable (map g.layer ds) f → ⊥
   usable writable number [] [] are f bad = bad
@@ -33,12 +33,11 @@ module _ {S D St : Type 0} (g : Ghosts D St) (state : S → StorageState) where
   usable writable number [] (d ∷ ds) are f bad = are
   usable writable number (file ∷ files) [] are f bad = are
 
--- past its size the disk of files shows 0
 pub past_size : (files : List FileBytes) (p : ℕ) → size_of files ≤ p → value_of files p ≡ byte 0
 past_size [] p past = refl
 past_size (file ∷ below) p past = rw (le-ltb p (size_of (file ∷ below)) past) refl
 
--- a buffer of zeroes whose front was read up to the disk's size
+-- The buffer was filled with zeroes, and its start was read, up to the size of the disk.
 filled : (disk : Disk) (files : List FileBytes) (offset inside n : ℕ) (part whole : List ℕ) → length whole ≡ n → IsDiskOf disk files → inside ≡ min (size_of files - offset) n
     → length part ≡ inside → Shows disk.value offset part → ((i : ℕ) → i < inside → slice_index whole i ≡ slice_index part i)
     → ((i : ℕ) → inside ≤ i → slice_index whole i ≡ 0) → Shows (value_of files) offset whole
@@ -48,7 +47,7 @@ filled disk files offset inside n part whole all means is long shows front rest 
 ]
 
 module _ {S : Type 0} (state : S → StorageState) (files : List (ChainFile S)) (offset : ℕ) where
-  -- the buffer, where the front of it was read
+  -- The start of the buffer was read.
   pub read_plainly : {E : Type 0} (result : Result Unit E) (disk : Disk) (inside n : ℕ) (part whole : List ℕ) → FormChain state false files → offset + n < 2 ^ 64
       → length whole ≡ n → IsDiskOf disk (files_bytes state files) → inside ≡ min (size_of (files_bytes state files) - offset) n → length part ≡ inside
       → ((i : ℕ) → i < inside → slice_index whole i ≡ slice_index part i) → ((i : ℕ) → inside ≤ i → slice_index whole i ≡ 0)
@@ -77,7 +76,7 @@ module _ {S : Type 0} (state : S → StorageState) (files : List (ChainFile S)) 
   refused_range g fails disk inside n RangeOverflow means is why = inr (inr ((omega (arith, is, why.0), omega (arith, is, why.0), omega (arith, is, why.0, why.1)), refl))
   refused_range g fails disk inside n fault means is why = inr (inl (first_in disk.value inside n fault means.value (omega (arith, is)) why))
 
-  -- why the front isn't read is why the files aren't
+  -- The reason why the start isn't read is the reason why the range isn't.
   pub not_read : {T D St : Type 0} (g : Ghosts D St) → (SomeFileMayFail g → MayFail state) → (result : Result T Fault) (disk : Disk) (inside n : ℕ) → FormChain state false files → offset + n < 2 ^ 64 → IsDiskOf disk (files_bytes state files)
       → inside ≡ min (size_of (files_bytes state files) - offset) n → IfErr result (NotReadInOrder g disk.value offset inside) → IfErr result (NotPlainlyRead state files offset n)
   not_read g fails (Ok done) disk inside n formed fits means is why = tt

@@ -1,4 +1,4 @@
--- Why files aren't opened as layers.
+-- The reasons why files aren't opened as layers.
 use Rattle.std.proofs.Common.{◌≡◌, ◌≤◌, ◌⊎◌, ◌∷◌, ℕ, List, ap, inl, inr, length, refl, sym}
 use Rattle.std.specs.Prelude.{◌↔◌, Bool, Err, IfErr, IsTrue, is_some, None, Ok, Result, Some, false, true}
 use Rattle.std.specs.declared.string.String.{String}
@@ -19,18 +19,17 @@ use Rattle.qimg_chain.specs.Refusals.{FirstCause, HadResourceError, WhyNotLayers
 use Rattle.qimg_chain.specs.declared.chain.extras.Extras.{Extras}
 use Rattle.qimg_chain.proofs.FurtherTaken.{Answers, lacks_files}
 
--- what holds on refusal may be said otherwise
 pub on_err : {T E : Type 0} {P Q : E → Type 0} → ((e : E) → P e → Q e) → (result : Result T E) → IfErr result P → IfErr result Q
 on_err follows (Ok x) p = tt
 on_err follows (Err e) p = follows e p
 
--- a layer that says whether it shows those below
+-- The layer reports whether it shows the layers below.
 pub shown_so : (shows : Bool) (blank : Cell) → (IsTrue shows ↔ (blank ≡ unmapped)) → is_unmapped blank ≡ shows
 shown_so true blank is = rw (is.0 refl) refl
 shown_so false unmapped is = absurd (cc (is.1 refl))
 shown_so false (own value) is = refl
 
--- ---- What a VMDK image says, and why it is refused.
+-- ---- The bytes of a VMDK image, and the reasons why it isn't opened.
 
 pub vmdk_said : (writable : Bool) (bytes : List ℕ) (extents : List (Extent (List ℕ))) → writable ≡ false → descriptor_of bytes ≡ Ok extents
     → said_of Vmdk writable bytes ≡ Ok false
@@ -56,7 +55,7 @@ module _ {S : Type 0} (state : S → StorageState) where
 -- ---- The files of a chain.
 
 module _ {S : Type 0} (state : S → StorageState) (writable : Bool) (file : ChainFile S) (below : List (ChainFile S)) where
-  -- the first of files is out of its place, or one below it is refused
+  -- The position of the first file isn't valid, or a file below it isn't opened.
   pub at_place : (e : Fault) (named : Bool) (further : List StorageState) → IsLayer state writable file named further → misplaced named below ≡ Some e
       → HadResourceError state e ⊎ WhyNotLayers state writable (file ∷ below) e
   at_place e named further is out = inr (inr (inl (named, further, is, out)))
@@ -71,14 +70,14 @@ module _ {S : Type 0} (state : S → StorageState) (writable : Bool) (file : Cha
   first_of few e (inl cut) = inl cut
   first_of few e (inr why) = inr (inr (few, why))
 
--- where another file names one below it, or names none
+-- If a file above another one refers to no layer below, its fault is `ExtraLayer`.
 pub upper_misplaced : {F : Type 0} (named : Bool) (next : F) (below : List F) → named ≡ false → misplaced named (next ∷ below) ≡ Some ExtraLayer
 upper_misplaced named next below names = rw names refl
 
 pub upper_placed : {F : Type 0} (named : Bool) (next : F) (below : List F) → named ≡ true → misplaced named (next ∷ below) ≡ None
 upper_placed named next below names = rw names refl
 
--- ---- Why a qcow2 image is refused.
+-- ---- The reasons why a qcow2 image isn't opened.
 
 pub qcow2_refused : {S : Type 0} (state : S → StorageState) (writable : Bool) (image : StorageState) (handed : List (String Global × S)) (e : Fault)
     → WhyNotOpened state writable (bytes_of image.bytes) e → HadResourceError state e ⊎ WhyNotAs state Qcow2 writable image handed e

@@ -1,4 +1,4 @@
--- Why lines of a script are refused, and what is found in the file that one checks.
+-- The reasons why lines of a script fail, and the findings of the checker.
 use Rattle.std.proofs.Common.{◌≡◌, refl, ap, arith, subst, ℕ, zero, suc, ◌+◌, ◌<◌, ◌^◌, List, [], ◌∷◌, ◌++◌, length, take}
 use Rattle.imago_storage.specs.State.{StorageState}
 use Rattle.qcow2_types.specs.Bytes.{Bytes}
@@ -9,11 +9,10 @@ use Rattle.qimg_core.specs.declared.check.CheckFault.{CheckFault}
 use Rattle.qimg_core.specs.declared.check.CheckFault.TheVariants as found
 use Rattle.qimg_chain.specs.RunAnswers.{IsUnsoundBy}
 
--- what is found in these bytes is found in those that are the same
 same-finding : (f e : Bytes) (finding : Finding) → f ≡ e → IsFinding f finding → IsFinding e finding
 same-finding f e finding same is = subst (λ bytes. IsFinding bytes finding) same is
 
--- what is found in a copy that can't fail is found in the file
+-- A finding in a copy that can't fail is a finding in the file.
 pub unsound : (copy after image : StorageState) (finding : CheckFault) → file copy ≡ file image → copy.faults ≡ 0 → after.faults ≡ 0
     → Found copy after (IsFinding (file copy)) finding → IsUnsoundBy (file image) finding
 unsound copy after image found.Header same none has_no_dirty_data is = same-finding _ _ header same is.0
@@ -29,7 +28,6 @@ unsound copy after image found.Storage same none has_no_dirty_data is =
     let rose : copy.faults < after.faults = is.rose more in
     absurd (omega (arith, none, has_no_dirty_data, rose))
 
--- what was written over the front of a buffer, which is all of it
 pub front_of : (n : ℕ) (xs ys : List ℕ) → n ≡ length xs → take n (xs ++ ys) ≡ xs
 front_of zero [] ys same = refl
 front_of zero (x ∷ xs) ys same = absurd (omega (arith, same))

@@ -1,4 +1,4 @@
--- The calls that lines of a script ask for, and their answers.
+-- The calls of lines of a script, and their answers.
 use Rattle.std.proofs.Common.{◌≡◌, inl, inr, ℕ, List, [], ◌∷◌, refl, ap}
 use Rattle.std.specs.Prelude.{None, Some, IsTrue}
 use Rattle.imago_storage.specs.declared.fault.Fault.{Fault}
@@ -15,7 +15,7 @@ use Rattle.qimg_chain.specs.declared.script.answer.Answer.TheVariants as told
 use Rattle.qimg_chain.specs.declared.script.line.Line.{Line}
 use Rattle.qimg_chain.specs.declared.script.line.Line.TheVariants.{Size, Read, Check, Plain}
 
--- a line that asks for a call, and doesn't read too much, is answered by it
+-- A line that makes a call, and isn't too long a read, is answered by the call.
 pub line-tells : {D St : Type 0} (g : Ghosts D St) (names : D → ℕ → List ℕ) (line : Line) (turn : Turn) (answer : Answer) (c : D × List D) → IsTrue (asks_for_call line) → IsShort line → TellsCall line turn answer → TellsLine g names line turn answer c
 line-tells g names Size turn answer c asks short tells = absurd (cc asks)
 line-tells g names Check turn answer c asks short tells = absurd (cc asks)
@@ -23,7 +23,7 @@ line-tells g names (Plain offset n) turn answer c asks short tells = absurd (cc 
 line-tells g names (Read offset n) turn answer c asks short tells = inr (short, tells)
 line-tells g names line turn answer c asks short tells = tells
 
--- it is answered by its call, or isn't made for want of room
+-- A line is answered by its call, or the call isn't made because memory runs out.
 pub told-line : {D St : Type 0} (g : Ghosts D St) (names : D → ℕ → List ℕ) (line : Line) (call : Call) (said : CallAnswer) (answer : Answer) (old new : D × List D) → IsTrue (asks_for_call line) → IsShort line → IsCallOf line call
     → AnswersAlone g (call ∷ []) (said ∷ []) old new → told_of said ≡ Some answer → Answered g names line answer old new
 told-line g names line call said answer old new asks short is made tells = record {

@@ -13,7 +13,7 @@ use Rattle.qimg_chain.specs.ScriptReads.{ReadsNext}
 use Rattle.qimg_chain.specs.ScriptRuns.{IsReadingFault, IsTellingFault}
 use Rattle.qimg_chain.proofs.ScriptLines.{CutAlike, line-within, lines-step, through-joined, through-none}
 
--- These lines were read of a script's bytes, and so many more may be; the reader has left these and one more.
+-- These lines were read from a script's bytes, and `room` more bytes may be read. The reader has these and one more left.
 pub record LinesRead (bytes : List ℕ) (left : Option (List ℕ)) (room : ℕ) (texts : List (List ℕ)) : Type 0 where
   pub before : List ℕ
   pub rest : List ℕ
@@ -22,17 +22,16 @@ pub record LinesRead (bytes : List ℕ) (left : Option (List ℕ)) (room : ℕ) 
   pub size : length before + room ≡ most_bytes
   pub left_is : left ≡ Some (take (room + 1) rest)
 
--- the same where the script's bytes are known
+-- Like `LinesRead`, if the script's bytes are known.
 abbrev pub ReadSoFar : Option (List ℕ) → Option (List ℕ) → ℕ → List (List ℕ) → Type 0
 ReadSoFar None left room texts = ⊤
 ReadSoFar (Some bytes) left room texts = LinesRead bytes left room texts
 
--- none is read yet
 pub read-none : (input left : Option (List ℕ)) → left ≡ option_map (take (most_bytes + 1)) input → ReadSoFar input left most_bytes []
 read-none None left is = tt
 read-none (Some bytes) left is = record { before = []; rest = bytes; parts = refl; first = refl; size = refl; left_is = is }
 
--- a line that is read within the room that is left is the next of the script
+-- A line that is read within the remaining bytes is the next line of the script.
 next-line : (bytes line : List ℕ) (left : Option (List ℕ)) (room less : ℕ) (texts : List (List ℕ)) (r : LinesRead bytes left room texts)
     → IfSome left (λ xs. line ≡ take_through 10 xs) → length line + less ≡ room → (line ≡ take_through 10 r.rest) × CutAlike (room + 1) r.rest
 next-line bytes line left room less texts r is fewer =
@@ -40,7 +39,6 @@ next-line bytes line left room less texts r is fewer =
     let within = line-within (room + 1) r.rest (omega (arith, fewer, ap length seen)) in
     (seen ∙ within.0, within)
 
--- one more line is read
 pub read-then : (input left next : Option (List ℕ)) (room less : ℕ) (texts : List (List ℕ)) (line one more : List ℕ) → ReadSoFar input left room texts
     → IfSome left (λ xs. line ≡ take_through 10 xs) → DropsThrough left next 10 → length line + less ≡ room → lines line ≡ one ∷ lines more
     → ReadSoFar input next less (texts ++ (one ∷ []))
@@ -63,7 +61,7 @@ none-taken : (room : ℕ) (rest : List ℕ) → take (room + 1) rest ≡ [] → 
 none-taken room [] is = refl
 none-taken room (b ∷ rest) is = cc (rw (add-one) at is)
 
--- the script has no more lines
+-- The script has no more lines.
 pub read-all : (input left rest : Option (List ℕ)) (room less : ℕ) (texts : List (List ℕ)) (saved : Option (List ℕ)) → ReadSoFar input left room texts
     → ReadsNext left rest room less None → IfSome input (λ bytes. AreAnswered (Ok saved) bytes texts)
 read-all None left rest room less texts saved so_far read = tt
@@ -78,7 +76,7 @@ read-all (Some bytes) left rest room less texts saved r read =
       ends = none-taken room r.rest (through-none (take (room + 1) r.rest) (rw (seen) at read.next));
     }
 
--- the script has one more line, within its bytes
+-- The script has one more line, within its limit of bytes.
 pub read-more : (input left rest : Option (List ℕ)) (room less : ℕ) (texts : List (List ℕ)) (taken : Result Line Fault) → ReadSoFar input left room texts
     → ReadsNext left rest room less (Some taken) → IfSome input (λ bytes. AreAnswered (Err run_fault.Lines) bytes texts)
 read-more None left rest room less texts taken so_far read = tt
@@ -99,7 +97,7 @@ read-more (Some bytes) left rest room less texts taken r read =
     some : (rest one more : List ℕ) → lines (take_through 10 rest) ≡ one ∷ lines more → rest ≢ []
     some rest one more e none = absurd (cc (rw (none) at e))
 
--- what ends a script early behind so many lines is no limit of theirs
+-- If a script ends early after `n` lines, it isn't for the limit of lines.
 pub record EndsEarly (fault : RunFault) (n : ℕ) : Type 0 where
   pub between : (before rest : List ℕ) → EndsBetween (Err fault) before rest
   pub count : IsAnswerCount (Err fault) n

@@ -9,11 +9,11 @@ use Rattle.hex.specs.declared.error.FromHexError.{FromHexError}
 use Rattle.hex.specs.declared.error.FromHexError.TheVariants.{InvalidHexCharacter}
 use Rattle.hex.proofs.Pairs.{decode_err, decode_step, prepend}
 
--- the pairs before this one are decoded
+-- The pairs before this one are decoded.
 abbrev pub AreDecoded : List ℕ → List ℕ → ℕ → Type 0
 AreDecoded word out i = decode_pairs 0 word ≡ prepend (take i out) (decode_pairs (2 * i) (drop (2 * i) word))
 
--- what a digit is read as
+-- The value that a digit is read as.
 abbrev pub IsReadAs : ℕ → ℕ → Type 0
 IsReadAs digit value = MatchOption (hex_digit_value digit) (16 ≤ value) (λ v. value ≡ v)
 
@@ -47,7 +47,7 @@ module _ (a b i high low : ℕ) (first : IsReadAs a high) (second : IsReadAs b l
       let two : value_at b (i + 1) ≡ Err (InvalidHexCharacter b (i + 1)) = ap (digit_or_error b (i + 1)) (no-digit b (hex_digit_value b) low refl second great) in
       rw (one, two) refl
 
--- One pair more.
+-- One more pair.
 module _ (word out : List ℕ) (i high low : ℕ) (all : Bool) (fits : 2 * i + 1 < length word) (room : i < length out) (first : IsReadAs (slice_index word (2 * i)) high) (second : IsReadAs (slice_index word (2 * i + 1)) low) where
   pub pair-decoded : all && nat_lt high 16 && nat_lt low 16 ≡ true → (all ≡ true → AreDecoded word out i) → AreDecoded word (slice_set out i (high % 16 * 16 + low % 16)) (i + 1)
   pair-decoded test before =
@@ -71,7 +71,7 @@ module _ (word out : List ℕ) (i high low : ℕ) (all : Bool) (fits : 2 * i + 1
         ]
       ]
 
--- A pair of digits that stands before what is left of them.
+-- The next pair, before the digits that are left.
 module _ (word rest pair after : List ℕ) (i : ℕ) (left : rest ≡ drop (2 * i) word) (cut : rest ≡ pair ++ after) (two : length pair ≡ 2) where
   pub pair-fits : 2 * i + 1 < length word
   pair-fits = let whole : 2 + length after ≡ length word - 2 * i = omega (arith, two, length-append pair after, ap length cut, ap length left, length-drop (2 * i) word) in omega (arith, whole)
@@ -82,6 +82,6 @@ module _ (word rest pair after : List ℕ) (i : ℕ) (left : rest ≡ drop (2 * 
   pub pair-digit : (k : ℕ) → k < 2 → slice_index pair k ≡ slice_index word (2 * i + k)
   pair-digit k lt = sym (get_or_append_left pair after 0 k (omega (arith, two))) ∙ (ap (λ l. slice_index l k) (sym cut ∙ left) ∙ get_or-drop (2 * i) word k 0)
 
--- none is left
+-- No digits are left.
 pub all-read : (word rest : List ℕ) (i : ℕ) → rest ≡ drop (2 * i) word → length rest < 2 → length word % 2 ≡ 0 → length word ≤ 2 * i
 all-read word rest i left few even = omega (arith, few, even, ap length left, length-drop (2 * i) word)

@@ -1,4 +1,4 @@
--- The lines of a text, cut behind its first line feed.
+-- The lines of a text, split after its first line feed.
 use Rattle.std.proofs.Common.{◌≡◌, ◌≢◌, ◌⊎◌, inl, inr, All, ℕ, zero, suc, ◌+◌, ◌-◌, ◌<◌, ◌∙◌, Bool, true, false, List, [], ◌∷◌, ◌++◌, length, take, refl, ap, sym, arith}
 use Rattle.std.specs.Prelude.{◌==◌}
 use Rattle.std.specs.List.{slice_split, onto_first}
@@ -14,7 +14,7 @@ use Rattle.qimg_chain.proofs.ScriptParting.{line_here, lines_go_on}
 abbrev parts : List ℕ → List (List ℕ)
 parts text = slice_split (λ b. b == 10) text
 
--- where a text is cut: nowhere, or behind its first part
+-- The text isn't split, or is split after its first part.
 abbrev Cut : List ℕ → Type 0
 Cut text = ((take_through 10 text ≡ text) × (drop_through 10 text ≡ []) × (parts text ≡ text ∷ []))
     ⊎ ((first : List ℕ) × (parts text ≡ first ∷ parts (drop_through 10 text)) × (parts (take_through 10 text) ≡ first ∷ [] ∷ []))
@@ -35,7 +35,7 @@ one-part text line more is = at (length text == 0) refl is
     at true empty e = absurd (cc (rw (empty) at e))
     at false some e = rw (some) (let same : text ≡ line = cc (rw (some) at e) in ap (λ x. x ∷ []) same)
 
--- the first line of a text, and the lines of what follows it
+-- The first line of a text, and the lines of the rest.
 pub lines-step : (text line rest : List ℕ) → lines (take_through 10 text) ≡ line ∷ lines rest → lines text ≡ line ∷ lines (drop_through 10 text)
 lines-step text line rest is = elim (cut text) [
   | inl whole ↦ rw (whole.1) (ap lines_of_parts whole.2 ∙ one-part text line (lines rest) (sym (ap lines_of_parts whole.2) ∙ (rw (whole.0) at is)))
@@ -45,7 +45,6 @@ lines-step text line rest is = elim (cut text) [
       ∙ ap (λ x. x ∷ lines (drop_through 10 text)) first
 ]
 
--- a line with its end and what follows it are the text
 pub through-joined : (text : List ℕ) → take_through 10 text ++ drop_through 10 text ≡ text
 through-joined [] = refl
 through-joined (b ∷ text) = at (b == 10) refl (through-joined text)
@@ -55,7 +54,7 @@ through-joined (b ∷ text) = at (b == 10) refl (through-joined text)
     at true is more = rw (is) refl
     at false is more = rw (is) (ap (λ xs. b ∷ xs) more)
 
--- A line that ends before the first n bytes of a text do is the text's, and what is left of these bytes follows it.
+-- A line that ends within the first `n` bytes of a text is a line of the text. The rest of these bytes follows it.
 abbrev pub CutAlike : ℕ → List ℕ → Type 0
 CutAlike n text = (take_through 10 (take n text) ≡ take_through 10 text)
     × (drop_through 10 (take n text) ≡ take (n - length (take_through 10 text)) (drop_through 10 text))
@@ -76,7 +75,6 @@ line-within (suc n) (b ∷ text) fewer = at (b == 10) refl (line-within n text) 
         let rest = more (let k = rw (is) at less in omega arith) in
         rw (is) (ap (λ xs. b ∷ xs) rest.0, rest.1 ∙ ap (λ k. take k (drop_through 10 text)) (omega arith))
 
--- a text whose first line is none is empty
 pub through-none : (text : List ℕ) → lines (take_through 10 text) ≡ [] → text ≡ []
 through-none text is = elim (cut text) [
   | inl whole ↦ at text (sym (ap lines_of_parts whole.2) ∙ (rw (whole.0) at is))
@@ -91,14 +89,14 @@ through-none text is = elim (cut text) [
         some true is = absurd (omega (arith, eqb-true (length (b ∷ whole)) 0 is))
         some false is = cc (rw (is) at e)
 
--- what stands before the one line feed of a line that ends with it
+-- The text before the only line feed of a line that ends with it.
 split-front : (front : List ℕ) → All (λ b. b ≢ 10) front → parts (front ++ 10 ∷ []) ≡ front ∷ parts []
 split-front [] none = refl
 split-front (b ∷ front) none =
     let other : (b == 10) ≡ false = ne_eqb b 10 (none 0 0 (omega arith)) in
     rw (other) (ap (onto_first b) (split-front front (λ i d inside. none (suc i) d (omega (arith, inside)))))
 
--- a line with its end is that line alone
+-- A line with its end has just that line.
 pub lone-line : (bytes : List ℕ) → 0 < length bytes → StopsAt bytes 10 → IsEmptyOrEndsWith bytes 10
     → lines bytes ≡ strip_carriage_return (take (length bytes - 1) bytes) ∷ lines []
 lone-line bytes some stops ends =

@@ -1,4 +1,4 @@
--- The number that a word writes.
+-- The number that an argument writes.
 use Rattle.std.proofs.Common.{zero, suc, ◌^◌, lit<, ◌≡◌, ℕ, ◌<◌, ◌≤◌, Bool, true, false, cond, List, [], ◌∷◌, length, Some, None, Result, Ok, Err, refl, ap, arith, MatchResult, rules, ◌&&◌}
 use Rattle.std.specs.List.{list_all}
 use Rattle.std.specs.Char.{is_ascii_digit}
@@ -23,11 +23,10 @@ digits_ascii (c ∷ cs) e zero = below (and_parts (is_ascii_digit c) (list_all i
     below h = grind (arith, nat_tests)
 digits_ascii (c ∷ cs) e (suc i) = digits_ascii cs (and_parts (is_ascii_digit c) (list_all is_ascii_digit cs) e).1 i
 
--- digits are text
+-- Digits are valid UTF-8.
 pub digits_text : (word : List ℕ) → list_all is_ascii_digit word ≡ true → IsUtf8 word
 digits_text word e = IsUtf8-from_ascii word (digits_ascii word e)
 
--- what isn't of digits is no number
 pub not_digits : (word : List ℕ) → list_all is_ascii_digit word ≡ false → None ≡ number_of word
 unfolding number_of
 not_digits word e = rw e refl
@@ -39,7 +38,6 @@ lacking true true false d v none = refl
 lacking true false c d v none = refl
 lacking false b c d v none = refl
 
--- what has more than 20 digits is no number
 pub too_many_digits : (word : List ℕ) → 20 < length word → None ≡ number_of word
 unfolding number_of
 too_many_digits word long =
@@ -47,7 +45,7 @@ too_many_digits word long =
     (digits_value 10 word)
     (λ b c d. absurd (let no : leb (length word) 20 ≡ false = lt-leb _ _ long in cc))
 
--- what a parse of at most 20 digits answers
+-- The result of parsing at most 20 digits.
 pub number_parsed : {E : Type 0} (word : List ℕ) (r : Result ℕ E) → length word ≤ 20 → list_all is_ascii_digit word ≡ true →
     ParsesUnsigned 64 10 word r → MatchResult r (λ n. Some n ≡ number_of word) (λ _. None ≡ number_of word)
 unfolding number_of

@@ -1,4 +1,4 @@
--- Texts cut at a byte, and the words and lines that they are cut into.
+-- Texts split at a byte, into their parts and lines.
 use Rattle.std.proofs.Common.{◌≡◌, ℕ, ◌+◌, ◌<◌, Bool, true, false, List, [], ◌∷◌, length, take, drop, slice_index, refl, ap, ◌∙◌, arith}
 use Rattle.std.specs.List.{position_or_len, slice_split, onto_first}
 use Rattle.std.specs.Str.Lines.{lines, lines_of_parts, strip_carriage_return}
@@ -14,12 +14,12 @@ other_byte byte b other = decided (eqb b byte) refl
     decided true is = absurd (other is)
     decided false is = refl
 
--- the first of a byte stands where a search finds it
+-- The first occurrence of a byte is where a search finds it.
 first_at : (byte : ℕ) (xs : List ℕ) (n : ℕ) → NoneBefore (Passes (is_byte byte) xs) 0 (length xs) n × Passes (is_byte byte) xs n → position_or_len (λ b. eqb b byte) xs ≡ n
 first_at byte xs n found =
     position_or_len_is (λ b. eqb b byte) xs n 0 (let high = found.0.high in omega arith) (λ k lt. other_byte byte (slice_index xs k) (found.0.before k (omega arith) lt)) (λ lt. found.1)
 
--- a text is its first part and the parts of what follows
+-- A text is its first part and the parts of the rest.
 pub cut_here : (byte : ℕ) (xs : List ℕ) (n : ℕ) → NoneBefore (Passes (is_byte byte) xs) 0 (length xs) n × Passes (is_byte byte) xs n
     → slice_split (λ b. eqb b byte) xs ≡ take n xs ∷ slice_split (λ b. eqb b byte) (drop (n + 1) xs)
 cut_here byte xs n found =
@@ -35,7 +35,7 @@ one_part p (b ∷ bs) e = at_first (p b) refl (one_part p bs)
     at_first false k more = let z : 1 + position_or_len p bs ≡ length (b ∷ bs) = rw k at e in
         slice_split-cons_no p b bs k ∙ ap (onto_first b) (more (omega arith))
 
--- a text without such a byte is the one part
+-- A text without the byte has one part.
 pub uncut : (byte : ℕ) (xs : List ℕ) → Nowhere (Passes (is_byte byte) xs) 0 (length xs) → slice_split (λ b. eqb b byte) xs ≡ xs ∷ []
 uncut byte xs none =
     one_part (λ b. eqb b byte) xs (position_or_len_is (λ b. eqb b byte) xs (length xs) 0 (omega arith) (λ k lt. other_byte byte (slice_index xs k) (none k (omega arith) lt)) (λ lt. absurd (omega arith)))
@@ -44,7 +44,7 @@ pub lines_go_on : (x : List ℕ) (ys : List (List ℕ)) → 0 < length ys → li
 lines_go_on x [] h = absurd (omega arith)
 lines_go_on x (y ∷ ys) h = refl
 
--- a line before a line feed
+-- A line before a line feed.
 pub line_here : (text line rest : List ℕ) → slice_split (λ b. eqb b 10) text ≡ line ∷ slice_split (λ b. eqb b 10) rest →
     lines text ≡ strip_carriage_return line ∷ lines rest
 line_here text line rest e =

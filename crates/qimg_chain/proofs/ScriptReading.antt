@@ -1,4 +1,4 @@
--- The line of words is the one that they are written by.
+-- Parsing the parts of a line gives the line that they write.
 use Rattle.std.proofs.Common.{◌≡◌, ℕ, ◌≤◌, ◌<◌, Bool, true, false, cond, List, [], ◌∷◌, length, Option, Some, None, Result, Ok, Err, refl, sym, ap, ◌∙◌, subst, arith}
 use Rattle.std.specs.Prelude.{codes, option_map, option_and_then, IfOk, IfErr}
 use Rattle.std.specs.Str.{bytes_eq}
@@ -16,7 +16,7 @@ use Rattle.qimg_chain.proofs.ScriptSpelling.{last_word, words_again}
 use Rattle.qimg_chain.specs.declared.script.line.Line.{Line}
 use Rattle.qimg_chain.specs.declared.script.line.Line.TheVariants.{Size, Read, Write, Zero, Discard, DiscardAny, DiscardBacking, Grow, Shrink, Flush, Check, Plain, Save}
 
--- one choice of a chain of names, with what is chosen there
+-- One step in a chain of comparisons with names, and its result.
 by_word : {A : Type 0} (P : A → Type 0) (name word : List ℕ) (chosen rest : Option A) (y : A) →
     cond (bytes_eq name word) chosen rest ≡ Some y → (name ≡ word → chosen ≡ Some y → P y) → (rest ≡ Some y → P y) → P y
 by_word P name word chosen rest y e here more = decided (bytes_eq name word) refl e
@@ -25,7 +25,7 @@ by_word P name word chosen rest y e here more = decided (bytes_eq name word) ref
     decided true k h = here ((bytes_eq-Decides name word).0 k) h
     decided false k h = more h
 
--- the same where it is a value
+-- Like `by_word`, for a result that is a value.
 by_name : {A : Type 0} (P : A → Type 0) (name word : List ℕ) (x y : A) (rest : Option A) →
     cond (bytes_eq name word) (Some x) rest ≡ Some y → (name ≡ word → P x) → (rest ≡ Some y → P y) → P y
 by_name P name word x y rest e here more =
@@ -61,7 +61,6 @@ lone_written name line e =
     by_name P name (codes "check") Check line _ e (λ n. ap (λ w. w ∷ []) n) (λ e.
     by_name P name (codes "save") Save line _ e (λ n. ap (λ w. w ∷ []) n) (λ e. none P line e))))
 
--- a value that is there, and what is made of it
 made : {A B : Type 0} (f : A → Option B) (o : Option A) (y : B) → option_and_then f o ≡ Some y → (x : A) × (o ≡ Some x) × (f x ≡ Some y)
 made f None y e = absurd cc
 made f (Some x) y e = (x, refl, e)
@@ -131,7 +130,6 @@ numbered_written name first second start line is_start e =
       is_second = m.1;
     })) (λ h. mode_or_range_written name first second start line is_start h)
 
--- A line that words are read as is written by them.
 line_written : (words : List (List ℕ)) (line : Line) → line_of words ≡ Some line → IsWritten line words
 unfolding line_of
 line_written [] line e = absurd cc
@@ -142,11 +140,11 @@ line_written (name ∷ first ∷ second ∷ []) line e =
     numbered_written name first second m.0 line m.1 m.2
 line_written (name ∷ first ∷ second ∷ third ∷ more) line e = absurd cc
 
--- The last of three words that are read as a line is one word.
+-- The last of three parts that are parsed as a line has no space.
 pub last_read : (name first second : List ℕ) (line : Line) → line_of (name ∷ first ∷ second ∷ []) ≡ Some line → words_of second ≡ second ∷ []
 last_read name first second line e = last_word name first second line (line_written (name ∷ first ∷ second ∷ []) line e)
 
--- Words are read as the line that they write.
+-- Parts are parsed as the line that they write.
 written_line : (line : Line) (words : List (List ℕ)) → IsWritten line words → line_of words ≡ Some line
 unfolding line_of lone_line shrink_line range_line mode_or_range_line numbered_line
 written_line Size words h = rw h refl
@@ -167,7 +165,6 @@ line_again : (text : List ℕ) (line : Line) → IsLine text line → line_of (w
 line_again text line i =
     ap (λ t. line_of (words_of t)) i.joined ∙ (ap line_of (words_again line i.words i.written) ∙ written_line line i.words i.written)
 
--- a short text whose words are read as a line is that line
 pub is_line : (text : List ℕ) (line : Line) → length text ≤ 65536 → line_of (words_of text) ≡ Some line → IsLine text line
 is_line text line short e = record {
   short = short;
@@ -176,11 +173,10 @@ is_line text line short e = record {
   written = line_written (words_of text) line e;
 }
 
--- a text whose words are read as none is none
 pub no_line : (text : List ℕ) → line_of (words_of text) ≡ None → (line : Line) → ¬ (IsLine text line)
 no_line text e line i = let again = line_again text line i in absurd cc
 
--- A text is one line at most.
+-- A text is at most one line.
 pub one_line : (text : List ℕ) (one other : Line) → IsLine text one → IsLine text other → one ≡ other
 one_line text one other i j =
     let a = line_again text one i in
@@ -192,18 +188,18 @@ unfolding line_of
 four_words name first second [] h = absurd (omega arith)
 four_words name first second (third ∷ more) h = refl
 
--- three words with more text behind them are no line
+-- Three parts with more text after them aren't a line.
 pub more_words : (name first second rest : List ℕ) → line_of (name ∷ first ∷ second ∷ words_of rest) ≡ None
 more_words name first second rest =
     four_words name first second (words_of rest) (let k = length-slice_split (λ b. eqb b 32) rest in omega arith)
 
--- what a short text is read as
+-- The result of parsing a text within the limit.
 pub read_as : (text : List ℕ) (r : Result Line Fault) → length text ≤ 65536 → IfOk r (λ line. line_of (words_of text) ≡ Some line) →
     IfOk r (λ line. IsLine text line)
 read_as text (Ok line) short e = is_line text line short e
 read_as text (Err fault) short e = e
 
--- why one isn't read
+-- The reason why a text within the limit isn't parsed.
 pub unread : (text : List ℕ) (r : Result Line Fault) → length text ≤ 65536 → IfErr r (NotSaid (words_of text)) → IfErr r (NotLine text)
 unread text (Ok line) short h = h
 unread text (Err Memory) short h = record {

@@ -1,4 +1,4 @@
--- Scripts that are run line by line.
+-- Scripts that run line by line.
 use Rattle.std.proofs.Common.{◌≡◌, ℕ, ◌+◌, ◌∙◌, List, [], ◌∷◌, ◌++◌, length, refl, ap, subst, sym, arith, inl, inr, length-append}
 use Rattle.std.proofs.lemmas.List.{append-nil}
 use mathlib.Core.List.{append_assoc}
@@ -27,13 +27,13 @@ use Rattle.qimg_chain.proofs.ScriptBytes.{EndsEarly, ReadSoFar, read-cut, read-t
 abbrev pub text : Reply → List ℕ
 text r = r.text
 
--- what a script's run over these drivers rests on
+-- The preconditions of a script's run over these drivers.
 pub record MayBegin {D St : Type 0} (g : Ghosts D St) (old : D × List D) : Type 0 where
   pub well_formed_is_coherent : (d : D) → g.well_formed d → g.coherent d
   pub well_formed_is_sound : (d : D) → g.well_formed d → IsCovered (g.layer d) g.sound (g.image d).bytes
   pub free : IsFree (g.layer old.0)
 
--- So many lines of a script were read and made, by the bytes that its reader had and has left, and by how many of them may still be read.
+-- `count` lines of a script were read and run. The reader had `input` and has `left`, and `room` more bytes may be read.
 pub record MadeSoFar {D St : Type 0} (g : Ghosts D St) (names : D → ℕ → List ℕ) (input left : Option (List ℕ)) (room count : ℕ) (old : D × List D) (now : Standing D) : Type 0 where
   pub rests : MayBegin g old
   pub replies : List Reply
@@ -41,7 +41,7 @@ pub record MadeSoFar {D St : Type 0} (g : Ghosts D St) (names : D → ℕ → Li
   pub read : ReadSoFar input left room (map text replies)
   pub counted : length replies ≡ count
 
--- what a script's reader had and has left, how many bytes may still be read, and what its writer held and holds, where these are known
+-- The streams of a script: what the reader had and has left, how many bytes may be read, and what the writer had and has.
 pub record Streams : Type 0 where
   pub input : Option (List ℕ)
   pub left : Option (List ℕ)
@@ -49,12 +49,12 @@ pub record Streams : Type 0 where
   pub before : Option (List ℕ)
   pub after : Option (List ℕ)
 
--- how far a script was run, with the bytes that its writer held and holds
+-- The state of a script's run, with the bytes that its writer had and has.
 pub record RanSoFar {D St : Type 0} (g : Ghosts D St) (names : D → ℕ → List ℕ) (io : Streams) (count : ℕ) (old : D × List D) (now : Standing D) : Type 0 where
   pub made : MadeSoFar g names io.input io.left io.room count old now
   pub written : Appends io.before io.after (text_of made.replies)
 
--- all that was answered is written
+-- All answers are written.
 pub all-written : (result : Result (Option (List ℕ)) RunFault) (before after : Option (List ℕ)) (replies : List Reply) →
     Appends before after (text_of replies) → AreWritten result before after replies
 all-written (Ok kept) before after replies all = all
@@ -63,7 +63,7 @@ all-written (Err run_fault.Memory) before after replies all = inl all
 all-written (Err run_fault.Read) before after replies all = all
 all-written (Err run_fault.Lines) before after replies all = all
 
--- the last answer isn't told, by this fault: for want of memory nothing of it is written
+-- The last answer isn't written, because of this fault. If memory ran out, nothing of it is written.
 pub last-untold : (result : Result (Option (List ℕ)) RunFault) (fault : RunFault) (before mid after : Option (List ℕ)) (told : List Reply) (last : Reply) →
     IsTellingFault fault → result ≡ Err fault → (fault ≡ run_fault.Memory → after ≡ mid) → Appends before mid (text_of told) → AreWritten result before after (told ++ last ∷ [])
 last-untold result fault before mid after told last telling is guest_unchanged all = rw (is) (at fault telling guest_unchanged)
@@ -111,7 +111,7 @@ module _ {D St : Type 0} (g : Ghosts D St) (names : D → ℕ → List ℕ) wher
   alone-all (r ∷ replies) old new all =
       alone-both g r.turn.list (calls_of replies) r.turn.answers (answers_of replies) old.drivers all.0.drivers new.drivers all.1.made (alone-all replies all.0 new all.2)
 
-  -- what the calls of all lines do
+  -- The calls of all lines together.
   driven-all : (replies : List Reply) (old new : D × List D) (saved : Option (List ℕ)) (since : Since) → MayBegin g old
       → RunsAll g names replies (standing old None) (standing new saved) → IsReady g old → HoldsSince g since old → Driven g since (calls_of replies) (answers_of replies) old new
   driven-all replies old new saved since rests runs ready stands =
@@ -124,11 +124,11 @@ module _ {D St : Type 0} (g : Ghosts D St) (names : D → ℕ → List ℕ) wher
     written = append-none before;
   }
 
--- what a text is answered with that is taken so
+-- The answer to a text that was parsed with this result.
 abbrev pub AnswersTaken : {D St : Type 0} → Ghosts D St → (D → ℕ → List ℕ) → Result Line Fault → Answer → Standing D → Standing D → Type 0
 AnswersTaken g names taken answer now new = (text : List ℕ) → IsTakenAs text taken → (turn : Turn) × Replies g names (reply text turn answer) now new
 
--- one more line is read and made
+-- One more line is read and run.
 unfoldable pub made-then : {D St : Type 0} {g : Ghosts D St} {names : D → ℕ → List ℕ} {input left : Option (List ℕ)} {room count : ℕ} {old : D × List D} {now : Standing D}
     → (next : Option (List ℕ)) (less : ℕ) (new : Standing D) (taken : Result Line Fault) (answer : Answer) → MadeSoFar g names input left room count old now
     → ReadsNext left next room less (Some taken) → AnswersTaken g names taken answer now new → MadeSoFar g names input next less (count + 1) old new
@@ -145,7 +145,7 @@ made-then {g = g} {names = names} {input = input} {left = left} {room = room} {c
       counted = length-then made.replies r count made.counted;
     }
 
--- and its answer is written
+-- The answer of that line is written.
 pub ran-then : {D St : Type 0} {g : Ghosts D St} {names : D → ℕ → List ℕ} {io : Streams} {count : ℕ} {old : D × List D} {now : Standing D}
     → (next last : Option (List ℕ)) (less : ℕ) (new : Standing D) (taken : Result Line Fault) (answer : Answer) → RanSoFar g names io count old now
     → ReadsNext io.left next io.room less (Some taken) → AnswersTaken g names taken answer now new
@@ -158,7 +158,7 @@ ran-then {io = io} next last less new taken answer ran read answers tells = reco
       subst (Appends io.before last) (sym (text-then ran.made.replies r)) (append-both io.before io.after last (text_of ran.made.replies) (answer_text answer ++ 10 ∷ []) ran.written tells);
 }
 
--- what a script does that was run so far, and ends so
+-- The result of a script that ends in this state.
 pub scripted : {D St : Type 0} {g : Ghosts D St} {names : D → ℕ → List ℕ} {io : Streams} {count : ℕ} {old new : D × List D} {saved : Option (List ℕ)} {result : Result (Option (List ℕ)) RunFault}
     → RanSoFar g names io count old (standing new saved) → IsAnswerCount result count
     → ((texts : List (List ℕ)) → ReadSoFar io.input io.left io.room texts → IfSome io.input (λ bytes. AreAnswered result bytes texts)) → OnOk result (result ≡ Ok saved)
@@ -174,7 +174,7 @@ scripted {g = g} {names = names} {io = io} {old = old} {new = new} {saved = save
   saved_returned = kept;
 }
 
--- the same, where it ends early for a fault that is no limit of lines
+-- Like `scripted`, for an early end that isn't for the limit of lines.
 pub scripted-cut : {D St : Type 0} {g : Ghosts D St} {names : D → ℕ → List ℕ} {input left : Option (List ℕ)} {room count : ℕ} {old new : D × List D} {saved : Option (List ℕ)}
     → (before after : Option (List ℕ)) (result : Result (Option (List ℕ)) RunFault) (fault : RunFault) (made : MadeSoFar g names input left room count old (standing new saved)) → EndsEarly fault count
     → result ≡ Err fault → AreWritten result before after made.replies → Scripted g names input before after result old new
@@ -194,7 +194,7 @@ within-limits : (saved : Option (List ℕ)) (input : Option (List ℕ)) (texts :
 within-limits saved None texts all = tt
 within-limits saved (Some bytes) texts all = record { before = all.before; remainder = all.remainder; parts = all.parts; first = all.first; short = all.short; ends = tt }
 
--- what a script did that ended, where there is no memory to hand on what it kept
+-- The result of a script that ended, if memory runs out for the copy of the kept bytes.
 pub scripted-uncopied : {D St : Type 0} {g : Ghosts D St} {names : D → ℕ → List ℕ} {input before after : Option (List ℕ)} {old new : D × List D} {saved : Option (List ℕ)}
     → Scripted g names input before after (Ok saved) old new → Scripted g names input before after (Err run_fault.Memory) old new
 scripted-uncopied {input = input} {saved = saved} ran = record {

@@ -1,4 +1,4 @@
--- Words of a line hold no space, so that what they are joined to is cut into them again.
+-- The parts of a line have no spaces. So their joined text is split into the same parts.
 use Rattle.std.proofs.Common.{◌≡◌, ℕ, Bool, true, false, cond, not, List, [], ◌∷◌, ◌++◌, length, Some, None, Result, Ok, Err, refl, ap, subst, ◌∙◌}
 use Rattle.std.specs.Prelude.{codes}
 use Rattle.std.specs.List.{All, AllPass, list_all, join_with_byte}
@@ -24,16 +24,16 @@ use lib.Dec.{eqb, ltb}
 abbrev is_space : ℕ → Bool
 is_space b = eqb b 32
 
--- a word without a space
+-- An argument without a space.
 abbrev pub IsSpaceless : List ℕ → Type 0
 IsSpaceless word = All (λ b. is_space b ≡ false) word
 
--- a word of bytes that pass a test which a space fails
+-- An argument whose bytes all pass a test, which a space fails.
 passing : (test : ℕ → Bool) → test 32 ≡ false → (word : List ℕ) → AllPass test word → IsSpaceless word
 passing test fails word passes = All-weaker (λ b. test b ≡ true) (λ b. is_space b ≡ false)
     (λ b pass. ne_eqb b 32 (λ e. both_ways (test b) (ap test e ∙ fails) pass)) word passes
 
--- a word that is written out
+-- A literal argument.
 literal : (word : List ℕ) → list_all (λ b. not (is_space b)) word ≡ true → IsSpaceless word
 literal word e = passing (λ b. not (is_space b)) refl word (AllPass-from_list_all (λ b. not (is_space b)) word e)
 
@@ -73,7 +73,7 @@ three_words : (a b c : List ℕ) → IsSpaceless a → IsSpaceless b → IsSpace
 three_words a b c here more last =
     slice_split_at is_space a 32 (b ++ 32 ∷ c) here refl ∙ ap (λ ws. a ∷ ws) (two_words b c more last)
 
--- a command of this many bytes has no space
+-- A command without a space.
 abbrev IsCommand : List ℕ → Type 0
 IsCommand command = list_all (λ b. not (is_space b)) command ≡ true
 
@@ -106,7 +106,7 @@ last_ranged : (command name first second : List ℕ) (offset count : ℕ) →
     HasTwo command (IsNumber offset) (IsNumber count) (name ∷ first ∷ second ∷ []) → words_of second ≡ second ∷ []
 last_ranged command name first second offset count h = last_of command name first second (λ word e. number_spaceless word count e) h
 
--- The last of three words that write a line is one word.
+-- The last of three parts that write a line has no space.
 pub last_word : (name first second : List ℕ) (line : Line) → IsWritten line (name ∷ first ∷ second ∷ []) → words_of second ≡ second ∷ []
 last_word name first second Size h = absurd cc
 last_word name first second (Read offset count) h = last_ranged (codes "read") name first second offset count h
@@ -124,7 +124,7 @@ last_word name first second Check h = absurd cc
 last_word name first second (Plain offset count) h = last_ranged (codes "plain") name first second offset count h
 last_word name first second Save h = absurd cc
 
--- The words of a line's text are those that it was written by.
+-- The text of a line is split into the parts that it was written from.
 pub words_again : (line : Line) (words : List (List ℕ)) → IsWritten line words → words_of (join_with_byte 32 words) ≡ words
 words_again Size words h = lone (codes "size") words refl h
 words_again (Read offset count) words h = ranged (codes "read") words offset count refl h

@@ -1,4 +1,4 @@
--- What contracts see of a driver of one kind, seen of it as one of several kinds.
+-- The contracts of a driver of one format, seen as those of the driver of an image of any format.
 use Rattle.std.proofs.Common.{◌≡◌, ◌⊎◌, ℕ, List, refl, ap, subst, sym, inl, inr}
 use Rattle.std.specs.Prelude.{Bool, IsTrue, Option, Result, Ok, Err, OnOk, IfErr, IsOk, IsErrOf}
 use Rattle.imago_storage.specs.Disk.{Value}
@@ -16,7 +16,7 @@ use Rattle.imago_access.specs.Room.{LeavesAllocation}
 use Rattle.imago_access.specs.Stops.{KeepsCrashImagesTo, Left, GivesNone}
 use Rattle.imago_access.proofs.Stopping.{passes_weaker}
 
--- what contracts see of a driver of one kind, by what they see of it as one of several: all but its mappings, and which files are sound
+-- The view of a driver through `f`. The mappings, and the consistency of files, stay those of the driver's own format.
 abbrev pub through : {D E St Su : Type 0} → (D → E) → Ghosts E Su → Ghosts D St → Ghosts D St
 through f h g = record {
   layer = λ d. h.layer (f d);
@@ -39,14 +39,14 @@ through f h g = record {
   growth_cause = λ d. h.growth_cause (f d);
 }
 
--- The drivers of one kind among several: the same files are sound for them, and what has begun in one has begun in one of this kind.
+-- A driver of one format among several. The same files are consistent for both, and a call that began in one began in the other.
 pub record IsKind {D E St Su : Type 0} (f : D → E) (h : Ghosts E Su) (g : Ghosts D St) : Type 0 where
   pub sound : (d : D) (file : List ℕ) → g.sound (h.layer (f d)).fixed.kind file → h.sound (h.layer (f d)).fixed.kind file
   pub sound_for : (d : D) (file : List ℕ) → h.sound (h.layer (f d)).fixed.kind file → g.sound (h.layer (f d)).fixed.kind file
   pub alike : (e : E) (call : Call) (d : D) → h.began e call (f d) → (from : D) × (e ≡ f from)
 
 module _ {D E St Su : Type 0} {f : D → E} {h : Ghosts E Su} {g : Ghosts D St} (kind : IsKind f h g) (a b : D) where
-  -- what holds of each call that has begun in a driver of this kind holds of each that has begun
+  -- A property of each call that began in a driver of this format holds for each call that began.
   pub begun : (P : E → Call → Type 0) → ((d : D) (call : Call) → h.began (f d) call (f a) → P (f d) call) → (e : E) (call : Call) → h.began e call (f a) → P e call
   begun P each e call now =
       let is = kind.alike e call a now in
@@ -92,7 +92,7 @@ module _ {D E St Su : Type 0} {f : D → E} {h : Ghosts E Su} {g : Ghosts D St} 
   pub spared : IsLeftUntouched (through f h g) a b → IsLeftUntouched h (f a) (f b)
   spared s = record { known = known s.known; unchanged_but_faults = s.unchanged_but_faults; stilled = s.stilled; room = λ well_formed. leaves _ _ (s.room well_formed); stays_begun = on s.stays_begun }
 
-  -- the answer may be that of another call, which is refused by the same and succeeds where this one does
+  -- The result may be that of another call, which fails for the same faults and succeeds if this call does.
   pub at_once_as : {T U : Type 0} (refusal : Option Fault) (nothing : Type 0) (result : Result T Fault) (answer : Result U Fault)
       → ((e : Fault) → IsErrOf result e → IsErrOf answer e) → (IsOk result → IsOk answer)
       → EarlyOutcome (through f h g) refusal nothing result a b → EarlyOutcome h refusal nothing answer (f a) (f b)
@@ -165,7 +165,7 @@ module _ {D E St Su : Type 0} {f : D → E} {h : Ghosts E Su} {g : Ghosts D St} 
     stays_begun = on r.stays_begun;
   }
 
--- a driver just opened
+-- A driver that was just opened.
 pub opened : {D E St Su : Type 0} {f : D → E} {h : Ghosts E Su} {g : Ghosts D St} → IsKind f h g → (format : Format) (writable : Bool) (number : ℕ) (before : StorageState) (d : D)
     → IsOpened (through f h g) format writable number before d → IsOpened h format writable number before (f d)
 opened kind format writable number before d o = record {

@@ -29,7 +29,7 @@ length_map : {A B : Type 0} (f : A → B) (xs : List A) → length (map f xs) �
 length_map f [] = refl
 length_map f (x ∷ xs) = let rest = length_map f xs in omega (arith, rest)
 
--- what is so unless a call was cut off, of one whose fault a `?` passes on
+-- A property of calls without a resource error, for a fault that `?` passes on.
 pub passed_mildly : {T : Type 0} (result : Result T Fault) (fault : Fault) → IsErrAnd result (λ e. e ≡ fault) → (P : Type 0 → Type 0) → P (IsNotResourceError fault) → P (HadNoResourceError result)
 passed_mildly {T} result fault is_err P holds =
     let p = err_from_is_err_and result is_err in
@@ -42,14 +42,13 @@ same_byte [] file place = refl
 same_byte (s ∷ ss) zero place = refl
 same_byte (s ∷ ss) (suc file) place = same_byte ss file place
 
--- a file that was read whole
+-- A file that was read completely.
 pub read_whole : (ss : List StorageState) (file : ℕ) (buf : List ℕ) → length buf ≡ length (file_bytes_in ss file) → AreRead ss file 0 (length buf) buf → buf ≡ file_bytes_in ss file
 read_whole ss file buf long read =
     same_number_lists buf (file_bytes_in ss file) long (λ k lt. let at : 0 + k ≡ k = omega arith in read k lt ∙ ap (byte_in ss file) at ∙ same_byte ss file k)
 
 -- ---- The names of a layer's files.
 
--- one more of them
 pub names_more : (names : ℕ → List ℕ) (k : ℕ) (ss : List StorageState) (i : ℕ) → i < length ss
     → take (i + 1) (map (λ file. file.0) (with_names names k ss)) ≡ take i (map (λ file. file.0) (with_names names k ss)) ++ (names (k + i) ∷ [])
 names_more names k [] i lt = absurd (omega (arith, lt))
@@ -65,12 +64,11 @@ as_many : (names : ℕ → List ℕ) (k : ℕ) (ss : List StorageState) → leng
 as_many names k [] = refl
 as_many names k (s ∷ ss) = omega (arith, as_many names (suc k) ss)
 
--- all of them
 pub names_all : (names : ℕ → List ℕ) (ss : List StorageState) (i : ℕ) → length ss ≤ i
     → take i (map (λ file. file.0) (with_names names 0 ss)) ≡ map (λ file. file.0) (with_names names 0 ss)
 names_all names ss i past = take_all i (map (λ file. file.0) (with_names names 0 ss)) (omega (arith, past, as_many names 0 ss))
 
--- a name that is kept behind others
+-- A name is appended to the list.
 pub name_pushed : (items : List (String Global)) (x : String Global) (names : ℕ → List ℕ) (ss : List StorageState) (i : ℕ)
     → map string_bytes items ≡ take i (map (λ file. file.0) (with_names names 0 ss)) → i < length ss → string_bytes x ≡ names i
     → map string_bytes (items ++ (x ∷ [])) ≡ take (i + 1) (map (λ file. file.0) (with_names names 0 ss))
@@ -81,7 +79,6 @@ name_pushed items x names ss i so_far lt is =
 
 -- ---- Names with the bytes of their files.
 
--- one more name
 pub bytes_more : (names : List (String Global)) (k : ℕ) (ss : List StorageState) (i : ℕ) (name : String Global) → i < length names → name ≡ get_or names i name
     → with_bytes (take (i + 1) (map string_bytes names)) k ss ≡ with_bytes (take i (map string_bytes names)) k ss ++ ((string_bytes name, file_bytes_in ss (k + i)) ∷ [])
 bytes_more [] k ss i name lt is = absurd (omega (arith, lt))
@@ -95,7 +92,7 @@ bytes_more (n ∷ ns) k ss (suc i) name lt is =
     ∙ ap (λ rest. (string_bytes n, file_bytes_in ss k) ∷ rest) (bytes_more ns (suc k) ss i name (omega (arith, lt)) is)
     ∙ ap (λ j. (string_bytes n, file_bytes_in ss k) ∷ (with_bytes (take i (map string_bytes ns)) (suc k) ss ++ ((string_bytes name, file_bytes_in ss j) ∷ []))) same
 
--- one more copy behind others
+-- A copy is appended to the list.
 pub copied_more : (items : List (String Global × MemStorage)) (x : String Global × MemStorage) (names : List (String Global)) (ss : List StorageState) (i : ℕ) (name : String Global)
     → map (extra_bytes mem_state) items ≡ with_bytes (take i (map string_bytes names)) 1 ss → i < length names → name ≡ get_or names i name
     → extra_bytes mem_state x ≡ (string_bytes name, file_bytes_in ss (i + 1)) → map (extra_bytes mem_state) (items ++ (x ∷ [])) ≡ with_bytes (take (i + 1) (map string_bytes names)) 1 ss
@@ -104,7 +101,7 @@ copied_more items x names ss i name so_far lt there is =
     map-append (extra_bytes mem_state) items (x ∷ []) ∙ (λ j. so_far j ++ (is j ∷ []))
     ∙ ap (λ n. with_bytes (take i (map string_bytes names)) 1 ss ++ ((string_bytes name, file_bytes_in ss n) ∷ [])) same ∙ sym (bytes_more names 1 ss i name lt there)
 
--- storages that have the bytes that others have
+-- Storages with the same bytes as others.
 with_kept : (names : List (List ℕ)) (k : ℕ) (ss ts : List StorageState) → ((n : ℕ) → file_bytes_in ts n ≡ file_bytes_in ss n) → with_bytes names k ts ≡ with_bytes names k ss
 with_kept [] k ss ts same = refl
 with_kept (name ∷ names) k ss ts same = λ j. (name, same k j) ∷ with_kept names (suc k) ss ts same j
@@ -114,7 +111,7 @@ filled_kept names ss ts same =
     let further = with_kept names.further 1 ss ts same in
     λ j. record { format = names.format; bytes = same 0 j; extras = further j }
 
--- the names of storages with their own bytes
+-- The names of storages with their own bytes.
 named_bytes : (names : ℕ → List ℕ) (k n : ℕ) (all ss : List StorageState) → ((i : ℕ) → file_bytes_in all (n + i) ≡ file_bytes_in ss i)
     → with_bytes (map (λ file. file.0) (with_names names k ss)) n all ≡ with_names names k ss
 named_bytes names k n all [] same = refl
@@ -124,7 +121,7 @@ named_bytes names k n all (s ∷ ss) same =
     (λ j. (names k, head j) ∷ named_bytes names (suc k) (suc n) all ss (λ i. let next : suc n + i ≡ n + suc i = omega arith in ap (file_bytes_in all) next ∙ same (suc i)) j)
 
 module _ {D St : Type 0} (g : Ghosts D St) (names : D → ℕ → List ℕ) where
-  -- what is copied of a layer by its names
+  -- The copies of a layer's files, by their names.
   pub filled_is : (d : D) → filled (names_of g names d) (files g d) ≡ driver_bytes g names d
   filled_is d =
       let further = named_bytes (names d) 0 1 (files g d) (g.extras d) (λ i. let next : 1 + i ≡ suc i = omega arith in ap (file_bytes_in (files g d)) next) in
@@ -136,7 +133,7 @@ module _ {D St : Type 0} (g : Ghosts D St) (names : D → ℕ → List ℕ) wher
   same_rest : {A : Type 0} (x y : A) (xs ys : List A) → x ∷ xs ≡ y ∷ ys → xs ≡ ys
   same_rest x y xs ys is = cc is
 
-  -- one more layer
+  -- One more layer.
   pub layer_more : (ds : List D) (layers : List LayerNames) (i : ℕ) (x : LayerNames) → map said_names layers ≡ map (names_of g names) ds → i < length layers → x ≡ get_or layers i x
       → take (i + 1) (map (driver_bytes g names) ds) ≡ take i (map (driver_bytes g names) ds) ++ (filled (said_names x) (files_at g ds i) ∷ [])
   layer_more ds [] i x is lt there = absurd (omega (arith, lt))
@@ -149,7 +146,7 @@ module _ {D St : Type 0} (g : Ghosts D St) (names : D → ℕ → List ℕ) wher
       let below = same_rest (said_names y) (names_of g names d) (map said_names ys) (map (names_of g names) ds) is in
       ap (λ n. take n (map (driver_bytes g names) (d ∷ ds))) more ∙ ap (λ files. driver_bytes g names d ∷ files) (layer_more ds ys i x below (omega (arith, lt)) there)
 
-  -- a layer's copy behind those of the layers above it
+  -- The copy of a layer, after those of the layers above it.
   pub files_more : (ds : List D) (layers : List LayerNames) (i : ℕ) (x : LayerNames) (items : List (ChainFile MemStorage)) (file : ChainFile MemStorage)
       → files_bytes mem_state items ≡ take i (map (driver_bytes g names) ds) → map said_names layers ≡ map (names_of g names) ds → i < length layers → x ≡ get_or layers i x
       → file_bytes mem_state file ≡ filled (said_names x) (files_at g ds i) → files_bytes mem_state (items ++ (file ∷ [])) ≡ take (i + 1) (map (driver_bytes g names) ds)
@@ -162,15 +159,15 @@ module _ {D St : Type 0} (g : Ghosts D St) (names : D → ℕ → List ℕ) wher
   same_length f h (x ∷ xs) [] is = absurd (cc is)
   same_length f h (x ∷ xs) (y ∷ ys) is = let rest = same_length f h xs ys (same_rest (f x) (h y) (map f xs) (map h ys) is) in omega (arith, rest)
 
--- ---- Why files aren't copied.
+-- ---- The reasons why files aren't copied.
 
--- a call that is refused for want of memory alone
+-- A call that can only fail because memory runs out.
 pub wanting : {T : Type 0} (r : Result T Fault) (P : Fault → Type 0) → P Memory → IsOkUnless r Memory → IfErr r P
 wanting (Ok v) P holds why = tt
 wanting (Err e) P holds why = subst P (sym why) holds
 
 module _ {D St : Type 0} (g : Ghosts D St) where
-  -- a read of a file that fits memory is refused for no other cause
+  -- A read of a file that fits memory fails for no other reason.
   pub copy_cause : ((d : D) → IsAlignment (g.layer d).fixed.req_align × IsAlignment (g.layer d).fixed.mem_align) → ((d : D) → IsOfStorages (g.layer d) (g.image d) (g.extras d))
       → (olds news : List D) (layer file n : ℕ) (e : Fault) → n ≤ 2 ^ 63
       → FileReadCause (OverflowsIn (files_at g olds layer) file 0 n) (files_of g olds) (files_of g news) e → WhyNotCopied (files_of g olds) (files_of g news) e
@@ -179,11 +176,11 @@ module _ {D St : Type 0} (g : Ghosts D St) where
   copy_cause aligned storages olds news layer file n Storage low why = why
   copy_cause aligned storages olds news layer file n e low why = absurd why
 
-  -- no storage failed in reads that weren't cut off
+  -- No storage failed in reads without a resource error.
   pub no_change_refused : (olds news : List D) → Pairs (FilesRead g ⊤) olds news → Pairs IsFaultless (files_of g olds) (files_of g news)
   no_change_refused olds news read = chain_faults g ⊤ olds news tt (all_read_looked g ⊤ olds news read)
 
-  -- behind such reads
+  -- The reason, after such reads.
   pub cause_behind : (olds mids news : List D) (e : Fault) → Pairs (FilesRead g ⊤) olds mids → WhyNotCopied (files_of g mids) (files_of g news) e → WhyNotCopied (files_of g olds) (files_of g news) e
   cause_behind olds mids news Memory read why = faultless_all_both (files_of g olds) (files_of g mids) (files_of g news) (no_change_refused olds mids read) why
   cause_behind olds mids news Storage read why =

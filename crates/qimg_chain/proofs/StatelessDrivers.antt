@@ -1,4 +1,4 @@
--- Mappings that are spent with an image that prepares none with state.
+-- Commits and cancels of mappings by an image that prepares none with state.
 use Rattle.std.proofs.Common.{◌≡◌, ◌⊎◌, ◌∙◌, refl, sym, subst, ap, inl, inr}
 use Rattle.std.specs.Prelude.{◌≢◌, Bool, true, false, not, eqb, Option, Some, None, IsSome, IfSome, IsTrue, IsFalse, IsOk, Result, Ok, Err, OnOk, IfErr, if◌then◌else◌}
 use Rattle.imago_storage.specs.declared.fault.Fault.{Fault}
@@ -17,7 +17,7 @@ use Rattle.qcow2_image.specs.declared.qcow2.PreparedMappingState.{PreparedMappin
 use Rattle.qimg_chain.specs.ImageDrivers.{IsSpent, IsGivenBack, IsOwn, IsOthers}
 use Rattle.std.proofs.lemmas.Bool.{eq-eqb, ne_eqb}
 
--- It prepares no mapping with state, has the number 0, and says of itself whether it is ready and was opened for writing.
+-- The image prepares no mapping with state, has the number 0, and reports whether it is ready and was opened for writing.
 pub record IsStateless {E : Type 0} (h : Ghosts E PreparedMappingState) (d : E) (ready : Result Unit Fault) (writable : Bool) : Type 0 where
   pub tags : (s : PreparedMappingState) → h.tag s ≡ s.number
   pub numbered : (h.layer d).fixed.number ≡ 0
@@ -26,14 +26,14 @@ pub record IsStateless {E : Type 0} (h : Ghosts E PreparedMappingState) (d : E) 
   pub can : OnOk ready (unusable_fault (h.layer d) ≡ None)
   pub cannot : IfErr ready (λ e. unusable_fault (h.layer d) ≡ Some e)
 
--- what bars an image
+-- The faults that bar an image from every call.
 bars : (failed missing : Bool) (e : Fault) → (if failed then Some Failed else if missing then Some MissingData else None) ≡ Some e → (e ≡ Failed) ⊎ (e ≡ MissingData)
 bars true missing e is = inl cc
 bars false true e is = inr cc
 bars false false e is = absurd (cc is)
 
 module _ {E : Type 0} (h : Ghosts E PreparedMappingState) (d : E) where
-  -- ---- Giving a mapping up.
+  -- ---- Cancelling a mapping.
 
   pub cancels : (m : PreparedDataMapping PreparedMappingState) (result : Result Unit (Fault × PreparedDataMapping PreparedMappingState))
       → ((s : PreparedMappingState) → h.tag s ≡ s.number) → (h.layer d).fixed.number ≡ 0 → (h.layer d).unspent ≡ None
@@ -69,9 +69,9 @@ module _ {E : Type 0} (h : Ghosts E PreparedMappingState) (d : E) where
       given (Ok v) b = tt
       given (Err e) b = (b.0, b.1, others m.state b.2, unchanged_same h d)
 
--- ---- Committing one.
+-- ---- Committing a mapping.
 
--- a barrier stands before every other cause
+-- A barred image fails before any other check.
 at_bar : (failed missing : Bool) (rest : Option Fault) (e : Fault) → (if failed then Some Failed else if missing then Some MissingData else None) ≡ Some e
     → (if failed then Some Failed else if missing then Some MissingData else rest) ≡ Some e
 at_bar true missing rest e is = is
@@ -94,7 +94,7 @@ module _ {E : Type 0} (h : Ghosts E PreparedMappingState) (d : E) (ready : Resul
   own_number : (s : PreparedMappingState) → s.number ≡ 0 → h.tag s ≡ (h.layer d).fixed.number
   own_number s own = is.tags s ∙ own ∙ sym is.numbered
 
-  -- the first cause why it is given back
+  -- The first cause why the mapping is returned.
   refused_by : (state : Option PreparedMappingState) (e : Fault) → IsGivenBack ready writable state e → commit_refusal h state (h.layer d) ≡ Some e
   refused_by None e why = let bar = subst (λ (r : Result Unit Fault). IfErr r (λ x. unusable_fault (h.layer d) ≡ Some x)) why is.cannot in bar
   refused_by (Some s) e why = from ready is.can is.cannot why where
@@ -112,7 +112,7 @@ module _ {E : Type 0} (h : Ghosts E PreparedMappingState) (d : E) (ready : Resul
     from (Ok v) can cannot (inl shut) = behind_bar (h.layer d).failed (h.layer d).fixed.missing (rest_of s) can ∙ closed shut.0 ∙ ap Some (sym shut.1)
     from (Ok v) can cannot (inr other) = behind_bar (h.layer d).failed (h.layer d).fixed.missing (rest_of s) can ∙ another other.0 other.1 ∙ ap Some (sym other.2)
 
-  -- there is none where it is spent
+  -- A mapping that is consumed has no such cause.
   refused_by_none : (state : Option PreparedMappingState) → IsSpent ready writable state → commit_refusal h state (h.layer d) ≡ None
   refused_by_none None ok = from ready is.can ok where
     from : (r : Result Unit Fault) → OnOk r (unusable_fault (h.layer d) ≡ None) → IsOk r → unusable_fault (h.layer d) ≡ None
@@ -129,7 +129,7 @@ module _ {E : Type 0} (h : Ghosts E PreparedMappingState) (d : E) (ready : Resul
     from (Ok v) can runs = behind_bar (h.layer d).failed (h.layer d).fixed.missing (rest_of s) can ∙ none_left
     from (Err f) can runs = absurd (cc runs)
 
-  -- why it is given back, in the words of the driver; and no call of an image is refused otherwise
+  -- The reason why the mapping is returned, as the driver states it. No call of an image fails for another reason.
   given_back : (state : Option PreparedMappingState) (e : Fault) → IsGivenBack ready writable state e → GivenBack h.tag state (h.layer d) e × ImageCause (files h d) (files h d) e
   given_back None e why = let bar = subst (λ (r : Result Unit Fault). IfErr r (λ x. unusable_fault (h.layer d) ≡ Some x)) why is.cannot in
       elim (bars (h.layer d).failed (h.layer d).fixed.missing e bar) [

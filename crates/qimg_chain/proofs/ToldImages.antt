@@ -1,4 +1,4 @@
--- An image in a storage that begins to tell its stops opens as a chain that tells them.
+-- An image whose storage has just begun to expose its crash images opens as a chain that exposes them.
 use Rattle.std.proofs.Common.{◌≡◌, ◌∙◌, ℕ, List, [], ◌∷◌, arith, refl, sym, subst, ap}
 use Rattle.std.specs.Prelude.{Bool, IsTrue}
 use Rattle.imago_storage.specs.State.{Shape, StorageState}

@@ -1,4 +1,4 @@
--- Stops in a list of calls over a chain that tells them.
+-- Crash images in a list of calls over a chain that exposes them.
 use Rattle.std.proofs.Common.{◌≡◌, ◌+◌, ◌<◌, ℕ, zero, suc, List, [], ◌∷◌, arith, refl, sym, subst, ap, take}
 use Rattle.std.specs.Prelude.{◌^◌, Bool, true, false, IsTrue, MatchOption, Option, Some, None, is_some}
 use Rattle.std.proofs.lemmas.List.Elements.{All-weaker}
@@ -29,13 +29,13 @@ either-way true P Q p R first second = first p
 either-way false P Q q R first second = second q
 
 module _ {D St : Type 0} (g : Ghosts D St) where
-  -- the top's file
+  -- The top's file.
   abbrev image : Moment D St → StorageState
   image m = g.image m.now.drivers.0
 
   -- ---- One call.
 
-  -- it isn't made, or it is
+  -- The call is made, or it isn't.
   by-case : (P : Moment D St → Type 0) (call : Call) (answer : Answer) (old new : Moment D St) → ListStep g call answer old new
       → P old → (Made g call answer old new → P new) → P new
   by-case P call answer old new goes none made =
@@ -59,7 +59,7 @@ module _ {D St : Type 0} (g : Ghosts D St) where
       by-case (λ m. UnrefusedCrashImages (IsLeftBy g call old) (image old) (image m)) call answer old new goes
       (none-passes (IsLeftBy g call old) (image old)) (λ made. made.crash_images sized)
 
-  -- ---- A list of them.
+  -- ---- A list of calls.
 
   pub later-run : (list : List Call) (answers : List Answer) (old new : Moment D St) → Run g list answers old new → IsLater (image old) (image new)
   later-run [] [] old new same = subst (λ (m : Moment D St). IsLater (image old) (image m)) (sym same) (is_later_same (image old))
@@ -68,7 +68,7 @@ module _ {D St : Type 0} (g : Ghosts D St) where
   later-run [] (answer ∷ answers) old new run = absurd run
   later-run (call ∷ list) [] old new run = absurd run
 
-  -- what a stop leaves, which is sound
+  -- A crash image, which is consistent.
   abbrev Leaves : List Call → List Answer → Moment D St → List ℕ → Type 0
   Leaves list answers old f = IsLeftIn g list answers old f × g.sound (g.layer old.now.drivers.0).fixed.kind f
 
@@ -109,13 +109,13 @@ module _ {D St : Type 0} (g : Ghosts D St) where
   passes-run [] (answer ∷ answers) old new sized on run = absurd run
   passes-run (call ∷ list) [] old new sized on run = absurd run
 
-  -- what is kept at the end is given up without a request
+  -- The mapping that is kept at the end is abandoned without a request.
   ended : (kept : Option (PreparedDataMapping St)) (drivers new : D × List D)
       → MatchOption kept (new ≡ drivers) (λ m. ChainCancels g m.state drivers new × (g.image new.0 ≡ g.image drivers.0)) → g.image new.0 ≡ g.image drivers.0
   ended None drivers new same = ap (λ (c : D × List D). g.image c.0) same
   ended (Some m) drivers new up = up.1
 
-  -- each file that a stop in the list leaves
+  -- Each crash image in the list.
   pub stops-told : (since : Since) (list : List Call) (answers : List Answer) (old new : D × List D) → GoesOnTelling g since list answers old new
       → EachCrashImageIn (Leaves list answers (moment (chain_with_mapping old None) since)) (g.image old.0) (g.image new.0)
   stops-told since list answers old new goes =
@@ -127,13 +127,13 @@ module _ {D St : Type 0} (g : Ghosts D St) where
       let same : b ≡ image last = ended last.now.kept_mapping last.now.drivers new (goes.driven.ends goes.on) in
       let passes : UnrefusedCrashImages (Leaves list answers start) a b =
       subst (λ (s : StorageState). UnrefusedCrashImages (Leaves list answers start) a s) (sym same) (passes-run list answers start last t.sized goes.on goes.driven.run) in
-      let refusals = (goes.driven.no_change_refused goes.on).1 in
+      let refusals = (goes.driven.faults goes.on).1 in
       let no_change_refused : HasRisen a.refusals b.refusals → ⊥ = λ r. omega (arith, refusals, r.rose (omega (arith, refusals, t.room))) in
       (passes no_change_refused).1 (λ _ _. (t.stands t.sized t.tells t.keeps t.room).0) t.tells t.keeps
 
-  -- ---- The same in their order.
+  -- ---- The crash images in their order.
 
-  -- what one call tells, and that the next one may be told, too
+  -- The crash images of one call, and the preconditions of the next one.
   abbrev Tells : Call → Moment D St → Moment D St → Type 0
   Tells call old m = EachCrashImageIn (IsLeftBy g call old) (image old) (image m) × (CrashImageIsBytes (image old) → CrashImageIsBytes (image m)) × ((image m).refusals ≡ (image old).refusals)
 
@@ -143,7 +143,7 @@ module _ {D St : Type 0} (g : Ghosts D St) where
       by-case (Tells call old) call answer old new goes
       (no_stops (IsLeftBy g call old) (image old) (image old) refl refl step tells keeps, (λ has_no_dirty_data. has_no_dirty_data), refl)
       (λ made.
-      let no_change_refused = made.no_change_refused on in
+      let no_change_refused = made.faults on in
       let passes = made.crash_images sized (λ r. omega (arith, no_change_refused.1, r.rose (omega (arith, no_change_refused.1, room)))) in
       (passes.1 step tells keeps, passes.0, no_change_refused.1))
 

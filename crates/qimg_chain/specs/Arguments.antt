@@ -1,4 +1,4 @@
--- What the arguments of the program ask for, and the words that say it. Texts are their bytes.
+-- Defines what the arguments of the program `qimg` mean: the images of a chain (an image and its backing chain). Texts are lists of bytes.
 use Rattle.std.specs.Prelude.{◌≡◌, ◌≢◌, ⊤, ℕ, List, [], ◌∷◌, ◌++◌, map, drop, flat_map, Bool, if◌then◌else◌, Option, Some, None, String, string_bytes, codes}
 use Rattle.std.specs.Borrow.{Bor}
 use Rattle.std.specs.Global.{Global}
@@ -9,17 +9,17 @@ use Rattle.imago_storage.specs.declared.fault.Fault.TheVariants.{BadArgument, Me
 use Rattle.qimg_chain.specs.declared.arguments.LayerArgument.{LayerArgument}
 use Rattle.qimg_chain.specs.declared.arguments.Arguments.{Arguments}
 
--- the words of a list from a place on
+-- The arguments from index `at` on.
 abbrev pub words_from : ℕ → List (Bor (List ℕ)) → List (List ℕ)
 words_from at words = map (λ w. w.now) (drop at words)
 
--- A layer that is asked for: what its file is read as, the path of its file, and the names and paths of the files that it is given.
+-- One image of a chain in the arguments: its format, the path of its file, and the names and paths of its further files (VMDK extents).
 pub record AskedLayer : Type 0 where
   pub format : Format
   pub path : List ℕ
   pub extras : List (List ℕ × List ℕ)
 
--- What is asked for: whether the top is opened for reading alone, and the layers, the top first.
+-- The meaning of the arguments: whether the top image is opened read-only, and the images, the top first.
 pub record Asked : Type 0 where
   pub read_only : Bool
   pub layers : List AskedLayer
@@ -33,7 +33,7 @@ layer_of layer = record { format = layer.format; path = string_bytes layer.path;
 abbrev pub asked_of : Arguments → Asked
 asked_of arguments = record { read_only = arguments.read_only; layers = map layer_of arguments.layers.items }
 
--- the words of a file that a layer is given, of a layer, and of all that is asked for
+-- The arguments for a further file, for a layer, and for everything.
 abbrev pub extra_words : List ℕ × List ℕ → List (List ℕ)
 extra_words extra = codes "file" ∷ extra.0 ∷ extra.1 ∷ []
 
@@ -48,44 +48,44 @@ layer_words layer = format_word layer.format ∷ layer.path ∷ flat_map extra_w
 abbrev pub asked_words : Asked → List (List ℕ)
 asked_words asked = (if asked.read_only then codes "-r" ∷ [] else []) ++ flat_map layer_words asked.layers
 
--- The words ask for this: for at least one layer.
+-- The arguments have this meaning, with at least one layer.
 abbrev pub AskFor : List (List ℕ) → Asked → Type 0
 AskFor words asked = (words ≡ asked_words asked) × (asked.layers ≢ [])
 
--- There are no words, or they ask for this.
+-- The list is empty, or the arguments have this meaning.
 abbrev pub Says : List (List ℕ) → Option Arguments → Type 0
 Says words None = words ≡ []
 Says words (Some arguments) = AskFor words (asked_of arguments)
 
--- Why they aren't read: there are words, and they ask for nothing; or there was want of memory.
+-- The reason why the arguments aren't parsed: the list isn't empty and has no meaning, or memory ran out.
 abbrev pub WhyNotRead : List (List ℕ) → Fault → Type 0
 WhyNotRead words BadArgument = (words ≢ []) × ((asked : Asked) → AskFor words asked → ⊥)
 WhyNotRead words Memory = ⊤
 WhyNotRead words fault = ⊥
 
--- Why they aren't read as layers, of which there may be none.
+-- The reason why the arguments aren't parsed as a list of layers, which may be empty.
 abbrev pub SayNoLayers : List (List ℕ) → Fault → Type 0
 SayNoLayers words BadArgument = (layers : List AskedLayer) → words ≡ flat_map layer_words layers → ⊥
 SayNoLayers words Memory = ⊤
 SayNoLayers words fault = ⊥
 
--- The same of at least one layer.
+-- Like `SayNoLayers`, for at least one layer.
 abbrev pub AskForNone : List (List ℕ) → Fault → Type 0
 AskForNone words BadArgument = (layers : List AskedLayer) → layers ≢ [] → words ≡ flat_map layer_words layers → ⊥
 AskForNone words Memory = ⊤
 AskForNone words fault = ⊥
 
--- The words are these files and the rest: where they are files and then layers, the rest is these layers.
+-- The arguments are these further files and the rest. If they are further files and then layers, the rest is these layers.
 pub record IsExtras (words : List (List ℕ)) (extras : List (List ℕ × List ℕ)) (rest : List (List ℕ)) : Type 0 where
   pub words_are : words ≡ flat_map extra_words extras ++ rest
   pub leaves : (others : List (List ℕ × List ℕ)) (layers : List AskedLayer)
       → words ≡ flat_map extra_words others ++ flat_map layer_words layers → rest ≡ flat_map layer_words layers
 
--- The words don't begin with a file that a layer is given.
+-- The arguments don't begin with a further file.
 abbrev pub AreNoFile : List (List ℕ) → Type 0
 AreNoFile words = (name path : List ℕ) (behind : List (List ℕ)) → words ≡ codes "file" ∷ name ∷ path ∷ behind → ⊥
 
--- The words are a layer and the rest: where they are layers, the rest is the others.
+-- The arguments are a layer and the rest. If they are layers, the rest is the other layers.
 pub record IsLayer (words : List (List ℕ)) (layer : AskedLayer) (rest : List (List ℕ)) : Type 0 where
   pub words_after : List (List ℕ)
   pub words_are : words ≡ format_word layer.format ∷ layer.path ∷ words_after

@@ -1,4 +1,4 @@
--- Chains of image files.
+-- Defines chains (an image and its backing chain) over image files: when drivers are the layers (images) of these files.
 use Rattle.std.specs.Prelude.{◌≡◌, ◌≢◌, ⊤, ℕ, Bool, false, List, [], ◌∷◌, All, IsTrue}
 use Rattle.imago_storage.specs.State.{StorageState}
 use Rattle.imago_access.specs.Building.{IsOpened}
@@ -11,46 +11,46 @@ use Rattle.qcow2_types.specs.Consistency.{Consistent}
 use Rattle.qimg_core.specs.declared.plain.ChainFile.{ChainFile}
 use Rattle.qimg_chain.specs.FileLayers.{IsLayer, shows_below}
 
--- the number of the image: those of other formats than qcow2 have the number 0
+-- The number of an image. Images of other formats than qcow2 have the number 0.
 abbrev pub number_for : Format → ℕ → ℕ
 number_for Qcow2 number = number
 number_for format number = 0
 
--- A driver was just opened over a file: it shows a layer below where the file names one, and its further files are those that the file
--- names.
+-- A driver was just opened over a file. It reads unallocated bytes from the layer below if the file refers to one, and its further files
+-- are those that the file refers to.
 pub record IsLayerOf {S D St : Type 0} (g : Ghosts D St) (state : S → StorageState) (writable : Bool) (number : ℕ)
     (file : ChainFile S) (d : D) : Type 0 where
   pub opened : IsOpened g file.format writable (number_for file.format number) (state file.image) d
   pub layer : IsLayer state writable file (shows_below (g.layer d)) (g.extras d)
 
--- The layers are those of the files, in their order: only the top may be for writing, and bears the number.
+-- The layers are those of the files, in their order. Only the top can be opened for writing, and gets the number.
 abbrev pub AreLayers : {S D St : Type 0} → Ghosts D St → (S → StorageState) → Bool → ℕ → List (ChainFile S) → List D → Type 0
 AreLayers g state writable number [] [] = ⊤
 AreLayers g state writable number (file ∷ files) (d ∷ ds) = IsLayerOf g state writable number file d × AreLayers g state false 0 files ds
 AreLayers g state writable number files ds = ⊥
 
--- a layer shows the one right below it, and one with none below shows none
+-- A layer above another reads its unallocated bytes from the layers below it, and the last layer doesn't.
 abbrev pub IsInPlace : List Layer → Layer → Type 0
 IsInPlace [] layer = layer.fixed.blank ≢ unmapped
 IsInPlace (next ∷ below) layer = layer.fixed.blank ≡ unmapped
 
--- each of the layers, the highest first, is in its place
+-- Each of the layers, the top first, satisfies `IsInPlace`.
 abbrev pub AreInPlace : List Layer → Type 0
 AreInPlace [] = ⊤
 AreInPlace (layer ∷ below) = IsInPlace below layer × AreInPlace below
 
--- A file is sound as an image of a format: one of a qcow2 image where it is consistent, and every other.
+-- The file is consistent as an image of a format. A file of another format than qcow2 always is.
 abbrev pub IsSoundAs : Format → List ℕ → Type 0
 IsSoundAs Qcow2 bytes = Consistent (bytes_of bytes)
 IsSoundAs format bytes = ⊤
 
--- A file may be the top under calls that change it: it is sound, and its storages keep what is written.
+-- The file can be the top of a chain for calls that change it: it is consistent, and its storages keep what is written.
 pub record IsFit {S : Type 0} (state : S → StorageState) (file : ChainFile S) : Type 0 where
   pub sound : IsSoundAs file.format (state file.image).bytes
   pub keeps : IsTrue (state file.image).shape.keeps
   pub others : All (λ other. IsTrue (state other.1).shape.keeps) file.extras.items
 
--- this holds of the first of the files, the top
+-- `P` holds for the first of the files, the top.
 abbrev pub OfTop : {S : Type 0} → (ChainFile S → Type 0) → List (ChainFile S) → Type 0
 OfTop P [] = ⊥
 OfTop P (file ∷ below) = P file

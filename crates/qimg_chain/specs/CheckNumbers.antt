@@ -1,9 +1,9 @@
--- The numbers of the checker's findings.
+-- The numbers by which the program reports the checker's findings.
 use Rattle.std.specs.Prelude.{ℕ}
 use Rattle.qimg_core.specs.declared.check.CheckFault.{CheckFault}
 use Rattle.qimg_core.specs.declared.check.CheckFault.TheVariants.{Header, Snapshots, External, Table, SharedTable, FalseCopied, UnderCounted, Memory, Storage}
 
--- the number of a finding, which its text names: that of a fault where one says as much
+-- The number of a finding for its text: that of the `Fault` with the same meaning, if any.
 abbrev pub check_number : CheckFault → ℕ
 check_number Header = 4
 check_number Snapshots = 23

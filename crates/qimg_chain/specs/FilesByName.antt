@@ -1,5 +1,5 @@
--- What a driver's files mean when its further files are found by their names: why the law of `NamesFiles` holds of image drivers, whose
--- code cites these.
+-- The meaning of a driver's files, if its further files (VMDK extents) are found by their names. The law of `NamesFiles` for image drivers
+-- cites these lemmas.
 use Rattle.std.proofs.Common.{◌≡◌, ◌⊎◌, ◌∙◌, ◌∷◌, ◌++◌, ◌<◌, ◌≤◌, ◌+◌, ◌-◌, ◌*◌, ◌/◌, [], ℕ, zero, suc, List}
 use Rattle.std.proofs.Common.{ap, arith, inl, inr, length, refl, subst, sym}
 use Rattle.std.specs.Prelude.{Bool, Err, Ok, Result, cond, false, ltb, map, slice_index_or, true}
@@ -33,7 +33,7 @@ use Rattle.qimg_chain.specs.FileMeanings.{MeansFile, byte_at, names_said, taken_
 
 -- ---- Qcow2 images.
 
--- places that nothing maps are 0 where nothing lies below
+-- Without layers below, unmapped bytes are 0.
 blank_mapped : (f : Bytes) (h : Fields) (p : ℕ) (v : Value) (t : Bool) (m : Mapping) → v ≡ byte 0
     → through (cond t (cell_by (own (byte 0)) f h p m) (own (byte 0))) v ≡ through (cond t (cell_by unmapped f h p m) (own (byte 0))) v
 blank_mapped f h p v false m is = refl
@@ -59,9 +59,9 @@ pub sized : (backed : Bool) (f : Bytes) (said : Result Header Fault)
 sized backed f (Ok H) = refl
 sized backed f (Err fault) = refl
 
--- ---- VMDK images: extents show the same over files that agree where they are asked for.
+-- ---- VMDK images: the extents read the same bytes over files that agree where they are read.
 
--- the bytes of n files from a number on are the same
+-- The bytes of the `n` files from number `k` on are the same.
 abbrev Agree : (f e : ℕ → ℕ → ℕ) (k n : ℕ) → Type 0
 Agree f e k n = (j q : ℕ) → k ≤ j → j < k + n → f j q ≡ e j q
 
@@ -97,7 +97,7 @@ pub same_size : (f e : ℕ → ℕ → ℕ) (said : Result (List (Extent (List �
 same_size f e (Ok xs) = refl
 same_size f e (Err fault) = refl
 
--- names, as the descriptor has them and as they are kept
+-- The kept names are those of the descriptor.
 pub names_kept : (xs : List (Extent (String Global))) → file_names (kept_extents xs) ≡ kept_names xs
 names_kept [] = refl
 names_kept (x ∷ xs) = by_access x.access x.source (names_kept xs) where
@@ -110,21 +110,21 @@ names_kept (x ∷ xs) = by_access x.access x.source (names_kept xs) where
   by_access ReadOnly (Flat name sector) rest = ap (λ names. string_bytes name ∷ names) rest
   by_access ReadOnly Zero rest = rest
 
--- ---- Files that stand in the order of their names.
+-- ---- Files in the order of their names.
 
 none_taken : (names : List (List ℕ)) (i q : ℕ) → byte_at (taken_for names []) i q ≡ 0
 none_taken [] i q = refl
 none_taken (name ∷ names) zero q = refl
 none_taken (name ∷ names) (suc i) q = none_taken names i q
 
--- the first of them has the first name
+-- The first file has the first name.
 found : (f : ℕ → List ℕ) (name : List ℕ) (names : List (List ℕ)) (k : ℕ)
     → ((i : ℕ) → i < length (name ∷ names) → f (k + i) ≡ slice_index_or (name ∷ names) i []) → bytes_eq (f k) name ≡ true
 found f name names k same =
     let here : k ≡ k + 0 = omega arith in
     (bytes_eq-Decides (f k) name).1 (ap f here ∙ same 0 (omega arith))
 
--- each is the one that is taken for its name
+-- Each file is the one that is taken for its name.
 in_order : (f : ℕ → List ℕ) (names : List (List ℕ)) (k : ℕ) (ss : List StorageState)
     → ((i : ℕ) → i < length names → f (k + i) ≡ slice_index_or names i [])
     → (i q : ℕ) → i < length names → byte_in ss i q ≡ byte_at (taken_for names (with_names f k ss)) i q
@@ -135,13 +135,13 @@ in_order f (name ∷ names) k (s ∷ ss) same (suc i) q inside = rw (found f nam
     (λ n small. let more : suc k + n ≡ k + suc n = omega arith in ap f more ∙ same (suc n) (omega (arith, small)))
     i q (omega (arith, inside)))
 
--- ---- What is asked of the drivers.
+-- ---- The lemmas for the drivers.
 
--- the names of extents, by their order
+-- The names of the extents, by their order.
 abbrev name_at : List (Extent (String Global)) → ℕ → List ℕ
 name_at xs i = slice_index_or (kept_names xs) i []
 
--- these files, in the order of the extents' names, are those that are found by them
+-- Files in the order of the extents' names are those found by the names.
 numbered : (xs : List (Extent (String Global))) (image : StorageState) (ss : List StorageState)
     → let taken = taken_for (file_names (kept_extents xs)) (with_names (name_at xs) 0 ss) in
     Agree (byte_in (image ∷ ss)) (byte_at (image.bytes ∷ taken)) 1 (length (file_names (kept_extents xs)))

@@ -1,4 +1,4 @@
--- What the files of a chain mean by themselves behind a flush.
+-- Specifies what the files of a chain mean after a flush. Without the open chain, they mean its disk.
 use Rattle.std.specs.Prelude.{◌≡◌, ◌≢◌, ◌<◌, ◌≤◌, ℕ, suc, Bool, IsTrue, List, ◌∷◌, None, Some, drop, map, slice_get, take}
 use Rattle.imago_storage.specs.Disk.{Disk}
 use Rattle.imago_storage.specs.State.{StorageState}
@@ -21,58 +21,60 @@ use Rattle.qimg_core.specs.declared.plain.ChainFile.{ChainFile}
 use Rattle.qimg_chain.specs.Chains.{AreInPlace, AreLayers}
 use Rattle.qimg_chain.specs.FileMeanings.{FileBytes, FindsByNames, IsDiskOf, driver_bytes, file_bytes, files_bytes, size_of, value_of}
 
--- A chain was opened over these files. To each layer its file means what it means with the further files found by the names of its driver.
+-- The chain `c` was opened over these files. For each layer, its file means what it means with the further files found by the driver's
+-- names.
 pub record IsChainOf {S D St : Type 0} (g : Ghosts D St) (names : D → ℕ → List ℕ) (state : S → StorageState) (writable : Bool)
     (number : ℕ) (files : List (ChainFile S)) (c : D × List D) : Type 0 where
   pub layers : AreLayers g state writable number files (chain c)
   pub places : AreInPlace (map g.layer (chain c))
   pub named : Each (FindsByNames g names) (chain c)
 
--- the files of a chain: the top's as they now are, over those below as they were at opening
+-- The files of a chain: the current file of the top, and the files below at opening.
 abbrev pub files_now : {D St : Type 0} → Ghosts D St → (D → ℕ → List ℕ) → D × List D → D × List D → List FileBytes
 files_now g names opened now = driver_bytes g names now.0 ∷ map (driver_bytes g names) opened.1
 
--- Files show each place of a disk, and no other where the top's states the size of its disk. Else it may be longer, as writes are padded
--- to whole units.
+-- The files mean each byte of the disk. If the top's file states the size of its disk, they mean nothing else. Otherwise their disk may be
+-- longer, as writes are padded to whole units (clusters of qcow2, or bytes).
 pub record ShowDisk (states_size : Bool) (disk : Disk) (files : List FileBytes) : Type 0 where
   pub size : disk.size ≤ size_of files
   pub value : (p : ℕ) → p < disk.size → disk.value p ≡ value_of files p
   pub exactly : IsTrue states_size → IsDiskOf disk files
 
--- A chain's files mean its disk by themselves. Since it was opened no file below has changed, nor what never changes of the top, nor how
--- often each cluster of the top's file is counted beyond what names it, which is what leaks.
+-- The files of a chain mean its disk by themselves. Since opening these are unchanged: the files below, the fixed properties of the top,
+-- and the excess refcount of each cluster in the top's file.
 pub record FilesMeanDisk {D St : Type 0} (g : Ghosts D St) (names : D → ℕ → List ℕ) (opened now : D × List D) : Type 0 where
   pub means : ShowDisk (g.layer now.0).fixed.exact (chain_disk g.layer now) (files_now g names opened now)
   pub below : Pairs UnchangedButMoreFaults (files_of g opened.1) (files_of g now.1)
   pub fixed : (g.layer now.0).fixed ≡ (g.layer opened.0).fixed
   pub leaks : (c : ℕ) → (g.layer now.0).fixed.leaks (g.image now.0).bytes c ≡ (g.layer opened.0).fixed.leaks (g.image opened.0).bytes c
 
--- the file of a layer with other bytes
+-- The file of a layer with other bytes.
 abbrev pub with_image : FileBytes → List ℕ → FileBytes
 with_image file bytes = record file { bytes = bytes }
 
--- The files that were handed in mean the disk, with the bytes that the top's now has: a VMDK image by the names by which it asks for its
--- further files.
+-- The files that were supplied at opening mean the disk, with the current bytes of the top's file. For a VMDK image, the further files are
+-- found by the names in the image.
 pub record HandedMeanDisk {S D St : Type 0} (g : Ghosts D St) (names : D → ℕ → List ℕ) (state : S → StorageState)
     (file : ChainFile S) (below : List (ChainFile S)) (now : D × List D) : Type 0 where
   pub named : ShowDisk (g.layer now.0).fixed.exact (chain_disk g.layer now) (driver_bytes g names now.0 ∷ files_bytes state below)
   pub alone : file.format ≢ Vmdk → ShowDisk (g.layer now.0).fixed.exact (chain_disk g.layer now)
       (with_image (file_bytes state file) (g.image now.0).bytes ∷ files_bytes state below)
 
--- so they do wherever a chain's files do
+-- If the chain's files mean its disk, so do the supplied files.
 abbrev pub HandedMeanToo : {S D St : Type 0} → Ghosts D St → (D → ℕ → List ℕ) → (S → StorageState) → Type 0
 HandedMeanToo {S = S} {D = D} g names state = (writable : Bool) (number : ℕ) (file : ChainFile S) (below : List (ChainFile S))
     (opened now : D × List D) → IsChainOf g names state writable number (file ∷ below) opened → FilesMeanDisk g names opened now
     → HandedMeanDisk g names state file below now
 
--- Where they do, a qcow2 top that is consistent leaks what it did as the chain was opened, as a checker tells it.
+-- If the files mean the disk, a consistent qcow2 top has the same leaks as when the chain was opened.
 abbrev pub LeaksWhatItDid : {D St : Type 0} → Ghosts D St → (D → ℕ → List ℕ) → Type 0
 LeaksWhatItDid {D} g names = (opened now : D × List D) (H K : Header) → FilesMeanDisk g names opened now
     → (g.layer opened.0).fixed.format ≡ Qcow2 → IsConsistent (bytes_of (g.image opened.0).bytes) H
     → IsConsistent (bytes_of (g.image now.0).bytes) K
     → leaks (bytes_of (g.image now.0).bytes) K.fields ≡ leaks (bytes_of (g.image opened.0).bytes) H.fields
 
--- The call at a place of a list is a flush that was done, between two moments. Behind it the files mean the disk, if nothing was prepared.
+-- The call at index `place` of a list is a flush that succeeded between two moments. If no mapping was prepared, the files mean the disk
+-- after it.
 pub record FlushesAt {D St : Type 0} (g : Ghosts D St) (names : D → ℕ → List ℕ) (opened : D × List D) (list : List Call)
     (answers : List Answer) (start last : Moment D St) (place : ℕ) : Type 0 where
   pub before : Moment D St
@@ -82,7 +84,7 @@ pub record FlushesAt {D St : Type 0} (g : Ghosts D St) (names : D → ℕ → Li
   pub run_after : Run g (drop (suc place) list) (drop (suc place) answers) moment_after last
   pub means : state_of before.now.kept_mapping ≡ None → FilesMeanDisk g names opened moment_after.now.drivers
 
--- each flush of a list that was done, where no call before it was cut off
+-- Each flush of a list that succeeded, if no earlier call ended with a resource error.
 abbrev pub EachFlushMeans : {D St : Type 0} → Ghosts D St → (D → ℕ → List ℕ) → D × List D → List Call → List Answer → Moment D St
     → Moment D St → Type 0
 EachFlushMeans g names opened list answers start last =

@@ -1,4 +1,4 @@
--- A script that is run over files, from their opening as a chain on.
+-- Specifies a script (one call a line) that is run over files: the files are opened as a chain, and the script runs over the chain.
 use Rattle.std.specs.Prelude.{◌≡◌, ◌≢◌, ◌⊎◌, ℕ, Bool, List, [], map, Option, Result, Err}
 use Rattle.std.specs.Io.KnownBytes.{Appends}
 use Rattle.imago_storage.specs.MemStorage.{mem_state}
@@ -19,7 +19,7 @@ use Rattle.qimg_chain.specs.declared.run.fault.RunFault.{RunFault}
 use Rattle.qimg_chain.specs.declared.run.opened.ScriptFault.{ScriptFault}
 use Rattle.qimg_chain.specs.declared.run.opened.ScriptFault.TheVariants.{Opening, Running}
 
--- what is opened: files, the top first, whether that is for writing, and the number that it bears
+-- The arguments of an opening: the files, the top first, whether the top is opened for writing, and its number.
 pub record ToOpen : Type 0 where
   pub files : List (ChainFile MemStorage)
   pub writable : Bool
@@ -28,10 +28,10 @@ pub record ToOpen : Type 0 where
 abbrev pub to_open : List (ChainFile MemStorage) → Bool → ℕ → ToOpen
 to_open files writable number = record { files = files; writable = writable; number = number }
 
--- The files are opened as the layers of a chain, whose disk is the one that their bytes mean, and the script is run over it to this result.
--- To each layer its file means what it means with the further files found by their names.
--- Where the top is sound and its storages keep what is written, the calls of all lines do what a list of calls does, with that disk as the
--- one last flushed.
+-- The files are opened as the layers of a chain, and the script runs over it to this result. The disk of the chain is the one that the
+-- files' bytes mean. For each layer, its file means the same disk with the further files (VMDK extents) found by its names.
+-- If the top is consistent and its storages keep what is written, the calls of all lines do what a list of calls does. The disk at opening
+-- is the last flushed one.
 pub record RunFrom {D St : Type 0} (g : Ghosts D St) (names : D → ℕ → List ℕ) (what : ToOpen) (input before after : Option (List ℕ))
     (result : Result (Option (List ℕ)) RunFault) : Type 0 where
   pub opened : D × List D
@@ -45,8 +45,8 @@ pub record RunFrom {D St : Type 0} (g : Ghosts D St) (names : D → ℕ → List
   pub headline : OfTop (IsFit mem_state) what.files
       → Driven g (flushed (chain_disk g.layer opened)) (calls_of scripted.replies) (answers_of scripted.replies) opened last
 
--- Why a script isn't run to its end: the files, in memory, aren't opened for want of memory or for the first cause that they give, never by
--- a storage that failed, and nothing is written; or they are, and it is run to this fault.
+-- The reason why a script doesn't run to its end. Either the files aren't opened, because memory runs out or with their first cause; no
+-- storage fails, and nothing is written. Or they are opened, and the script ends with this fault.
 abbrev pub NotRun : {D St : Type 0} → Ghosts D St → (D → ℕ → List ℕ) → ToOpen → Option (List ℕ) → Option (List ℕ) → Option (List ℕ)
     → ScriptFault → Type 0
 NotRun g names what input before after (Opening fault) =

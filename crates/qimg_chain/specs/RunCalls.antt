@@ -1,4 +1,5 @@
--- The calls of a chain that lines of a script ask for, and what is told of their answers.
+-- Specifies which call of a chain (an image and its backing chain) a line of a script makes, and how the result of the call becomes the
+-- line's answer.
 use Rattle.std.specs.Prelude.{◌≡◌, ◌⊎◌, ℕ, Bool, true, false, List, [], ◌∷◌, Option, Some, None, Vec, Result, MatchResult}
 use Rattle.std.specs.Global.{Global}
 use Rattle.imago_storage.specs.declared.fault.Fault.{Fault}
@@ -15,14 +16,14 @@ use Rattle.qimg_chain.specs.declared.script.answer.Answer.TheVariants as told
 use Rattle.qimg_chain.specs.declared.script.line.Line.{Line}
 use Rattle.qimg_chain.specs.declared.script.line.Line.TheVariants.{Size, Read, Write, Zero, Discard, DiscardAny, DiscardBacking, Grow, Shrink, Flush, Check, Plain, Save}
 
--- the line asks for a call of the chain
+-- The line makes a call of the chain.
 abbrev pub asks_for_call : Line → Bool
 asks_for_call Size = false
 asks_for_call Check = false
 asks_for_call (Plain offset n) = false
 asks_for_call line = true
 
--- the call that a line asks for
+-- `call` is the call of the line.
 abbrev pub IsCallOf : Line → Call → Type 0
 IsCallOf (Read offset n) call = call ≡ calls.Read offset n
 IsCallOf (Write offset bytes) call = (vec : Vec ℕ Global) × (vec.items ≡ bytes) × (call ≡ calls.Write offset vec)
@@ -39,14 +40,14 @@ IsCallOf line call = ⊥
 abbrev pub IsNoCall : Line → Type 0
 IsNoCall line = asks_for_call line ≡ false
 
--- what a line is answered with, by the answer to its call
+-- The answer to a line, from the answer to its call.
 abbrev pub told_of : CallAnswer → Option Answer
 told_of answers.Done = Some told.Done
 told_of (answers.Bytes bytes) = Some (told.Bytes bytes.items)
 told_of (answers.Refused fault) = Some (told.Refused fault)
 told_of answer = None
 
--- the call is made and answered, or isn't made for want of room for its answer
+-- The call is made and answered, or it isn't made because there is no memory for its answer.
 abbrev pub MadeOne : {D St : Type 0} → Ghosts D St → Call → Result CallAnswer Fault → D × List D → D × List D → Type 0
 MadeOne g call result old new = MatchResult result
     (λ answer. AnswersAlone g (call ∷ []) (answer ∷ []) old new × Fits call answer)
@@ -57,15 +58,15 @@ pub record Turn : Type 0 where
   pub list : List Call
   pub answers : List CallAnswer
 
--- nothing is called
+-- No call.
 abbrev pub unmade : Turn
 unmade = record { list = []; answers = [] }
 
--- one call, with this answer
+-- One call, with this answer.
 abbrev pub one : Call → CallAnswer → Turn
 one call answer = record { list = call ∷ []; answers = answer ∷ [] }
 
--- The call that a line asks for is made, and its answer told; or it isn't made for want of room.
+-- The call of the line is made, and its answer is the line's. Or it isn't made, because memory runs out.
 abbrev pub TellsCall : Line → Turn → Answer → Type 0
 TellsCall line turn answer =
     ((call : Call) × (said : CallAnswer) × IsCallOf line call × (turn ≡ one call said) × (told_of said ≡ Some answer))

@@ -1,4 +1,5 @@
--- What a line of a script is: words with one space between each two, by which a command and its arguments are written.
+-- The lines of a script. A line is a command and its arguments, with one space between two of them. Together they are the parts of the
+-- line.
 use Rattle.std.specs.Prelude.{◌≡◌, ℕ, ◌≤◌, List, [], ◌∷◌, length, Some, IsSome, codes}
 use Rattle.std.specs.List.{join_with_byte}
 use Rattle.imago_storage.specs.declared.fault.Fault.{Fault}
@@ -8,25 +9,25 @@ use Rattle.qimg_chain.specs.ScriptWords.{ArePairs, words_of, number_of, bytes_of
 use Rattle.qimg_chain.specs.declared.script.line.Line.{Line}
 use Rattle.qimg_chain.specs.declared.script.line.Line.TheVariants.{Size, Read, Write, Zero, Discard, DiscardAny, DiscardBacking, Grow, Shrink, Flush, Check, Plain, Save}
 
--- A word writes a number, which may have zeroes before it.
+-- The argument writes a number, which may have leading zeroes.
 abbrev pub IsNumber : ℕ → List ℕ → Type 0
 IsNumber n word = number_of word ≡ Some n
 
--- A word writes bytes, in digits of either case.
+-- The argument writes bytes, in digits of either case.
 abbrev pub IsBytes : List ℕ → List ℕ → Type 0
 IsBytes bytes word = bytes_of word ≡ Some bytes
 
--- A word names a mode of growth.
+-- The argument is that of a mode of growth.
 abbrev pub IsMode : PreallocateMode → List ℕ → Type 0
 IsMode mode word = word ≡ mode_word mode
 
--- The words are a command and one argument.
+-- The parts are a command and one argument.
 pub record HasOne (command : List ℕ) (First : List ℕ → Type 0) (words : List (List ℕ)) : Type 0 where
   pub first : List ℕ
   pub words_are : words ≡ command ∷ first ∷ []
   pub is_first : First first
 
--- The words are a command and two arguments.
+-- The parts are a command and two arguments.
 pub record HasTwo (command : List ℕ) (First Second : List ℕ → Type 0) (words : List (List ℕ)) : Type 0 where
   pub first : List ℕ
   pub second : List ℕ
@@ -34,7 +35,7 @@ pub record HasTwo (command : List ℕ) (First Second : List ℕ → Type 0) (wor
   pub is_first : First first
   pub is_second : Second second
 
--- These words write the line.
+-- These parts write the line.
 abbrev pub IsWritten : Line → List (List ℕ) → Type 0
 IsWritten Size words = words ≡ codes "size" ∷ []
 IsWritten (Read offset count) words = HasTwo (codes "read") (IsNumber offset) (IsNumber count) words
@@ -50,23 +51,23 @@ IsWritten Check words = words ≡ codes "check" ∷ []
 IsWritten (Plain offset count) words = HasTwo (codes "plain") (IsNumber offset) (IsNumber count) words
 IsWritten Save words = words ≡ codes "save" ∷ []
 
--- A text of at most 65,536 bytes is the line: its words with one space between each two.
+-- A text of at most 65,536 bytes is the line: its parts with one space between two of them.
 pub record IsLine (text : List ℕ) (line : Line) : Type 0 where
   pub short : length text ≤ 65536
   pub words : List (List ℕ)
   pub joined : text ≡ join_with_byte 32 words
   pub written : IsWritten line words
 
--- Words are a write to a number, of bytes by pairs, be these of digits or not.
+-- The parts are a `write` with a number and with pairs of characters, which may not all be digits.
 abbrev pub IsWrite : List (List ℕ) → Type 0
 IsWrite words = HasTwo (codes "write") (λ first. IsSome (number_of first)) ArePairs words
 
--- Memory may be wanting for a text: it is a write that isn't longer than a line.
+-- Memory may run out for this text: it is a `write` that isn't longer than a line.
 pub record MayWant (text : List ℕ) : Type 0 where
   pub short : length text ≤ 65536
   pub write : IsWrite (words_of text)
 
--- Why a text isn't taken as a line: it is none, or want of memory for the bytes of a write.
+-- The reason why a text isn't parsed as a line: it isn't one, or memory ran out for the bytes of a `write`.
 abbrev pub NotLine : List ℕ → Fault → Type 0
 NotLine text Memory = MayWant text
 NotLine text BadCommand = (line : Line) → ¬ (IsLine text line)

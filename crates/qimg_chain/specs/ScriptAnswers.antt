@@ -6,11 +6,11 @@ use Rattle.qimg_chain.specs.CheckNumbers.{check_number}
 use Rattle.qimg_chain.specs.declared.script.answer.Answer.{Answer}
 use Rattle.qimg_chain.specs.declared.script.answer.Answer.TheVariants.{Number, Bytes, Done, Refused, Unsound}
 
--- the text of a refusal with this number
+-- The text of an error with this number.
 abbrev pub error_text : ℕ → List ℕ
 error_text number = codes "error " ++ decimal number
 
--- the text of an answer, without a line feed behind it
+-- The text of an answer, without a line feed.
 abbrev pub answer_text : Answer → List ℕ
 answer_text (Number n) = decimal n
 answer_text (Bytes bytes) = encode_lower bytes

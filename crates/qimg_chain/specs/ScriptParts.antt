@@ -1,4 +1,4 @@
--- What the parts of a reader of lines answer.
+-- The results of the parts of the line parser.
 use Rattle.std.specs.Prelude.{◌≡◌, ℕ, List, [], ◌∷◌, if◌then◌else◌, Option, Some, None, option_map, option_and_then, codes}
 use Rattle.std.specs.Str.{bytes_eq}
 use Rattle.imago_storage.specs.declared.fault.Fault.{Fault}
@@ -8,18 +8,18 @@ use Rattle.qimg_chain.specs.Script.{IsWrite}
 use Rattle.qimg_chain.specs.declared.script.line.Line.{Line}
 use Rattle.qimg_chain.specs.declared.script.line.Line.TheVariants.{Size, Read, Write, Zero, Discard, DiscardAny, DiscardBacking, Grow, Shrink, Flush, Check, Plain, Save}
 
--- the line of a command without arguments
+-- The line of a command without arguments.
 unfoldable pub lone_line : List ℕ → Option Line
 lone_line name = if bytes_eq name (codes "size") then Some Size
     else (if bytes_eq name (codes "flush") then Some Flush
     else (if bytes_eq name (codes "check") then Some Check
     else (if bytes_eq name (codes "save") then Some Save else None)))
 
--- the line of a command with one argument
+-- The line of a command with one argument.
 unfoldable pub shrink_line : List ℕ → List ℕ → Option Line
 shrink_line name first = if bytes_eq name (codes "shrink") then option_map (λ size. Shrink size) (number_of first) else None
 
--- the line of a command on a range
+-- The line of a command on a range.
 unfoldable pub range_line : List ℕ → ℕ → ℕ → Option Line
 range_line name offset count = if bytes_eq name (codes "read") then Some (Read offset count)
     else (if bytes_eq name (codes "zero") then Some (Zero offset count)
@@ -28,17 +28,17 @@ range_line name offset count = if bytes_eq name (codes "read") then Some (Read o
     else (if bytes_eq name (codes "discard-backing") then Some (DiscardBacking offset count)
     else (if bytes_eq name (codes "plain") then Some (Plain offset count) else None)))))
 
--- the line of a command with a number and a mode, or two numbers
+-- The line of a command with a number and a mode, or with two numbers.
 unfoldable pub mode_or_range_line : List ℕ → ℕ → List ℕ → Option Line
 mode_or_range_line name start second = if bytes_eq name (codes "grow") then option_map (λ mode. Grow start mode) (mode_of second)
     else option_and_then (λ count. range_line name start count) (number_of second)
 
--- the line of a command with a number and another argument
+-- The line of a command with a number and another argument.
 unfoldable pub numbered_line : List ℕ → List ℕ → ℕ → Option Line
 numbered_line name second start = if bytes_eq name (codes "write") then option_map (λ bytes. Write start bytes) (bytes_of second)
     else mode_or_range_line name start second
 
--- the line of words
+-- The line of a command and its arguments.
 unfoldable pub line_of : List (List ℕ) → Option Line
 line_of [] = None
 line_of (name ∷ []) = lone_line name
@@ -46,7 +46,7 @@ line_of (name ∷ first ∷ []) = shrink_line name first
 line_of (name ∷ first ∷ second ∷ []) = option_and_then (numbered_line name second) (number_of first)
 line_of (name ∷ first ∷ second ∷ third ∷ more) = None
 
--- why words give no line: they are none, or want of memory for the bytes of a write
+-- The reason why these parts aren't parsed as a line: they aren't one, or memory ran out for the bytes of a `write`.
 abbrev pub NotSaid : List (List ℕ) → Fault → Type 0
 NotSaid words Memory = IsWrite words
 NotSaid words BadCommand = line_of words ≡ None

@@ -1,4 +1,4 @@
--- How the lines of a script are read off its reader, and what each is taken as.
+-- Specifies how the lines of a script are read from its reader, and parsed.
 use Rattle.std.specs.Prelude.{◌≡◌, ◌≢◌, ℕ, ◌+◌, All, Bool, true, false, List, [], ◌∷◌, ◌++◌, length, IfOk, IfErr, IfSome, Option, None, Some, Result}
 use Rattle.std.specs.Io.BufRead.{DropsThrough, take_through}
 use Rattle.std.specs.Io.KnownBytes.{Consumes, Keeps}
@@ -7,7 +7,7 @@ use Rattle.imago_storage.specs.declared.fault.Fault.{Fault}
 use Rattle.qimg_chain.specs.Script.{IsLine, NotLine}
 use Rattle.qimg_chain.specs.declared.script.line.Line.{Line}
 
--- A reader's next bytes are appended: some without a line feed, or the rest of its line.
+-- The next bytes of a reader are appended: some without a line feed, or the rest of the line.
 pub record ReadsPart (left rest : Option (List ℕ)) (old new : List ℕ) (ended : Bool) : Type 0 where
   pub part : List ℕ
   pub appended : new ≡ old ++ part
@@ -15,23 +15,23 @@ pub record ReadsPart (left rest : Option (List ℕ)) (old new : List ℕ) (ended
   pub goes_on : ended ≡ false → All (λ b. b ≢ 10) part
   pub ends : ended ≡ true → IfSome left (λ bytes. part ≡ take_through 10 bytes) × DropsThrough left rest 10
 
--- what a text is taken as: the line that it is, or why it is none
+-- The result of parsing a text: the line, or the reason why it isn't one.
 abbrev pub IsTakenAs : List ℕ → Result Line Fault → Type 0
 IsTakenAs text taken = IfOk taken (IsLine text) × IfErr taken (NotLine text)
 
--- the first text of some bytes is taken so
+-- The first line of these bytes is parsed with this result.
 pub record IsFirst (bytes : List ℕ) (result : Result Line Fault) : Type 0 where
   pub text : List ℕ
   pub remainder : List ℕ
   pub first : lines bytes ≡ text ∷ lines remainder
   pub taken : IsTakenAs text result
 
--- what comes next in a script, by the bytes of its next line: what its text is taken as, or nothing where there is no line
+-- The next line of a script, from its bytes: the result of parsing it, or `None` if the bytes have no line.
 abbrev pub IsNext : List ℕ → Option (Result Line Fault) → Type 0
 IsNext bytes None = lines bytes ≡ []
 IsNext bytes (Some taken) = IsFirst bytes taken
 
--- A reader's next line is read, within the room that is left for a script's bytes.
+-- The next line of a reader is read. Its length with its end is `room - less`.
 pub record ReadsNext (left rest : Option (List ℕ)) (room less : ℕ) (result : Option (Result Line Fault)) : Type 0 where
   pub bytes : List ℕ
   pub are : IfSome left (λ all. bytes ≡ take_through 10 all)
@@ -39,7 +39,7 @@ pub record ReadsNext (left rest : Option (List ℕ)) (room less : ℕ) (result :
   pub fits : length bytes + less ≡ room
   pub next : IsNext bytes result
 
--- the same, or nothing is taken
+-- Like `ReadsNext`, or nothing is consumed.
 abbrev pub ReadsShown : (left rest : Option (List ℕ)) (room less : ℕ) → Option (Option (Result Line Fault)) → Type 0
 ReadsShown left rest room less None = Keeps left rest × (less ≡ room)
 ReadsShown left rest room less (Some result) = ReadsNext left rest room less result

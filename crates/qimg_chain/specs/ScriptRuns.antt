@@ -1,4 +1,4 @@
--- What a script does that is run over a chain, line by line, and the text that answers it.
+-- Specifies a script (one call a line) that runs over a chain, and the text that answers it.
 use Rattle.std.specs.Prelude.{◌≡◌, ◌⊎◌, ⊤, ℕ, List, [], ◌∷◌, ◌++◌, length, map, Option, None, Some, option_map, IfSome, OnOk, Result, Ok, Err, Vec}
 use Rattle.std.specs.Global.{Global}
 use Rattle.std.specs.Io.KnownBytes.{Appends}
@@ -23,7 +23,7 @@ use Rattle.qimg_chain.specs.declared.script.answer.Answer.{Answer}
 use Rattle.qimg_chain.specs.declared.script.answer.Answer.TheVariants as told
 use Rattle.qimg_chain.specs.declared.script.line.Line.{Line}
 
--- where a script stands: the drivers of the chain, the top first, and the bytes that the last `save` kept
+-- The state of a script: the drivers of the chain, the top first, and the bytes that the last `save` kept.
 pub record Standing (D : Type 0) : Type 0 where
   pub drivers : D × List D
   pub saved : Option (List ℕ)
@@ -31,7 +31,7 @@ pub record Standing (D : Type 0) : Type 0 where
 abbrev pub standing : {D : Type 0} → D × List D → Option (List ℕ) → Standing D
 standing drivers saved = record { drivers = drivers; saved = saved }
 
--- a line that was run: its text, the calls that it made, and its answer
+-- A line that was run: its text, the calls that it made, and its answer.
 pub record Reply : Type 0 where
   pub text : List ℕ
   pub turn : Turn
@@ -40,14 +40,14 @@ pub record Reply : Type 0 where
 abbrev pub reply : List ℕ → Turn → Answer → Reply
 reply text turn answer = record { text = text; turn = turn; answer = answer }
 
--- A text is a line, which is answered as it asks, by the names of further files.
+-- The text is a line, and is run and answered as that line, with these names of further files.
 pub record RunsLine {D St : Type 0} (g : Ghosts D St) (names : D → ℕ → List ℕ) (r : Reply) (old new : Standing D) : Type 0 where
   pub line : Line
   pub is_line : IsLine r.text line
   pub tells : TellsLine g names line r.turn r.answer old.drivers
   pub keeps : KeepsSaved line r.answer (g.image new.drivers.0).bytes old.saved new.saved
 
--- a text isn't taken as a line, and nothing is done
+-- The text isn't parsed as a line, and nothing is done.
 pub record RunsNothing {D St : Type 0} (g : Ghosts D St) (r : Reply) (old new : Standing D) : Type 0 where
   pub fault : Fault
   pub why : NotLine r.text fault
@@ -59,12 +59,12 @@ pub record Replies {D St : Type 0} (g : Ghosts D St) (names : D → ℕ → List
   pub made : AnswersAlone g r.turn.list r.turn.answers old.drivers new.drivers
   pub runs : RunsLine g names r old new ⊎ RunsNothing g r old new
 
--- texts one behind the other
+-- The lines are run one after another.
 abbrev pub RunsAll : {D St : Type 0} → Ghosts D St → (D → ℕ → List ℕ) → List Reply → Standing D → Standing D → Type 0
 RunsAll g names [] old new = new ≡ old
 RunsAll {D} g names (r ∷ replies) old new = (mid : Standing D) × Replies g names r old mid × RunsAll g names replies mid new
 
--- the calls that they make, with their answers, and the text that answers them, a line each
+-- The calls of these lines, their answers, and the text of the answers, one line for each.
 abbrev pub calls_of : List Reply → List Call
 calls_of [] = []
 calls_of (r ∷ replies) = r.turn.list ++ calls_of replies
@@ -77,7 +77,7 @@ abbrev pub text_of : List Reply → List ℕ
 text_of [] = []
 text_of (r ∷ replies) = (answer_text r.answer ++ 10 ∷ []) ++ text_of replies
 
--- why the next line isn't read, and why an answer isn't written
+-- The faults with which the next line isn't read, and those with which an answer isn't written.
 abbrev pub IsReadingFault : RunFault → Type 0
 IsReadingFault run_fault.Read = ⊤
 IsReadingFault run_fault.Memory = ⊤
@@ -88,46 +88,46 @@ IsTellingFault run_fault.Write = ⊤
 IsTellingFault run_fault.Memory = ⊤
 IsTellingFault fault = ⊥
 
--- the answers before the last are written, and nothing of it
+-- The answers before the last one are written, and nothing of the last one.
 pub record IsLastUntold (before after : Option (List ℕ)) (replies : List Reply) : Type 0 where
   pub told : List Reply
   pub last : Reply
   pub are : replies ≡ told ++ last ∷ []
   pub written : Appends before after (text_of told)
 
--- Which answers are written: all, where the script has ended, its reader failed or it has too many lines; all, or all but the last, where
--- memory was wanting. Of a writer that failed nothing is said.
+-- The answers that are written. If the script ended, the reader failed or there are too many lines, all answers are written. If memory ran
+-- out, all answers or all except the last are. If the writer failed, this is unspecified.
 abbrev pub AreWritten : Result (Option (List ℕ)) RunFault → (before after : Option (List ℕ)) → List Reply → Type 0
 AreWritten (Err run_fault.Write) before after replies = ⊤
 AreWritten (Err run_fault.Memory) before after replies = Appends before after (text_of replies) ⊎ IsLastUntold before after replies
 AreWritten result before after replies = Appends before after (text_of replies)
 
--- the bytes of a vector, if there is one
+-- The bytes of a vector, if any.
 abbrev pub items_of : Option (Vec ℕ Global) → Option (List ℕ)
 items_of = option_map (λ bytes. bytes.items)
 
--- the bytes that the last `save` kept, where the top file has these
+-- The bytes that the last `save` kept, if `file` are the bytes of the top file.
 abbrev pub kept_of : List ℕ → Saved → Option (List ℕ)
 kept_of file saved.Nothing = None
 kept_of file saved.InFile = Some file
 kept_of file (saved.Apart bytes) = Some bytes.items
 
--- how a script ends, by the bytes that are handed on
+-- The end of a script, with the bytes that it returns.
 abbrev pub ending : {T : Type 0} → (T → Option (List ℕ)) → Result T RunFault → Result (Option (List ℕ)) RunFault
 ending kept (Ok saved) = Ok (kept saved)
 ending kept (Err fault) = Err fault
 
--- What a script does that is run over a chain, by the bytes that its reader has and that its writer holds, where these are known: each line
--- makes the call that it asks for, and what all of them do is what the list of these calls does.
+-- A script that runs over a chain, from the bytes of its reader and its writer, if they are known. Each line makes its call, and all lines
+-- together do what the list of these calls does.
 pub record Scripted {D St : Type 0} (g : Ghosts D St) (names : D → ℕ → List ℕ) (input before after : Option (List ℕ))
     (result : Result (Option (List ℕ)) RunFault) (old new : D × List D) : Type 0 where
   pub replies : List Reply
   pub saved : Option (List ℕ)
   pub runs : RunsAll g names replies (standing old None) (standing new saved)
   pub driven : (since : Since) → IsReady g old → HoldsSince g since old → Driven g since (calls_of replies) (answers_of replies) old new
-  -- its lines are the first that the reader has, all of them where it ends, as many as a script has at most; and its text is their answers
+  -- The lines are the first of the reader, within the limit, and all of them if the script ends. The text written is their answers.
   pub count : IsAnswerCount result (length replies)
   pub lines : IfSome input (λ bytes. AreAnswered result bytes (map (λ (r : Reply). r.text) replies))
   pub written : AreWritten result before after replies
-  -- where the script is run to its end, the bytes that the last `save` kept are handed on, if one was done
+  -- If the script runs to its end, it returns the bytes that the last successful `save` kept, if any.
   pub saved_returned : OnOk result (result ≡ Ok saved)

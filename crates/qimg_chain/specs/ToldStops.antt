@@ -1,4 +1,4 @@
--- Stops that the storage of a chain's top tells, and what is said of those in a list of calls.
+-- Crash images (the bytes of a file after a crash between two requests) that the storage of a chain's top reports during a list of calls.
 use Rattle.std.specs.Prelude.{◌≡◌, ℕ, ◌+◌, ◌<◌, ◌^◌, Bool, List, [], ◌∷◌, Some, None, take, slice_get, map, IsTrue}
 use Rattle.imago_storage.specs.Log.{telling}
 use Rattle.imago_storage.specs.MemStorage.{memory}
@@ -20,8 +20,9 @@ use Rattle.qimg_core.specs.declared.plain.ChainFile.{ChainFile}
 use Rattle.qimg_chain.specs.Chains.{AreInPlace, AreLayers, OfTop}
 use Rattle.qimg_chain.specs.Refusals.{FormChain}
 
--- All that what is said of stops in a list of calls rests on: calls may begin, and the chain shows what it may since the last flush; the
--- top's file states the size of its disk; and its storage tells its stops, keeps what is written, and can count one more refused change.
+-- The preconditions for the crash images of a list of calls. Calls can be made, and the disk is one that may follow the last flush. The
+-- top's file states the size of its disk. Its storage exposes its crash images, keeps what is written, and can count one more refused
+-- change.
 pub record TellsStops {D St : Type 0} (g : Ghosts D St) (since : Since) (c : D × List D) : Type 0 where
   pub ready : IsReady g c
   pub stands : HoldsSince g since c
@@ -30,7 +31,7 @@ pub record TellsStops {D St : Type 0} (g : Ghosts D St) (since : Since) (c : D �
   pub keeps : IsTrue (g.image c.0).shape.keeps
   pub room : (g.image c.0).refusals + 1 < 2 ^ 64
 
--- A file that a stop in one call of a list leaves: the call is begun at the moment to which those before it lead.
+-- `f` is a crash image of one call of a list. The call begins at the moment after the calls before it.
 pub record IsLeftIn {D St : Type 0} (g : Ghosts D St) (list : List Call) (answers : List Answer) (old : Moment D St)
     (f : List ℕ) : Type 0 where
   pub before : ℕ
@@ -40,27 +41,26 @@ pub record IsLeftIn {D St : Type 0} (g : Ghosts D St) (list : List Call) (answer
   pub run : Run g (take before list) (take before answers) old entry
   pub left : IsLeftBy g call entry f
 
--- A list of calls, from moment to moment, with the files that stops leave in their order: those of each call are such as this call may
--- leave then.
+-- A list of calls, from moment to moment, with the crash images in order. The crash images of each call are such as that call may leave.
 abbrev pub TellsRun : {D St : Type 0} → Ghosts D St → List Call → List Answer → Moment D St → Moment D St → Type 0
 TellsRun g [] [] old new = new ≡ old
 TellsRun {D} {St} g (call ∷ calls) (answer ∷ answers) old new = (mid : Moment D St) × ListStep g call answer old mid
     × EachCrashImageIn (IsLeftBy g call old) (g.image old.now.drivers.0) (g.image mid.now.drivers.0) × TellsRun g calls answers mid new
 TellsRun g _ _ old new = ⊥
 
--- the same of a list behind which a chain stands: nothing is asked of the top's file at its end
+-- Like `TellsRun`, for a list after which a chain is known. The top's file doesn't change at its end.
 abbrev pub TellsAll : {D St : Type 0} → Ghosts D St → List Call → List Answer → Moment D St → D × List D → Type 0
 TellsAll {D} {St} g list answers old new =
     (last : Moment D St) × TellsRun g list answers old last × (g.image new.0 ≡ g.image last.now.drivers.0)
 
--- The chain tells its stops, a list of calls is driven over it, and none of them is cut off.
+-- The chain exposes its crash images, a list of calls is made on it, and no call ends with a resource error.
 pub record GoesOnTelling {D St : Type 0} (g : Ghosts D St) (since : Since) (list : List Call) (answers : List Answer)
     (old new : D × List D) : Type 0 where
   pub telling : TellsStops g since old
   pub driven : Driven g since list answers old new
   pub on : AllGoOn answers
 
--- A file is a consistent qcow2 image, without further files, in a storage that begins to tell its stops over new memory.
+-- A file is a consistent qcow2 image without further files. Its storage has just begun to expose its crash images over new memory.
 pub record IsLoggedImage {S : Type 0} (state : S → StorageState) (file : ChainFile S) : Type 0 where
   pub format : file.format ≡ Qcow2
   pub none : file.extras.items ≡ []
@@ -70,26 +70,26 @@ pub record IsLoggedImage {S : Type 0} (state : S → StorageState) (file : Chain
   pub header : Header
   pub sound : IsConsistent (bytes_of bytes) header
 
--- the same of one that names no backing file
+-- Like `IsLoggedImage`, for an image without a backing file.
 abbrev pub IsLoggedAlone : {S : Type 0} → (S → StorageState) → ChainFile S → Type 0
 IsLoggedAlone state file = (image : IsLoggedImage state file) × (image.header.backing_name ≡ None)
 
--- Files that form a chain, of which the top is such an image.
+-- Files that form a chain, and the file of its top satisfies `IsLoggedImage`.
 abbrev pub AreLoggedFiles : {S : Type 0} → (S → StorageState) → Bool → List (ChainFile S) → Type 0
 AreLoggedFiles state writable files = FormChain state writable files × OfTop (IsLoggedImage state) files
 
--- The chain is as the files open.
+-- The chain is one that `open_chain` returns for these files.
 pub record IsOpenedOver {S D St : Type 0} (g : Ghosts D St) (state : S → StorageState) (writable : Bool) (number : ℕ)
     (files : List (ChainFile S)) (c : D × List D) : Type 0 where
   pub layers : AreLayers g state writable number files (chain c)
   pub places : AreInPlace (map g.layer (chain c))
 
--- A chain that the files open as tells its stops from there on, with its disk as the one last flushed.
+-- Each chain that is opened over these files exposes its crash images, with its disk as the last flushed one.
 abbrev pub OpensTelling : {S D St : Type 0} → Ghosts D St → (S → StorageState) → Bool → ℕ → List (ChainFile S) → Type 0
 OpensTelling {D = D} g state writable number files =
     (c : D × List D) → IsOpenedOver g state writable number files c → TellsStops g (flushed (chain_disk g.layer c)) c
 
--- Each file that a stop leaves in a list of calls over it is a consistent image, where no call is cut off.
+-- Each crash image during a list of calls on a chain over these files is a consistent image, if no call ends with a resource error.
 abbrev pub CrashImagesConsistent : {S D St : Type 0} → Ghosts D St → (S → StorageState) → Bool → ℕ → List (ChainFile S) → Type 0
 CrashImagesConsistent {D = D} g state writable number files = (list : List Call) (answers : List Answer) (c new : D × List D)
     → IsOpenedOver g state writable number files c → Driven g (flushed (chain_disk g.layer c)) list answers c new → AllGoOn answers

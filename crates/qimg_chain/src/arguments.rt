@@ -1,5 +1,5 @@
-//! The arguments of the program: the layers of a chain, and the files that they are given. A layer is a node of qemu's backing chain. The
-//! layer below is the backing of qemu and imago.
+//! Parses the arguments of the program `qimg`: the images of a chain (an image and its backing chain), and their further files (VMDK
+//! extents).
 ghost use Rattle.std.specs.Prelude.{◌≡◌, ◌↔◌, ◌+◌, ◌*◌, ◌<◌, ◌≤◌, ◌∷◌, length, map, flat_map, codes, MatchOption, IsTrue, IfSome, IfOk, IfErr, IsOkUnless};
 ghost use Rattle.imago_access.specs.declared.format.Format.{Format};
 ghost use Rattle.qimg_chain.specs.Arguments.{words_from, extra_of, layer_of, format_word, layer_words, Says, WhyNotRead, SayNoLayers, AskForNone, AreNoFile, IsExtras, IsLayer};
@@ -8,34 +8,34 @@ use imago_access::Format;
 use imago_storage::Fault;
 use std::alloc::Global;
 
-/// A layer, as the arguments name it.
+/// One image of a chain in the arguments.
 #[derive(Debug, Drop)]
 pub struct LayerArgument {
-    /// What its file is read as.
+    /// The format of the image file.
     pub format: Format,
-    /// The path of its file.
+    /// The path of the image file.
     pub path: String,
-    /// The further files that it is given: their names, and their paths.
+    /// The further files of the image (VMDK extents), each with its name and its path.
     pub extras: Vec<(String, String)>,
 }
 
-/// What the arguments ask for.
+/// The parsed arguments.
 #[derive(Debug, Drop)]
 pub struct Arguments {
-    /// Whether the top is opened for reading alone.
+    /// True if the top image is opened read-only.
     pub read_only: bool,
-    /// The layers, the top first. There is at least one.
+    /// The images of the chain, the top first. The list isn't empty.
     pub layers: Vec<LayerArgument>,
 }
 
-/// Whether a word chooses to open for reading alone.
+/// Returns true if an argument is `-r`.
 fn is_choice(word: &str) -> bool
     ensures { IsTrue result ↔ (word.now ≡ codes "-r") }
 {
     word == "-r"
 }
 
-/// The format that a word names, if it names one.
+/// Returns the format for an argument, or `None` if it isn't one of a format.
 fn format_of(word: &str) -> Option<Format>
     ensures { MatchOption result ((f : Format) → word.now ≡ format_word f → ⊥) (λ f. word.now ≡ format_word f) }
 {
@@ -47,7 +47,7 @@ fn format_of(word: &str) -> Option<Format>
     }
 }
 
-/// The name and the path of the file that the words at this place give a layer, if they give one.
+/// Returns the name and the path of the further file at index `at` of the arguments, if one is there.
 fn file_at<'a>(words: &[&'a str], at: usize) -> Option<(&'a str, &'a str)>
     requires inside { at ≤ length words.now }
     ensures within_words { IfSome result (λ r. at + 3 ≤ length words.now) }
@@ -63,7 +63,7 @@ fn file_at<'a>(words: &[&'a str], at: usize) -> Option<(&'a str, &'a str)>
     }
 }
 
-/// The files that the words give a layer from this place on: each by three words.
+/// Returns the further files at index `at` of the arguments. Each has three arguments.
 fn parse_extras(alloc: Global, words: &[&str], at: usize) -> Result<Vec<(String, String)>, Fault>
     requires inside { at ≤ length words.now }
     ensures within_words { IfOk result (λ r. at + 3 * length r.items ≤ length words.now) }
@@ -80,7 +80,7 @@ fn parse_extras(alloc: Global, words: &[&str], at: usize) -> Result<Vec<(String,
     Ok(extras)
 }
 
-/// The layer that the words at this place ask for, with all files that they give it.
+/// Returns the layer at index `at` of the arguments, with its further files.
 fn parse_layer(alloc: Global, words: &[&str], at: usize) -> Result<LayerArgument, Fault>
     requires inside { at < length words.now }
     ensures within_words { IfOk result (λ r. at + 2 + 3 * length r.extras.items ≤ length words.now) }
@@ -103,7 +103,7 @@ fn parse_layer(alloc: Global, words: &[&str], at: usize) -> Result<LayerArgument
     })
 }
 
-/// The layers that all of the words from this place on ask for, of which there is at least one.
+/// Returns the layers that the arguments from index `from` on specify. At least one is required.
 fn parse_layers(alloc: Global, words: &[&str], from: usize) -> Result<Vec<LayerArgument>, Fault>
     requires inside { from ≤ length words.now }
     ensures ok { IfOk result (λ r. words_from from words.now ≡ flat_map layer_words (map layer_of r.items)) }
@@ -123,12 +123,15 @@ fn parse_layers(alloc: Global, words: &[&str], from: usize) -> Result<Vec<LayerA
     Ok(layers)
 }
 
-/// What the program's arguments ask for, without the program's name; nothing where there are none.
+/// Parses the arguments of the program, without the program's name. Returns `None` if the list is empty.
 ///
-/// They are `[-r] LAYER ..`, the top first. A LAYER is `raw PATH`, `qcow2 PATH` or `vmdk PATH`, and any number of `file NAME PATH` behind
-/// it. With `-r` the top is opened for reading alone.
+/// The arguments are `[-r] LAYER ..`, the top first. A LAYER is `raw PATH`, `qcow2 PATH` or `vmdk PATH`, followed by any number of
+/// `file NAME PATH`. With `-r` the top is opened read-only.
 ///
-/// `Fault::BadArgument` where the words aren't that, and `Fault::Memory` for want of memory.
+/// # Errors
+///
+/// - `Fault::BadArgument` if the arguments have another form.
+/// - `Fault::Memory` if memory runs out.
 pub fn parse(alloc: Global, words: &[&str]) -> Result<Option<Arguments>, Fault>
     ensures ok { IfOk result (Says (words_from 0 words.now)) }
     ensures err { IfErr result (WhyNotRead (words_from 0 words.now)) }

@@ -1,5 +1,4 @@
-//! Chains of image files, each with a format of its own. A chain is qemu's backing chain. The file below is the backing file of qemu and
-//! imago.
+//! Chains of image files (an image and its backing chain), each file with its own format.
 mod drivers;
 mod extras;
 mod file_reads;

@@ -1,5 +1,5 @@
-//! Laws of scripts and arguments, of why files don't form a chain, of files that do, of both reads of them, of what they mean behind a
-//! flush, and of stops that are told. A chain is qemu's backing chain, and a stop a crash or a power cut.
+//! Laws about scripts, arguments, chains of files, plain reads, flushes and crash images. A law is a function without code. Its `ensures`
+//! clauses are a theorem for users of the definitions.
 ghost use Rattle.std.specs.Prelude.{◌≡◌, ◌∷◌, [], ℕ, Bool, List, None, Option, Result, length, true, false};
 ghost use Rattle.imago_access.specs.ChainLooks.{ChainReads};
 ghost use Rattle.imago_access.specs.Running.{chain_disk};
@@ -37,46 +37,49 @@ use crate::chain::{ImageDriver, NamesFiles};
 use imago_access::{DriverModel, FormatDriverInstance};
 use imago_storage::{LogStorage, MemStorage, Storage};
 
-/// A text is one line of a script at most: whatever spelling a line has, no other line has it too.
+/// Law: if two lines of a script have the same spelling, both are the same line.
 pub fn a_text_is_one_line_at_most()
     ensures { (text : List ℕ) (one other : Line) → IsLine text one → IsLine text other → one ≡ other }
 {}
 
-/// Words ask the program for one thing: the program reads its arguments as they were meant.
+/// Law: if the program's arguments have a meaning, they have no other one. So the program reads them as the user means them.
 pub fn arguments_are_read_in_one_way()
     ensures { (words : List (List ℕ)) (one other : Asked) → AskFor words one → AskFor words other → one ≡ other }
 {}
 
-/// Files have one first cause at most why they don't form a chain: no other fault is one.
+/// Law: if two faults are first causes why files don't form a chain (an image and its backing chain), both are the same fault.
 pub fn files_have_one_first_cause<S: Storage>()
     ensures { (writable : Bool) (files : List (ChainFile S)) (one other : Fault)
         → FirstCause S.state writable files one → FirstCause S.state writable files other → one ≡ other }
 {}
 
-/// Files that form a chain have no cause against that: `open_chain` tells a first cause exactly where there is one, want of memory and
-/// storages aside.
+/// Law: if files form a chain, there is no first cause against it. So `open_chain` returns a first cause exactly if the files have one,
+/// apart from memory and storage errors.
 pub fn a_chain_has_no_cause<S: Storage>()
     ensures { (writable : Bool) (files : List (ChainFile S)) (fault : Fault)
         → FormChain S.state writable files → FirstCause S.state writable files fault → ⊥ }
 {}
 
-/// A raw file in memory, whatever it holds, is a chain by itself, which may be written, and its calls may begin: what `open_chain` and
-/// `run_files` promise of a top under such a premise isn't empty.
+/// Law: if a raw file is in memory, it is a chain by itself, which can be opened for writing and is ready for calls. Its bytes don't
+/// matter. So the premise about the top in `open_chain` and `run_files` can be satisfied.
 pub fn a_raw_file_may_be_written()
     ensures { (file : ChainFile MemStorage) → file.format ≡ Raw
         → FormChain mem_state true (file ∷ []) × OfTop (IsFit mem_state) (file ∷ []) }
 {}
 
-/// So is a consistent qcow2 image that names no backing file, for reading and for writing. One is `qcow2_types::worked_image`.
+/// Law: if a qcow2 image in memory is consistent (it passes `check`) and has no backing file, it is a chain by itself, for reading and for
+/// writing. `qcow2_types::worked_image` is one.
 pub fn a_consistent_image_may_be_written()
     ensures { (writable : Bool) (file : ChainFile MemStorage) (h : Header) → file.format ≡ Qcow2
         → IsConsistent (bytes_of (mem_state file.image).bytes) h → h.backing_name ≡ None
         → FormChain mem_state writable (file ∷ []) × OfTop (IsFit mem_state) (file ∷ []) }
 {}
 
-/// A plain read of files and a read of a chain that was opened over files of the same bytes fill their buffers alike where both succeed,
-/// whatever stores the bytes: by what `plain_read`, `open_chain` and `FormatAccess::read` say. The read leaves the chain the disk of its
-/// files, so that the same holds of further ones.
+/// Law: if a plain read of files and a read of an opened chain both succeed, they return the same bytes.
+///
+/// The plain read opens the files only for itself. The chain was opened over files with the same bytes, in any storages. The law follows
+/// from the contracts of `plain_read`, `open_chain` and `FormatAccess::read`. The read doesn't change the disk of the chain, so later reads
+/// agree too.
 pub fn a_plain_read_and_a_read_agree<S: Storage, T: Storage, D: FormatDriverInstance>()
     ensures agree { (files : List (ChainFile S)) (others : List (ChainFile T)) (old new : D × List D) (offset n : ℕ) (plain buf : List ℕ)
         → files_bytes S.state files ≡ files_bytes T.state others → IsDiskOf (chain_disk D.layer old) (files_bytes T.state others)
@@ -86,10 +89,13 @@ pub fn a_plain_read_and_a_read_agree<S: Storage, T: Storage, D: FormatDriverInst
         → IsDiskOf (chain_disk D.layer new) (files_bytes T.state files) }
 {}
 
-/// Behind each flush in a list of calls that was done with nothing prepared, where no call before it was cut off, the files of a chain mean
-/// its disk by themselves: the top's as they then are, over those below as they were at opening, which haven't changed. Each cluster of the
-/// top's file is counted beyond what names it as often as it was at opening. So it is of a chain
-/// as `open_chain` opens it and `qimg_calls::drive` drives it, and of each flush in a script, as `run_files` says what is run.
+/// Law: if a flush in a list of calls succeeds, the files of the chain by themselves mean its disk afterwards. These are the current file
+/// of the top, and the files below, which haven't changed since opening.
+///
+/// No mapping may be prepared before the flush (no run may wait for its commit), and no earlier call may have ended with a resource error
+/// (`Fault::Memory`, `Fault::Storage`). Each cluster of the top's file has the excess refcount that it had when the chain was opened: what
+/// it leaks. The law applies to a chain that `open_chain` opens and `qimg_calls::drive` drives, and to each flush in a script, as
+/// `run_files` runs it.
 pub fn files_mean_the_disk_after_a_flush<S: Storage, D: NamesFiles>()
     ensures list { (writable : Bool) (number : ℕ) (files : List (ChainFile S)) (since : Since) (list : List Call) (answers : List Answer)
         (opened new : D × List D) (driven : Driven D.DriverModel since list answers opened new)
@@ -101,19 +107,23 @@ pub fn files_mean_the_disk_after_a_flush<S: Storage, D: NamesFiles>()
         EachFlushMeans D.DriverModel D.names ran.opened (calls_of replies) (answers_of replies) start (ran.headline fit).last }
 {}
 
-/// Wherever the files of a chain of images mean its disk so, those do that were handed in, with the bytes that the top's now has. A VMDK
-/// top is taken with its further files by the names by which it asks for them.
+/// Law: if the files of a chain of images mean its disk, so do the files that were supplied at opening, with the current bytes of the top's
+/// file. For a VMDK top, its further files (extents) are found by the names in the image.
 pub fn files_handed_in_mean_the_disk_too<S: Storage>()
     ensures { HandedMeanToo ⟦<ImageDriver<S> as DriverModel>⟧ ⟦<ImageDriver<S> as NamesFiles>⟧.names S.state }
 {}
 
-/// Where the files of a chain of images mean its disk so, a qcow2 top that is consistent leaks what it did as the chain was opened.
+/// Law: if the files of a chain of images mean its disk, a consistent qcow2 top has the leaks (refcounts beyond the references) that it had
+/// when the chain was opened.
 pub fn a_qcow2_top_leaks_what_it_did<S: Storage>()
     ensures { LeaksWhatItDid ⟦<ImageDriver<S> as DriverModel>⟧ ⟦<ImageDriver<S> as NamesFiles>⟧.names }
 {}
 
-/// Over a chain that tells its stops each file that a stop leaves in a list of calls, none of them cut off, is one that its call may leave
-/// then, as `qimg_calls::drive` says, and is sound. No premise is left: of such a chain's stops that clause isn't empty.
+/// Law: if a chain exposes its crash images, each crash image during a list of calls is consistent, and is one that its call may leave.
+///
+/// A crash image is the bytes of the top's file after a crash between two requests. `qimg_calls::drive` says which ones a call may leave.
+/// The law holds if no call ended with a resource error (`Fault::Memory`, `Fault::Storage`). So the clauses of `drive` about crash images
+/// aren't empty for such a chain.
 pub fn crash_images_of_a_list_are_those_of_its_calls<D: FormatDriverInstance>()
     ensures left { (since : Since) (list : List Call) (answers : List Answer) (old new : D × List D)
         → GoesOnTelling D.DriverModel since list answers old new
@@ -125,7 +135,8 @@ pub fn crash_images_of_a_list_are_those_of_its_calls<D: FormatDriverInstance>()
         → EachCrashImageIn (D.sound (D.layer old.0).fixed.kind) (D.image old.0) (D.image new.0) }
 {}
 
-/// A consistent qcow2 image in a storage that begins to tell its stops over new memory opens as a chain that tells them.
+/// Law: if a consistent qcow2 image's storage has just begun to expose its crash images over new memory, the image opens as a chain that
+/// exposes them.
 fn an_image_opens_reporting_crash_images<S: Storage>()
     ensures formed { (writable : Bool) (file : ChainFile S) → IsLoggedAlone S.state file
         → FormChain S.state writable (file ∷ []) × OfTop (IsFit S.state) (file ∷ []) × OfTop (λ f. CrashImageIsBytes (S.state f.image)) (file ∷ []) }
@@ -135,9 +146,12 @@ fn an_image_opens_reporting_crash_images<S: Storage>()
         → AreLoggedFiles S.state writable files → CrashImagesConsistent d S.state writable number files }
 {}
 
-/// Files that form a chain with a consistent qcow2 image on top, in a new `LogStorage` over new memory, open by `open_chain` as one that
-/// tells its stops. So each file that a stop leaves in a list of calls over it, none of them cut off, is a consistent image. Such an image
-/// that names no backing file is a chain by itself.
+/// Law: if files form a chain with a consistent qcow2 image on top, they open as a chain that exposes its crash images. The top must be in
+/// a new `LogStorage` over new memory, and `open_chain` opens the files.
+///
+/// A crash image is the bytes of the top's file after a crash between two requests. So each crash image during a list of calls over the
+/// chain is a consistent image, if no call ends with a resource error (`Fault::Memory`, `Fault::Storage`). A consistent image without a
+/// backing file, in such a storage, is a chain by itself.
 pub fn an_image_on_a_log_opens_reporting_crash_images()
     ensures formed { (writable : Bool) (file : ChainFile (LogStorage MemStorage)) → IsLoggedAlone (log_state mem_state) file
         → FormChain (log_state mem_state) writable (file ∷ []) × OfTop (IsFit (log_state mem_state)) (file ∷ [])

@@ -1,5 +1,5 @@
-//! Chains of image files, each with a format of its own, and the scripts that ask things of them. A chain is qemu's backing chain. The
-//! layer below is the backing of qemu and imago.
+//! Chains of image files (an image and its backing chain), each file with its own format, and scripts (one call a line) that run over a
+//! chain. Terms are explained in docs/GLOSSARY.md.
 #![tactic(auto)]
 
 pub mod arguments;

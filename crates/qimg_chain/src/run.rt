@@ -1,5 +1,4 @@
-//! A script is run over a chain of layers: line by line, with an answer to each. A layer is a node of qemu's backing chain. Scripts are
-//! much as those of `qemu-io`, and imago has none.
+//! Runs a script (one call a line) over a chain, and writes an answer to each line. `crate::script` has the lines and the answers.
 ghost use Rattle.std.specs.Prelude.{◌≡◌, ℕ, List, ◌∷◌, ◌++◌, [], IfErr, OnOk};
 ghost use Rattle.std.specs.Io.KnownBytes.{Appends};
 ghost use Rattle.imago_access.specs.Layer.{IsFree};
@@ -28,13 +27,13 @@ pub use saved::Saved;
 use std::alloc::Global;
 use std::io::{BufRead, Write};
 
-/// The most lines of a script.
+/// The largest number of lines in a script.
 const MOST_LINES: u32 = 1_048_576;
 
-/// The most bytes of a script.
+/// The largest number of bytes in a script.
 const MOST_BYTES: u64 = 137_438_953_472;
 
-/// The answer to a text, by what it is taken as.
+/// Answers a text that was parsed as a line or rejected.
 fn answer_to<D: FormatDriverInstance<Storage = MemStorage> + NamesFiles>(
     alloc: Global,
     chain: &mut FormatAccess<D>,
@@ -53,7 +52,7 @@ fn answer_to<D: FormatDriverInstance<Storage = MemStorage> + NamesFiles>(
     }
 }
 
-/// Writes the line of an answer. For want of memory nothing of it is written.
+/// Writes an answer as a line. If memory runs out, nothing of the line is written.
 fn tell<W: Write>(alloc: Global, writer: &mut W, answer: &Answer) -> Result<(), RunFault>
     ensures ok { OnOk result (Appends (W.contents writer.old) (W.contents writer.new) (answer_text answer.now ++ 10 ∷ [])) }
     ensures err { IfErr result IsTellingFault }
@@ -66,7 +65,8 @@ fn tell<W: Write>(alloc: Global, writer: &mut W, answer: &Answer) -> Result<(), 
     }
 }
 
-/// Runs a script over a chain, and answers what the last `save` kept. It refuses as `run` does, but for the copy of that.
+/// Runs a script over a chain, and returns what the last `save` kept. It fails like `run`, but doesn't copy the kept bytes and so can't run
+/// out of memory for that.
 fn run_lines<
     R: BufRead + Drop,
     W: Write,
@@ -94,12 +94,25 @@ fn run_lines<
     }
 }
 
-/// Runs a script over a chain: each of its lines, as the module `script` has them, is answered by one line. It answers the bytes of the
-/// top file at the last `save` that was done, if one was. Nothing may be prepared in the chain.
+/// Runs a script over a chain (an image and its backing chain), and writes one line as the answer to each line of the script.
 ///
-/// `RunFault::Read` where the reader fails, and for the line with which a script passes 2^37 bytes; `RunFault::Lines` for the one behind
-/// 2^20 lines; `RunFault::Write` where the writer fails; and `RunFault::Memory` for want of memory, also to copy what a last `save` keeps.
-/// The lines before it are answered.
+/// The module `script` defines the lines. The result is the bytes that the last successful `save` kept of the top file, if any.
+///
+/// # Preconditions
+///
+/// No mapping is prepared in the chain (no run waits for its commit).
+///
+/// # Errors
+///
+/// - `RunFault::Read` if the reader fails, or at the line with which the script exceeds 2^37 bytes.
+/// - `RunFault::Lines` at the line after the first 2^20 lines.
+/// - `RunFault::Write` if the writer fails.
+/// - `RunFault::Memory` if memory runs out, also for the copy of what the last `save` kept.
+///
+/// # On error
+///
+/// The lines before the error were run, and their answers were written. If memory ran out, the last answer may be missing. If the writer
+/// failed, the written text is unspecified.
 pub fn run<R: BufRead + Drop, W: Write, D: FormatDriverInstance<Storage = MemStorage> + NamesFiles>(
     alloc: Global,
     reader: R,

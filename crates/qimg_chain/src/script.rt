@@ -1,9 +1,7 @@
-//! Scripts of the program: what each of their lines asks for, and the text that answers it. Commands are much as those of `qemu-io`, where
-//! `grow` and `shrink` are `truncate`. A mode is imago's `PreallocateMode`.
+//! Scripts of the program: their lines, and the texts that answer them.
 //!
-//! A line is the word of a command and its arguments, with one space between each two words. Numbers are decimal, of 1 to 20
-//! digits and below 2^64; bytes are pairs of hexadecimal digits of either case, at least one pair; a mode is `none`, `zero`,
-//! `format`, `full` or `data`.
+//! A line is a command and its arguments, with exactly one space between two of them. A number is decimal, has 1 to 20 digits, and is below
+//! 2^64. Bytes are pairs of hexadecimal digits of either case, at least one pair. A mode is `none`, `zero`, `format`, `full` or `data`.
 //!
 //! | Line | Answer |
 //! |---|---|
@@ -15,7 +13,7 @@
 //! | `flush`, `save` | `ok` |
 //! | `check` | a number |
 //!
-//! A refusal of any of them is answered with `error N`, by the number of its fault.
+//! If a line fails, the answer is `error N`, with the number of its fault.
 
 mod answer;
 mod bytes;

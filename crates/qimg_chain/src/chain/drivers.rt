@@ -1,5 +1,4 @@
-// An image of one of the formats, as the driver of a layer. A driver is qemu's `BlockDriver` and imago's `FormatDriverInstance`, and a
-// layer a node of qemu's backing chain.
+// Implements the driver interface for an image of any format: each call is passed to the driver of the image's format.
 ghost use Rattle.std.specs.Prelude.{map, refl};
 ghost use Rattle.std.proofs.Common.{inr};
 ghost use Rattle.std.proofs.Math.Nat.{le_refl};

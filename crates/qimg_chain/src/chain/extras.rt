@@ -1,11 +1,11 @@
-// The files that were handed in for those that images name. imago calls those implicit dependencies, and qemu the extents of a VMDK image.
+// The further files that a caller supplies for an image (VMDK extents), by the names that the image has for them.
 ghost use Rattle.qimg_chain.specs.Extras.{IsTaken};
 
 use imago_access::ImplicitOpenGate;
 use imago_storage::Fault;
 use std::alloc::Global;
 
-/// Files with their names, of which each is opened once: of several with one name the first.
+/// Files with their names. Each file is opened once. If several files have the same name, the first is opened first.
 #[derive(Drop)]
 pub(crate) struct Extras<S> {
     pub(crate) files: Vec<(String, S)>,

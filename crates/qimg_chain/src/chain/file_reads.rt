@@ -1,4 +1,4 @@
-// The files of a layer, as they stand. A file stands in a storage: qemu's protocol node, imago's `Storage`.
+// Reads the current bytes of the files of a layer (an image of a chain).
 use crate::chain::image_driver::ImageDriver;
 use imago_access::ReadFiles;
 use imago_storage::{Fault, Storage};

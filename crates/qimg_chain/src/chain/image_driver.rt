@@ -1,5 +1,4 @@
-// A layer of a chain of image files: a raw, a VMDK or a qcow2 image. A layer is a node of qemu's backing chain, and a `FormatAccess` in
-// imago.
+// A layer of a chain of image files: a raw, VMDK or qcow2 image.
 ghost use Rattle.std.specs.Prelude.{◌≡◌, ◌↔◌, IsTrue};
 ghost use Rattle.imago_access.specs.Layer.{IsFree, unmapped};
 ghost use Rattle.qimg_chain.specs.ImageDrivers.{began_as};
@@ -11,10 +10,10 @@ use imago_storage::Storage;
 use qcow2_image::{PreparedMappingState, Qcow2};
 use std::fmt::{self, Display, Formatter, Write};
 
-/// A layer of a chain: an image of one of the formats, as its own driver has it.
+/// A layer (an image) of a chain, with the driver of its format.
 ///
-/// Mappings with state are those of qcow2 images: the others prepare none, and take each that has one for that of an image with the
-/// number 0.
+/// Only qcow2 images prepare mappings with state (runs that are written and not yet committed). If a raw or VMDK image gets such a mapping,
+/// it treats itself as the image with the number 0.
 #[derive(Drop)]
 pub enum ImageDriver<S: Storage> {
     /// A raw image.
@@ -26,7 +25,7 @@ pub enum ImageDriver<S: Storage> {
 }
 
 impl<S: Storage> ImageDriver<S> {
-    /// Whether it shows a layer below: a qcow2 image with a backing file does.
+    /// Returns true if unallocated clusters are read from a backing file. Only a qcow2 image can have one.
     pub fn shows_below(&self) -> bool
         ensures { IsTrue result ↔ ((⟦<ImageDriver<S> as DriverModel>⟧.layer self.now).fixed.blank ≡ unmapped) }
     {
@@ -36,8 +35,12 @@ impl<S: Storage> ImageDriver<S> {
         }
     }
 
-    /// Its storage again. Nothing may be prepared. Of a qcow2 image what waits to be freed stays counted; the files of a VMDK image's
-    /// extents are dropped.
+    /// Returns the storage of the image. Clusters on the free list of a qcow2 image keep their refcounts, so they leak. The files of a VMDK
+    /// image's extents are dropped.
+    ///
+    /// # Preconditions
+    ///
+    /// No mapping is prepared.
     pub fn into_image(self) -> S
         requires free { IsFree (⟦<ImageDriver<S> as DriverModel>⟧.layer self) }
         ensures { S.state result ≡ ⟦<ImageDriver<S> as DriverModel>⟧.image self }
@@ -145,7 +148,7 @@ impl<S: Storage> DriverModel for ImageDriver<S> {
 
     ghost tag = { ⟦<Qcow2<S> as DriverModel>⟧.tag };
 
-    // Of files, those of qcow2 images can be unsound: they have a kind of their own.
+    // Only the files of qcow2 images can be inconsistent. They have their own kind.
     ghost sound = { ⟦<Qcow2<S> as DriverModel>⟧.sound };
 
     ghost began = { began_as ⟦<Raw<S> as DriverModel>⟧.began ⟦<Vmdk<S> as DriverModel>⟧.began ⟦<Qcow2<S> as DriverModel>⟧.began };

@@ -1,4 +1,4 @@
-// The files of a chain in memory, lent. What is lent is passed by pointer in qemu, and borrowed in imago. A layer is qemu's node.
+// Borrows the files of a chain in memory, without a copy of their bytes.
 ghost use Rattle.std.specs.Prelude.{◌≡◌, ◌∷◌, map, IfOk, IsOkUnless};
 ghost use Rattle.imago_storage.specs.MemStorage.{mem_state};
 ghost use Rattle.imago_storage.specs.View.{view_state};
@@ -10,10 +10,10 @@ use imago_storage::{Fault, MemStorage, MemoryView};
 use qimg_core::plain::ChainFile;
 use std::alloc::Global;
 
-/// The files of a chain as they now are, the top first: each with its format, and the further files that are open with the names by which
-/// its image asks for them. Their bytes aren't copied. What waits in memory to be written isn't in them.
+/// Borrows the current files of a chain, the top first.
 ///
-/// Its only refusal is `Fault::Memory`.
+/// Each has the format of the file, and the names and bytes of the open further files (VMDK extents). The bytes aren't copied. Dirty data
+/// in memory isn't included. The only error is `Fault::Memory`.
 pub(crate) fn lend<'a, D: FormatDriverInstance<Storage = MemStorage> + NamesFiles>(
     alloc: Global,
     chain: &'a FormatAccess<D>,
@@ -32,7 +32,7 @@ pub(crate) fn lend<'a, D: FormatDriverInstance<Storage = MemStorage> + NamesFile
     }
 }
 
-// The files of a layer.
+// Borrows the files of a layer.
 fn lend_layer<'a, D: FormatDriverInstance<Storage = MemStorage> + NamesFiles>(
     alloc: Global,
     driver: &'a D,
@@ -53,7 +53,7 @@ fn lend_layer<'a, D: FormatDriverInstance<Storage = MemStorage> + NamesFiles>(
     })
 }
 
-// A file with its name.
+// Borrows a file, with its name.
 fn lend_named<'a>(
     alloc: Global,
     name: &str,

@@ -1,4 +1,4 @@
-// The names of a layer's further files. imago calls those files implicit dependencies, and qemu the extents of a VMDK image.
+// The names by which an image refers to its further files (VMDK extents).
 ghost use Rattle.std.specs.Prelude.{◌≡◌, ◌<◌, ℕ, List, [], false, length, map, refl, slice_index_or};
 ghost use Rattle.imago_formats.specs.DescriptorView.{kept_names};
 ghost use Rattle.qcow2_types.specs.Bytes.{bytes_of};
@@ -11,21 +11,22 @@ use crate::chain::image_driver::ImageDriver;
 use imago_access::FormatDriverInstance;
 use imago_storage::Storage;
 
-/// A driver that tells by which names its image asks for its further files, so that these are found again when it is opened anew.
+/// A driver that can return the names of its further files (VMDK extents), as its image has them. With these names the files can be found
+/// when the image is opened again.
 pub trait NamesFiles: FormatDriverInstance {
     /// The name of a further file, by its index.
     ghost names: { Self → ℕ → List ℕ };
 
-    /// How many further files it has open.
+    /// Returns the number of open further files.
     fn extra_count(&self) -> usize
         ensures { result ≡ length (Self.extras self.now) };
 
-    /// The name of one of them.
+    /// Returns the name of a further file, by its index.
     fn extra_name(&self, index: usize) -> &str
         requires { index < length (Self.extras self.now) }
         ensures { result.now ≡ Self.names self.now index };
 
-    /// What the image file of a safe driver means to it is what it means with the further files that are found by these names.
+    /// For a well-formed driver, its image file means the same disk with its own further files and with those found by these names.
     ghost named: { (d : Self) → Self.well_formed d → FindsByNames Self.DriverModel names d };
 }
 

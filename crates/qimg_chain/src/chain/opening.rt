@@ -1,4 +1,4 @@
-// Image files are opened as a chain. The chain is qemu's backing chain. The file below is the backing file of qemu and imago.
+// Opens image files as a chain (an image and its backing chain).
 ghost use Rattle.std.specs.Prelude.{◌≡◌, ◌⊎◌, ◌<◌, ◌∷◌, length, map, reverse, IfOk, IfErr, IsErrOf};
 ghost use Rattle.imago_storage.specs.State.{CrashImageIsBytes};
 ghost use Rattle.imago_access.specs.Building.{IsOpened};
@@ -27,23 +27,41 @@ use qcow2_image::Qcow2;
 use qimg_core::plain::ChainFile;
 use std::alloc::Global;
 
-// The most layers that a chain may have.
+// The largest number of layers in a chain.
 const MOST_LAYERS: usize = 64;
 
-/// Opens image files as a chain of layers, the top first: that alone is opened for writing, where that is asked for, and bears the
-/// number, if it is a qcow2 image. Each file that a VMDK image names is the first of its further files with that name which isn't taken
-/// yet. That a backing file has the name and the format by which it is named isn't asked. Chains that are open at once want numbers of
-/// their own: a mapping that is prepared tells by its number which image it belongs to.
+/// Opens image files as a chain (an image and its backing chain), the top first.
 ///
-/// It refuses with `Fault::MissingBelow` where there is no file, and with `Fault::Limit` where there are more than 64. Then it goes from
-/// the top downward, and refuses for the first cause: as the builder of each file's format does, with `Fault::MissingData` for a further
-/// file that wasn't handed in, and behind that with `Fault::MissingBelow` for the last file, where it names a backing file, and with
-/// `Fault::ExtraLayer` for another that names none. `Fault::Memory` comes at any time from there on, and so does
-/// `Fault::Storage` where the storages may fail. Nothing is written, and the files are dropped where it refuses.
+/// Only the top can be opened for writing. It also gets the number, if it is a qcow2 image. Chains that are open at the same time need
+/// different numbers: a prepared mapping (a run that is written and not yet committed) identifies its image by the number.
 ///
-/// Calls may begin on a chain just opened, as `qimg_calls::drive` makes them, with the disk that its files mean as the one last flushed:
-/// where the top's storages keep what is written, a stop would leave its file as it is, and it is sound. A raw and a VMDK image always is,
-/// and a qcow2 image where `qimg_core::check` accepts it.
+/// A file that a VMDK image refers to is taken from the image's `extras`: the first file with that name that isn't taken yet. The name and
+/// the format of a backing file in an image's header aren't compared with the file below.
+///
+/// Nothing is written. The new chain is ready for the calls of `qimg_calls::drive`, if the top is consistent and its storages keep what is
+/// written. A raw or VMDK image is always consistent; a qcow2 image is if `qimg_core::check` accepts it.
+///
+/// # Errors
+///
+/// The call fails with the first of these. The errors of a file come before those of the file below it.
+///
+/// - `Fault::MissingBelow` if `files` is empty.
+/// - `Fault::Limit` if `files` has more than 64 files.
+/// - The error of the builder of the file's format.
+/// - `Fault::MissingData` if a further file isn't supplied.
+/// - `Fault::MissingBelow` for the last file, if it has a backing file.
+/// - `Fault::ExtraLayer` for another file, if it has no backing file.
+///
+/// After the first two checks, `Fault::Memory` can occur at any point. `Fault::Storage` can occur if the storages can fail.
+///
+/// # On error
+///
+/// The files are dropped.
+///
+/// # Crash safety
+///
+/// If a crash right after opening would leave the current bytes of the top file, `qimg_calls::drive` can start with the disk of these files
+/// as the last flushed one.
 pub fn open_chain<S: Storage>(
     alloc: Global,
     files: Vec<ChainFile<S>>,
@@ -54,17 +72,17 @@ pub fn open_chain<S: Storage>(
     ensures places { let d = ⟦<ImageDriver<S> as DriverModel>⟧ in IfOk result (λ c. AreInPlace (map d.layer (chain c))) }
     ensures means { let d = ⟦<ImageDriver<S> as DriverModel>⟧ in
         IfOk result (λ c. IsDiskOf (chain_disk d.layer c) (files_bytes S.state files.items)) }
-    // To each layer its file means what it means with the further files found by the names that the layer tells.
+    // For each layer, its file means the same disk with the further files found by the layer's names.
     ensures named { let d = ⟦<ImageDriver<S> as DriverModel>⟧ in
         IfOk result (λ c. Each (FindsByNames d ⟦<ImageDriver<S> as NamesFiles>⟧.names) (chain c)) }
-    // Nothing is prepared in the top, and nothing waits to be written below it.
+    // No mapping is prepared in the top, and the layers below have no dirty data.
     ensures free { let d = ⟦<ImageDriver<S> as DriverModel>⟧ in IfOk result (λ c. IsFree (d.layer c.0)) }
     ensures has_no_dirty_data { let d = ⟦<ImageDriver<S> as DriverModel>⟧ in IfOk result (λ c. Each d.has_no_dirty_data c.1) }
-    // What calls rest on: the top is sound and its storages keep what is written, or a stop leaves its bytes.
+    // The preconditions of calls: the top is consistent and its storages keep what is written, or a crash leaves its bytes.
     ensures ready { IfOk result (λ c. OfTop (IsFit S.state) files.items → IsReady ⟦<ImageDriver<S> as DriverModel>⟧ c) }
     ensures stands { let d = ⟦<ImageDriver<S> as DriverModel>⟧ in
         IfOk result (λ c. OfTop (λ file. CrashImageIsBytes (S.state file.image)) files.items → HoldsSince d (flushed (chain_disk d.layer c)) c) }
-    // Files that form a chain have no cause against that: it is refused exactly for the first cause, or cut off.
+    // The call fails exactly with the first cause, or with a resource error. Files that form a chain have no cause.
     ensures formed { IfOk result (λ _. FormChain S.state writable files.items) }
     ensures err { IfErr result (λ e. HadResourceError S.state e ⊎ FirstCause S.state writable files.items e) }
     ensures none { length files.items ≡ 0 → IsErrOf result Fault.MissingBelow }
@@ -73,7 +91,7 @@ pub fn open_chain<S: Storage>(
     if files.len() > MOST_LAYERS {
         return Err(Fault::Limit(files.len() as u64));
     }
-    // The file that is opened next stands last.
+    // The file that is opened next is the last one.
     let mut files = files;
     files.reverse();
     match files.pop() {
@@ -82,7 +100,7 @@ pub fn open_chain<S: Storage>(
     }
 }
 
-// Opens a file over the others, of which the one right below stands last.
+// Opens a file over the files in `below`. The last of those is directly below it.
 fn open_over<S: Storage>(
     alloc: Global,
     top: ChainFile<S>,
@@ -147,7 +165,7 @@ fn open_layer<S: Storage>(
     }
 }
 
-// Opens a raw image, which is never refused.
+// Opens a raw image. This never fails.
 fn open_raw<S: Storage>(
     alloc: Global,
     image: S,
@@ -167,7 +185,7 @@ fn open_raw<S: Storage>(
     Ok(ImageDriver::Raw(raw))
 }
 
-// Opens a VMDK image, with the files that it names.
+// Opens a VMDK image, with the files that it refers to.
 fn open_vmdk<S: Storage>(
     alloc: Global,
     image: S,
@@ -187,7 +205,7 @@ fn open_vmdk<S: Storage>(
     Ok(ImageDriver::Vmdk(vmdk))
 }
 
-// Opens a qcow2 image, over the layer below where it names a backing file.
+// Opens a qcow2 image. If it has a backing file, it needs a layer below.
 fn open_qcow2<S: Storage>(
     alloc: Global,
     image: S,
@@ -208,7 +226,7 @@ fn open_qcow2<S: Storage>(
     Ok(ImageDriver::Qcow2(qcow2))
 }
 
-// Opens what a builder is for.
+// Opens the image of a builder.
 fn open_by<S: Storage, B: FormatDriverBuilder<S>, G: ImplicitOpenGate<S>>(
     alloc: Global,
     builder: B,

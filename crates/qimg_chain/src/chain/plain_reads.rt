@@ -1,4 +1,4 @@
-// Reads of files as a chain, of which nothing stays open. The file below is the backing file of qemu and imago, and a place an offset.
+// Plain reads: files are opened as a chain, one range is read, and the files are dropped.
 ghost use Rattle.std.specs.Prelude.{◌≡◌, ◌↔◌, ◌∷◌, ◌<◌, ◌+◌, ◌^◌, ℕ, length, map, slice_index, IfErr, IsErrOf, IsTrue, OnOk};
 ghost use Rattle.imago_storage.specs.Disk.{Shows};
 ghost use Rattle.imago_access.specs.Chain.{at, Each};
@@ -12,14 +12,28 @@ use imago_storage::{Fault, Storage};
 use qimg_core::plain::ChainFile;
 use std::alloc::Global;
 
-/// Fills the buffer with the bytes that files show as a chain from an offset, in bytes, on: those that the files mean by their formats
-/// alone, the top first, and past its size zeroes. The files are opened for reading, and dropped at the end; nothing of them is written.
+/// Reads `buf.len()` bytes at `offset` (in bytes) of the disk that the files mean as a chain, the top first. Bytes past the size of the
+/// disk are 0.
 ///
-/// It is refused with the first of these: what `open_chain` refuses for reading; `Fault::RangeOverflow` where the range's end passes
-/// `u64`; and where a place of the range can't be read, what the first such place asks for: `Fault::DamagedTable` where its table is
-/// damaged, `Fault::Barred` where it is compressed or has no access. `Fault::RangeOverflow` comes too where what the disk has of the range
-/// ends so near the end of `u64` that requests of whole units don't reach its end: that is within 2^20 bytes. `Fault::Memory`
-/// comes whenever it is met, and `Fault::Storage` too where the storages may fail. A refusal leaves the buffer open.
+/// Only the bytes of the files and their formats matter. The files are opened read-only and dropped at the end. Nothing is written.
+///
+/// # Errors
+///
+/// The call fails with the first of these that applies:
+///
+/// - The error of `open_chain` for reading.
+/// - `Fault::RangeOverflow` if the end of the range doesn't fit `u64`.
+/// - The error of the first byte of the range that can't be read: `Fault::DamagedTable` if its table is damaged, `Fault::Barred` if it is
+///   compressed or in an extent without access.
+///
+/// Others can occur at any point:
+///
+/// - `Fault::RangeOverflow` if the part of the range inside the disk ends within 2^20 bytes of 2^64, and requests of whole units don't fit.
+/// - `Fault::Memory`, and `Fault::Storage` if the storages can fail.
+///
+/// # On error
+///
+/// The contents of the buffer are unspecified.
 pub fn plain_read<S: Storage>(
     alloc: Global,
     files: Vec<ChainFile<S>>,
@@ -48,7 +62,7 @@ fn blank(buf: &mut [u8])
     buf.fill(0);
 }
 
-// Reads a range of a chain, and refuses it for the first of its places that can't be read.
+// Reads a range of a chain. If bytes of the range can't be read, it fails with the fault of the first such byte.
 fn read_in_order<D: FormatDriverInstance>(
     alloc: Global,
     chain: &mut FormatAccess<D>,
@@ -72,15 +86,15 @@ fn read_in_order<D: FormatDriverInstance>(
     }
 }
 
-// Whether a place that can't be read has this fault.
+// Returns true if the fault is that of a byte that can't be read.
 fn is_of_place(fault: Fault) -> bool
     ensures { IsTrue result ↔ IsOfPlace fault }
 {
     matches!(fault, Fault::Barred | Fault::DamagedTable)
 }
 
-// Why the first place of a range can't be read that can't: there is one, and this is the fault of one. It halves the range in which the
-// first one is sought.
+// Returns the fault of the first byte of a range that can't be read. The range has such a byte, and `fault` is the fault of one. The search
+// halves the range at each step.
 fn first_place_fault<D: FormatDriverInstance>(
     alloc: Global,
     chain: &mut FormatAccess<D>,

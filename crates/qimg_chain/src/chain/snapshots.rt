@@ -1,4 +1,4 @@
-// The files of a chain as they stand, copied. qemu's snapshots are others: they stand in an image, or are a layer below. imago has none.
+// Copies the current files of a chain (an image and its backing chain).
 ghost use Rattle.std.specs.Prelude.{◌≡◌, ◌∷◌, map, OnOk, IfOk, IfErr, IsOkUnless};
 ghost use Rattle.imago_access.specs.FileReads.{file_bytes_in, files_at, FilesRead};
 ghost use Rattle.imago_access.specs.Files.{Pairs, HadNoResourceError, files_of};
@@ -14,30 +14,38 @@ use imago_storage::{Fault, MemStorage};
 use qimg_core::plain::ChainFile;
 use std::alloc::Global;
 
-// What is known of a layer's files before they are read: the format, and the names of the further ones.
+// The format of a layer, and the names of its further files.
 #[derive(Drop)]
 struct LayerNames {
     format: Format,
     names: Vec<String>,
 }
 
-/// The files of a chain as they now are, the top first: each with its format, and the further files that are open with the names by which
-/// its image asks for them. What waits in memory to be written isn't in them. The chain may have failed; it shows what it did.
+/// Copies the current bytes of all files of a chain, the top file first.
 ///
-/// It refuses with `Fault::Memory`, where no storage of the chain failed, and with `Fault::Storage`, where one did. A refusal, too, leaves
-/// all of the chain but counts of faults as it was, and marks no image as failed.
+/// Each copy has the format of the file, and the names and bytes of the open further files (VMDK extents). Dirty data in memory isn't
+/// included: flush first if you need it. The chain may have failed; it reads the same as before.
+///
+/// # Errors
+///
+/// - `Fault::Memory` if memory ran out. No storage of the chain failed then.
+/// - `Fault::Storage` if a storage of the chain failed.
+///
+/// # On error
+///
+/// Nothing changes, except the fault counts of the storages. No image is set to failed.
 pub fn snapshot<D: NamesFiles + ReadFiles>(
     alloc: Global,
     chain: &mut FormatAccess<D>,
 ) -> Result<Vec<ChainFile<MemStorage>>, Fault>
-    // What it answers.
+    // The result.
     ensures ok { IfOk result (λ files. files_bytes mem_state files.items ≡ map (driver_bytes D.DriverModel D.names) (drivers chain.old)) }
 
-    // What it keeps.
+    // The chain afterwards.
     ensures read { Pairs (FilesRead D.DriverModel (HadNoResourceError result)) (drivers chain.old) (drivers chain.new) }
     ensures lookup_call { Pairs (LookupCall D.DriverModel (HadNoResourceError result)) (drivers chain.old) (drivers chain.new) }
 
-    // Why it is refused.
+    // The causes of errors.
     ensures cause { IfErr result (WhyNotCopied (files_of D.DriverModel (drivers chain.old)) (files_of D.DriverModel (drivers chain.new))) }
 {
     let layers = layer_names(alloc, chain)?;
@@ -49,7 +57,7 @@ pub fn snapshot<D: NamesFiles + ReadFiles>(
     Ok(files)
 }
 
-// The names of the files of each layer, the top first.
+// Returns the names of the further files of each layer, the top first.
 fn layer_names<D: NamesFiles>(
     alloc: Global,
     chain: &FormatAccess<D>,
@@ -68,7 +76,7 @@ fn layer_names<D: NamesFiles>(
     }
 }
 
-// The names of a layer's files.
+// Returns the names of a layer's further files.
 fn names_in<D: NamesFiles>(alloc: Global, driver: &D) -> Result<LayerNames, Fault>
     ensures ok { IfOk result (λ layer. said_names layer ≡ names_of D.DriverModel D.names driver.now) }
     ensures err { IsOkUnless result Fault.Memory }
@@ -83,7 +91,7 @@ fn names_in<D: NamesFiles>(alloc: Global, driver: &D) -> Result<LayerNames, Faul
     })
 }
 
-// The files of a layer, by its number, with their names.
+// Copies the files of a layer, given its index from the top.
 fn copy_layer<D: NamesFiles + ReadFiles>(
     alloc: Global,
     chain: &mut FormatAccess<D>,
@@ -108,7 +116,7 @@ fn copy_layer<D: NamesFiles + ReadFiles>(
     })
 }
 
-// A file of a layer, by their numbers.
+// Copies a file of a layer. Both are given by index.
 fn copy_file<D: ReadFiles>(
     alloc: Global,
     chain: &mut FormatAccess<D>,

@@ -1,5 +1,5 @@
-// Mappings of raw and VMDK images, which prepare none with state, as those of an image of any format. A mapping without state is imago's
-// `PreparedDataMapping::existing`. qemu has no `QCowL2Meta` for it.
+// Mappings of raw and VMDK images, as mappings of an image of any format. Raw and VMDK images never prepare a mapping with state (a run
+// that is written and not yet committed).
 ghost use Rattle.std.specs.Prelude.{◌≡◌, Some, None, OnOk, IfErr};
 ghost use Rattle.imago_storage.specs.declared.fault.Fault.TheVariants.{Foreign};
 ghost use Rattle.qimg_chain.specs.ImageDrivers.{IsSpent, IsGivenBack, IsOwn, IsOthers};
@@ -9,7 +9,7 @@ use imago_formats::NoState;
 use imago_storage::Fault;
 use qcow2_image::PreparedMappingState;
 
-/// The mapping, as one of an image of any format.
+/// Converts a mapping without state to the type for an image of any format.
 pub(crate) fn stateless(
     mapping: PreparedDataMapping<NoState>,
 ) -> PreparedDataMapping<PreparedMappingState>
@@ -23,8 +23,9 @@ pub(crate) fn stateless(
     }
 }
 
-/// Spends a mapping that is to be committed, by what `ready` says of the image and by whether it was opened for writing: with the image
-/// nothing is done. Refused, it gives the mapping back.
+/// Consumes a mapping at a commit, without any change to the image. `ready` is the state of the image, and `writable` is true if it was
+/// opened for writing. On error the mapping is returned. The fault is that of `ready`, or, for a mapping with state, that of
+/// `check_commit`.
 pub(crate) fn commit_stateless(
     mapping: PreparedDataMapping<PreparedMappingState>,
     ready: Result<(), Fault>,
@@ -56,7 +57,7 @@ pub(crate) fn commit_stateless(
     }
 }
 
-/// Gives a mapping up. It gives back one with state that an image of another number has prepared.
+/// Abandons a mapping. A mapping with state is returned with `Fault::Foreign` if an image with a number other than 0 has prepared it.
 pub(crate) fn cancel_stateless(
     mapping: PreparedDataMapping<PreparedMappingState>,
 ) -> Result<(), (Fault, PreparedDataMapping<PreparedMappingState>)>

@@ -1,4 +1,4 @@
-// What each line of a script is answered with.
+// The answer to each line of a script.
 ghost use Rattle.std.specs.Prelude.{◌≡◌, IsTrue};
 ghost use Rattle.imago_access.specs.Layer.{IsFree};
 ghost use Rattle.qimg_chain.specs.RunAnswers.{bytes_told_of, Answered, IsShort, KeepsSaved};
@@ -14,7 +14,7 @@ use imago_access::{FormatAccess, FormatDriverInstance};
 use imago_storage::{Fault, MemStorage};
 use std::alloc::Global;
 
-/// The answer of a call that reads.
+/// Returns the answer to a plain read.
 fn told_bytes(outcome: Result<Bytes, Fault>) -> Answer
     ensures { result ≡ bytes_told_of outcome }
 {
@@ -24,7 +24,7 @@ fn told_bytes(outcome: Result<Bytes, Fault>) -> Answer
     }
 }
 
-/// Makes the call that a line asks for, and answers it. It doesn't read more than a line may.
+/// Makes the call of a line, and returns its answer. A `read` line isn't longer than a line may read.
 fn answer_call<D: FormatDriverInstance<Storage = MemStorage> + NamesFiles>(
     alloc: Global,
     chain: &mut FormatAccess<D>,
@@ -45,8 +45,8 @@ fn answer_call<D: FormatDriverInstance<Storage = MemStorage> + NamesFiles>(
     }
 }
 
-/// Makes the call that a line asks for, and answers it. What a `save` kept before stands apart then, and the bytes of the top file are kept
-/// where the line is one that is done.
+/// Makes the call of a line, and returns its answer. Bytes that a `save` kept in the file are copied first. If the line is a `save` that
+/// succeeds, the bytes of the top file are kept.
 fn answer_apart<D: FormatDriverInstance<Storage = MemStorage> + NamesFiles>(
     alloc: Global,
     chain: &mut FormatAccess<D>,
@@ -72,8 +72,10 @@ fn answer_apart<D: FormatDriverInstance<Storage = MemStorage> + NamesFiles>(
     answer
 }
 
-/// Does what a line asks for, and answers it. What a `save` keeps is put in the place of what was kept before. Its bytes are copied before
-/// the next line that makes a call, which is refused with `Fault::Memory` where there is no room for them.
+/// Runs a line and returns its answer.
+///
+/// The bytes that a `save` keeps replace what was kept before. They are copied before the next line that makes a call. If memory runs
+/// out for the copy, that line is answered with `Fault::Memory`.
 pub fn answer_line<D: FormatDriverInstance<Storage = MemStorage> + NamesFiles>(
     alloc: Global,
     chain: &mut FormatAccess<D>,

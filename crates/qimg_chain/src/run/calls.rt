@@ -1,5 +1,4 @@
-// The calls of a chain that lines of a script ask for. `grow` and `shrink` are qemu's truncation, and imago's `resize_grow` and
-// `resize_shrink`.
+// Makes the call of a chain for a line of a script, and returns the answer.
 ghost use Rattle.std.specs.Prelude.{◌≡◌, IsFalse, IsSome, MatchOption, Some};
 ghost use Rattle.imago_access.specs.Layer.{IsFree};
 ghost use Rattle.qimg_calls.specs.Calls.{is_of_mapping};
@@ -11,10 +10,10 @@ use imago_storage::Fault;
 use qimg_calls::{Answer as CallAnswer, Call, drive};
 use std::alloc::Global;
 
-/// The most bytes that a line reads.
+/// The largest number of bytes that a line reads.
 pub const MOST_READ: u64 = 32_768;
 
-/// The call of the chain that a line asks for, if it asks for one.
+/// Returns the call of a line, or `None` if the line makes no call.
 pub fn call_of(line: Line) -> Option<Call>
     ensures { MatchOption result (IsNoCall line) (IsCallOf line) }
 {
@@ -40,9 +39,11 @@ pub fn call_of(line: Line) -> Option<Call>
     Some(call)
 }
 
-/// Makes one call of a chain, which isn't of a mapping.
+/// Makes one call of a chain, other than a call for a mapping.
 ///
-/// `Fault::Memory` where there is no room for its answer: the call isn't made then.
+/// # Errors
+///
+/// - `Fault::Memory` if memory runs out for the answer. The call isn't made then.
 pub fn make<D: FormatDriverInstance>(
     alloc: Global,
     chain: &mut FormatAccess<D>,
@@ -61,7 +62,7 @@ pub fn make<D: FormatDriverInstance>(
     }
 }
 
-/// What a line is answered with, by the answer to its call.
+/// Returns the answer to a line, from the answer to its call.
 pub fn told(answer: CallAnswer) -> Answer
     requires known { IsSome (told_of answer) }
     ensures { told_of answer ≡ Some result }

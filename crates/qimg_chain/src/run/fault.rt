@@ -1,11 +1,11 @@
-// Why a script ends early.
+// The reasons why a script ends early.
 ghost use Rattle.std.specs.Prelude.{◌≡◌};
 ghost use Rattle.qimg_chain.specs.declared.run.fault.RunFault.TheVariants.{Memory};
 
 use std::alloc::AllocError;
 use thiserror::Error;
 
-/// Why a script ends early.
+/// A reason why a script ends early.
 #[derive(Clone, Copy, Debug, PartialEq, Eq, Error)]
 pub enum RunFault {
     /// The reader failed.
@@ -14,10 +14,10 @@ pub enum RunFault {
     /// The writer failed.
     #[error("input or output failed")]
     Write,
-    /// There are more lines than a script may have.
+    /// The script has too many lines.
     #[error("input or output failed")]
     Lines,
-    /// Want of memory.
+    /// Memory ran out.
     #[error("input or output failed")]
     Memory,
 }

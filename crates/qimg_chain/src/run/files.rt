@@ -1,5 +1,5 @@
-// What lines of a script ask of the top file itself: what the checker says of it, and what it shows by itself. The top is qemu's active
-// layer, and `qemu-img check` its checker. imago has none.
+// Lines of a script that read the files themselves: `check`, with the result of the checker for the top file, and `plain`, with a plain
+// read.
 ghost use Rattle.std.specs.Prelude.{IfOk, IfErr};
 ghost use Rattle.qcow2_metadata.specs.Loading.{file};
 ghost use Rattle.qimg_chain.specs.RunAnswers.{Checks, IsLength, ReadsPlainly, WhyNoBuffer};
@@ -12,9 +12,12 @@ use imago_storage::{Fault, MemStorage, MemoryView};
 use qimg_core::check::check;
 use std::alloc::Global;
 
-/// A buffer of so many bytes, if a line may read as many.
+/// Allocates a buffer of `count` bytes.
 ///
-/// `Fault::BadArgument` for more than 32,768, and `Fault::Memory` for want of memory.
+/// # Errors
+///
+/// - `Fault::BadArgument` if `count` is more than 32,768.
+/// - `Fault::Memory` if memory runs out.
 fn buffer(alloc: Global, count: u64) -> Result<Vec<u8>, Fault>
     ensures ok { IfOk result (λ buf. IsLength count buf.items) }
     ensures err { IfErr result (WhyNoBuffer count) }
@@ -25,9 +28,9 @@ fn buffer(alloc: Global, count: u64) -> Result<Vec<u8>, Fault>
     Ok(vec![in alloc; 0u8; count as usize]?)
 }
 
-/// What the checker says of the top file as it stands. The file is read where it lies.
+/// Returns the result of the checker for the top file as it is now. The file isn't copied.
 ///
-/// `Fault::Unsupported` where the top isn't a qcow2 image. That is the only answer for such a top, also if memory runs out.
+/// If the top isn't a qcow2 image, the answer is always `Fault::Unsupported`, also if memory runs out.
 pub fn check_top<D: FormatDriverInstance<Storage = MemStorage>>(
     alloc: Global,
     chain: &FormatAccess<D>,
@@ -46,9 +49,14 @@ pub fn check_top<D: FormatDriverInstance<Storage = MemStorage>>(
     }
 }
 
-/// What the files themselves show in a range: a plain read of their bytes where they lie.
+/// Reads a range of the disk that the files mean as they are now, by a plain read (which opens them as a new chain). The files aren't
+/// copied.
 ///
-/// `Fault::BadArgument` for more than 32,768 bytes, `Fault::Memory` for want of memory, and else what `plain_read` refuses.
+/// # Errors
+///
+/// - `Fault::BadArgument` if `count` is more than 32,768.
+/// - `Fault::Memory` if memory runs out.
+/// - The errors of `plain_read`.
 pub fn read_plainly<D: FormatDriverInstance<Storage = MemStorage> + NamesFiles>(
     alloc: Global,
     chain: &FormatAccess<D>,

@@ -1,5 +1,4 @@
-// A script that is run over files, from their opening as a chain on. The files are qemu's backing chain, and the file below is the backing
-// file of qemu and imago.
+// Runs a script over files: opens them as a chain, runs the script, and drops the chain.
 ghost use Rattle.std.specs.Prelude.{◌≡◌, IfOk, IfErr, IsOkUnless, Ok};
 ghost use Rattle.imago_access.specs.Layer.{IsFree};
 ghost use Rattle.qimg_chain.specs.Headline.{NotRun, RunFrom, to_open};
@@ -14,17 +13,21 @@ use qimg_core::plain::ChainFile;
 use std::alloc::Global;
 use std::io::{BufRead, Write};
 
-/// Why a script isn't run to its end over files.
+/// A reason why a script over files doesn't run to its end.
 #[derive(Clone, Copy, Debug, Drop)]
 pub enum ScriptFault {
-    /// The files don't open as a chain, for this fault of `open_chain`.
+    /// The files don't open as a chain, with this fault of `open_chain`.
     Opening(Fault),
-    /// The script ended early, as `run` says.
+    /// The script ended early, with this fault of `run`.
     Running(RunFault),
 }
 
-/// The bytes that were kept, of which those that the top file has are taken out of it. The chain is dropped, and nothing may be prepared in
-/// it. The only refusal is `RunFault::Memory`.
+/// Returns the kept bytes, and drops the chain. Bytes that are still in the top file are moved out of it. The only error is
+/// `RunFault::Memory`.
+///
+/// # Preconditions
+///
+/// No mapping is prepared in the chain.
 fn take_kept(
     saved: Saved,
     chain: FormatAccess<ImageDriver<MemStorage>>,
@@ -43,15 +46,22 @@ fn take_kept(
     }
 }
 
-/// Opens files as a chain, the top first, and runs a script over it. It answers the bytes of the top file at the last `save` that was done,
-/// if one was. The chain is dropped at the end.
+/// Opens files as a chain (an image and its backing chain), the top first, and runs a script over it.
 ///
-/// Where the top file is sound (a qcow2 image that `qimg_core::check` accepts, or one of another format) and its storages keep what is
-/// written, the calls of all lines read and change one flat disk, at opening the one that the files' bytes mean; and no file below
-/// changes. Of stops in a call that changes a file nothing is said: storages in memory tell none.
+/// The result is the bytes that the last successful `save` kept of the top file, if any. The chain is dropped at the end.
 ///
-/// `ScriptFault::Opening` as `open_chain` refuses: then nothing is written. `ScriptFault::Running` as `run` refuses, over the chain, but
-/// that what a last `save` keeps isn't copied: it is taken out of the chain's storage.
+/// The calls of all lines read and change one flat disk, and no file below the top changes. At opening it is the disk that the files' bytes
+/// mean. The top file must be consistent for this, and its storages must keep what is written. A qcow2 image is consistent if
+/// `qimg_core::check` accepts it; a file of another format always is.
+///
+/// # Errors
+///
+/// - `ScriptFault::Opening` with the fault of `open_chain`. Nothing is written then.
+/// - `ScriptFault::Running` with the fault of `run`. No copy of the kept bytes is made: they are moved out of the chain's storage.
+///
+/// # Crash safety
+///
+/// Nothing is said about crashes during a call that changes a file: storages in memory don't expose crash images.
 pub fn run_files<R: BufRead + Drop, W: Write>(
     alloc: Global,
     files: Vec<ChainFile<MemStorage>>,

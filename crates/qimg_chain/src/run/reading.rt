@@ -1,4 +1,4 @@
-// The lines of a script, as its reader shows them.
+// Reads the lines of a script from its reader.
 ghost use Rattle.std.specs.Prelude.{◌≡◌, ◌≢◌, ◌≤◌, [], length, take, All, IfOk, IfErr, IfSome, None, OnOk, Some, IsTrue, IsFalse};
 ghost use Rattle.std.specs.Io.{IsEmptyOrEndsWith, StopsAt};
 ghost use Rattle.std.specs.Io.BufRead.{take_through, DropsThrough};
@@ -13,10 +13,10 @@ use memchr::memchr;
 use std::alloc::Global;
 use std::io::{BufRead, Error, ErrorKind};
 
-/// What comes next in a script: what a text is taken as, or nothing where there is none.
+/// The next line of a script: the result of parsing it, or `None` at the end of the script.
 type Next = Option<Result<Line, Fault>>;
 
-/// How an error stops a script, if it does: a read that was interrupted is made again.
+/// Returns the fault with which an error ends a script, or `None` if the read was interrupted and must be repeated.
 fn stop_of(error: &Error) -> Option<RunFault>
     ensures err { IfSome result IsReadingFault }
     ensures again { result ≡ None → error_kind error.now ≡ ErrorKind.Interrupted }
@@ -30,7 +30,8 @@ fn stop_of(error: &Error) -> Option<RunFault>
     }
 }
 
-/// How many of these bytes are of their first line, with its line feed, and whether it ends with them: there, or where there are none.
+/// Returns the number of bytes that belong to the first line, with its line feed. The flag is true if the line ends there, or if `bytes` is
+/// empty.
 fn line_part(bytes: &[u8]) -> (usize, bool)
     ensures inside { result.0 ≤ length bytes.now }
     ensures goes_on { IsFalse result.1 → All (λ b. b ≢ 10) (take result.0 bytes.now) }
@@ -44,7 +45,7 @@ fn line_part(bytes: &[u8]) -> (usize, bool)
     }
 }
 
-/// Appends what a reader shows of its line, and takes that. It answers whether the line ends with it.
+/// Appends the bytes of the line that the reader has buffered, and consumes them. Returns true if the line ends with them.
 fn read_part<R: BufRead>(input: &mut R, line: &mut Vec<u8>) -> Result<bool, RunFault>
     ensures ok { IfOk result (ReadsPart (R.remaining input.old) (R.remaining input.new) line.old.items line.new.items) }
     ensures err { IfErr result IsReadingFault }
@@ -62,7 +63,7 @@ fn read_part<R: BufRead>(input: &mut R, line: &mut Vec<u8>) -> Result<bool, RunF
     Ok(ended)
 }
 
-/// Reads the next line with its end. Nothing is read behind the last one.
+/// Reads the next line with its end. Nothing is read past the last line.
 fn read_line<R: BufRead>(input: &mut R, line: &mut Vec<u8>) -> Result<(), RunFault>
     ensures line { OnOk result (IfSome (R.remaining input.old) (λ bytes. line.new.items ≡ take_through 10 bytes)) }
     ensures remainder { OnOk result (DropsThrough (R.remaining input.old) (R.remaining input.new) 10) }
@@ -77,7 +78,7 @@ fn read_line<R: BufRead>(input: &mut R, line: &mut Vec<u8>) -> Result<(), RunFau
     Err(RunFault::Read)
 }
 
-/// What a line is taken as, which comes with its end if it has one, or nothing where there is no line.
+/// Parses a line, with its end if it has one. Returns `None` if `line` is empty.
 fn next_of(alloc: Global, line: &[u8]) -> Next
     ensures { IsNext line.now result }
 {
@@ -87,7 +88,7 @@ fn next_of(alloc: Global, line: &[u8]) -> Next
     }
 }
 
-/// The same of bytes that are one line with its line feed, or none: they aren't searched for it again.
+/// Like `next_of`, for bytes that are empty or one line with its line feed. The line feed isn't searched for again.
 fn next_in(alloc: Global, line: &[u8]) -> Next
     requires crash_images { StopsAt line.now 10 }
     requires ends { IsEmptyOrEndsWith line.now 10 }
@@ -99,7 +100,7 @@ fn next_in(alloc: Global, line: &[u8]) -> Next
     Some(parse_line(alloc, without_return(&line[..line.len() - 1])))
 }
 
-/// Reads the next line where the reader shows it whole, which needs no copy of it. Else none of it is taken.
+/// Reads the next line without a copy, if the reader has buffered all of it. Otherwise nothing is consumed.
 fn read_shown<R: BufRead>(
     alloc: Global,
     input: &mut R,
@@ -128,11 +129,15 @@ fn read_shown<R: BufRead>(
     Ok(Some(next))
 }
 
-/// Reads the next line, where there is room for its bytes and its end, and takes these off the room. It answers what the line's text is
-/// taken as, or `None` where the script has ended. Nothing is read behind the last line.
-/// A line that the reader doesn't show whole is put together in `line`.
+/// Reads and parses the next line. Returns `None` at the end of the script. Nothing is read past the last line.
 ///
-/// `RunFault::Read` where the reader fails or there is no room, and `RunFault::Memory` for want of memory.
+/// `room` is the number of bytes that the script may still have, and is reduced by the length of the line with its end. A line that isn't
+/// buffered completely is collected in `line`.
+///
+/// # Errors
+///
+/// - `RunFault::Read` if the reader fails, or the line has more than `room` bytes.
+/// - `RunFault::Memory` if memory runs out.
 pub fn next_line<R: BufRead>(
     alloc: Global,
     input: &mut R,

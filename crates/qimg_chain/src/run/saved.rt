@@ -1,4 +1,4 @@
-// What the last `save` of a script kept of the top file, which is qemu's active layer.
+// The bytes that the last `save` of a script kept of the top file.
 ghost use Rattle.std.specs.Prelude.{◌≡◌, ℕ, List, IfOk, IsOkUnless, OnOk};
 ghost use Rattle.qimg_chain.specs.ScriptRuns.{items_of, kept_of};
 
@@ -6,19 +6,21 @@ use super::fault::RunFault;
 use imago_access::{FormatAccess, FormatDriverInstance};
 use imago_storage::{Fault, MemStorage};
 
-/// What the last `save` kept of the top file. Nothing is copied before the file may change.
+/// The bytes that the last `save` kept of the top file. They are copied only before the file may change.
 #[derive(Drop)]
 pub enum Saved {
-    /// No `save` was done.
+    /// There was no successful `save`.
     Nothing,
-    /// The file has the bytes still.
+    /// The file still has the bytes.
     InFile,
-    /// The bytes, as the file may have others by now.
+    /// A copy of the bytes, as the file may have changed since.
     Apart(Vec<u8>),
 }
 
 impl Saved {
-    /// Has the bytes stand apart from the file, which may change then. Its only refusal is `Fault::Memory`, which leaves them there.
+    /// Copies the bytes if they are still in the file, so that the file may change.
+    ///
+    /// The only error is `Fault::Memory`. Then the bytes stay in the file.
     pub fn set_apart<D: FormatDriverInstance<Storage = MemStorage>>(
         &mut self,
         chain: &FormatAccess<D>,
@@ -33,7 +35,7 @@ impl Saved {
         Ok(())
     }
 
-    /// The bytes, of which those that the file has are copied. Its only refusal is `RunFault::Memory`.
+    /// Returns the bytes. If they are still in the file, they are copied. The only error is `RunFault::Memory`.
     pub fn into_bytes<D: FormatDriverInstance<Storage = MemStorage>>(
         self,
         chain: &FormatAccess<D>,

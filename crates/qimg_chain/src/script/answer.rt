@@ -1,4 +1,4 @@
-// What the lines of a script are answered with.
+// The answers to the lines of a script.
 ghost use Rattle.std.specs.Prelude.{◌≡◌, ◌++◌, ◌∷◌, [], IfOk, string_bytes};
 ghost use Rattle.hex.specs.Hex.{encode_lower};
 ghost use Rattle.qimg_chain.specs.ScriptAnswers.{answer_text, error_text};
@@ -10,24 +10,26 @@ use imago_storage::Fault;
 use qimg_core::check::CheckFault;
 use std::alloc::{AllocError, Global};
 
-/// What a line of a script is answered with.
+/// The answer to a line of a script.
 #[derive(Debug, Drop)]
 pub enum Answer {
     /// A number of bytes, or of clusters.
     Number(u64),
     /// Bytes that were read.
     Bytes(Bytes),
-    /// What was asked for is done.
+    /// The line succeeded.
     Done,
-    /// Why it was refused.
+    /// The line failed with this fault.
     Refused(Fault),
-    /// Why the image isn't consistent, or wasn't checked.
+    /// The image isn't consistent, or couldn't be checked.
     Unsound(CheckFault),
 }
 
 impl Answer {
-    /// The text of an answer, without a line feed behind it: a number in decimal; bytes by two lower-case hexadecimal digits each;
-    /// `ok`; or `error N`, by the fault's number. `AllocError` comes for want of memory.
+    /// Returns the text of the answer, without a line feed.
+    ///
+    /// A number is in decimal, bytes are two lower-case hexadecimal digits each, and a success is `ok`. An error is `error N`, with the
+    /// number of the fault. The call fails with `AllocError` if memory runs out.
     pub fn to_text(&self, alloc: Global) -> Result<String, AllocError>
         ensures { IfOk result (λ text. string_bytes text ≡ answer_text self.now) }
     {
@@ -40,7 +42,7 @@ impl Answer {
         }
     }
 
-    /// The bytes of an answer's line: its text, and a line feed. `AllocError` comes for want of memory.
+    /// Returns the text of the answer and a line feed, as bytes. The call fails with `AllocError` if memory runs out.
     pub fn to_line(&self, alloc: Global) -> Result<Vec<u8>, AllocError>
         ensures { IfOk result (λ line. line.items ≡ answer_text self.now ++ 10 ∷ []) }
     {
@@ -53,7 +55,7 @@ impl Answer {
     }
 }
 
-/// The line of bytes: the digits are written where they stay.
+/// Returns the line for bytes that were read. The digits are written directly into the line.
 fn digits_line(alloc: Global, bytes: &[u8]) -> Result<Vec<u8>, AllocError>
     ensures { IfOk result (λ line. line.items ≡ encode_lower bytes.now ++ 10 ∷ []) }
 {
@@ -68,7 +70,7 @@ fn digits_line(alloc: Global, bytes: &[u8]) -> Result<Vec<u8>, AllocError>
     Ok(line)
 }
 
-/// The text of a refusal.
+/// Returns the text of an error.
 fn error_text(alloc: Global, number: u8) -> Result<String, AllocError>
     ensures { IfOk result (λ text. string_bytes text ≡ error_text number) }
 {

@@ -1,7 +1,7 @@
-// Bytes that a line of a script writes, or that an answer shows.
+// Bytes that a line of a script writes, or that an answer contains.
 use std::marker::Model;
 
-/// Bytes that a line of a script writes, or that an answer shows. Contracts see the list of them.
+/// Bytes that a line of a script writes, or that an answer contains. In contracts the value is the list of bytes.
 #[derive(Debug, Drop)]
 pub struct Bytes(Vec<u8>);
 
@@ -26,14 +26,14 @@ impl From<Vec<u8>> for Bytes {
 impl Bytes {
     ghost use Rattle.std.specs.Prelude.{◌≡◌};
 
-    /// The bytes, lent.
+    /// Returns the bytes as a slice.
     pub fn as_slice(&self) -> &[u8]
         ensures { result.now ≡ self.now }
     {
         &self.0
     }
 
-    /// The bytes in the vector that they were made from.
+    /// Returns the vector that the bytes were made from.
     pub fn into_vec(self) -> Vec<u8>
         ensures { result.items ≡ self }
     {

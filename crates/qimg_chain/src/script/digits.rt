@@ -1,34 +1,35 @@
-// Bytes as hexadecimal digits, two of each.
+// Bytes as pairs of hexadecimal digits.
 ghost use Rattle.std.specs.Prelude.{◌≡◌, ◌*◌, ◌<◌, ◌≤◌, None, Ok, length, slice_index, IsTrue, IsFalse, MatchOption};
 ghost use Rattle.std.specs.Result.{result_ok};
 ghost use Rattle.hex.specs.Hex.{decode_of, encode_lower, hex_digit_value, lower_digits};
 
-/// The value of a digit of either case, or at least 16. There is no branch in it, so that many digits are read with few operations.
+/// Returns the value of a digit of either case, or at least 16 for any other byte. It has no branch, so that several digits can be read at
+/// a time.
 #[inline]
 fn value(digit: u8) -> u8
     ensures { MatchOption (hex_digit_value digit) (16 ≤ result) (λ value. result ≡ value) }
 {
-    // The digits up to 9 come to stand last of all bytes, where what stands before them is taken for 16 or more.
+    // The digits are shifted to the end of the byte range, and become 0 to 9. All other bytes become 16 or more.
     let number = digit
         .wrapping_add(255 - b'9')
         .saturating_sub(6)
         .wrapping_sub(240);
-    // Without the bit 32, which tells lower case, letters are one range, from 0 here.
+    // Bit 5 marks lower case. Without this bit the letters are one range, which is shifted so that `A` becomes 10.
     let letter = (digit - digit / 32 % 2 * 32)
         .wrapping_sub(b'A')
         .saturating_add(10);
     number.min(letter)
 }
 
-/// Puts the bytes that digits of either case write into as many bytes as there are. It answers whether all are digits: else the bytes may
-/// be any. No digit decides what is done with the next, so many are read at a time.
+/// Decodes pairs of digits of either case into `out`. Returns true if all are digits; otherwise the contents of `out` are unspecified. No
+/// digit decides how the next is read, so that several can be read at a time.
 pub(super) fn decode(word: &[u8], out: &mut [u8]) -> bool
     requires { length word.now ≡ 2 * length out.old }
     ensures digits { IsTrue result → decode_of word.now ≡ Ok out.new }
     ensures other { IsFalse result → result_ok (decode_of word.now) ≡ None }
 {
     let mut all = true;
-    // From chunks many pairs are loaded at a time, by indices of the digits one after the other.
+    // With chunks the compiler loads many pairs at a time. With indices it would load the digits one by one.
     for (i, pair) in word.chunks_exact(2).enumerate() {
         let high = value(pair[0]);
         let low = value(pair[1]);
@@ -38,7 +39,7 @@ pub(super) fn decode(word: &[u8], out: &mut [u8]) -> bool
     all
 }
 
-/// The digit of a value, in lower case.
+/// Returns the digit for a value, in lower case.
 #[inline]
 fn digit(value: u8) -> u8
     requires { value < 16 }
@@ -51,7 +52,7 @@ fn digit(value: u8) -> u8
     }
 }
 
-/// Puts the digits of bytes into as many bytes as there are.
+/// Encodes bytes as digits into `out`.
 pub(super) fn encode(bytes: &[u8], out: &mut [u8])
     requires { length out.old ≡ 2 * length bytes.now }
     ensures { out.new ≡ encode_lower bytes.now }

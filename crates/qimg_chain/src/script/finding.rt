@@ -1,10 +1,10 @@
-// The numbers of the checker's findings. A finding is a corruption for `qemu-img check`, which has no numbers. imago has no checker.
+// The numbers of the checker's findings.
 ghost use Rattle.std.specs.Prelude.{◌≡◌};
 ghost use Rattle.qimg_chain.specs.CheckNumbers.{check_number};
 
 use qimg_core::check::CheckFault;
 
-/// The number of a finding, which its text names: that of a fault where one says as much, or one from 23 to 27.
+/// Returns the number of a finding for its text: the number of the `Fault` with the same meaning, or one from 23 to 27.
 pub(super) fn finding_number(finding: &CheckFault) -> u8
     ensures { result ≡ check_number finding.now }
 {

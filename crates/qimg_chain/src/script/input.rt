@@ -1,12 +1,13 @@
-// An input of bytes, cut into its lines.
+// Splits an input of bytes into lines.
 ghost use Rattle.std.specs.Prelude.{◌≡◌, ◌∷◌, [], ◌<◌, length, IfSome, MatchOption};
 ghost use Rattle.std.specs.Str.Lines.{lines, strip_carriage_return};
 
 use super::parts::cut;
 
-/// The first line of an input, without its end, and what follows it; nothing where there is no line. A line ends with a line feed,
-/// and one carriage return before that belongs to the end. The last line may lack its line feed, where it isn't empty; it keeps a
-/// carriage return then.
+/// Returns the first line of an input, without its end, and the rest of the input. Returns `None` if the input is empty.
+///
+/// A line ends with a line feed. One carriage return directly before the line feed belongs to the end. The last line may end without a line
+/// feed. Then it keeps a carriage return.
 pub fn split_line(input: &[u8]) -> Option<(&[u8], &[u8])>
     ensures lines { MatchOption result (lines input.now ≡ []) (λ split. lines input.now ≡ split.0.now ∷ lines split.1.now) }
     ensures shorter { IfSome result (λ split. length split.1.now < length input.now) }
@@ -20,7 +21,7 @@ pub fn split_line(input: &[u8]) -> Option<(&[u8], &[u8])>
     }
 }
 
-/// A line without the carriage return at its end.
+/// Removes one carriage return from the end of a line, if it has one.
 pub(crate) fn without_return(line: &[u8]) -> &[u8]
     ensures { result.now ≡ strip_carriage_return line.now }
 {

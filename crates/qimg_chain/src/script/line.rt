@@ -1,5 +1,4 @@
-// Lines of a script, and how they are read. `discard-any` and `discard-backing` are imago's `discard_to_any` and `discard_to_backing`.
-// `grow` and `shrink` are qemu's truncation.
+// The lines of a script, and their parser.
 ghost use Rattle.std.specs.Prelude.{◌≡◌, ◌∷◌, [], Some, IfOk, IfErr};
 ghost use Rattle.qimg_chain.specs.Script.{IsLine, NotLine};
 ghost use Rattle.qimg_chain.specs.ScriptWords.{words_of};
@@ -12,45 +11,47 @@ use imago_access::PreallocateMode;
 use imago_storage::Fault;
 use std::alloc::Global;
 
-/// The most bytes that a line has, without its end.
+/// The largest number of bytes in a line, without its end.
 pub const LONGEST_LINE: usize = 65_536;
 
-/// What a line of a script asks for. Offsets, lengths and sizes are in bytes.
+/// A line of a script. Offsets, lengths and sizes are in bytes.
 #[derive(Debug, Drop)]
 pub enum Line {
-    /// `size`: the disk's size.
+    /// `size`: returns the size of the disk.
     Size,
-    /// `read OFFSET LENGTH`: what the disk shows in a range.
+    /// `read OFFSET LENGTH`: reads a range of the disk.
     Read { offset: u64, length: u64 },
-    /// `write OFFSET BYTES`: these bytes are written.
+    /// `write OFFSET BYTES`: writes bytes.
     Write { offset: u64, bytes: Bytes },
-    /// `zero OFFSET LENGTH`: zeroes are written.
+    /// `zero OFFSET LENGTH`: writes zeroes.
     Zero { offset: u64, length: u64 },
-    /// `discard OFFSET LENGTH`: a range is given up, and reads as zeroes.
+    /// `discard OFFSET LENGTH`: discards a range, which then reads as zeroes.
     Discard { offset: u64, length: u64 },
-    /// `discard-any OFFSET LENGTH`: a range is given up, and may read as anything.
+    /// `discard-any OFFSET LENGTH`: discards a range, which may then read as anything.
     DiscardAny { offset: u64, length: u64 },
-    /// `discard-backing OFFSET LENGTH`: a range is given up, and shows the layer below.
+    /// `discard-backing OFFSET LENGTH`: discards a range, which may then read as in the backing file.
     DiscardBacking { offset: u64, length: u64 },
-    /// `grow SIZE MODE`: the disk gets longer.
+    /// `grow SIZE MODE`: makes the disk longer.
     Grow { size: u64, mode: PreallocateMode },
-    /// `shrink SIZE`: the disk gets shorter.
+    /// `shrink SIZE`: makes the disk shorter.
     Shrink { size: u64 },
-    /// `flush`: what is held in memory is written.
+    /// `flush`: writes dirty data (what is in memory and not yet in the file).
     Flush,
-    /// `check`: whether the top file is consistent, and how many clusters it leaks.
+    /// `check`: checks the top file, and returns how many clusters it leaks.
     Check,
-    /// `plain OFFSET LENGTH`: what the files themselves show in a range.
+    /// `plain OFFSET LENGTH`: reads a range from the files themselves.
     Plain { offset: u64, length: u64 },
-    /// `save`: a flush, after which the top file's bytes are kept.
+    /// `save`: flushes, and keeps the bytes of the top file.
     Save,
 }
 
-/// Reads a line, which comes without its end.
+/// Parses a line, without its end.
 ///
-/// It is refused with `Fault::BadCommand` where it is none: where it isn't a command with its arguments, or has more than
-/// `LONGEST_LINE` bytes. `Fault::Memory` comes for the bytes of a `write` alone, where these are pairs, behind a number and in a line
-/// that isn't too long. Their room is taken before their digits are read, so that it may come for pairs that aren't all of digits.
+/// # Errors
+///
+/// - `Fault::BadCommand` if the text isn't a command with its arguments, or has more than `LONGEST_LINE` bytes.
+/// - `Fault::Memory` only for the bytes of a `write` line that isn't too long, with a number and then pairs of characters. The memory is
+///   allocated before the digits are read, so the pairs may have other characters, too.
 pub fn parse_line(alloc: Global, text: &[u8]) -> Result<Line, Fault>
     ensures ok { IfOk result (λ line. IsLine text.now line) }
     ensures err { IfErr result (NotLine text.now) }
@@ -61,7 +62,7 @@ pub fn parse_line(alloc: Global, text: &[u8]) -> Result<Line, Fault>
     line_of(alloc, text)
 }
 
-/// Reads a line, however long it is.
+/// Parses a line of any length.
 #[tactic(auto, unfolding(crate::specs::ScriptParts::line_of))]
 fn line_of(alloc: Global, text: &[u8]) -> Result<Line, Fault>
     ensures ok { IfOk result (λ line. line_of (words_of text.now) ≡ Some line) }
@@ -76,8 +77,8 @@ fn line_of(alloc: Global, text: &[u8]) -> Result<Line, Fault>
     }
 }
 
-/// Reads a line from its command and the arguments behind it. A second one that says something holds no space: only one that says nothing
-/// is searched for a third behind it.
+/// Parses a line from its command and the text after it. A valid second argument has no space, so the text is searched for a third argument
+/// only if the second isn't valid.
 #[tactic(auto, unfolding(crate::specs::ScriptParts::line_of))]
 fn line_with(alloc: Global, name: &[u8], arguments: &[u8]) -> Result<Line, Fault>
     ensures ok { IfOk result (λ line. line_of (name.now ∷ words_of arguments.now) ≡ Some line) }
@@ -98,7 +99,7 @@ fn line_with(alloc: Global, name: &[u8], arguments: &[u8]) -> Result<Line, Fault
     }
 }
 
-/// Reads a line from its command and two arguments.
+/// Parses a line from its command and two arguments.
 #[tactic(auto, unfolding(crate::specs::ScriptParts::line_of, crate::specs::ScriptParts::numbered_line))]
 fn line_with_two(alloc: Global, name: &[u8], first: &[u8], second: &[u8]) -> Result<Line, Fault>
     ensures ok { IfOk result (λ line. line_of (name.now ∷ first.now ∷ second.now ∷ []) ≡ Some line) }
@@ -120,7 +121,7 @@ fn line_with_two(alloc: Global, name: &[u8], first: &[u8], second: &[u8]) -> Res
     }
 }
 
-/// The line of a command that takes no argument.
+/// Returns the line of a command without arguments.
 #[tactic(auto, unfolding(crate::specs::ScriptParts::lone_line))]
 fn lone_line(name: &[u8]) -> Option<Line>
     ensures { result ≡ lone_line name.now }
@@ -140,7 +141,7 @@ fn lone_line(name: &[u8]) -> Option<Line>
     None
 }
 
-/// The line of a command that takes one argument.
+/// Returns the line of a command with one argument.
 #[tactic(auto, unfolding(crate::specs::ScriptParts::shrink_line))]
 fn shrink_line(name: &[u8], argument: &[u8]) -> Option<Line>
     ensures { result ≡ shrink_line name.now argument.now }
@@ -154,7 +155,7 @@ fn shrink_line(name: &[u8], argument: &[u8]) -> Option<Line>
     }
 }
 
-/// The line of a command with a number and a second argument that takes no memory.
+/// Returns the line of a command with a number and a second argument that needs no memory.
 #[tactic(auto, unfolding(crate::specs::ScriptParts::mode_or_range_line))]
 fn mode_or_range_line(name: &[u8], start: u64, second: &[u8]) -> Option<Line>
     ensures { result ≡ mode_or_range_line name.now start second.now }
@@ -171,7 +172,7 @@ fn mode_or_range_line(name: &[u8], start: u64, second: &[u8]) -> Option<Line>
     }
 }
 
-/// The line of a command on a range.
+/// Returns the line of a command on a range.
 #[tactic(auto, unfolding(crate::specs::ScriptParts::range_line))]
 fn range_line(name: &[u8], offset: u64, length: u64) -> Option<Line>
     ensures { result ≡ range_line name.now offset length }

@@ -1,10 +1,10 @@
-// Texts cut at a byte.
+// Splits a text at a byte.
 ghost use Rattle.std.specs.Prelude.{◌≡◌, ◌∷◌, [], ◌+◌, ◌<◌, length, IfSome, MatchOption};
 ghost use Rattle.qimg_chain.specs.ScriptWords.{parts_at};
 
 use memchr::memchr;
 
-/// What stands before the first of a byte in a text, and what stands behind it, if it is there.
+/// Returns the text before the first occurrence of a byte, and the text after it. Returns `None` if the byte doesn't occur.
 pub(super) fn cut(text: &[u8], byte: u8) -> Option<(&[u8], &[u8])>
     ensures parts { MatchOption result (parts_at byte text.now ≡ text.now ∷ [])
         (λ cut. parts_at byte text.now ≡ cut.0.now ∷ parts_at byte cut.1.now) }

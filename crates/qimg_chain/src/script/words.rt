@@ -1,4 +1,4 @@
-// The words of a line of a script. A mode is qemu's `PreallocMode`, and imago's `PreallocateMode`.
+// Parses the arguments of a line of a script.
 ghost use Rattle.std.specs.Prelude.{◌≡◌, Some, IfOk, IfErr};
 ghost use Rattle.qimg_chain.specs.ScriptWords.{NoBytes, bytes_of, mode_of, number_of};
 
@@ -8,10 +8,10 @@ use imago_access::PreallocateMode;
 use imago_storage::Fault;
 use std::alloc::Global;
 
-/// The most digits of a number.
+/// The largest number of digits in a number.
 const MOST_DIGITS: usize = 20;
 
-/// The number that a word writes in decimal, if it writes one.
+/// Returns the number that an argument writes in decimal, if any.
 pub(super) fn number(word: &[u8]) -> Option<u64>
     ensures { result ≡ number_of word.now }
 {
@@ -30,7 +30,12 @@ pub(super) fn number(word: &[u8]) -> Option<u64>
     }
 }
 
-/// The bytes that a word writes by pairs of digits. `Fault::BadCommand` where it writes none, `Fault::Memory` for want of memory.
+/// Decodes an argument of pairs of digits.
+///
+/// # Errors
+///
+/// - `Fault::BadCommand` if the argument isn't at least one pair of digits.
+/// - `Fault::Memory` if memory runs out.
 #[tactic(auto, unfolding(crate::specs::ScriptWords::bytes_of))]
 pub(super) fn bytes(alloc: Global, word: &[u8]) -> Result<Bytes, Fault>
     ensures ok { IfOk result (λ bytes. bytes_of word.now ≡ Some bytes) }
@@ -46,7 +51,7 @@ pub(super) fn bytes(alloc: Global, word: &[u8]) -> Result<Bytes, Fault>
     Ok(Bytes::from(bytes))
 }
 
-/// The mode of growth that a word names, if it names one.
+/// Returns the mode of growth that an argument stands for, if any.
 #[tactic(auto, unfolding(crate::specs::ScriptWords::mode_of))]
 pub(super) fn mode(word: &[u8]) -> Option<PreallocateMode>
     ensures { result ≡ mode_of word.now }

@@ -1,4 +1,4 @@
--- The files so far are read off the words.
+-- The further files before this one are parsed.
 use Rattle.std.proofs.Common.{◌+◌, ◌-◌, ◌*◌, ◌≤◌, drop, length, map}
 use Rattle.qimg_chain.specs.Arguments.{extra_of}
 use Rattle.qimg_chain.proofs.ArgumentLemmas.{FilesTaken}

@@ -1,4 +1,4 @@
--- The layers so far are read off the words.
+-- The layers before this one are parsed.
 use Rattle.std.proofs.Common.{◌-◌, ◌≤◌, drop, length, map}
 use Rattle.qimg_chain.specs.Arguments.{layer_of}
 use Rattle.qimg_chain.proofs.ArgumentLemmas.{LayersTaken}

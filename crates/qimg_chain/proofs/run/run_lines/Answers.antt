@@ -8,7 +8,7 @@ use Rattle.qimg_chain.proofs.ScriptBytes.{cut-reading, cut-telling, read-all, re
 use Rattle.qimg_chain.proofs.ScriptRunLemmas.{all-written, last-untold, made-then, ran-none, ran-then, scripted, scripted-cut}
 use Rattle.qimg_chain.proofs.run.run_lines.Goals as goal
 
--- what is handed on is the fault that came
+-- The returned fault is the one that occurred.
 handed-on : {T : Type 0} (result : Result T RunFault) (fault : RunFault) → IsErrAnd result (λ e. e ≡ fault) → result ≡ Err fault
 handed-on (Ok x) fault is = absurd is
 handed-on (Err e) fault is = ap Err is

@@ -4,7 +4,7 @@ use Rattle.qimg_chain.specs.ScriptRuns.{kept_of, standing}
 use Rattle.qimg_chain.proofs.ScriptRunLemmas.{RanSoFar}
 use Rattle.qimg_chain.proofs.run.run_lines.Given as goal
 
--- Nothing is prepared between two lines; each line so far is read, made and answered.
+-- No mapping is prepared between two lines. Each line before this one is read, run and answered.
 abbrev pub invariant-loop : goal.invariant-loop
 invariant-loop g l = IsFree (g.D.DriverModel.layer l.chain.0)
     × RanSoFar g.D.DriverModel g.D.NamesFiles.names (record {

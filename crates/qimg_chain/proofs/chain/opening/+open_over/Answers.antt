@@ -12,7 +12,6 @@ use Rattle.qimg_chain.proofs.FilesShown.{over}
 use Rattle.qimg_chain.proofs.Refusing.{at_below, at_place, shown_so, upper_misplaced, upper_placed}
 use Rattle.qimg_chain.proofs.chain.opening.+open_over.Goals as goal
 
--- the reverse of a list begins with its last item
 begins : {A : Type 0} (xs zs : List A) (x : A) → xs ≡ zs ++ (x ∷ []) → reverse xs ≡ x ∷ reverse zs
 begins xs zs x ends = ap reverse ends ∙ reverse-append zs (x ∷ [])
 

@@ -7,7 +7,6 @@ use Rattle.qimg_chain.proofs.Opened.{formed, free, on_ok, on_ok_both, ready, sta
 use Rattle.qimg_chain.proofs.Refusing.{first_of, on_err}
 use Rattle.qimg_chain.proofs.chain.opening.open_chain.Goals as goal
 
--- a list whose reverse ends so begins so
 begins : {A : Type 0} (xs ys zs : List A) (x : A) → ys ≡ reverse xs → ys ≡ zs ++ (x ∷ []) → xs ≡ x ∷ reverse zs
 begins xs ys zs x turned ends = sym (reverse-reverse xs) ∙ ap reverse (sym turned ∙ ends) ∙ reverse-append zs (x ∷ [])
 

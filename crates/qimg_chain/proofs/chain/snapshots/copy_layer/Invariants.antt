@@ -9,7 +9,7 @@ use Rattle.qimg_chain.specs.FileMeanings.{extra_bytes}
 use Rattle.qimg_chain.specs.Snapshots.{with_bytes}
 use Rattle.qimg_chain.proofs.chain.snapshots.copy_layer.Given as goal
 
--- so many of the further files are copied, and the chain is as it was
+-- The further files before this one are copied, and the chain is unchanged.
 abbrev pub invariant-loop-index : goal.invariant-loop-index
 invariant-loop-index g l = record {
   so_far : map (extra_bytes mem_state) l.extras.items ≡ with_bytes (take l.index (map string_bytes l.names.names.items)) 1 (files_at g.D.DriverModel (drivers l.fn.chain) l.layer);

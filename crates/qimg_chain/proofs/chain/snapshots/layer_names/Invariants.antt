@@ -2,7 +2,7 @@ use Rattle.std.proofs.Common.{◌≡◌, ◌∷◌, ◌++◌, length, map}
 use Rattle.qimg_chain.specs.Snapshots.{names_of, said_names}
 use Rattle.qimg_chain.proofs.chain.snapshots.layer_names.Given as goal
 
--- those so far, and those of the layers to come, are all
+-- The collected names, and those of the remaining layers, are all names.
 abbrev pub invariant-loop-layers : goal.invariant-loop-layers
 invariant-loop-layers g l = let names = names_of g.D.DriverModel g.D.NamesFiles.names in
     map said_names l.layers.items ++ map names (l.next.0 ∷ l.next.1) ≡ map names (l.chain.0 ∷ l.chain.1)

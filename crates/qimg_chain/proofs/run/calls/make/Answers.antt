@@ -4,7 +4,6 @@ use Rattle.qimg_calls.specs.declared.call.Answer.{Answer}
 use Rattle.qimg_calls.proofs.Alone.{alone-fits, alone-one}
 use Rattle.qimg_chain.proofs.run.calls.make.Goals as goal
 
--- one answer is the last one
 only-one : (all rest : List Answer) (last : Answer) → length all ≡ 1 → all ≡ rest ++ (last ∷ []) → all ≡ last ∷ []
 only-one all [] last len is = is
 only-one all (a ∷ []) last len is = absurd (cc (rw (is) at len))

@@ -22,7 +22,7 @@ use Rattle.qimg_chain.proofs.Failing.{unopened}
 use Rattle.qimg_chain.proofs.ScriptRunLemmas.{append-none, scripted-uncopied}
 use Rattle.qimg_chain.proofs.run.opened.run_files.Goals as goal
 
--- a storage in memory tells no stops
+-- A storage in memory exposes no crash images.
 silent : (m : MemStorage) → IsTrue (mem_state m).shape.tells → ⊥
 unfolding mem_state
 silent m tells = cc tells
@@ -31,7 +31,7 @@ in-step : (files : List (ChainFile MemStorage)) → OfTop (IsFit mem_state) file
 in-step [] fit = fit
 in-step (file ∷ below) fit = λ tells keeps. absurd (silent file.image tells)
 
--- the script is run over the chain just opened
+-- The script runs over the chain that was just opened.
 from-opening : {D St : Type 0} {g : Ghosts D St} {names : D → ℕ → List ℕ} {what : ToOpen} {input before after : Option (List ℕ)} {result : Result (Option (List ℕ)) RunFault}
     → (opened last : D × List D) → FormChain mem_state what.writable what.files → AreLayers g mem_state what.writable what.number what.files (chain opened) → AreInPlace (map g.layer (chain opened))
     → IsDiskOf (chain_disk g.layer opened) (files_bytes mem_state what.files) → Each (FindsByNames g names) (chain opened)

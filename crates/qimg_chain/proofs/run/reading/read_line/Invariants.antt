@@ -1,4 +1,4 @@
--- no line feed is read yet
+-- No line feed is read yet.
 use Rattle.std.proofs.Common.{◌≢◌, All}
 use Rattle.std.specs.Io.KnownBytes.{Consumes}
 use Rattle.qimg_chain.proofs.run.reading.read_line.Given as goal

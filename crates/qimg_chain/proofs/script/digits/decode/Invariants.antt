@@ -1,4 +1,4 @@
--- the pairs before the next one are decoded, or one isn't
+-- The pairs before the next one are decoded, or one of them isn't digits.
 use Rattle.std.proofs.Common.{◌≡◌, ◌*◌, true, false, None, drop}
 use Rattle.std.specs.Result.{result_ok}
 use Rattle.hex.specs.Hex.{decode_pairs}

@@ -1,4 +1,4 @@
--- the bytes before this one are written
+-- The bytes before this one are encoded.
 use Rattle.std.proofs.Common.{◌≡◌, ◌*◌, ◌++◌, take, drop}
 use Rattle.hex.specs.Hex.{encode_lower}
 use Rattle.qimg_chain.proofs.script.digits.encode.Given as goal
