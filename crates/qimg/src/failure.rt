@@ -1,4 +1,4 @@
-// Why the program fails, and the status that says so.
+// The reasons why the program fails, and its exit statuses.
 ghost use Rattle.std.specs.Prelude.{◌≡◌, Result, Ok, Err, String};
 ghost use Rattle.std.specs.declared.alloc.Global.{Global};
 ghost use Rattle.qimg.specs.declared.failure.Failure.TheVariants as failures;
@@ -9,16 +9,16 @@ use qimg_chain::run::ScriptFault;
 use std::alloc::{AllocError, AllocFailed};
 use std::{fmt, io};
 
-/// Why the program fails.
+/// A reason why the program fails.
 #[derive(Debug, Drop)]
 pub enum Failure {
     /// The chain doesn't open.
     Opening(Fault),
-    /// The arguments aren't those that it takes.
+    /// The arguments aren't valid.
     Arguments,
-    /// A file or a stream failed, memory was wanting, or the script is too long.
+    /// A file or a stream failed, memory ran out, or the script is too long.
     InputOutput,
-    /// The path of a save's new file is taken, as by an earlier run that was stopped. Holds that path.
+    /// The path of the new file of a save is taken, for example because an earlier run was stopped. Holds that path.
     LeftOver(String),
 }
 
@@ -70,7 +70,7 @@ impl From<ScriptFault> for Failure {
     }
 }
 
-/// The status with which a run of the program ends that ended so.
+/// Returns the exit status of the program for an outcome.
 pub fn status(outcome: &Result<(), Failure>) -> u8
     ensures done { outcome.now ≡ Ok tt → result ≡ 0 }
     ensures opening { (fault : Fault) → outcome.now ≡ Err (Failure.Opening fault) → result ≡ 1 }

@@ -1,4 +1,4 @@
-// The files of a chain, which are read whole or made in memory.
+// Reads the files of a chain (an image and its backing chain), or makes a new image in memory.
 ghost use Rattle.std.specs.Prelude.{◌≡◌, ℕ, ◌∷◌, [], IfOk};
 ghost use Rattle.imago_access.specs.declared.format.Format.TheVariants.{Qcow2};
 ghost use Rattle.imago_storage.specs.Disk.{byte};
@@ -18,7 +18,7 @@ use qimg_core::plain::ChainFile;
 use std::alloc::Global;
 use std::fs::{self, Files};
 
-/// A file's bytes, as a storage.
+/// Reads a file as a storage in memory.
 fn read_storage<R: Files + AllocGlobal>(rt: &R, path: &str) -> Result<MemStorage, Failure> {
     let bytes = fs::read(rt, path)?;
     match MemStorage::from_bytes(bytes) {
@@ -27,7 +27,7 @@ fn read_storage<R: Files + AllocGlobal>(rt: &R, path: &str) -> Result<MemStorage
     }
 }
 
-/// The files of a layer.
+/// Reads the files of one image of a chain.
 fn read_layer<R: Files + AllocGlobal>(
     rt: &R,
     layer: &LayerArgument,
@@ -44,7 +44,7 @@ fn read_layer<R: Files + AllocGlobal>(
     })
 }
 
-/// The files of a chain, read in the order in which they are named.
+/// Reads the files of all images of a chain, in the order of the arguments.
 pub fn read_files<R: Files + AllocGlobal>(
     rt: &R,
     layers: &[LayerArgument],
@@ -59,12 +59,12 @@ pub fn read_files<R: Files + AllocGlobal>(
 /// The size of a new disk, in bytes.
 const NEW_SIZE: u64 = 65536;
 
-/// A new image in memory, as the one file of a chain: consistent, of 65,536 bytes, and of zeroes.
+/// Returns a chain with one file: a new consistent qcow2 image in memory, of 65,536 bytes that read as zeroes.
 pub fn new_files(alloc: Global) -> Result<Vec<ChainFile<MemStorage>>, Failure>
     ensures new { IfOk result (λ files. (top : ChainFile MemStorage) × (files.items ≡ top ∷ []) × (top.format ≡ Qcow2)
         × IsConsistent (file (mem_state top.image)) (new_header 65536) × ((p : ℕ) → value_at (file (mem_state top.image)) p ≡ byte 0)) }
 {
-    // The image lies in memory: nothing but memory can be wanting.
+    // The image is in memory, so it can only fail because memory runs out.
     let Ok(image) = create(alloc, MemStorage::new(alloc), NEW_SIZE) else {
         return Err(Failure::InputOutput);
     };

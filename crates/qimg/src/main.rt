@@ -1,21 +1,26 @@
-//! A program over disk images. It opens a chain of them and runs a script over it; without arguments the chain is a new image in memory.
+//! A program for disk images. It opens files as a chain (an image and its backing chain) and runs a script (one call a line) over the
+//! chain. Without arguments the chain is a new image in memory. Terms are explained in docs/GLOSSARY.md.
 //!
-//! `qimg [-r] LAYER ..`, the top first. A LAYER is `raw PATH`, `qcow2 PATH` or `vmdk PATH`, and any number of `file NAME PATH` behind it:
-//! files that it names for its data. With `-r` the top is opened for reading alone. The script comes from standard input, and its answers
-//! go to standard output; the module `script` of `qimg_chain` lists its lines. The files are read whole at the start. At the end the bytes
-//! of the last `save` take the top file's place, where there was one: of a regular file alone, and not with `-r`, as nothing has changed
-//! then. `qimg` alone makes a qcow2 image of 65,536 bytes, for writing, and no file.
+//! The arguments are `qimg [-r] LAYER ..`, the top image first. A LAYER is `raw PATH`, `qcow2 PATH` or `vmdk PATH`, followed by any number
+//! of `file NAME PATH`: the files that the image refers to for its data (VMDK extents). With `-r` the top is opened read-only.
+//!
+//! The script comes from standard input, and its answers go to standard output. The module `script` of `qimg_chain` lists the lines of a
+//! script. The files are read completely at the start. At the end, the bytes of the last successful `save`, if any, replace the top file.
+//! With `-r` no file is replaced, as nothing has changed. Without arguments the program makes a writable qcow2 image of 65,536 bytes, and
+//! writes no file.
 //!
 //! | Status | Standard error | When |
 //! |---|---|---|
-//! | 0 | | the script has ended, whatever was answered |
-//! | 1 | `qimg: error N` | the chain doesn't open, by the fault with this number |
-//! | 2 | `qimg: bad arguments` | the arguments aren't these |
-//! | 3 | `qimg: input or output failed` | a file or a stream failed, memory was wanting for it, or the script is too long |
+//! | 0 | | the script ended; its lines may have been answered with errors |
+//! | 1 | `qimg: error N` | the chain doesn't open, with the fault of this number |
+//! | 2 | `qimg: bad arguments` | the arguments aren't valid |
+//! | 3 | `qimg: input or output failed` | a file or a stream failed, memory ran out for it, or the script is too long |
 //!
-//! The status is 3, too, where the top is opened for writing and is no regular file, may not be written, or has changed by the end.
-//! It is also 3 if `PATH.qimg-new` exists when the new bytes are to be written, as after a run that was stopped. Then a second line on
-//! standard error names that file and asks the user to remove it.
+//! If the top is opened for writing, the status is also 3 for a top file that isn't a regular file or isn't writable. It is also 3 if the
+//! top file has changed before a save replaces it.
+//!
+//! It is also 3 if `PATH.qimg-new` exists when the saved bytes are written, for example because an earlier run was stopped. Then a second
+//! line on standard error has the path of that file and asks the user to remove it.
 #![tactic(auto)]
 
 mod failure;
@@ -38,13 +43,13 @@ use std::{env, io};
 use streams::{Answers, Script};
 use top_file::TopFile;
 
-/// The number of the chain that the program opens.
+/// The number that the chain's image gets, by which a prepared mapping (a run that is not yet committed) identifies its image.
 const CHAIN: u64 = 1;
 
-/// How many bytes of the script are read at once: as many as four of the longest lines have, so that most lines are shown whole.
+/// The number of bytes of the script that are read in one call. It is four times the longest line, so most lines are buffered completely.
 const READ_AT_ONCE: usize = 262_144;
 
-/// The program's arguments, without its name. One that is no text is a bad one.
+/// Returns the program's arguments, without its name. An argument that isn't text fails with `Failure::Arguments`.
 fn words<R: Env + AllocGlobal>(rt: &R) -> Result<Vec<String>, Failure> {
     match env::args(rt) {
         Ok(words) => Ok(words.skip(1).collect(rt.alloc())?),
@@ -53,7 +58,7 @@ fn words<R: Env + AllocGlobal>(rt: &R) -> Result<Vec<String>, Failure> {
     }
 }
 
-/// What the arguments ask for, if there are any.
+/// Parses the arguments of the program. Returns `None` without arguments.
 fn arguments<R: Env + AllocGlobal>(rt: &R) -> Result<Option<Arguments>, Failure> {
     let words = words(rt)?;
     let texts: Vec<&str> = words.iter().map(|word| word.as_str()).collect(rt.alloc())?;
@@ -64,7 +69,7 @@ fn arguments<R: Env + AllocGlobal>(rt: &R) -> Result<Option<Arguments>, Failure>
     }
 }
 
-/// Opens files as a chain and runs the script on standard input over it. It answers the bytes of the last `save`, if there was one.
+/// Opens files as a chain and runs the script on standard input over it. Returns the bytes of the last successful `save`, if any.
 fn run_script<R: Input + Print + AllocGlobal>(
     rt: &R,
     files: Vec<ChainFile<MemStorage>>,
@@ -79,13 +84,13 @@ fn run_script<R: Input + Print + AllocGlobal>(
     let mut output = Answers { buffer: &buffer };
     let ended = run_files(rt.alloc(), files, writable, CHAIN, input, &mut output);
     let flushed = output.flush();
-    // A chain that doesn't open is told as such, also where nobody takes the output.
+    // The failure to open the chain is reported, even if the output can't be written.
     let saved = ended?;
     flushed?;
     Ok(saved)
 }
 
-/// The top's file, where its chain is opened for writing: it may be replaced then.
+/// Returns the top file if the chain is opened for writing, as it may be replaced.
 fn replaceable_top<R: Files + AllocGlobal>(
     rt: &R,
     arguments: &Arguments,
@@ -96,7 +101,7 @@ fn replaceable_top<R: Files + AllocGlobal>(
     }
 }
 
-/// Runs the script over the files that the arguments name, and puts what it saved in the top's place.
+/// Runs the script over the files in the arguments, and replaces the top file with the saved bytes, if any.
 fn serve_files<R: Files + Input + Print + AllocGlobal>(
     rt: &R,
     arguments: &Arguments,
@@ -110,7 +115,7 @@ fn serve_files<R: Files + Input + Print + AllocGlobal>(
     }
 }
 
-/// Does what the arguments ask for.
+/// Runs the program with its arguments.
 fn serve<R: Env + Files + Input + Print + AllocGlobal>(rt: &R) -> Result<(), Failure> {
     if let Some(arguments) = arguments(rt)? {
         return serve_files(rt, &arguments);

@@ -1,9 +1,9 @@
-// The streams of a script. Who sends its lines may wait for their answers: these are written before more is read.
+// The streams of a script. The sender of its lines may wait for their answers, so all answers are written before more input is read.
 
 use std::cell::RefCell;
 use std::io::{self, Read, Write};
 
-/// The answers, kept in a buffer that the reader of the script empties, too.
+/// A writer for the answers. Its buffer is also flushed by the reader of the script.
 #[derive(Drop)]
 pub struct Answers<'a, W: Write> {
     pub buffer: &'a RefCell<W>,
@@ -21,7 +21,7 @@ impl<'a, W: Write> Write for Answers<'a, W> {
     }
 }
 
-/// The bytes of a script, of which more are read only once all answers so far are written.
+/// A reader for a script. Before it reads more, it writes all answers in the buffer.
 #[derive(Drop)]
 pub struct Script<'a, R: Read + Drop, W: Write> {
     pub input: R,

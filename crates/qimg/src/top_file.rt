@@ -1,4 +1,4 @@
-// The file of a chain's top, and what takes its place.
+// The file of a chain's top image, and its replacement by a save.
 
 use crate::failure::Failure;
 use std::alloc::Global;
@@ -7,7 +7,7 @@ use std::io::{self, ErrorKind, Write};
 use std::os::unix::fs::{MetadataExt, OpenOptionsExt, PermissionsExt, lchown};
 use std::path::PathBuf;
 
-/// Which file a path names, and what is known of when it changed.
+/// The identity of a file, with its size and modification time.
 #[derive(Clone, Copy, PartialEq, Eq)]
 struct Version {
     device: u64,
@@ -16,7 +16,7 @@ struct Version {
     modified: (i64, i64),
 }
 
-/// The version of the file that this is said of.
+/// Returns the version of the file with this metadata.
 fn version_of(metadata: &Metadata) -> Version {
     Version {
         device: metadata.dev(),
@@ -48,17 +48,22 @@ fn hand_over<R: Files>(rt: &R, path: &str, old: &Metadata) -> u32 {
     mode & 0o1707 | mode & 0o070 & (mode & 0o007) << 3
 }
 
-/// A regular file that other bytes may take the place of, as it stood at first.
+/// A regular file that a save may replace, with its version at the start.
 #[derive(Drop)]
 pub struct TopFile {
-    /// Its path, through all links.
+    /// The path of the file, with all links resolved.
     path: PathBuf,
     version: Version,
 }
 
 impl TopFile {
-    /// The file that a path names. It is refused where it isn't a regular one: a file with new bytes in the place of a device, say, would
-    /// write nothing to that. So is one that may not be written, though its name could be taken where its folder may be.
+    /// Returns the file at `path`.
+    ///
+    /// # Errors
+    ///
+    /// - `Failure::InputOutput` if the file isn't a regular file. Replacing a device, for example, would write nothing to it.
+    /// - `Failure::InputOutput` if the file isn't writable. Without this check it could still be replaced, if its folder is writable.
+    /// - `Failure::InputOutput` if a call of the system failed or memory ran out.
     pub fn at<R: Files + AllocGlobal>(rt: &R, path: &str) -> Result<TopFile, Failure> {
         let path = fs::canonicalize(rt, path)?;
         let metadata = fs::metadata(rt, path.as_str())?;
@@ -74,7 +79,7 @@ impl TopFile {
         })
     }
 
-    /// Refuses where the file isn't what it was at first: somebody else has written to it.
+    /// Fails if the file has changed since the start, because somebody else has written to it.
     fn check_unchanged<R: Files + AllocGlobal>(&self, rt: &R) -> Result<(), Failure> {
         let metadata = fs::metadata(rt, self.path.as_str())?;
         if version_of(&metadata) != self.version {
@@ -85,7 +90,7 @@ impl TopFile {
 
     /// Fills the new file at the path `beside` with bytes, and renames it to the path of this file.
     ///
-    /// Before any byte is written, the new file gets the owner and the group of this one, as far as the system allows, and then its
+    /// Before any byte is written, the new file gets the owner and the group of this one, as far as the system allows. Then it gets its
     /// permissions. See `hand_over`.
     fn take_place<R: Files + AllocGlobal>(
         &self,
@@ -104,7 +109,7 @@ impl TopFile {
         Ok(())
     }
 
-    /// The folder that the file lies in.
+    /// Opens the folder of the file.
     fn folder<R: Files + AllocGlobal>(&self, rt: &R) -> Result<R::File, Failure> {
         match self.path.parent() {
             Some(folder) => Ok(File::open(rt, folder)?),

@@ -3,7 +3,6 @@ use Rattle.std.specs.Prelude.{◌++◌}
 use Rattle.imago_storage.specs.State.{StorageState}
 use Rattle.qimg.proofs.files.new_files.Goals as goal
 
--- one value in a list that was empty
 only : {A : Type 0} (before after : List A) (value : A) → before ≡ [] → after ≡ before ++ value ∷ [] → after ≡ value ∷ []
 only before after value none is = is ∙ ap (λ list. list ++ value ∷ []) none
 
