@@ -1,10 +1,10 @@
-// What words of the program ask for.
+// Parses command lines of the program `qimg`, and answers the layers (images of a chain) that they give.
 use crate::copies::word_of;
 use cases::{Trouble, joined};
 use qimg_chain::arguments::{Arguments, LayerArgument, parse};
 use std::alloc::Global;
 
-// A layer: its format and its path, and the names and paths of its further files.
+// Appends a layer: its format and path, and the names and paths of its extra files.
 fn tell_layer(alloc: Global, text: &mut String, layer: &LayerArgument) -> Result<(), Trouble> {
     joined(text, word_of(layer.format))?;
     joined(text, layer.path.as_str())?;
@@ -15,7 +15,7 @@ fn tell_layer(alloc: Global, text: &mut String, layer: &LayerArgument) -> Result
     Ok(joined(text, "/")?)
 }
 
-// What the top is opened for, and the layers, with `/` behind each.
+// Returns how the top is opened, and the layers, each followed by `/`.
 fn told(alloc: Global, arguments: &Arguments) -> Result<String, Trouble> {
     let mut text = String::new(alloc);
     let access = if arguments.read_only {
@@ -30,11 +30,11 @@ fn told(alloc: Global, arguments: &Arguments) -> Result<String, Trouble> {
     Ok(text)
 }
 
-/// What these words ask for, or `none` where there are none.
+/// Parses `words` as the program's arguments, and returns their text, or `none` if the list is empty.
 ///
 /// # Errors
 ///
-/// `Trouble::Refused` where they ask for nothing, and for want of memory.
+/// - `Trouble::Refused` if the words aren't valid arguments, or memory runs out.
 pub fn asked_for(alloc: Global, words: &[&str]) -> Result<String, Trouble> {
     match parse(alloc, words)? {
         None => Ok("none".to_string(alloc)?),

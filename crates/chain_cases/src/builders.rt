@@ -1,4 +1,5 @@
-// Builders of images, and drivers that prepare nothing with state, each by itself.
+// Calls of image builders. Also commits and cancels of mappings without state (with nothing to commit) by raw and VMDK drivers. No open
+// disk of the case is used.
 use crate::copies::word_of;
 use crate::files::NamedStorages;
 use crate::images::{access_of, opened};
@@ -12,7 +13,7 @@ use imago_storage::{Fault, Storage, StorageOpenOptions};
 use qcow2_image::Qcow2OpenBuilder;
 use std::alloc::Global;
 
-// The builder with options that have a name, by the words `options FILE`, where they stand.
+// Parses `[options FILE]`, and gives the builder storage options with this file name.
 fn told<S: Storage, B: FormatDriverBuilder<S> + Drop>(
     alloc: Global,
     builder: B,
@@ -28,7 +29,7 @@ fn told<S: Storage, B: FormatDriverBuilder<S> + Drop>(
     }
 }
 
-// The format of a builder, what its image is opened for, and the name in the options that it was told, if it was told any.
+// Describes a builder: its format, how its image is opened, and the file name in its options, or `without` if it has no options.
 fn said<S: Storage, B: FormatDriverBuilder<S>>(
     alloc: Global,
     builder: &B,
@@ -46,7 +47,7 @@ fn said<S: Storage, B: FormatDriverBuilder<S>>(
     Ok(format!(in alloc; "{format} {access} {name}")?)
 }
 
-// What a builder says of itself once it was told these words, and how large the disk is that it opens.
+// Configures a builder, opens its image, and returns the builder's description and the size of the disk in bytes.
 fn built<S, B, F>(alloc: Global, image: S, files: &mut F, words: &[&str]) -> Result<String, Trouble>
 where
     S: Storage,
@@ -67,12 +68,14 @@ where
     Ok(text)
 }
 
-/// What the builder of a format for a file of the case says of itself, and how large the disk is that it opens: `FORMAT NAME [writing]
-/// [options FILE]`.
+/// Opens a file of the case with the builder of a format: `FORMAT NAME [writing] [options FILE]`.
+///
+/// Returns the builder's format, access and options, and the size of the disk in bytes.
 ///
 /// # Errors
 ///
-/// `Trouble::NoCall` where the words are no such words, and where there is no such file; `Trouble::Refused` as the opening.
+/// - `Trouble::NoCall` if the words don't have this form, or the case has no such file.
+/// - `Trouble::Refused` if the opening fails.
 pub fn by_builder<S: Storage + Drop, F: NamedStorages<S> + ImplicitOpenGate<S>>(
     alloc: Global,
     files: &mut F,
@@ -90,7 +93,7 @@ pub fn by_builder<S: Storage + Drop, F: NamedStorages<S> + ImplicitOpenGate<S>>(
     }
 }
 
-// A refusal, and the mapping that comes back with it.
+// Returns the text of a fault and of the mapping that the call returned with it.
 fn refused(
     alloc: Global,
     fault: Fault,
@@ -102,7 +105,7 @@ fn refused(
     Ok(format!(in alloc; "{fault} back {mapping}")?)
 }
 
-// Commits a mapping.
+// Commits a mapping. If the call returns the mapping, its text follows the fault.
 fn committed<D: FormatDriverInstance<State = NoState>>(
     alloc: Global,
     disk: &mut FormatAccess<D>,
@@ -115,7 +118,7 @@ fn committed<D: FormatDriverInstance<State = NoState>>(
     }
 }
 
-// Gives a mapping up.
+// Cancels a mapping. If the call fails, the text of the mapping follows the fault.
 fn cancelled<D: FormatDriverInstance<State = NoState>>(
     alloc: Global,
     disk: &mut FormatAccess<D>,
@@ -127,7 +130,7 @@ fn cancelled<D: FormatDriverInstance<State = NoState>>(
     }
 }
 
-// Commits a mapping without state to a disk of one driver, or gives it up.
+// Commits or cancels a mapping without state on a disk of one layer.
 fn spent<D: FormatDriverInstance<State = NoState> + Drop>(
     alloc: Global,
     driver: D,
@@ -149,12 +152,15 @@ fn spent<D: FormatDriverInstance<State = NoState> + Drop>(
     }
 }
 
-/// Commits a mapping without state to a file of the case as a raw image or a descriptor, each by its own driver, or gives it up: `FORMAT
-/// NAME commit | cancel STORAGE OFFSET N`. The files that a descriptor names aren't opened.
+/// Commits or cancels a mapping without state (with nothing to commit) on a raw or VMDK image: `FORMAT NAME commit | cancel STORAGE OFFSET
+/// N`.
+///
+/// The image is a file of the case, and the driver is that of its format. The extents of a VMDK descriptor aren't opened.
 ///
 /// # Errors
 ///
-/// `Trouble::NoCall` where the words are no such words, and where there is no such file; `Trouble::Refused` for want of memory.
+/// - `Trouble::NoCall` if the words don't have this form, or the case has no such file.
+/// - `Trouble::Refused` if the opening fails, a commit fails without returning the mapping, or memory runs out.
 pub fn spend<S: Storage + Drop, F: NamedStorages<S>>(
     alloc: Global,
     files: &mut F,

@@ -1,4 +1,4 @@
-// The files and the disk of a case, and the calls of its lines.
+// The values of a case (one test of a script), and its calls: `Chains` passes each line to the module that makes the call.
 use crate::arguments::asked_for;
 use crate::files::{Base, NamedFiles, making_of};
 use crate::images::probe;
@@ -13,7 +13,7 @@ use std::alloc::Global;
 use std::cell::Cell;
 use std::mem;
 
-/// The files of a case, the disk over them, disks whose files keep logs, and the chain in memory of which scripts are run.
+/// The files of a case, the disk over them, the disks whose files keep logs, and the chain in memory that scripts are run on.
 pub struct Chains<'a> {
     files: NamedFiles<'a>,
     opened: Opened<Base<'a>>,
@@ -22,12 +22,12 @@ pub struct Chains<'a> {
     notes: &'a Cell<Notes>,
 }
 
-// Puts a value, or none, in the place of what was there.
+// Replaces an optional value, and drops the old one.
 fn put<T: Drop>(place: &mut Option<T>, value: Option<T>) {
     *place = value;
 }
 
-// A line of these words, with a blank between each and the next.
+// Returns a line of text from words, with one blank between them.
 fn line_of(alloc: Global, words: &[&str]) -> Result<String, Trouble> {
     let mut line = String::new(alloc);
     for word in words.iter() {
@@ -68,7 +68,7 @@ fn change_file<'a>(
 }
 
 impl<'a> Chains<'a> {
-    /// Nothing yet; storages note what they are asked.
+    /// Creates a value without files. Storages add their calls to `notes`.
     pub fn new(alloc: Global, notes: &'a Cell<Notes>) -> Self {
         Chains {
             files: NamedFiles::new(alloc, notes),
@@ -79,7 +79,7 @@ impl<'a> Chains<'a> {
         }
     }
 
-    /// Lets go of all.
+    /// Drops all files and disks.
     pub fn close(self) {
         let Chains {
             files: _files,
@@ -95,7 +95,7 @@ impl<'a> Chains<'a> {
         }
     }
 
-    // Opens files as a chain in memory, in the place of the one that was open.
+    // Opens copies of files as a chain in memory, which replaces the previous one. If the opening fails, the case has no such chain.
     fn open_in_memory(&mut self, alloc: Global, words: &[&str]) -> Result<String, Trouble> {
         put(&mut self.scripted, None);
         let scripted = Scripted::open(alloc, words, &mut self.files)?;
@@ -103,7 +103,7 @@ impl<'a> Chains<'a> {
         Ok(ok(alloc)?)
     }
 
-    // A script of the chain in memory that there has to be, or what the last one saved.
+    // Makes a call of the chain in memory: runs a script, or reads what the last one saved.
     fn scripted(&mut self, alloc: Global, words: &[&str]) -> Result<String, Trouble> {
         match &mut self.scripted {
             Some(scripted) => scripted.called(alloc, words),
@@ -111,7 +111,7 @@ impl<'a> Chains<'a> {
         }
     }
 
-    // What openings of a file's first bytes answer.
+    // Opens prefixes of a file, one for each length between the two.
     fn prefixes(
         &mut self,
         alloc: Global,
@@ -124,7 +124,7 @@ impl<'a> Chains<'a> {
         prefixes(alloc, &mut self.files, file, lengths, Looked::new(words)?)
     }
 
-    // Has disks over files that keep logs from here on, or none.
+    // Replaces the disks whose files keep logs. With `None`, calls are made on the disk without logs again.
     fn log(&mut self, logs: Option<Logs<'a>>) {
         if let Some(before) = mem::replace(&mut self.logs, logs) {
             before.close();
@@ -138,7 +138,7 @@ impl<'a> Chains<'a> {
         }
     }
 
-    // How many calls the layers' files were asked for; the words are those of a call that no disk has.
+    // Answers how many calls the layers' image files got. Without an open disk, `words` are passed on as any other call.
     fn counted(&mut self, alloc: Global, words: &[&str]) -> Result<String, Trouble> {
         match self.opened.disk() {
             Some(disk) => counts(alloc, disk),
@@ -146,7 +146,7 @@ impl<'a> Chains<'a> {
         }
     }
 
-    // A call of the disk, or of those whose files keep logs, where there are such.
+    // Makes a call of the disks whose files keep logs, if any, and otherwise of the disk.
     fn answered(&mut self, alloc: Global, words: &[&str]) -> Result<String, Trouble> {
         match &mut self.logs {
             Some(logs) => logs.answer(alloc, words, &mut self.files),
@@ -154,7 +154,7 @@ impl<'a> Chains<'a> {
         }
     }
 
-    // What the storages of a case were asked for, or a call of its disk.
+    // Makes a call of the notes or the logs, or of the disk.
     fn called(&mut self, alloc: Global, words: &[&str]) -> Result<String, Trouble> {
         match words {
             ["asked"] => Ok(told(alloc, self.notes)?),

@@ -1,4 +1,4 @@
-// Copies of a disk's files, and of the disk, by words.
+// Copies of a disk's files by `snapshot`, and of the disk itself by `flatten`.
 use access_calls::{buffer, flatten, read};
 use cases::{Trouble, joined, number, runs, size};
 use imago_access::{Format, FormatAccess, FormatDriverInstance, ReadFiles};
@@ -8,7 +8,7 @@ use qimg_chain::chain::{NamesFiles, snapshot};
 use qimg_core::plain::ChainFile;
 use std::alloc::Global;
 
-/// The word of a format.
+/// Returns the word of a format.
 pub fn word_of(format: Format) -> &'static str {
     match format {
         Format::Raw => "raw",
@@ -17,13 +17,13 @@ pub fn word_of(format: Format) -> &'static str {
     }
 }
 
-// How long a file is.
+// Appends the length of a file, in bytes.
 fn tell_length(alloc: Global, text: &mut String, file: &MemStorage) -> Result<(), Trouble> {
     let length = file.as_bytes().len().to_string(alloc)?;
     Ok(joined(text, length.as_str())?)
 }
 
-// The format of a layer and the length of its file, and the names and lengths of the further ones.
+// Appends a layer: its format, the length of its image file, and the names and lengths of its extra files.
 fn tell_layer(
     alloc: Global,
     text: &mut String,
@@ -38,7 +38,7 @@ fn tell_layer(
     Ok(joined(text, "/")?)
 }
 
-// The file of a layer with this number.
+// Returns a file of a layer. The image file has the number 0, and the extra files follow.
 fn file_of(layer: &ChainFile<MemStorage>, file: usize) -> Result<&MemStorage, Trouble> {
     if file == 0 {
         return Ok(&layer.image);
@@ -49,7 +49,7 @@ fn file_of(layer: &ChainFile<MemStorage>, file: usize) -> Result<&MemStorage, Tr
     }
 }
 
-// A range of a file, in which it has to lie.
+// Returns the bytes of a range of a file, or `Trouble::NoCall` if the range isn't inside the file.
 fn range_of(alloc: Global, file: &MemStorage, offset: u64, n: u64) -> Result<String, Trouble> {
     let bytes = file.as_bytes();
     let end = offset.saturating_add(n);
@@ -59,11 +59,12 @@ fn range_of(alloc: Global, file: &MemStorage, offset: u64, n: u64) -> Result<Str
     Ok(runs(alloc, &bytes[offset as usize..end as usize])?)
 }
 
-/// Copies the files of a disk: it tells all their lengths, or by the words `LAYER FILE OFFSET N` a range of one.
+/// Copies the files of a disk. Returns the lengths of all copies, or with `LAYER FILE OFFSET N` the bytes of a range of one copy.
 ///
 /// # Errors
 ///
-/// `Trouble::NoCall` where the words are no such words, and where there is no such range; `Trouble::Refused` as the copying.
+/// - `Trouble::NoCall` if the words don't have this form, or no copy has this range.
+/// - `Trouble::Refused` if the copying fails.
 pub fn copied<D: NamesFiles + ReadFiles>(
     alloc: Global,
     disk: &mut FormatAccess<D>,
@@ -91,17 +92,18 @@ pub fn copied<D: NamesFiles + ReadFiles>(
     }
 }
 
-// A raw disk in memory of so many bytes, which are no zeroes.
+// Returns a raw disk in memory of `n` bytes, all nonzero.
 fn raw_disk(alloc: Global, n: u64) -> Result<FormatAccess<Raw<MemStorage>>, Trouble> {
     let file = MemStorage::from_bytes(buffer(alloc, n)?)?;
     Ok(FormatAccess::new(Raw::open_image(file, true)))
 }
 
-/// Copies a disk into a new raw one in memory: by the word `SIZE` it tells all bytes of that, or by `SIZE OFFSET N` a range.
+/// Copies a disk into a new raw disk in memory. With `SIZE` it returns all bytes of the copy, and with `SIZE OFFSET N` a range.
 ///
 /// # Errors
 ///
-/// `Trouble::NoCall` where the words are no such words, or more than 16 MiB are asked for; `Trouble::Refused` as the copying or the read.
+/// - `Trouble::NoCall` if the words don't have this form, or `SIZE` or `N` is more than 16 MiB.
+/// - `Trouble::Refused` if the copying or the read fails.
 pub fn flattened<D: FormatDriverInstance>(
     alloc: Global,
     disk: &mut FormatAccess<D>,

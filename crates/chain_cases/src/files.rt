@@ -1,4 +1,4 @@
-// The files of a case, which images open by their names.
+// The files of a case, which images open by name. Each opening makes a new storage over a copy of the file's bytes.
 ghost use Rattle.std.specs.Prelude.{⊤};
 
 use cases::{Alignments, Notes, Shaped, Trouble, number, size};
@@ -9,17 +9,17 @@ use imago_storage::{
 use std::alloc::Global;
 use std::cell::Cell;
 
-/// The storage over a file that is opened.
+/// The storage over an opened file.
 pub type Base<'a> = FuseStorage<Shaped<'a>>;
 
-/// The same, which keeps a log of its changes.
+/// A `Base` that keeps a log of its changes.
 pub type Logged<'a> = LogStorage<Base<'a>>;
 
-/// How a storage is made of a file, each time that it is opened.
+/// The properties of each storage that is made over a file.
 #[derive(Clone, Copy)]
 pub struct Making {
     pub alignments: Alignments,
-    /// Which of its calls fails, counted from 1; none where it is 0.
+    /// The number of the call that fails, from 1 on, or 0 if none fails.
     pub fuse: u64,
 }
 
@@ -31,7 +31,7 @@ struct NamedFile {
     making: Making,
 }
 
-/// All files of a case.
+/// The files of a case.
 #[derive(Drop)]
 pub struct NamedFiles<'a> {
     files: Vec<NamedFile>,
@@ -39,7 +39,7 @@ pub struct NamedFiles<'a> {
 }
 
 impl<'a> NamedFiles<'a> {
-    /// No files, whose storages note what they are asked.
+    /// Creates an empty list of files. The storages over them add their calls to `notes`.
     pub fn new(alloc: Global, notes: &'a Cell<Notes>) -> Self {
         NamedFiles {
             files: Vec::new(alloc),
@@ -47,23 +47,23 @@ impl<'a> NamedFiles<'a> {
         }
     }
 
-    /// Lets go of all files.
+    /// Drops all files.
     pub fn clear(&mut self) {
         self.files.clear();
     }
 
-    // The file of a name.
+    // Returns the file with this name, if any.
     fn find(&mut self, name: &str) -> Option<&mut NamedFile> {
         self.files
             .iter_mut()
             .find(|file| file.name.as_str() == name)
     }
 
-    /// The bytes of a file.
+    /// Returns the bytes of a file.
     ///
     /// # Errors
     ///
-    /// `Trouble::NoCall` where there is no such file.
+    /// - `Trouble::NoCall` if the case has no such file.
     pub fn view(&self, name: &str) -> Result<&[u8], Trouble> {
         match self.files.iter().find(|file| file.name.as_str() == name) {
             Some(file) => Ok(file.bytes.as_bytes()),
@@ -71,7 +71,7 @@ impl<'a> NamedFiles<'a> {
         }
     }
 
-    // The file of a name that there has to be.
+    // Returns the file with this name, or `Trouble::NoCall`.
     fn named(&mut self, name: &str) -> Result<&mut NamedFile, Trouble> {
         match self.find(name) {
             Some(file) => Ok(file),
@@ -79,11 +79,12 @@ impl<'a> NamedFiles<'a> {
         }
     }
 
-    /// Adds a file of these bytes.
+    /// Adds a file with these bytes.
     ///
     /// # Errors
     ///
-    /// `Trouble::NoCall` where there is one of this name; `Trouble::Refused` for want of memory.
+    /// - `Trouble::NoCall` if the case already has a file with this name.
+    /// - `Trouble::Refused` if memory runs out, or no storage can be made of the bytes.
     pub fn add(
         &mut self,
         alloc: Global,
@@ -102,11 +103,12 @@ impl<'a> NamedFiles<'a> {
         Ok(self.files.push(file)?)
     }
 
-    /// Puts bytes at a place of a file.
+    /// Writes bytes to a file, at this offset in bytes. Storages that were opened before don't change.
     ///
     /// # Errors
     ///
-    /// `Trouble::NoCall` where there is no such file; `Trouble::Refused` for want of memory.
+    /// - `Trouble::NoCall` if the case has no such file.
+    /// - `Trouble::Refused` if the call on the file's storage fails.
     pub fn put(
         &mut self,
         alloc: Global,
@@ -117,32 +119,33 @@ impl<'a> NamedFiles<'a> {
         Ok(self.named(name)?.bytes.write(alloc, bytes, offset)?)
     }
 
-    /// Puts bytes at the end of a file.
+    /// Appends bytes to a file.
     ///
     /// # Errors
     ///
-    /// As `put`.
+    /// The errors of `put`.
     pub fn append(&mut self, alloc: Global, name: &str, bytes: &[u8]) -> Result<(), Trouble> {
         let file = self.named(name)?;
         let end = file.bytes.size();
         Ok(file.bytes.write(alloc, bytes, end)?)
     }
 
-    /// Makes a file so long.
+    /// Sets the length of a file, in bytes.
     ///
     /// # Errors
     ///
-    /// As `put`.
+    /// The errors of `put`.
     pub fn cut(&mut self, name: &str, length: u64) -> Result<(), Trouble> {
         let file = self.named(name)?;
         Ok(file.bytes.resize(length, PreallocateMode::None)?)
     }
 
-    /// A storage over a file's first bytes, so many at most.
+    /// Opens a storage over the first `length` bytes of a file, or over the whole file if it is shorter.
     ///
     /// # Errors
     ///
-    /// As `put`.
+    /// - `Trouble::NoCall` if the case has no such file.
+    /// - `Trouble::Refused` if memory runs out, or the storage can't be made.
     pub fn open_prefix(&mut self, name: &str, length: usize) -> Result<Base<'a>, Trouble> {
         let notes = self.notes;
         let file = self.named(name)?;
@@ -153,21 +156,22 @@ impl<'a> NamedFiles<'a> {
         Ok(FuseStorage::new(shaped, making.fuse))
     }
 
-    /// A storage over a file.
+    /// Opens a storage over a file.
     ///
     /// # Errors
     ///
-    /// As `put`.
+    /// The errors of `open_prefix`.
     pub fn open(&mut self, name: &str) -> Result<Base<'a>, Trouble> {
         self.open_prefix(name, usize::MAX)
     }
 
-    /// A storage of these alignments over a file, which keeps a log. The call by which the log reads the file isn't noted, and no fuse
-    /// counts it.
+    /// Opens a storage over a file, with these alignments and a log.
+    ///
+    /// The log reads the file when it is created. This call isn't noted, and it doesn't count for the fuse.
     ///
     /// # Errors
     ///
-    /// As `put`.
+    /// The errors of `open_prefix`.
     pub fn open_logged(
         &mut self,
         alloc: Global,
@@ -188,13 +192,14 @@ impl<'a> NamedFiles<'a> {
     }
 }
 
-/// Files that are opened by their names, each time as another storage.
+/// Files that are opened by name. Each opening makes a new storage.
 pub trait NamedStorages<S> {
-    /// A storage over the file of a name.
+    /// Opens a storage over the file with this name.
     ///
     /// # Errors
     ///
-    /// `Trouble::NoCall` where there is no such file; `Trouble::Refused` for want of memory.
+    /// - `Trouble::NoCall` if the case has no such file.
+    /// - `Trouble::Refused` if memory runs out, or the storage can't be made.
     fn open_storage(&mut self, name: &str) -> Result<S, Trouble>;
 }
 
@@ -204,7 +209,7 @@ impl<'a> NamedStorages<Base<'a>> for NamedFiles<'a> {
     }
 }
 
-// A copy in memory, which is read by single bytes, and fails at no call.
+// Copies in memory, with alignment 1 and without a fuse.
 impl<'a> NamedStorages<MemStorage> for NamedFiles<'a> {
     fn open_storage(&mut self, name: &str) -> Result<MemStorage, Trouble> {
         let bytes = self.named(name)?.bytes.bytes()?;
@@ -225,11 +230,11 @@ impl<'a> ImplicitOpenGate<Base<'a>> for NamedFiles<'a> {
     }
 }
 
-/// How a file's storages are made: `[fuse N] [align N]` in front of the bytes.
+/// Parses `[fuse N] [align N]`, which come before a file's bytes. The default is no fuse, and alignment 1.
 ///
 /// # Errors
 ///
-/// `Trouble::NoCall` where a number is none, or no alignment.
+/// - `Trouble::NoCall` if an `N` isn't a number, or the alignment isn't a power of two of at most 2^20.
 pub fn making_of<'x, 'y>(words: &'y [&'x str]) -> Result<(Making, &'y [&'x str]), Trouble> {
     let (fuse, rest) = match words {
         ["fuse", n, rest @ ..] => (number(n)?, rest),

@@ -1,4 +1,4 @@
-// How images are opened over the files of a case.
+// Opens files of the case as images of one format, with the access, backing and cache sizes that the script gives.
 use crate::files::{NamedFiles, NamedStorages};
 use cases::{Trouble, size};
 use imago_access::{FormatDriverBuilder, ImplicitOpenGate};
@@ -7,10 +7,10 @@ use imago_storage::Storage;
 use qcow2_image::{Qcow2, Qcow2OpenBuilder};
 use std::alloc::Global;
 
-/// What words in front of others stand for, and these.
+/// The value of the first words of a list, and the words after them.
 pub type Split<'x, 'y, T> = (T, &'y [&'x str]);
 
-/// Whether it is to be for writing, by the word `writing` where it stands first, and the words behind it.
+/// Parses `[writing]`. Returns true if the first word is `writing`, and the words after it.
 pub fn access_of<'x, 'y>(words: &'y [&'x str]) -> Split<'x, 'y, bool> {
     match words {
         ["writing", rest @ ..] => (true, rest),
@@ -18,7 +18,7 @@ pub fn access_of<'x, 'y>(words: &'y [&'x str]) -> Split<'x, 'y, bool> {
     }
 }
 
-// Whether it is to be for writing, where nothing else is said.
+// Parses `[writing]`, with nothing after it.
 fn access_alone(words: &[&str]) -> Result<bool, Trouble> {
     let (is_writing, rest) = access_of(words);
     if !rest.is_empty() {
@@ -27,7 +27,7 @@ fn access_alone(words: &[&str]) -> Result<bool, Trouble> {
     Ok(is_writing)
 }
 
-// What is said of layers below: `backed`, `alone`, or nothing.
+// Parses `[backed | alone]`: whether unallocated bytes are read from layers below (the backing chain), or `None` by default.
 fn backing_of<'x, 'y>(words: &'y [&'x str]) -> Split<'x, 'y, Option<bool>> {
     match words {
         ["backed", rest @ ..] => (Some(true), rest),
@@ -36,7 +36,7 @@ fn backing_of<'x, 'y>(words: &'y [&'x str]) -> Split<'x, 'y, Option<bool>> {
     }
 }
 
-// The builder with caches of so many L2 tables and refcount blocks, by the words `caches L R`, where they stand.
+// Parses `[caches L R]`, and gives the builder caches of `L` L2 tables and `R` refcount blocks.
 fn cached<S: Storage>(
     builder: Qcow2OpenBuilder<S>,
     words: &[&str],
@@ -52,7 +52,8 @@ fn cached<S: Storage>(
 ///
 /// # Errors
 ///
-/// `Trouble::NoCall` where the words are no such words; `Trouble::Refused` as the opening.
+/// - `Trouble::NoCall` if the words don't have this form.
+/// - `Trouble::Refused` if the opening fails.
 pub fn open_qcow2<S: Storage + Drop, F: ImplicitOpenGate<S>>(
     alloc: Global,
     storage: S,
@@ -78,11 +79,11 @@ fn open_plain<S: Storage + Drop>(
     Ok(Qcow2::open_image(alloc, storage, access_alone(words)?)?)
 }
 
-/// Opens a storage as a VMDK descriptor, whose extents are files of the case: `[writing]`.
+/// Opens a storage as a VMDK descriptor, with its extents, which are files of the case: `[writing]`.
 ///
 /// # Errors
 ///
-/// As `open_qcow2`.
+/// The errors of `open_qcow2`.
 pub fn open_vmdk<S: Storage + Drop, F: ImplicitOpenGate<S>>(
     alloc: Global,
     storage: S,
@@ -93,11 +94,12 @@ pub fn open_vmdk<S: Storage + Drop, F: ImplicitOpenGate<S>>(
     Ok(Vmdk::builder(storage).write(is_writing).open(alloc, files)?)
 }
 
-/// The file of a name, which stands first, and the words behind it.
+/// Opens the file whose name is the first word. Returns its storage and the words after the name.
 ///
 /// # Errors
 ///
-/// `Trouble::NoCall` where there is no such file; `Trouble::Refused` for want of memory.
+/// - `Trouble::NoCall` if `words` is empty, or the case has no such file.
+/// - `Trouble::Refused` if memory runs out, or the storage can't be made.
 pub fn opened<'x, 'y, S, F: NamedStorages<S>>(
     files: &mut F,
     words: &'y [&'x str],
@@ -112,7 +114,7 @@ pub fn opened<'x, 'y, S, F: NamedStorages<S>>(
 ///
 /// # Errors
 ///
-/// As `open_qcow2`.
+/// The errors of `opened`, and `Trouble::NoCall` if the words don't have this form.
 pub fn raw<S: Storage + Drop, F: NamedStorages<S>>(
     files: &mut F,
     words: &[&str],
@@ -121,11 +123,11 @@ pub fn raw<S: Storage + Drop, F: NamedStorages<S>>(
     Ok(Raw::open_image(storage, access_alone(rest)?))
 }
 
-/// Opens a file of the case as a qcow2 image: `NAME`, and the words of `open_qcow2`, or `plain [writing]`.
+/// Opens a file of the case as a qcow2 image: `NAME`, and then the arguments of `open_qcow2`, or `plain [writing]` without a builder.
 ///
 /// # Errors
 ///
-/// As `open_qcow2`.
+/// The errors of `opened` and `open_qcow2`.
 pub fn qcow2<S: Storage + Drop, F: NamedStorages<S> + ImplicitOpenGate<S>>(
     alloc: Global,
     files: &mut F,
@@ -138,11 +140,11 @@ pub fn qcow2<S: Storage + Drop, F: NamedStorages<S> + ImplicitOpenGate<S>>(
     }
 }
 
-/// Opens a file of the case as a VMDK descriptor: `NAME`, and the words of `open_vmdk`, or `plain`, by which no extent's file is opened.
+/// Opens a file of the case as a VMDK descriptor: `NAME`, and then the arguments of `open_vmdk`, or `plain` to open no extents.
 ///
 /// # Errors
 ///
-/// As `open_qcow2`.
+/// The errors of `opened` and `open_vmdk`.
 pub fn vmdk<S: Storage + Drop, F: NamedStorages<S> + ImplicitOpenGate<S>>(
     alloc: Global,
     files: &mut F,
@@ -155,11 +157,12 @@ pub fn vmdk<S: Storage + Drop, F: NamedStorages<S> + ImplicitOpenGate<S>>(
     }
 }
 
-/// Whether a file of the case begins as an image of a format does.
+/// Answers whether a file of the case begins like an image of the format.
 ///
 /// # Errors
 ///
-/// `Trouble::NoCall` where the format has no such test, and where there is no such file; `Trouble::Refused` as the call.
+/// - `Trouble::NoCall` if the format isn't `qcow2` or `vmdk`, or the case has no such file.
+/// - `Trouble::Refused` if the call fails.
 pub fn probe<'a>(
     alloc: Global,
     files: &mut NamedFiles<'a>,

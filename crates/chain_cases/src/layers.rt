@@ -1,4 +1,4 @@
-// The layers of a disk, by words.
+// Builds a disk layer by layer (image by image, the lowest first), and makes calls that need its drivers.
 use crate::files::NamedStorages;
 use crate::images::{qcow2, raw, vmdk};
 use access_calls::{stacked, top};
@@ -8,7 +8,7 @@ use imago_storage::{FuseStorage, Storage};
 use qimg_chain::chain::ImageDriver;
 use std::alloc::Global;
 
-/// The image of these words, over a file of the case.
+/// Opens a file of the case as an image: a format, and the words of `images::raw`, `images::qcow2` or `images::vmdk`.
 pub fn image_of<S: Storage + Drop, F: NamedStorages<S> + ImplicitOpenGate<S>>(
     alloc: Global,
     words: &[&str],
@@ -22,7 +22,7 @@ pub fn image_of<S: Storage + Drop, F: NamedStorages<S> + ImplicitOpenGate<S>>(
     }
 }
 
-// An image over others.
+// Puts an image on top of a disk. Fails with `Trouble::NoCall` if the image reads nothing from a layer below.
 fn over<S: Storage + Drop>(
     alloc: Global,
     driver: ImageDriver<S>,
@@ -34,7 +34,7 @@ fn over<S: Storage + Drop>(
     stacked(alloc, driver, below)
 }
 
-/// An image over a disk, if there is one.
+/// Puts an image on top of a disk. Without a disk it becomes the lowest layer.
 pub fn add<S: Storage + Drop>(
     alloc: Global,
     driver: ImageDriver<S>,
@@ -46,11 +46,12 @@ pub fn add<S: Storage + Drop>(
     }
 }
 
-/// Opens the files that a descriptor on top asks for, but for those that are open.
+/// Opens the extents of a VMDK descriptor on top, except those that are already open.
 ///
 /// # Errors
 ///
-/// `Trouble::NoCall` where the top is no descriptor; `Trouble::Refused` as the call.
+/// - `Trouble::NoCall` if the top isn't a descriptor, or a mapping is prepared.
+/// - `Trouble::Refused` if the call fails.
 pub fn open_extents<S: Storage, F: ImplicitOpenGate<S>>(
     alloc: Global,
     disk: &mut FormatAccess<ImageDriver<S>>,
@@ -62,10 +63,10 @@ pub fn open_extents<S: Storage, F: ImplicitOpenGate<S>>(
     }
 }
 
-/// The most layers of which it is told.
+/// The greatest number of layers that an answer lists.
 const MOST_LAYERS: u8 = 16;
 
-/// How many calls the image file of each layer was asked for, the highest layer first.
+/// Returns how many calls the image file of each layer got, the top first. After the 16th count `more` ends the answer.
 pub fn counts<S: Storage>(
     alloc: Global,
     disk: &FormatAccess<ImageDriver<FuseStorage<S>>>,

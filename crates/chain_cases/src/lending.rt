@@ -1,4 +1,4 @@
-// The files that the driver of the top layer lends, and those that it gives back.
+// Calls on the files that the driver of the top layer (the top image) returns by reference or by value.
 use access_calls::{buffer, top};
 use cases::{Trouble, bytes, number, ok, runs, size};
 use imago_access::{FormatAccess, FormatDriverInstance};
@@ -22,7 +22,7 @@ fn image_mut<S: Storage>(driver: &mut ImageDriver<S>) -> &mut S {
     }
 }
 
-// The file of an extent, if it is open.
+// Returns the file of an open extent, or `Trouble::NoCall` if the image has no open extent with this index.
 fn extra_mut<S: Storage>(driver: &mut ImageDriver<S>, index: usize) -> Result<&mut S, Trouble> {
     match driver {
         ImageDriver::Vmdk(vmdk) if index < vmdk.extras() => Ok(vmdk.extra_mut(index)),
@@ -30,7 +30,7 @@ fn extra_mut<S: Storage>(driver: &mut ImageDriver<S>, index: usize) -> Result<&m
     }
 }
 
-// The image file that a disk's top driver gives back, where nothing is prepared.
+// Takes the image file out of the top layer's driver. Fails with `Trouble::NoCall` if a mapping is prepared.
 fn into_image<S: Storage + Drop>(disk: FormatAccess<ImageDriver<S>>) -> Result<S, Trouble> {
     if disk.inner().prepared() {
         return Err(Trouble::NoCall);
@@ -60,7 +60,7 @@ fn written<S: Storage>(
     Ok(ok(alloc)?)
 }
 
-// The name of a further file, in quotes. There is one for each index where there are no such files.
+// Returns the name of an extra file, in quotes. A raw or qcow2 image has no extra files, and gives an empty name for each index.
 fn extra_name<S: Storage>(
     alloc: Global,
     driver: &ImageDriver<S>,
@@ -75,11 +75,12 @@ fn extra_name<S: Storage>(
     Ok(format!(in alloc; "\"{name}\"")?)
 }
 
-/// Bytes of the image file that a disk's top driver gives back, as the layers below are dropped.
+/// Drops a disk except for the image file of its top layer, and reads bytes of this file.
 ///
 /// # Errors
 ///
-/// `Trouble::NoCall` where something is prepared, and where the range is of more than 16 MiB; `Trouble::Refused` as the read.
+/// - `Trouble::NoCall` if a mapping is prepared, or the range is longer than 16 MiB.
+/// - `Trouble::Refused` if the read fails.
 pub fn given_back<S: Storage + Drop>(
     alloc: Global,
     disk: FormatAccess<ImageDriver<S>>,
@@ -90,14 +91,18 @@ pub fn given_back<S: Storage + Drop>(
     range_of(alloc, &mut file, offset, n)
 }
 
-/// Makes the call of these words of the files that the top driver lends: `image`, how long its image file is; `image OFFSET N` and
-/// `write_image OFFSET BYTES` of that file; `extra INDEX OFFSET N` and `write_extra INDEX OFFSET BYTES` of the file of an extent, and
-/// `extra_name INDEX`, its name.
+/// Reads or writes a file that the top layer's driver returns by reference.
+///
+/// - `image`: the length of the image file, in bytes.
+/// - `image OFFSET N`, `write_image OFFSET BYTES`: a read or a write of the image file.
+/// - `extra INDEX OFFSET N`, `write_extra INDEX OFFSET BYTES`: a read or a write of an extent's file.
+/// - `extra_name INDEX`: the name of an extra file.
 ///
 /// # Errors
 ///
-/// `Trouble::NoCall` where the words are no such words, where there is no such file, and but for `image` and names where something is
-/// prepared; `Trouble::Refused` as the call.
+/// - `Trouble::NoCall` if the words aren't such a call, the image has no such file, or a range to read is longer than 16 MiB.
+/// - `Trouble::NoCall` if a mapping is prepared, except for `image` without a range and `extra_name`.
+/// - `Trouble::Refused` if the call fails.
 pub fn lent<S: Storage>(
     alloc: Global,
     disk: &mut FormatAccess<ImageDriver<S>>,

@@ -1,4 +1,5 @@
-// Disks whose files keep logs of their changes, and what their stops leave.
+// Disks whose files keep logs of their requests. Each call is made on one disk for each alignment. The logs give the crash images: the
+// bytes of a file after a crash between two requests.
 ghost use Rattle.std.specs.Prelude.{⊤};
 
 use crate::files::{Logged, NamedFiles, NamedStorages};
@@ -9,7 +10,7 @@ use imago_access::{FormatDriverInstance, ImplicitOpenGate};
 use imago_storage::Fault;
 use std::alloc::Global;
 
-/// The files of a case, each of which is opened as a storage that keeps a log.
+/// The files of a case, which are opened as storages that keep logs.
 #[derive(Drop)]
 struct LoggedFiles<'f, 'a> {
     alloc: Global,
@@ -36,15 +37,15 @@ impl<'f, 'a> ImplicitOpenGate<Logged<'a>> for LoggedFiles<'f, 'a> {
     }
 }
 
-// A disk over files of one alignment, and how many changes of its top file were forgotten.
+// A disk over files of one alignment, and the number of its top file's requests that `stops` skips.
 struct Kept<'a> {
-    /// In bytes, or 0 where the disk isn't used.
+    /// The alignment in bytes, or 0 if this disk isn't used.
     alignment: usize,
     opened: Opened<Logged<'a>>,
     forgotten: usize,
 }
 
-/// A disk for each of some alignments, of which the same calls are made.
+/// Up to four disks with different alignments, which get the same calls.
 pub struct Logs<'a> {
     first: Kept<'a>,
     second: Kept<'a>,
@@ -52,7 +53,7 @@ pub struct Logs<'a> {
     fourth: Kept<'a>,
 }
 
-// What disks answer: the first, and behind it each that answers otherwise than the one before.
+// The answer of the first disk, followed by each answer that differs from that of the previous disk.
 #[derive(Drop)]
 struct Answers {
     text: String,
@@ -67,7 +68,7 @@ impl Answers {
         }
     }
 
-    // Puts the answer of the disk of an alignment behind the others.
+    // Appends the answer of the disk with this alignment, unless the previous disk gave the same answer.
     fn add(&mut self, alloc: Global, alignment: usize, answer: String) -> Result<(), Trouble> {
         if answer.as_str() == self.last.as_str() {
             return Ok(());
@@ -100,14 +101,14 @@ impl<'a> Kept<'a> {
         opened.close();
     }
 
-    // Forgets the changes of the top file so far.
+    // Makes `stops` skip the requests that the top file has logged up to now.
     fn forget(&mut self) {
         if let Some(disk) = self.opened.disk() {
             self.forgotten = disk.inner().image_file().requests().len();
         }
     }
 
-    // What the stops show behind the changes that were forgotten.
+    // Reports the crash images after the forgotten requests.
     fn stops(
         &self,
         alloc: Global,
@@ -122,7 +123,7 @@ impl<'a> Kept<'a> {
         stops(alloc, requests, self.forgotten, looked, layers, files)
     }
 
-    // Opens a disk by these words, or makes their call of it. The log of one that is opened begins anew.
+    // Opens the disk, or makes a call of it. A disk that is opened has a new log, so no request is forgotten then.
     fn called(
         &mut self,
         alloc: Global,
@@ -167,7 +168,7 @@ impl<'a> Kept<'a> {
         }
     }
 
-    // Makes a call of the disk, if it is used, and puts its answer behind those of the others.
+    // Makes a call of the disk, if it is used, and appends its answer to the others.
     fn ask(
         &mut self,
         alloc: Global,
@@ -183,7 +184,7 @@ impl<'a> Kept<'a> {
     }
 }
 
-// What a call came to, as a text.
+// Returns the answer of a call as text. A fault other than `Fault::Memory` is text, too.
 fn told(alloc: Global, answer: Result<String, Trouble>) -> Result<String, Trouble> {
     match answer {
         Err(Trouble::Refused(Fault::Memory)) => Err(Trouble::Refused(Fault::Memory)),
@@ -193,7 +194,7 @@ fn told(alloc: Global, answer: Result<String, Trouble>) -> Result<String, Troubl
 }
 
 impl<'a> Logs<'a> {
-    // No disks yet, of these alignments.
+    // Creates a value for these alignments, without disks.
     fn of(first: usize, second: usize, third: usize, fourth: usize) -> Self {
         Logs {
             first: Kept::new(first),
@@ -203,11 +204,11 @@ impl<'a> Logs<'a> {
         }
     }
 
-    /// No disks yet, of each of the alignments of these words, which are three at most, or of 1, 8, 512 and 4096 where there are none.
+    /// Creates a value without disks, for up to three alignments in bytes, or for 1, 8, 512 and 4096 if `words` is empty.
     ///
     /// # Errors
     ///
-    /// `Trouble::NoCall` where a word is no number, or there are more.
+    /// - `Trouble::NoCall` if a word isn't a number, or the list has more than three.
     pub fn new(words: &[&str]) -> Result<Self, Trouble> {
         match words {
             [] => Ok(Logs::of(1, 8, 512, 4096)),
@@ -218,7 +219,7 @@ impl<'a> Logs<'a> {
         }
     }
 
-    /// Lets go of all disks.
+    /// Drops all disks.
     pub fn close(self) {
         let Logs {
             first,
@@ -232,7 +233,7 @@ impl<'a> Logs<'a> {
         fourth.close();
     }
 
-    /// Forgets the changes of the top files so far.
+    /// Makes `stops` skip the requests that the top files have logged up to now.
     pub fn forget(&mut self) {
         self.first.forget();
         self.second.forget();
@@ -240,12 +241,14 @@ impl<'a> Logs<'a> {
         self.fourth.forget();
     }
 
-    /// Opens disks by these words, or makes their call of each: what the first answers, and behind it each answer that differs from the one
-    /// before, by its alignment.
+    /// Opens or closes each disk, or makes a call of each disk.
+    ///
+    /// Returns the answer of the first disk. Each answer that differs from that of the previous disk follows, after its alignment.
     ///
     /// # Errors
     ///
-    /// `Trouble::NoCall` where the words are no call, or ask for what isn't there; `Trouble::Refused` for want of memory.
+    /// - `Trouble::NoCall` if the words aren't a call, or the call needs a disk, a mapping or a file that doesn't exist.
+    /// - `Trouble::Refused` if memory runs out.
     pub fn answer(
         &mut self,
         alloc: Global,

@@ -1,78 +1,90 @@
-//! Calls of chains of image files and their answers, by scripts: qcow2, VMDK and raw images over files that are given by their bytes.
+//! Runs scripts of calls of chains of image files: qcow2, VMDK and raw images, over files that a script gives by their bytes.
+//!
+//! Offsets, lengths, sizes and alignments are in bytes. `docs/CASES.md` describes the format of a script. Terms are explained in
+//! docs/GLOSSARY.md.
 //!
 //! # Files
 //!
-//! - `file NAME [fuse N] [align N] BYTES`: a file, whose storages have this alignment and fail at the Nth call. `put NAME OFFSET BYTES`
-//!   changes it, `more NAME BYTES` and `line NAME WORDS` put bytes and a line of text at its end, and `cut NAME LENGTH` makes it so long:
-//!   for what opens it from then on.
-//! - `prefixes qcow2 | vmdk NAME FIRST LAST [OFFSET N]`: what the openings of its first bytes answer, of each length from the first to the
-//!   last: the size of the disk, or a refusal, where all answer the same. With a range it is what reads of the disk answer there.
-//! - `probe qcow2 | vmdk NAME`: whether it begins as an image of this format does: `true` or `false`.
+//! - `file NAME [fuse N] [align N] BYTES`: adds a file. Its storages have this alignment, and their Nth call fails.
+//! - `put NAME OFFSET BYTES` writes bytes to a file. `more NAME BYTES` appends bytes, and `line NAME WORDS` a line of text.
+//!   `cut NAME LENGTH` sets its length. A storage that was opened before doesn't change.
+//! - `prefixes qcow2 | vmdk NAME FIRST LAST [OFFSET N]`: opens the first bytes of a file as an image, for each length from FIRST to LAST.
+//!   It answers the size of the disk, or the bytes of the range, or the fault. If another length has another answer, `and at LENGTH ANSWER`
+//!   follows for the first such length.
+//! - `probe qcow2 | vmdk NAME`: `true` if the file begins like an image of this format, and otherwise `false`.
 //!
 //! # Layers
 //!
-//! A disk is built from the bottom up: each `layer` stands over those before it, and all but the lowest have to show a layer below.
+//! A disk is built from the bottom up. Each `layer` (an image) becomes the new top, and must be one that reads unallocated bytes from the
+//! layer below, if any.
 //!
 //! - `layer raw NAME [writing]`: a file as a raw image.
-//! - `layer qcow2 NAME [writing] [backed | alone] [caches L R]`: a file as a qcow2 image, by its builder. Layers are below it, or none, by
-//!   what is said; its caches have room for so many L2 tables and refcount blocks.
-//! - `layer qcow2 NAME plain [writing]`: the same without a builder, by `open_image`.
-//! - `layer vmdk NAME [writing]`: a descriptor, whose extents are files of the case. `layer vmdk NAME plain` opens none of these, and
-//!   `open_extents` those that aren't open yet of a descriptor on top.
-//! - `close` lets go of the disk.
-//! - `chain [writing] [number N] [LAYER [over LAYER] ..]`: files that are opened as a chain all at once, the top first, in the place of the
-//!   disk. A LAYER is `FORMAT FILE [with NAME FILE] ..`, where further files are handed in by the names that they have there.
+//! - `layer qcow2 NAME [writing] [backed | alone] [caches L R]`: a file as a qcow2 image, opened by its builder. `backed` and `alone` say
+//!   whether unallocated bytes are read from layers below. Its caches hold L L2 tables and R refcount blocks.
+//! - `layer qcow2 NAME plain [writing]`: a file as a qcow2 image, opened by `open_image` without a builder.
+//! - `layer vmdk NAME [writing]`: a descriptor, with its extents, which are files of the case. `layer vmdk NAME plain` doesn't open the
+//!   extents. `open_extents` opens those extents of a descriptor on top that aren't open yet.
+//! - `close`: drops the disk.
+//! - `chain [writing] [number N] [LAYER [over LAYER] ..]`: opens files as a chain by one call, the top first. The chain replaces the disk.
+//!   A LAYER is `FORMAT FILE [with NAME FILE] ..`, where NAME is the name by which the image opens the extra file.
 //!
 //! # Calls
 //!
-//! - Those of a disk and of the driver of its top layer that `access_calls::called` has.
-//! - `prepare OFFSET N [overwrite]`, `commit`, `cancel`; `mapping` tells the one that is kept, and `mapping STORAGE OFFSET N` makes one;
-//!   `belongs`: whether it was prepared by an image of the top layer's number: `true` or `false`.
-//! - `counts`: how many calls the image file of each layer was asked for, the highest layer first. `asked`: what all storages were asked
-//!   for, since it was last told or `forget`.
-//! - `snapshot`: the files of the disk are copied as they stand. It tells of each layer, the highest first, the format and the length of
-//!   its file, and the names and lengths of the further ones, with `/` behind each. `snapshot LAYER FILE OFFSET N` tells bytes of a copy.
-//! - `flatten SIZE [OFFSET N]`: the disk is copied into a new raw one of so many bytes in memory. It tells all of these, or a range.
-//! - `if_open CALL`: the call where a disk is open, and else `closed`.
+//! - The calls of a disk and of the driver of its top layer that `access_calls::called` lists.
+//! - `prepare OFFSET N [overwrite]`, `commit`, `cancel`: prepare a mapping (a run that is written and not yet committed), and commit or
+//!   cancel it. `mapping` answers the prepared mapping, and `mapping STORAGE OFFSET N` makes one without state. `belongs`: `true` if an
+//!   image with the number of the top layer prepared the mapping, and otherwise `false`.
+//! - `counts`: the numbers of calls that the image files of the layers got, the top first. `asked`: the calls that all storages got since
+//!   the last `asked` or `forget`.
+//! - `snapshot`: copies the current files of the disk. It answers the layers, the top first, each followed by `/`: the format and the
+//!   length of the file, and the names and lengths of the extra files. `snapshot LAYER FILE OFFSET N` answers bytes of a copy.
+//! - `flatten SIZE [OFFSET N]`: copies the disk into a new raw disk of SIZE bytes in memory. It answers all its bytes, or a range.
+//! - `if_open CALL`: makes the call if the case has an open disk, and otherwise answers `closed`.
 //!
 //! # Drivers
 //!
-//! - `image`: how long the image file is that the top's driver lends; `image OFFSET N` and `write_image OFFSET BYTES` read and change it.
-//!   `extra INDEX OFFSET N` and `write_extra INDEX OFFSET BYTES` do so with the file of an extent, and `extra_name INDEX` tells the name of
-//!   a further file, in quotes.
-//! - `into_image OFFSET N`: these bytes of the image file that the top's driver gives back; the disk is gone.
-//! - Of a qcow2 image on top: `names` that its header gives, each in quotes or `none`: whether its data is in an external file, the name of
-//!   that, of the backing file, and of its format; `failed`; `backing`, and `set_backing true | false`; `debug`.
-//! - `builder FORMAT NAME [writing] [options FILE]`: what a builder for a file says of its format and of what it was told (`without`
-//!   options, or the name in them), and the size of the disk that it opens.
-//! - `spend raw | vmdk NAME commit | cancel STORAGE OFFSET N`: a mapping without state is committed to a file as such an image, by its own
-//!   driver, or given up; what comes back stands behind a refusal. A descriptor's extents aren't opened.
+//! - `image`: the length of the image file of the top layer. `image OFFSET N` and `write_image OFFSET BYTES` read and write this file.
+//!   `extra INDEX OFFSET N` and `write_extra INDEX OFFSET BYTES` read and write the file of an extent. `extra_name INDEX` answers the name
+//!   of an extra file, in quotes.
+//! - `into_image OFFSET N`: takes the image file out of the top layer's driver, and answers these bytes of it. The disk is dropped.
+//! - For a qcow2 image on top: `failed`; `backing`, and `set_backing true | false`; `debug`. `names` answers whether the data is in an
+//!   external file, and the names in the header, in quotes or `none`: the data file, the backing file and its format.
+//! - `builder FORMAT NAME [writing] [options FILE]`: opens a file by a builder. It answers the builder's format, `writing` or `reading`,
+//!   the file name in its options or `without`, and the size of the disk.
+//! - `spend raw | vmdk NAME commit | cancel STORAGE OFFSET N`: commits or cancels a mapping without state (with nothing to commit), with
+//!   the driver of this format over a file. If the call fails and returns the mapping, `back` and the mapping follow the fault. The extents
+//!   of a descriptor aren't opened.
 //!
-//! # Stops
+//! # Crash images
 //!
-//! - `keep_logs [ALIGNMENT] ..`: from here on `layer`, `chain`, `close` and calls are of disks over files that keep logs of their changes,
-//!   one for each alignment: of up to three, or of 1, 8, 512 and 4096. What all answer is told once; where one answers otherwise than the
-//!   one before, that stands behind `and at ALIGNMENT`. A fuse counts each disk's own requests.
-//! - `stops OFFSET N LAYER [over LAYER] ..`, with the words of `chain`: what a stop between the changes of the top's file since `forget`
-//!   leaves, from before the first on. Of each it tells how many clusters leak, or what the checker finds, and the bytes of the range by
-//!   the files alone, with `COUNT:` in front of those that are the same, and `/` between others. The files are those that were opened.
-//! - `states OFFSET N LAYER [over LAYER] ..`: the same without these numbers.
+//! A crash image is the bytes of a file after a crash between two of its requests.
+//!
+//! - `keep_logs [ALIGNMENT] ..`: from here on `layer`, `chain`, `close` and the calls of a disk are made on disks over files that keep logs
+//!   of their requests. There is one disk for each alignment: up to three, or 1, 8, 512 and 4096 by default. The answer is that of the
+//!   first disk. An answer that differs from that of the previous disk follows after `and at ALIGNMENT`. A fuse counts the requests of each
+//!   disk separately.
+//! - `stops OFFSET N LAYER [over LAYER] ..`, with layers as in `chain`: reports the crash images of the top file since `forget`: the bytes
+//!   before the first request since then, and after each request. A report has the number of leaked clusters or the checker's finding, and
+//!   the bytes of the range as the files say. Reports have `/` between them. Consecutive equal reports are written once, and each has
+//!   `COUNT:` in front. Apart from these requests, the files have the bytes that the case gave them.
+//! - `states OFFSET N LAYER [over LAYER] ..`: like `stops`, but without the numbers of leaked clusters and of reports.
 //!
 //! # Scripts of the program
 //!
-//! - `in_memory`, with the words of `chain`: a chain over copies of the files, of which these scripts are run, beside the disk.
-//! - `script LINE [; LINE] ..`: the lines that answer these, with `/` behind each, and `too many` where there were more than a script may
-//!   have. `script_bytes BYTES`: the same of a script of these bytes; `script_count BYTES` tells how many lines and bytes these
-//!   answers have. Where a line is answered with `error 20` the script is, too.
-//! - `script_in ROOM LINE [; LINE] ..`: how the script ends where its answers go to a writer with room for so many bytes. `run_fault NAME`:
-//!   the text of why one ended early: `read`, `write`, `lines` or `memory`.
-//! - `script_read CAUSE N LINE [; LINE] ..`: the same as `script`, by a reader that fails behind N bytes; `script_write`, with the same
-//!   words, by a writer that does. The cause is `broken` or `memory`, for good, or `interrupted`, once. Behind the lines stands how it
-//!   ended early.
-//! - `saved`: how many bytes the last script saved, or `none`; `saved OFFSET N`: these of them.
-//! - `answer_text BYTES`: the text of an answer that shows these bytes, with `/` behind it.
-//! - `arguments [WORD] ..`: what these words of the program ask for: `reading /` or `writing /`, and its layers, the top first, each
-//!   with `/` behind it; `none` where there are none. A layer is told as `FORMAT PATH [with NAME at PATH] ..`.
+//! - `in_memory`, with the words of `chain`: opens copies of the files as a chain, in addition to the disk. The calls below run scripts on
+//!   it.
+//! - `script LINE [; LINE] ..`: runs a script. It answers the lines that the script writes, each followed by `/`, and `too many` if the
+//!   script has more lines than allowed. If a line is `error 20`, this is the answer of the whole script. `script_bytes BYTES` runs a
+//!   script of these bytes. `script_count BYTES` answers only the numbers of lines and bytes that it writes.
+//! - `script_in ROOM LINE [; LINE] ..`: runs a script whose writer takes at most ROOM bytes. It answers `ok`, or the reason if the script
+//!   ended early. `run_fault NAME`: the text of such a reason, which is `read`, `write`, `lines` or `memory`.
+//! - `script_read CAUSE N LINE [; LINE] ..`: like `script`, but the reader fails after N bytes. `script_write CAUSE N LINE [; LINE] ..`:
+//!   the writer fails after N bytes. The cause is `broken` or `memory`, which are permanent, or `interrupted`, which happens once. If the
+//!   script ended early, the reason follows the lines.
+//! - `saved`: how many bytes the last script saved that didn't end early, or `none`. `saved OFFSET N`: a range of these bytes.
+//! - `answer_text BYTES`: the text of an answer that consists of these bytes, followed by `/`.
+//! - `arguments [WORD] ..`: parses arguments of the program. It answers `reading /` or `writing /`, and the layers, the top first, each
+//!   followed by `/`, or `none` if the list is empty. The text of a layer is `FORMAT PATH [with NAME at PATH] ..`.
 #![tactic(auto)]
 
 mod arguments;

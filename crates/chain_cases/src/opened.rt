@@ -1,4 +1,4 @@
-// A disk over the files of a case, a prepared mapping beside it, and their calls.
+// The disk of a case, its prepared mapping (a run that is written and not yet committed), and their calls.
 use crate::builders::{by_builder, spend};
 use crate::copies::{copied, flattened};
 use crate::files::NamedStorages;
@@ -17,21 +17,21 @@ use std::mem;
 
 type Prepared = PreparedDataMapping<PreparedMappingState>;
 
-/// A disk of a script, whose files are such storages.
+/// The disk of a case, over storages of type `S`.
 pub type Disk<S> = FormatAccess<ImageDriver<S>>;
 
-/// A disk, if one is open, and the mapping that is kept, if one is.
+/// The open disk and the prepared mapping, if any.
 pub struct Opened<S: Storage> {
     disk: Option<Disk<S>>,
     mapping: Option<Prepared>,
 }
 
-// Puts a value, or none, in the place of what was there.
+// Replaces an optional value, and drops the old one.
 fn put<T: Drop>(place: &mut Option<T>, value: Option<T>) {
     *place = value;
 }
 
-// A mapping is forgotten.
+// Drops a mapping, and discards its state.
 fn let_go(mapping: Option<Prepared>) {
     if let Some(mapping) = mapping {
         if let Some(state) = mapping.into_state() {
@@ -40,7 +40,7 @@ fn let_go(mapping: Option<Prepared>) {
     }
 }
 
-// Whether a mapping was prepared by the top layer of a disk, and the mapping.
+// Returns true if an image with the number of the top layer prepared the mapping. Also returns the mapping.
 fn belongs<S: Storage>(mapping: Prepared, disk: &Disk<S>) -> (bool, Prepared) {
     let (storage, offset, length) = (mapping.storage(), mapping.offset(), mapping.length());
     let Some(state) = mapping.into_state() else {
@@ -60,7 +60,7 @@ fn belongs<S: Storage>(mapping: Prepared, disk: &Disk<S>) -> (bool, Prepared) {
 }
 
 impl<S: Storage + Drop> Opened<S> {
-    /// No disk yet.
+    /// Creates a value without a disk and without a mapping.
     pub fn new() -> Self {
         Opened {
             disk: None,
@@ -68,20 +68,20 @@ impl<S: Storage + Drop> Opened<S> {
         }
     }
 
-    /// Lets go of all.
+    /// Drops the disk and the mapping.
     pub fn close(self) {
         let Opened { disk, mapping } = self;
         drop(disk);
         let_go(mapping);
     }
 
-    /// Lets go of the disk, and of the mapping that is kept.
+    /// Drops the disk and the mapping. A new disk can then be opened.
     pub fn clear(&mut self) {
         put(&mut self.disk, None);
         self.keep(None);
     }
 
-    /// The disk, if one is open.
+    /// Returns the open disk, if any.
     pub fn disk(&self) -> Option<&Disk<S>> {
         self.disk.as_ref()
     }
@@ -102,7 +102,7 @@ impl<S: Storage + Drop> Opened<S> {
         Ok(ok(alloc)?)
     }
 
-    // Opens files as a chain, in the place of the disk that was open.
+    // Opens files as a chain, which replaces the open disk. If the opening fails, the case has no disk.
     fn open_chain<F: NamedStorages<S>>(
         &mut self,
         alloc: Global,
@@ -115,7 +115,7 @@ impl<S: Storage + Drop> Opened<S> {
         Ok(ok(alloc)?)
     }
 
-    // The disk that there has to be.
+    // Returns the open disk, or `Trouble::NoCall` if the case has none.
     fn open(&mut self) -> Result<&mut Disk<S>, Trouble> {
         self.disk.as_mut().ok_or(Trouble::NoCall)
     }
@@ -138,7 +138,7 @@ impl<S: Storage + Drop> Opened<S> {
         }
     }
 
-    // Commits the mapping; one that is given back stays.
+    // Commits the mapping. If the call returns the mapping, it is kept.
     fn commit(&mut self, alloc: Global) -> Result<String, Trouble> {
         let Some(disk) = &mut self.disk else {
             return Err(Trouble::NoCall);
@@ -155,7 +155,7 @@ impl<S: Storage + Drop> Opened<S> {
         }
     }
 
-    // Gives the mapping up; one that is given back stays.
+    // Cancels the mapping. If the call returns the mapping, it is kept.
     fn cancel(&mut self, alloc: Global) -> Result<String, Trouble> {
         let Some(disk) = &mut self.disk else {
             return Err(Trouble::NoCall);
@@ -172,7 +172,7 @@ impl<S: Storage + Drop> Opened<S> {
         }
     }
 
-    // Whether the mapping was prepared by the top layer, as it says itself.
+    // Answers whether an image with the number of the top layer prepared the mapping.
     fn belongs(&mut self, alloc: Global) -> Result<String, Trouble> {
         let Some(disk) = &self.disk else {
             return Err(Trouble::NoCall);
@@ -185,7 +185,7 @@ impl<S: Storage + Drop> Opened<S> {
         Ok(is_its.to_string(alloc)?)
     }
 
-    // A mapping of these words, without state.
+    // Makes a mapping without state, and keeps it.
     fn make_mapping(&mut self, alloc: Global, words: [&str; 3]) -> Result<String, Trouble> {
         let [storage, offset, n] = words;
         let (storage, offset, n) = (size(storage)?, number(offset)?, number(n)?);
@@ -193,7 +193,7 @@ impl<S: Storage + Drop> Opened<S> {
         self.told_mapping(alloc)
     }
 
-    // Bytes of the image file that the top driver gives back. The disk is gone then.
+    // Drops the disk, and reads bytes of the image file that the top layer's driver returns.
     fn into_image(&mut self, alloc: Global, offset: u64, n: u64) -> Result<String, Trouble> {
         match self.disk.take() {
             Some(disk) => given_back(alloc, disk, offset, n),
@@ -201,7 +201,7 @@ impl<S: Storage + Drop> Opened<S> {
         }
     }
 
-    // The mapping of a case, or a call of its disk.
+    // Makes a call of the mapping or of the disk.
     fn called(&mut self, alloc: Global, words: &[&str]) -> Result<String, Trouble> {
         match words {
             ["prepare", offset, rest @ ..] => self.prepare(alloc, offset, rest),
@@ -224,11 +224,12 @@ impl<S: Storage + Drop> Opened<S> {
         }
     }
 
-    /// Opens or closes a disk by these words, or makes their call of it or of the mapping.
+    /// Opens or closes a disk, or makes a call of the disk or the mapping.
     ///
     /// # Errors
     ///
-    /// `Trouble::NoCall` where the words are no call, or ask for what isn't there; `Trouble::Refused` as the call.
+    /// - `Trouble::NoCall` if the words aren't a call, or the call needs a disk, a mapping or a file that doesn't exist.
+    /// - `Trouble::Refused` if the call fails.
     pub fn answer<F: NamedStorages<S> + ImplicitOpenGate<S>>(
         &mut self,
         alloc: Global,

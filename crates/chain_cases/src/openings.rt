@@ -1,4 +1,4 @@
-// Files of a case opened as a chain, all at once.
+// Opens files of a case as a chain with one call of `open_chain`, and parses the layers that the script gives.
 use crate::files::NamedStorages;
 use crate::images::{Split, access_of};
 use cases::{Trouble, number};
@@ -8,7 +8,7 @@ use qimg_chain::chain::{ImageDriver, open_chain};
 use qimg_core::plain::ChainFile;
 use std::alloc::Global;
 
-// The number of the top image, by the words `number N` where they stand first, and else 0.
+// Parses `[number N]`, the number of the top image. The default is 0.
 fn number_of<'x, 'y>(words: &'y [&'x str]) -> Result<Split<'x, 'y, u64>, Trouble> {
     match words {
         ["number", n, rest @ ..] => Ok((number(n)?, rest)),
@@ -25,7 +25,7 @@ fn format_of(word: &str) -> Result<Format, Trouble> {
     }
 }
 
-// The further files of a layer, by the words `with NAME FILE`, as often as they stand first.
+// Parses `[with NAME FILE] ..`, and opens these extra files of a layer.
 fn further_of<'x, 'y, S: Storage, F: NamedStorages<S>>(
     alloc: Global,
     words: &'y [&'x str],
@@ -43,7 +43,7 @@ fn further_of<'x, 'y, S: Storage, F: NamedStorages<S>>(
     Ok((further, rest))
 }
 
-// The files of a layer: `FORMAT FILE [with NAME FILE] ..`.
+// Parses `FORMAT FILE [with NAME FILE] ..`, and opens the files of the layer.
 fn layer_of<S: Storage, F: NamedStorages<S>>(
     alloc: Global,
     words: &[&str],
@@ -65,11 +65,12 @@ fn layer_of<S: Storage, F: NamedStorages<S>>(
     })
 }
 
-/// The files of all layers, the top first, with the word `over` between each and the next.
+/// Parses `[LAYER [over LAYER] ..]`, and opens the files of all layers, the top first.
 ///
 /// # Errors
 ///
-/// `Trouble::NoCall` where the words are no such words, and where there is no such file; `Trouble::Refused` for want of memory.
+/// - `Trouble::NoCall` if the words don't have this form, or the case has no such file.
+/// - `Trouble::Refused` if memory runs out, or a storage can't be made.
 pub fn layers_of<S: Storage, F: NamedStorages<S>>(
     alloc: Global,
     words: &[&str],
@@ -89,7 +90,8 @@ pub fn layers_of<S: Storage, F: NamedStorages<S>>(
 ///
 /// # Errors
 ///
-/// `Trouble::NoCall` where the words are no such words, and where there is no such file; `Trouble::Refused` as the opening.
+/// - `Trouble::NoCall` if the words don't have this form, or the case has no such file.
+/// - `Trouble::Refused` if the opening fails.
 pub fn open<S: Storage, F: NamedStorages<S>>(
     alloc: Global,
     words: &[&str],

@@ -1,4 +1,4 @@
-// What images answer of which the file has the first bytes alone.
+// Opens images whose file is truncated to its first bytes. Each length of a range must give one answer.
 use crate::files::{Base, NamedFiles};
 use crate::images::{open_qcow2, open_vmdk};
 use access_calls::read;
@@ -8,19 +8,19 @@ use imago_storage::Fault;
 use qimg_chain::chain::ImageDriver;
 use std::alloc::Global;
 
-/// What is asked of an image that is opened: its size, or the bytes of a range.
+/// The part of an opened image to read: its size, or the bytes of a range.
 #[derive(Clone, Copy)]
 pub struct Looked {
-    /// The offset and the length of the range.
+    /// The offset and length of the range in bytes, or `None` for the size.
     range: Option<(u64, u64)>,
 }
 
 impl Looked {
-    /// What these words ask for: `[OFFSET N]`.
+    /// Parses `[OFFSET N]`.
     ///
     /// # Errors
     ///
-    /// `Trouble::NoCall` where they are no such words.
+    /// - `Trouble::NoCall` if the words don't have this form.
     pub fn new(words: &[&str]) -> Result<Self, Trouble> {
         match words {
             [] => Ok(Looked { range: None }),
@@ -32,7 +32,7 @@ impl Looked {
     }
 }
 
-// The image of a format over a storage.
+// Opens a storage as an image of a format.
 fn open_as<'a>(
     alloc: Global,
     storage: Base<'a>,
@@ -46,7 +46,7 @@ fn open_as<'a>(
     }
 }
 
-// What an image shows.
+// Returns the size of an image's disk, or the bytes of the range.
 fn shown<D: FormatDriverInstance + Drop>(
     alloc: Global,
     driver: D,
@@ -58,7 +58,7 @@ fn shown<D: FormatDriverInstance + Drop>(
     }
 }
 
-// What a file's first bytes show, so many of them.
+// Opens the first `length` bytes of a file as an image, and reads what `looked` says.
 fn prefix<'a>(
     alloc: Global,
     files: &mut NamedFiles<'a>,
@@ -70,7 +70,7 @@ fn prefix<'a>(
     shown(alloc, open_as(alloc, storage, files, format)?, looked)
 }
 
-// The same as a text, where it is refused, too.
+// Like `prefix`, but a fault other than `Fault::Memory` is returned as text.
 fn told<'a>(
     alloc: Global,
     files: &mut NamedFiles<'a>,
@@ -85,12 +85,14 @@ fn told<'a>(
     }
 }
 
-/// What the first bytes of a file show as an image of a format, of each length between two: what they all answer, or the first length with
-/// another answer, and that.
+/// Opens the first bytes of a file as an image, for each length from `first` to `last`.
+///
+/// Returns the answer of the first length. If another length has another answer, the first such length and its answer follow.
 ///
 /// # Errors
 ///
-/// `Trouble::NoCall` where there is no such file or format; `Trouble::Refused` for want of memory.
+/// - `Trouble::NoCall` if the case has no such file, the format isn't supported, or the range is longer than 16 MiB.
+/// - `Trouble::Refused` if memory runs out.
 pub fn prefixes<'a>(
     alloc: Global,
     files: &mut NamedFiles<'a>,

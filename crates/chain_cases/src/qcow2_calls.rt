@@ -1,4 +1,4 @@
-// What a qcow2 image on top says of itself, and what it is told.
+// Calls that only a qcow2 image has, on the top layer.
 use access_calls::{done, top};
 use cases::{Trouble, joined};
 use imago_access::{FormatAccess, FormatDriverInstance};
@@ -7,7 +7,7 @@ use qcow2_image::Qcow2;
 use qimg_chain::chain::ImageDriver;
 use std::alloc::Global;
 
-// The image on top, which has to be of this format.
+// Returns the top image, or `Trouble::NoCall` if it isn't qcow2.
 fn image_of<S: Storage>(disk: &FormatAccess<ImageDriver<S>>) -> Result<&Qcow2<S>, Trouble> {
     match disk.inner() {
         ImageDriver::Qcow2(image) => Ok(image),
@@ -15,7 +15,7 @@ fn image_of<S: Storage>(disk: &FormatAccess<ImageDriver<S>>) -> Result<&Qcow2<S>
     }
 }
 
-// A name in quotes, or `none`.
+// Appends a name in quotes, or `none`.
 fn tell_name(alloc: Global, text: &mut String, name: Option<&str>) -> Result<(), Trouble> {
     let Some(name) = name else {
         return Ok(joined(text, "none")?);
@@ -24,7 +24,7 @@ fn tell_name(alloc: Global, text: &mut String, name: Option<&str>) -> Result<(),
     Ok(joined(text, quoted.as_str())?)
 }
 
-// Whether its data is in an external file, and the names that its header gives: of that file, of the backing file, and of its format.
+// Returns whether the image has an external data file, and the names in its header: the data file, the backing file and its format.
 fn names<S: Storage>(alloc: Global, image: &Qcow2<S>) -> Result<String, Trouble> {
     let mut text = image.requires_external_data_file().to_string(alloc)?;
     tell_name(alloc, &mut text, image.implicit_external_data_file())?;
@@ -33,7 +33,7 @@ fn names<S: Storage>(alloc: Global, image: &Qcow2<S>) -> Result<String, Trouble>
     Ok(text)
 }
 
-// Says whether layers are below it, where nothing is prepared.
+// Sets whether unallocated bytes are read from layers below. Fails with `Trouble::NoCall` if a mapping is prepared.
 fn set_backing<S: Storage>(
     disk: &mut FormatAccess<ImageDriver<S>>,
     backing: bool,
@@ -47,13 +47,12 @@ fn set_backing<S: Storage>(
     }
 }
 
-/// Makes the call of these words of a qcow2 image on top: `names` that its header gives; `failed`; `backing`, and `set_backing` with `true`
-/// or `false`; `debug`, its text for those who look for faults.
+/// Makes a call of a qcow2 image on top: `names`, `failed`, `backing`, `set_backing true | false`, or `debug`, its `Debug` text.
 ///
 /// # Errors
 ///
-/// `Trouble::NoCall` where the words are no such words, where the top is of another format, and where it is told something while something
-/// is prepared; `Trouble::Refused` for want of memory.
+/// - `Trouble::NoCall` if the words aren't such a call, the top image isn't qcow2, or `set_backing` is called while a mapping is prepared.
+/// - `Trouble::Refused` if memory runs out.
 pub fn said<S: Storage>(
     alloc: Global,
     disk: &mut FormatAccess<ImageDriver<S>>,

@@ -1,4 +1,4 @@
-// Scripts of the program, which are run over a chain in memory.
+// Scripts of the program `qimg` (one call a line), which are run on a chain in memory, and the answers that their lines write.
 ghost use Rattle.std.specs.Prelude.{IsTrue};
 ghost use Rattle.imago_access.specs.Layer.{IsFree};
 
@@ -14,24 +14,25 @@ use qimg_chain::script::{Answer, Bytes};
 use std::alloc::Global;
 use std::io::{BufRead, Write};
 
-/// Room for all that a script writes whose writer fails.
+/// The capacity in bytes for what a failing writer takes.
 const WRITTEN: usize = 4096;
 
-/// A chain over copies of the case's files, of which scripts are run, and what the last of them saved.
+/// A chain over copies of the case's files, and the bytes that the last script on it saved. A script that ends early doesn't change them.
 #[derive(Drop)]
 pub struct Scripted {
     chain: FormatAccess<ImageDriver<MemStorage>>,
     saved: Option<Vec<u8>>,
 }
 
-// Whether nothing is prepared in the top layer.
+// Returns true if no mapping is prepared in the top layer.
 fn is_free<D: FormatDriverInstance>(chain: &FormatAccess<D>) -> bool
     ensures { IsTrue result → IsFree (D.layer chain.now.0) }
 {
     !chain.inner().prepared()
 }
 
-// Runs a script over a chain, if nothing is prepared there. Returns what it saves, or why it ended early.
+// Runs a script on a chain. Returns the bytes that the script saves, or the fault that ended it early. Fails with `Trouble::NoCall` if a
+// mapping is prepared.
 fn ended<R, W, D>(
     alloc: Global,
     chain: &mut FormatAccess<D>,
@@ -49,7 +50,7 @@ where
     Ok(run(alloc, reader, writer, chain))
 }
 
-// A script of these words, with a blank between each and the next: the word `;` ends a line.
+// Returns a script from words, with one blank between them. The word `;` ends a line.
 fn script_of(alloc: Global, words: &[&str]) -> Result<String, Trouble> {
     let mut script = String::new(alloc);
     for line in words.split(|word| *word == ";") {
@@ -63,7 +64,7 @@ fn script_of(alloc: Global, words: &[&str]) -> Result<String, Trouble> {
     Ok(script)
 }
 
-// What a script writes, as text. Where a line is `error 20`, the script as a whole is answered so.
+// Returns what a script writes as text. If a line is `error 20`, this is the answer of the whole script.
 fn told_text(written: &[u8]) -> Result<&str, Trouble> {
     let text = str::from_utf8(written).unwrap_or("other bytes");
     for line in text.lines() {
@@ -74,7 +75,7 @@ fn told_text(written: &[u8]) -> Result<&str, Trouble> {
     Ok(text)
 }
 
-// The lines that a script writes, with `/` behind each.
+// Returns the lines that a script writes, each followed by `/`.
 fn told_lines(alloc: Global, written: &[u8]) -> Result<String, Trouble> {
     let mut told = String::new(alloc);
     for line in told_text(written)?.lines() {
@@ -84,7 +85,7 @@ fn told_lines(alloc: Global, written: &[u8]) -> Result<String, Trouble> {
     Ok(told)
 }
 
-// How many lines a script writes, and of how many bytes.
+// Returns the numbers of lines and of bytes that a script writes.
 fn counted_lines(alloc: Global, written: &[u8]) -> Result<String, Trouble> {
     told_text(written)?;
     let lines = written.iter().filter(|byte| **byte == b'\n').count();
@@ -92,7 +93,7 @@ fn counted_lines(alloc: Global, written: &[u8]) -> Result<String, Trouble> {
     Ok(format!(in alloc; "{lines} lines {bytes} bytes")?)
 }
 
-// Why a script ended early whose writer fails for want of memory alone.
+// Describes why a script ended early. Its writer must be one that fails only if memory runs out.
 fn early_end(fault: RunFault) -> Result<&'static str, Trouble> {
     match fault {
         RunFault::Lines => Ok("too many"),
@@ -101,11 +102,12 @@ fn early_end(fault: RunFault) -> Result<&'static str, Trouble> {
     }
 }
 
-/// The text of why a script ended early.
+/// Returns the text of a `RunFault`: `read`, `write`, `lines` or `memory`.
 ///
 /// # Errors
 ///
-/// `Trouble::NoCall` where nothing has this name; `Trouble::Refused` for want of memory.
+/// - `Trouble::NoCall` if `name` is anything else.
+/// - `Trouble::Refused` if memory runs out.
 pub fn run_fault_told(alloc: Global, name: &str) -> Result<String, Trouble> {
     let fault = match name {
         "read" => RunFault::Read,
@@ -117,11 +119,12 @@ pub fn run_fault_told(alloc: Global, name: &str) -> Result<String, Trouble> {
     Ok(fault.to_string(alloc)?)
 }
 
-/// The text of an answer that shows bytes, with `/` behind it.
+/// Returns the text of an answer that consists of bytes, followed by `/`.
 ///
 /// # Errors
 ///
-/// `Trouble::NoCall` where the words are no bytes; `Trouble::Refused` for want of memory.
+/// - `Trouble::NoCall` if the words aren't bytes.
+/// - `Trouble::Refused` if memory runs out.
 pub fn answer_told(alloc: Global, words: &[&str]) -> Result<String, Trouble> {
     let answer = Answer::Bytes(Bytes::from(bytes(alloc, words)?));
     let mut told = answer.to_text(alloc)?;
@@ -130,11 +133,11 @@ pub fn answer_told(alloc: Global, words: &[&str]) -> Result<String, Trouble> {
 }
 
 impl Scripted {
-    /// Opens a chain, by the words of `openings::open`.
+    /// Opens copies of files as a chain, with the words of `openings::open`.
     ///
     /// # Errors
     ///
-    /// As `openings::open`.
+    /// The errors of `openings::open`.
     pub fn open(
         alloc: Global,
         words: &[&str],
@@ -146,7 +149,7 @@ impl Scripted {
         })
     }
 
-    // Runs a script, and keeps what it saves. Returns what it writes, and why it ended early, if it did.
+    // Runs a script, and keeps what it saves. Returns what it writes, and the reason if it ended early.
     fn run(
         &mut self,
         alloc: Global,
@@ -162,7 +165,7 @@ impl Scripted {
         }
     }
 
-    // The lines that a script writes, and why it ended early, if it did.
+    // Runs a script. Returns the lines that it writes, and the reason if it ended early.
     fn lines(&mut self, alloc: Global, script: &[u8]) -> Result<String, Trouble> {
         let (text, early) = self.run(alloc, script)?;
         let mut told = told_lines(alloc, &text)?;
@@ -172,7 +175,7 @@ impl Scripted {
         Ok(told)
     }
 
-    // How many lines and bytes a script writes, and why it ended early, if it did.
+    // Runs a script. Returns the numbers of lines and bytes that it writes, and the reason if it ended early.
     fn count(&mut self, alloc: Global, script: &[u8]) -> Result<String, Trouble> {
         let (text, early) = self.run(alloc, script)?;
         let mut told = counted_lines(alloc, &text)?;
@@ -182,7 +185,7 @@ impl Scripted {
         Ok(told)
     }
 
-    // How a script ends whose writer has room for so many bytes.
+    // Runs a script whose writer takes at most `room` bytes. Returns `ok`, or the reason if the script ended early.
     fn ended_in(&mut self, alloc: Global, room: usize, script: &[u8]) -> Result<String, Trouble> {
         let mut space = vec![in alloc; 0u8; room]?;
         let mut writer = space.as_mut_slice();
@@ -196,7 +199,7 @@ impl Scripted {
         }
     }
 
-    // The lines that a script wrote, and why it ended early, if it did.
+    // Keeps what a script saved. Returns the lines that it wrote, and the reason if it ended early.
     fn told(
         &mut self,
         alloc: Global,
@@ -212,7 +215,7 @@ impl Scripted {
         Ok(told)
     }
 
-    // The same of a script whose reader fails.
+    // Like `lines`, but the reader fails.
     fn read_failing(
         &mut self,
         alloc: Global,
@@ -225,7 +228,7 @@ impl Scripted {
         self.told(alloc, &text, ended)
     }
 
-    // The same of one whose writer fails. There is room for what it takes, so that no memory is wanting then.
+    // Like `lines`, but the writer fails. Its capacity is allocated first, so that memory doesn't run out during the script.
     fn write_failing(
         &mut self,
         alloc: Global,
@@ -238,7 +241,7 @@ impl Scripted {
         self.told(alloc, &writer.text, ended)
     }
 
-    // How long the bytes are that the last script saved, if it did.
+    // Returns how many bytes the last script saved, or `none`.
     fn saved_length(&self, alloc: Global) -> Result<String, Trouble> {
         match &self.saved {
             None => Ok("none".to_string(alloc)?),
@@ -246,7 +249,7 @@ impl Scripted {
         }
     }
 
-    // A range of the bytes that the last script saved.
+    // Returns a range of the bytes that the last script saved, or `Trouble::NoCall` if the range isn't inside them.
     fn saved_range(&self, alloc: Global, offset: u64, n: u64) -> Result<String, Trouble> {
         let Some(saved) = &self.saved else {
             return Err(Trouble::NoCall);
@@ -258,11 +261,12 @@ impl Scripted {
         Ok(runs(alloc, &saved[offset as usize..end as usize])?)
     }
 
-    /// Makes the call of these words.
+    /// Runs a script, or reads what the last one saved.
     ///
     /// # Errors
     ///
-    /// `Trouble::NoCall` where they are no call; `Trouble::Refused` for want of memory, be it of a script's line or of its answer.
+    /// - `Trouble::NoCall` if the words aren't such a call, a mapping is prepared, or no saved bytes have the range.
+    /// - `Trouble::Refused` if memory runs out, for a line of the script, its answer or this call.
     pub fn called(&mut self, alloc: Global, words: &[&str]) -> Result<String, Trouble> {
         match words {
             ["script", words @ ..] => {

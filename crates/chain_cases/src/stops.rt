@@ -1,4 +1,5 @@
-// What the files show that stops between the changes of a file leave.
+// Crash images of the top layer's file: its bytes after a crash between two requests. The file's requests are replayed one by one, and the
+// checker and a plain read (of the files, opened as a new chain) look at each state.
 use crate::files::{NamedFiles, NamedStorages};
 use crate::openings::layers_of;
 use access_calls::buffer;
@@ -8,18 +9,18 @@ use qimg_chain::chain::plain_read;
 use qimg_core::check::{CheckFault, check};
 use std::alloc::Global;
 
-/// What is asked of stops.
+/// The range to read in each crash image, and whether to report counts.
 #[derive(Clone, Copy)]
 pub struct Looked {
-    /// Where the range of the disk begins that is looked at, in bytes.
+    /// The guest offset of the range that is read, in bytes.
     pub offset: u64,
-    /// How long it is, in bytes.
+    /// The length of the range, in bytes.
     pub length: u64,
-    /// Whether it is told how many clusters leak, and how many stops there are.
+    /// Set if the numbers of leaked clusters and of crash images are reported.
     pub is_counted: bool,
 }
 
-// Texts in a row, where neighbours that are equal are told once, with how many there are, if that is told.
+// A list of texts, in which consecutive equal texts are written once, after their number if `is_counted` is set.
 #[derive(Drop)]
 struct Row {
     is_counted: bool,
@@ -38,7 +39,7 @@ impl Row {
         }
     }
 
-    // Tells the last text.
+    // Writes the last text.
     fn tell(&mut self, alloc: Global) -> Result<(), Trouble> {
         if self.count == 0 {
             return Ok(());
@@ -53,7 +54,7 @@ impl Row {
         Ok(joined(&mut self.text, self.last.as_str())?)
     }
 
-    // Puts a text behind the others.
+    // Adds a text at the end.
     fn add(&mut self, alloc: Global, one: String) -> Result<(), Trouble> {
         if one.as_str() != self.last.as_str() {
             self.tell(alloc)?;
@@ -65,7 +66,7 @@ impl Row {
     }
 }
 
-// What the checker says of an image: how many clusters leak, if that is told, or what it finds.
+// Checks a qcow2 image. Returns the number of leaked clusters, or an empty text if it isn't reported, or the checker's finding.
 fn judged(alloc: Global, file: &MemStorage, is_counted: bool) -> Result<String, Trouble> {
     let mut image = MemoryView::new(file.as_bytes());
     match check(alloc, &mut image) {
@@ -76,7 +77,7 @@ fn judged(alloc: Global, file: &MemStorage, is_counted: bool) -> Result<String, 
     }
 }
 
-// The files of a case where they lie, but for the first that is opened, in the place of which these bytes are.
+// The files of a case, viewed without a copy. The bytes in `top` replace the first file that is opened.
 #[derive(Drop)]
 struct Views<'x, 'a> {
     top: Option<&'x [u8]>,
@@ -92,7 +93,7 @@ impl<'x, 'a> NamedStorages<MemoryView<'x>> for Views<'x, 'a> {
     }
 }
 
-// The bytes of a range that files show as a chain, the first of which is replaced, or why they show none.
+// Returns the bytes of a range of the chain, with `file` as the file of its top layer, or the fault of the read.
 fn shown(
     alloc: Global,
     file: &MemStorage,
@@ -110,7 +111,7 @@ fn shown(
     }
 }
 
-// Makes a change of a file.
+// Replays a request on a file.
 fn apply(alloc: Global, file: &mut MemStorage, request: &Request) -> Result<(), Fault> {
     match request {
         Request::Write { offset, bytes } => file.write(alloc, bytes, *offset),
@@ -119,7 +120,7 @@ fn apply(alloc: Global, file: &mut MemStorage, request: &Request) -> Result<(), 
     }
 }
 
-// A copy of the file of the first of these layers.
+// Returns a copy of the first layer's file.
 fn first_file(
     alloc: Global,
     layers: &[&str],
@@ -131,13 +132,16 @@ fn first_file(
     }
 }
 
-/// What the files show that a stop behind each change of the first layer's file leaves, from behind the first so many changes on: how many
-/// clusters leak, or what the checker finds, and the bytes of the range by the files alone. Neighbours that are equal are told once, with
-/// how many there are.
+/// Reports each crash image (the bytes after a crash between two requests) of the first layer's file, from the one after `forgotten`
+/// requests to the one after all requests.
+///
+/// A report has the number of leaked clusters or the checker's finding, and the bytes of the range as the files say. Consecutive equal
+/// reports are written once, after their number. Apart from the requests, the files have the bytes that the case gave them.
 ///
 /// # Errors
 ///
-/// `Trouble::NoCall` where the words name no layers; `Trouble::Refused` for want of memory.
+/// - `Trouble::NoCall` if the words aren't layers, the case has no such file, or the range is longer than 16 MiB.
+/// - `Trouble::Refused` if memory runs out, or a request can't be replayed.
 pub fn stops(
     alloc: Global,
     requests: &[Request],

@@ -1,24 +1,24 @@
-// Readers and writers of scripts that fail on the way.
+// Readers and writers that fail after a given number of bytes.
 ghost use Rattle.std.specs.Prelude.{◌≤◌, IfOk};
 
 use cases::Trouble;
 use std::io::{self, BufRead, Error, ErrorKind, Read, Write};
 
-/// When a stream fails, and how.
+/// The point at which a stream fails, and the cause.
 #[derive(Clone, Copy, Debug)]
 pub struct Failing {
-    /// Behind so many bytes.
+    /// The number of bytes that still pass before the failure.
     pub behind: usize,
-    /// For this cause: once where it is an interruption, and else for good.
+    /// The cause of the failure. An interruption happens once. Other failures are permanent.
     pub cause: ErrorKind,
 }
 
 impl Failing {
-    /// By the words of a cause, and a number of bytes.
+    /// Creates a failure after `behind` bytes, with the cause `broken`, `interrupted` or `memory`.
     ///
     /// # Errors
     ///
-    /// `Trouble::NoCall` where no cause has this word.
+    /// - `Trouble::NoCall` if the word is no cause.
     pub fn by(word: &str, behind: usize) -> Result<Failing, Trouble> {
         let cause = match word {
             "broken" => ErrorKind::BrokenPipe,
@@ -29,7 +29,7 @@ impl Failing {
         Ok(Failing { behind, cause })
     }
 
-    // How many of so many bytes come before it fails.
+    // Returns how many of `count` bytes pass before the failure. At the failure itself it returns the cause.
     fn room(&mut self, count: usize) -> io::Result<usize>
         ensures { IfOk result (λ n. n ≤ count) }
     {
@@ -42,16 +42,18 @@ impl Failing {
         Err(Error::from(self.cause))
     }
 
-    // So many bytes have come.
+    // Records that `count` bytes have passed.
     fn passed(&mut self, count: usize) {
         self.behind = self.behind.saturating_sub(count);
     }
 }
 
-/// A script whose reader fails.
+/// A reader of a script that fails.
 #[derive(Drop)]
 pub struct FailingReader<'a> {
+    /// The bytes that aren't read yet.
     pub script: &'a [u8],
+    /// The failure.
     pub failing: Failing,
 }
 
@@ -77,10 +79,12 @@ impl<'a> BufRead for FailingReader<'a> {
     }
 }
 
-/// Bytes whose writer fails.
+/// A writer into memory that fails.
 #[derive(Drop)]
 pub struct FailingWriter {
+    /// The bytes that were written.
     pub text: Vec<u8>,
+    /// The failure.
     pub failing: Failing,
 }
 
