@@ -8,9 +8,10 @@ use imago_storage::{
 };
 use std::alloc::{AllocError, Global};
 
-/// Bytes that a call reads or asks for at most.
+/// The most bytes that a call reads.
 const MOST: u64 = 16_777_216;
 
+/// A call of a storage, with its arguments. Offsets and lengths are in bytes.
 #[derive(Drop)]
 pub enum Call {
     Aligns,
@@ -30,7 +31,7 @@ pub enum Call {
     Resolve(String),
 }
 
-/// A call with a range alone.
+/// A call that has a range and nothing else.
 #[derive(Clone, Copy)]
 pub enum Kind {
     Zeroes,
@@ -42,7 +43,7 @@ pub enum Kind {
     PureDiscard,
 }
 
-/// What a call that succeeds answers.
+/// The answer of a call that succeeds.
 #[derive(Drop)]
 pub enum Answer {
     Done,
@@ -51,13 +52,13 @@ pub enum Answer {
     Bytes(Vec<u8>),
     Flag(bool),
     Text(String),
-    /// A write was refused, and tells whether it had begun.
+    /// A write failed. The fault says whether the write had begun.
     NotWritten(WriteFault),
-    /// It wanted memory where none is to be wanted.
+    /// Memory ran out in a call that should need none.
     NoRoom,
 }
 
-// Whether a range is whole units of an alignment, and its end fits.
+// Returns true if a range is whole units of an alignment, and its end fits in 64 bits.
 fn is_whole(unit: usize, offset: u64, n: u64) -> bool
     requires { 0 < unit }
     ensures { IsTrue result → IsUnitRange unit offset n }
@@ -65,7 +66,7 @@ fn is_whole(unit: usize, offset: u64, n: u64) -> bool
     offset % unit as u64 == 0 && n % unit as u64 == 0 && offset.checked_add(n).is_some()
 }
 
-// The unit of requests.
+// Returns the unit of requests, in bytes.
 fn unit<S: Storage>(storage: &S) -> usize
     ensures unit { result ≡ unit_of (S.state storage.now).shape }
     ensures positive { 0 < result }
@@ -73,7 +74,7 @@ fn unit<S: Storage>(storage: &S) -> usize
     larger_alignment(storage.req_align(), storage.mem_align())
 }
 
-/// A buffer of so many bytes.
+/// Creates a buffer of `n` bytes.
 pub fn buffer(alloc: Global, n: u64) -> Result<Vec<u8>, Trouble>
     ensures { IfOk result (λ buf. length buf.items ≡ n) }
 {
@@ -94,7 +95,7 @@ fn read<S: Storage>(
     Ok(Answer::Bytes(buf))
 }
 
-// A read into a buffer that takes no memory: so what wants memory is the call itself, which is told by an answer of its own.
+// Reads into a buffer that takes no memory. If memory runs out, the call itself needed it, and the answer is `Answer::NoRoom`.
 fn read_here<S: Storage>(
     alloc: Global,
     storage: &mut S,
@@ -126,7 +127,8 @@ fn pure_read<S: Storage>(
     Ok(Answer::Bytes(buf))
 }
 
-// A write that tells whether it had begun. Want of memory is told as that of any other call, so that it is made once more.
+// Makes a write that reports whether it had begun. If memory runs out, the fault is returned like that of any other call, so that the call
+// is made once more.
 fn try_write<S: Storage>(
     alloc: Global,
     storage: &mut S,
@@ -192,7 +194,7 @@ fn range<S: Storage>(
     }
 }
 
-// A change, or a call that changes nothing and answers nothing.
+// Makes a change, or another call without an answer.
 fn change<S: Storage>(alloc: Global, storage: &mut S, call: &Call) -> Result<(), Trouble> {
     match call {
         Call::Write(offset, bytes) => Ok(storage.write(alloc, bytes, *offset)?),
@@ -211,7 +213,7 @@ fn filename<S: Storage>(alloc: Global, storage: &S) -> Result<Answer, Trouble> {
     Ok(Answer::Text(name.to_string(alloc)?))
 }
 
-/// Makes the call.
+/// Makes a call.
 pub fn perform<S: Storage>(alloc: Global, storage: &mut S, call: &Call) -> Result<Answer, Trouble> {
     match call {
         Call::Aligns => Ok(Answer::Four([
@@ -234,7 +236,7 @@ pub fn perform<S: Storage>(alloc: Global, storage: &mut S, call: &Call) -> Resul
     }
 }
 
-/// The answer as a script has it.
+/// Returns the text of an answer, as scripts have it.
 pub fn text(alloc: Global, answer: &Answer) -> Result<String, AllocError> {
     match answer {
         Answer::Done => ok(alloc),

@@ -1,10 +1,10 @@
-// What a log tells.
+// The calls of a log.
 use crate::calls::{Answer, buffer};
 use cases::{Trouble, joined, runs};
 use imago_storage::{LogStorage, Request, Storage, StorageExt};
 use std::alloc::{AllocError, Global};
 
-/// The file that a stop after the first k requests leaves.
+/// Returns the crash image after the first `k` requests.
 pub fn stop<S: Storage>(log: &mut LogStorage<S>, k: usize) -> Result<Answer, Trouble> {
     if k > log.requests().len() {
         return Err(Trouble::NoCall);
@@ -12,7 +12,7 @@ pub fn stop<S: Storage>(log: &mut LogStorage<S>, k: usize) -> Result<Answer, Tro
     Ok(Answer::Bytes(log.stop_at(k)?))
 }
 
-/// Whether the last stop has the bytes that the storage has.
+/// Returns whether the crash image after all requests has the bytes of the storage.
 pub fn in_step<S: Storage>(alloc: Global, log: &mut LogStorage<S>) -> Result<Answer, Trouble> {
     let last = log.requests().len();
     let file = log.stop_at(last)?;
@@ -32,7 +32,7 @@ fn text(alloc: Global, request: &Request) -> Result<String, AllocError> {
     }
 }
 
-/// The requests that it has kept, the oldest first.
+/// Returns the requests that the log has kept, the oldest first.
 pub fn requests<S: Storage>(alloc: Global, log: &LogStorage<S>) -> Result<Answer, Trouble> {
     let mut told = String::new(alloc);
     for request in log.requests().iter() {

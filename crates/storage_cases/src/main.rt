@@ -1,39 +1,41 @@
-//! Calls of storages and their answers, by scripts.
+//! Runs scripts of calls to storages and checks their answers.
 //!
 //! # Storages
 //!
-//! `on STORAGE` makes the storage of a case, in the place of the one before. A STORAGE is
+//! `on STORAGE` makes the storage of a case, and drops the one before. A STORAGE is one of these.
 //!
-//! - `memory ALIGN BYTES`, `empty ALIGN`: one in memory with all alignments the same, and one that never had bytes.
-//! - `null SIZE`: one that holds nothing.
-//! - `[resolving] MEM REQ ZERO DISCARD HAS BYTES`: one in memory of these four alignments, for memory, requests, zeroes and discards, with
-//!   what it has (`z` zeroes, `d` discards, `zd`, `-`). `resolving` lets it resolve names, as `below/NAME`.
-//! - `fuse N ..`, `log N ..`: the last one under a fuse whose Nth call fails, and that under a log. `fuse_log N M ..` is a fuse over a log
-//!   over a fuse whose Mth call fails. No call fails where a number is 0. The log reads what it is made over: its first call.
+//! - `memory ALIGN BYTES`, `empty ALIGN`: a storage in memory with four equal alignments; with bytes, or never written.
+//! - `null SIZE`: a storage that holds nothing.
+//! - `[resolving] MEM REQ ZERO DISCARD HAS BYTES`: a storage in memory with these four alignments, for memory, requests, zeroes and
+//!   discards, and with what it supports (`z` zeroes, `d` discards, `zd`, `-`). With `resolving` it resolves names, as `below/NAME`.
+//! - `fuse N ..`: the last kind, in a fuse whose Nth call fails. `log N ..`: the same fuse in a log. `fuse_log N M ..`: a fuse over a log
+//!   over a fuse whose Mth call fails. If a number is 0, no call fails. A new log first reads its storage, and the fuse below counts this
+//!   call.
 //!
 //! # Calls
 //!
-//! - `read OFFSET N`; `read_here OFFSET N`: at most 64 bytes, into a buffer that takes no memory, `no room` where memory was wanting.
-//!   `write OFFSET BYTES`; `try_write OFFSET BYTES`, which tells where it is refused whether it had begun: `before error N` or
+//! - `read OFFSET N`. `read_here OFFSET N`: at most 64 bytes, into a buffer that takes no memory; the answer is `no room` if memory runs
+//!   out. `write OFFSET BYTES`. `try_write OFFSET BYTES`: if it fails, the answer says whether the write had begun: `before error N` or
 //!   `within error N`.
 //! - `zeroes`, `allocated`, `full`, `discard OFFSET N`: zeroes, zeroes that stay allocated, zeroes that are written, discards.
 //! - `pure_read`, `pure_zeroes`, `pure_allocated`, `pure_discard OFFSET N`, `pure_write OFFSET BYTES`: the storage's own calls, unpadded.
 //! - `resize SIZE none | zero | allocate | data`; `flush`, `sync`, `invalidate`.
 //! - `size`; `aligns`, four numbers; `filename`; `resolve NAME`.
-//! - `asked`: what the lowest storage of four alignments was asked since this was last told.
-//! - Of a fuse: `count`, its calls so far. Of a log: `mark`, how many requests it has kept (also of a fuse over one); `requests`, these in
-//!   their order; `crash_image K`, the file that a stop after the first K leaves; `crash_image_is_bytes`, whether the last stop has the bytes of the storage;
-//!   `into_inner` takes it off. `again CALL`: a call, and once more where memory was wanting, if the log is in step then.
-//! - Of one in memory: `bytes`; `into_bytes`, which ends it.
+//! - `asked`: the requests of the lowest storage with four alignments, since they were last printed.
+//! - Of a fuse: `count`, the number of its calls. Of a log: `mark`, the number of requests that it has kept (also of a fuse over a log);
+//!   `requests`, these requests in order; `stop K`, the crash image after the first K requests; `in_step`, whether the crash image after
+//!   all requests has the bytes of the storage; `into_inner` removes the log. `again CALL`: makes a call, and makes it once more if memory
+//!   runs out and the log is in step.
+//! - Of a storage in memory: `bytes`; `into_bytes`, which consumes the storage.
 //!
 //! # Calls that need no storage
 //!
-//! They stand in cases that make none.
+//! They are for cases that make no storage.
 //!
-//! - `open_options`, `create_options`, `create_open new | default NAME=VALUE ..`: options, each set in turn, and all of them told; the last
-//!   one is how a storage is opened that is created so. Names: `filename`, `write`, `direct`; to create, also `size`, `preallocate`,
-//!   `overwrite`.
-//! - `padded_end OFFSET N UNIT`, or `none`; `larger_alignment A B`; `fault NAME`: number, kind and text of a fault by its name in Rust.
+//! - `open_options`, `create_options`, `create_open new | default NAME=VALUE ..`: sets options one after another and prints all of them.
+//!   `create_open` prints the options for opening a storage that is created with these. Names: `filename`, `write`, `direct`; to create,
+//!   also `size`, `preallocate`, `overwrite`.
+//! - `padded_end OFFSET N UNIT`, or `none`; `larger_alignment A B`; `fault NAME`: number, kind and text of a fault by its Rust name.
 #![tactic(auto)]
 
 mod calls;
@@ -61,7 +63,7 @@ struct Storages<'a> {
 }
 
 impl<'a> Storages<'a> {
-    // Makes a storage in the place of the one before.
+    // Makes a storage, and drops the one before.
     fn make(&mut self, alloc: Global, words: &[&str]) -> Result<String, Trouble> {
         let stack = storage_of(alloc, words, self.notes)?;
         self.stack = Some(stack);
@@ -69,7 +71,7 @@ impl<'a> Storages<'a> {
         Ok(ok(alloc)?)
     }
 
-    // Makes a call of the storage, or of none where the case has none.
+    // Makes a call of the storage. If the case has no storage, makes a call that needs none.
     fn call(&mut self, alloc: Global, words: &[&str]) -> Result<String, Trouble> {
         let Some(stack) = &mut self.stack else {
             return plain::answer(alloc, words);
@@ -78,7 +80,7 @@ impl<'a> Storages<'a> {
         Ok(text(alloc, &answer)?)
     }
 
-    // Makes a call of a log, and once more where memory was wanting for it, if the log is in step then.
+    // Makes a call of a log. If memory runs out and the log is in step, the call is made once more.
     fn call_again(&mut self, alloc: Global, words: &[&str]) -> Result<String, Trouble> {
         match self.call(alloc, words) {
             Err(Trouble::Refused(Fault::Memory)) => {
@@ -91,7 +93,7 @@ impl<'a> Storages<'a> {
         }
     }
 
-    // Takes the log off the storage that it was made over.
+    // Removes the log from the storage that it was made over.
     fn unwrap(&mut self, alloc: Global) -> Result<String, Trouble> {
         let Some(stack) = self.stack.take() else {
             return Err(Trouble::NoCall);
@@ -100,7 +102,7 @@ impl<'a> Storages<'a> {
         Ok(ok(alloc)?)
     }
 
-    // Takes the bytes of a storage in memory, which is gone then.
+    // Takes the bytes of a storage in memory. The storage is dropped.
     fn take_bytes(&mut self, alloc: Global) -> Result<String, Trouble> {
         let Some(stack) = self.stack.take() else {
             return Err(Trouble::NoCall);

@@ -1,11 +1,11 @@
-// The storage of a script's words: which storages stand on which.
+// Makes the storage that a line describes, with its fuses and logs.
 use crate::stack::Stack;
 use cases::{Notes, Shaped, Trouble, bytes, is_alignment, number, size};
 use imago_storage::{FuseStorage, LogStorage, MemStorage, Null};
 use std::alloc::Global;
 use std::cell::Cell;
 
-// A storage of four alignments, which resolves names where the first word is `resolving`.
+// Makes a storage with four alignments. It resolves names if the first word is `resolving`.
 fn lowest<'a>(
     alloc: Global,
     words: &[&str],
@@ -17,7 +17,7 @@ fn lowest<'a>(
     }
 }
 
-// A kind of storage: what stands over the lowest one.
+// A kind of storage: the lowest storage, or what wraps it.
 #[derive(Clone, Copy)]
 enum Kind {
     Memory(usize),
@@ -73,9 +73,15 @@ fn fuse_over_log<'a>(
     Ok(Stack::FuseOverLog(FuseStorage::new(log, n)))
 }
 
-/// The storage of these words: `memory ALIGN BYTES`, `empty ALIGN` for one in memory that never had bytes, `null SIZE`, or a storage
-/// of four alignments. Over the last one stand a fuse by `fuse N`, a log over a fuse by `log N`, and a fuse over those by `fuse_log N
-/// M`. The Nth call of a fuse fails, where N isn't 0; of a storage with none before it none does.
+/// Makes the storage that `words` describe.
+///
+/// - `memory ALIGN BYTES`: a storage in memory.
+/// - `empty ALIGN`: a storage in memory that was never written.
+/// - `null SIZE`: a storage that holds nothing.
+/// - A storage with four alignments. It is always in a fuse. `fuse N` sets the fuse, `log N` puts a log over the fuse, and `fuse_log N M`
+///   puts a fuse over a log over a fuse.
+///
+/// The Nth call of a fuse fails. If N is 0 or isn't given, no call fails.
 pub fn storage_of<'a>(
     alloc: Global,
     words: &[&str],

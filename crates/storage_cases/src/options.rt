@@ -1,4 +1,4 @@
-// Options for opening and creating a storage: words set them, as `size=10`, and each is told.
+// Options for opening and creating a storage. A script sets them one by one, as `size=10`, and the answer prints all of them.
 use cases::{Trouble, mode, mode_word, number};
 use imago_storage::{PreallocateMode, StorageCreateOptions, StorageOpenOptions};
 use std::alloc::{AllocError, Global};
@@ -22,7 +22,7 @@ fn flag(word: &str) -> Result<bool, Trouble> {
     }
 }
 
-// The option of a name and a value.
+// Parses the option with a name and a value.
 fn named<'a>(name: &str, value: &'a str) -> Result<Setting<'a>, Trouble> {
     match name {
         "filename" => Ok(Setting::Filename(value)),
@@ -35,7 +35,7 @@ fn named<'a>(name: &str, value: &'a str) -> Result<Setting<'a>, Trouble> {
     }
 }
 
-// The option of a word.
+// Parses an option `NAME=VALUE`.
 fn setting_of<'a>(word: &'a str) -> Result<Setting<'a>, Trouble> {
     let (name, value) = word.split_once("=").ok_or(Trouble::NoCall)?;
     named(name, value)
@@ -60,7 +60,7 @@ fn open_text(alloc: Global, options: &StorageOpenOptions) -> Result<String, Allo
     format!(in alloc; "filename={name} write={write} direct={direct}")
 }
 
-// Options set by words.
+// Sets options for opening, and returns their text.
 fn opened(alloc: Global, first: StorageOpenOptions, words: &[&str]) -> Result<String, Trouble> {
     let mut options = first;
     for word in words.iter() {
@@ -69,7 +69,7 @@ fn opened(alloc: Global, first: StorageOpenOptions, words: &[&str]) -> Result<St
     Ok(open_text(alloc, &options)?)
 }
 
-/// Options for opening, from `new` or `default` on, with what further words set.
+/// Returns the options for opening: those of `new` or `default`, changed by the other options of the line.
 pub fn open(alloc: Global, words: &[&str]) -> Result<String, Trouble> {
     match words {
         ["new", rest @ ..] => opened(alloc, StorageOpenOptions::new(), rest),
@@ -120,13 +120,13 @@ fn created(alloc: Global, words: &[&str]) -> Result<StorageCreateOptions, Troubl
     }
 }
 
-/// Options for creating, from `new` or `default` on, with what further words set.
+/// Returns the options for creating: those of `new` or `default`, changed by the other options of the line.
 pub fn create(alloc: Global, words: &[&str]) -> Result<String, Trouble> {
     let options = created(alloc, words)?;
     Ok(create_text(alloc, &options)?)
 }
 
-/// How a storage is opened that is created with these options.
+/// Returns the options for opening a storage that is created with these options.
 pub fn create_open(alloc: Global, words: &[&str]) -> Result<String, Trouble> {
     let options = created(alloc, words)?;
     Ok(open_text(alloc, options.get_open_options())?)

@@ -29,7 +29,7 @@ static FAULTS: [Fault; 22] = [
     Fault::BadCommand,
 ];
 
-// The padded end of a range, or `none`.
+// Returns the padded end of a range, or `none`.
 fn padded(alloc: Global, offset: &str, n: &str, unit: &str) -> Result<String, Trouble> {
     let (offset, n, unit) = (number(offset)?, number(n)?, number(unit)?);
     if unit == 0 {
@@ -41,7 +41,7 @@ fn padded(alloc: Global, offset: &str, n: &str, unit: &str) -> Result<String, Tr
     }
 }
 
-// The larger of two alignments.
+// Returns the larger of two alignments.
 fn larger(alloc: Global, a: &str, b: &str) -> Result<String, Trouble> {
     let (a, b) = (size(a)?, size(b)?);
     if !is_alignment(a) || !is_alignment(b) {
@@ -50,13 +50,13 @@ fn larger(alloc: Global, a: &str, b: &str) -> Result<String, Trouble> {
     Ok(larger_alignment(a, b).to_string(alloc)?)
 }
 
-// Whether a fault is written so in Rust.
+// Returns true if a fault's Rust name is `name`.
 fn is_named(alloc: Global, fault: Fault, name: &str) -> Result<bool, AllocError> {
     let written = format!(in alloc; "{fault:?}")?;
     Ok(written.as_str() == name)
 }
 
-// A fault's number, kind and text, by its name in Rust.
+// Returns a fault's number, kind and text, by its Rust name.
 fn fault(alloc: Global, name: &str) -> Result<String, Trouble> {
     for fault in FAULTS.iter() {
         if is_named(alloc, *fault, name)? {
@@ -67,7 +67,7 @@ fn fault(alloc: Global, name: &str) -> Result<String, Trouble> {
     Err(Trouble::NoCall)
 }
 
-/// Makes the call of these words, which needs no storage.
+/// Makes a call that needs no storage.
 pub fn answer(alloc: Global, words: &[&str]) -> Result<String, Trouble> {
     match words {
         ["open_options", rest @ ..] => open(alloc, rest),

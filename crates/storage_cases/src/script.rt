@@ -1,4 +1,4 @@
-// The words of a script's lines.
+// Parses the calls of a script's lines.
 use crate::calls::{Call, Kind};
 use cases::{Trouble, bytes, mode, number};
 use std::alloc::Global;
@@ -16,7 +16,7 @@ fn kind(word: &str) -> Result<Kind, Trouble> {
     }
 }
 
-// A call with a range alone, or a read.
+// Parses a read, or a call that has a range and nothing else.
 fn range_call(word: &str, offset: u64, n: u64) -> Result<Call, Trouble> {
     match word {
         "read" => Ok(Call::Read(offset, n)),
@@ -26,7 +26,7 @@ fn range_call(word: &str, offset: u64, n: u64) -> Result<Call, Trouble> {
     }
 }
 
-// A call without bytes.
+// Parses a call without bytes.
 fn short_call(words: &[&str]) -> Result<Call, Trouble> {
     match words {
         ["aligns"] => Ok(Call::Aligns),
@@ -41,7 +41,7 @@ fn short_call(words: &[&str]) -> Result<Call, Trouble> {
     }
 }
 
-/// The call of these words.
+/// Parses a call.
 pub fn call(alloc: Global, words: &[&str]) -> Result<Call, Trouble> {
     match words {
         ["write", offset, rest @ ..] => Ok(Call::Write(number(offset)?, bytes(alloc, rest)?)),

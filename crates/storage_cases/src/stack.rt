@@ -1,4 +1,4 @@
-// The storage of a case and the calls of it.
+// The storage of a case, and its calls.
 use crate::calls::{Answer, Call, perform};
 use crate::logs::{in_step, requests, stop};
 use crate::script::call;
@@ -6,6 +6,7 @@ use cases::{Shaped, Trouble, size};
 use imago_storage::{FuseStorage, LogStorage, MemStorage, Null, StopStorage};
 use std::alloc::Global;
 
+/// The storage of a case, with its fuses and logs.
 #[derive(Drop)]
 pub enum Stack<'a> {
     Memory(MemStorage),
@@ -47,7 +48,7 @@ impl<'a> Stack<'a> {
         }
     }
 
-    // A call that only a log has.
+    // Makes a call that only logs have.
     fn log_call(&mut self, alloc: Global, words: &[&str]) -> Result<Answer, Trouble> {
         let Stack::Log(log) = self else {
             return Err(Trouble::NoCall);
@@ -59,7 +60,7 @@ impl<'a> Stack<'a> {
         }
     }
 
-    // A copy of the bytes of a storage in memory.
+    // Copies the bytes of a storage in memory.
     fn copy(&self) -> Result<Answer, Trouble> {
         match self {
             Stack::Memory(storage) => Ok(Answer::Bytes(storage.bytes()?)),
@@ -67,7 +68,7 @@ impl<'a> Stack<'a> {
         }
     }
 
-    /// Makes the call of these words.
+    /// Makes a call.
     pub fn make(&mut self, alloc: Global, words: &[&str]) -> Result<Answer, Trouble> {
         match words {
             ["count"] => self.count(),
@@ -78,7 +79,7 @@ impl<'a> Stack<'a> {
         }
     }
 
-    /// The storage that a log was made over.
+    /// Returns the storage that a log was made over.
     pub fn into_inner(self) -> Result<Self, Trouble> {
         match self {
             Stack::Log(log) => Ok(Stack::Fuse(log.into_inner())),
@@ -86,7 +87,7 @@ impl<'a> Stack<'a> {
         }
     }
 
-    /// The bytes of a storage in memory.
+    /// Returns the bytes of a storage in memory.
     pub fn into_bytes(self) -> Result<Answer, Trouble> {
         match self {
             Stack::Memory(storage) => Ok(Answer::Bytes(storage.into_bytes()?)),
