@@ -1,4 +1,4 @@
-// What calls answer.
+// The answers of a script's calls, as values and as texts.
 use cases::{Trouble, ok};
 use std::alloc::{AllocError, Global};
 
@@ -7,20 +7,20 @@ use std::alloc::{AllocError, Global};
 pub enum Answer {
     Done,
     None,
-    /// Written in decimal digits.
+    /// A number, printed in decimal digits.
     Number(u64),
-    /// A word of a table, written in hexadecimal digits.
+    /// A raw entry of a table, printed in hexadecimal digits.
     Word(u64),
     Flag(bool),
-    /// Clusters that are handed back: the first, and how many.
+    /// Clusters to free: the first cluster, and the count.
     Clusters(u64, u64),
     Text(&'static str),
-    /// The place of some bytes, and how many they are.
+    /// A range of bytes: the offset, and the length.
     Range(u64, u64),
 }
 
 impl Answer {
-    /// A number, or none.
+    /// Converts a number, if any.
     pub fn number_or_none(number: Option<u64>) -> Answer {
         match number {
             Some(number) => Answer::Number(number),
@@ -29,13 +29,13 @@ impl Answer {
     }
 }
 
-/// The answer as a script has it.
+/// Returns the text of an answer, as scripts have it.
 pub fn text(alloc: Global, answer: Answer) -> Result<String, AllocError> {
     match answer {
         Answer::Done => ok(alloc),
         Answer::None => "none".to_string(alloc),
         Answer::Number(number) => number.to_string(alloc),
-        Answer::Word(raw_entry) => format!(in alloc; "0x{raw_entry:x}"),
+        Answer::Word(word) => format!(in alloc; "0x{word:x}"),
         Answer::Flag(flag) => flag.to_string(alloc),
         Answer::Clusters(first, count) => format!(in alloc; "from {first} count {count}"),
         Answer::Text(text) => text.to_string(alloc),
@@ -43,7 +43,7 @@ pub fn text(alloc: Global, answer: Answer) -> Result<String, AllocError> {
     }
 }
 
-/// Its text, where there is one.
+/// Returns the text of an answer. An error is passed on.
 pub fn answered(alloc: Global, answer: Result<Answer, Trouble>) -> Result<String, Trouble> {
     Ok(text(alloc, answer?)?)
 }

@@ -1,4 +1,4 @@
-// Refcount blocks.
+// Runs the lines of a script that call a refcount block.
 ghost use Rattle.std.specs.Prelude.{◌≡◌, ◌+◌, IsTrue, OnErr, OnOk, slice_index};
 ghost use Rattle.qcow2_metadata.specs.Blocks.{with_counter};
 ghost use Rattle.qcow2_metadata.specs.Places.{IsPlaced};
@@ -11,7 +11,7 @@ use qcow2_metadata::{Header, RefBlock};
 use qcow2_types::HostCluster;
 use std::alloc::Global;
 
-/// A new block, whose counters are 0.
+/// Creates a block with all refcounts 0.
 pub fn new_block(alloc: Global, header: &Header) -> Result<RefBlock, Trouble> {
     Ok(RefBlock::new_cleared(alloc, header)?)
 }
@@ -29,7 +29,7 @@ pub fn load_block(
     Ok(RefBlock::load(alloc, image, header, cluster)?)
 }
 
-// Whether the block has a cluster that words can name.
+// Returns true if the block has a cluster, and the cluster's offset fits an entry.
 fn is_placed(block: &RefBlock) -> bool
     ensures { IsTrue result → IsPlaced block.now.cluster_bits block.now.cluster }
 {
@@ -46,7 +46,7 @@ fn cluster(block: &RefBlock) -> Answer {
     }
 }
 
-// Where the block begins.
+// Returns the offset of the block.
 fn offset(block: &RefBlock) -> Result<Answer, Trouble> {
     if block.get_cluster().is_some() && !is_placed(block) {
         return Err(Trouble::NoCall);
@@ -57,7 +57,7 @@ fn offset(block: &RefBlock) -> Result<Answer, Trouble> {
     }
 }
 
-// The counter at an index.
+// Returns the refcount at an index.
 fn count(block: &RefBlock, index: usize) -> Result<Answer, Trouble> {
     if index >= block.entries() {
         return Err(Trouble::NoCall);
@@ -65,7 +65,7 @@ fn count(block: &RefBlock, index: usize) -> Result<Answer, Trouble> {
     Ok(Answer::Number(block.get(index)))
 }
 
-// Whether the counter at an index is 0.
+// Returns whether the refcount at an index is 0.
 fn is_zero(block: &RefBlock, index: usize) -> Result<Answer, Trouble> {
     if index >= block.entries() {
         return Err(Trouble::NoCall);
@@ -73,7 +73,7 @@ fn is_zero(block: &RefBlock, index: usize) -> Result<Answer, Trouble> {
     Ok(Answer::Flag(block.is_zero(index)))
 }
 
-// Whether the guard says that it is.
+// Like `is_zero`, but through the write guard.
 fn guarded_is_zero(block: &mut RefBlock, index: usize) -> Result<Answer, Trouble> {
     if index >= block.entries() {
         return Err(Trouble::NoCall);
@@ -82,7 +82,7 @@ fn guarded_is_zero(block: &mut RefBlock, index: usize) -> Result<Answer, Trouble
     Ok(Answer::Flag(guard.is_zero(index)))
 }
 
-// What the guard did is known of the block.
+// Increments the refcount at an index. The contract says what the guard's change means for the block.
 fn increment(block: &mut RefBlock, index: usize) -> Result<Answer, Trouble>
     ensures raised { OnOk result (block.new ≡ with_counter block.old index (slice_index block.old.counters index + 1)) }
     ensures stays { OnErr result (block.new ≡ block.old) }
@@ -108,9 +108,9 @@ fn decrement(block: &mut RefBlock, index: usize) -> Result<Answer, Trouble> {
     }
 }
 
-// What the block says of itself.
-fn ask(block: &RefBlock, raw_entry: &str) -> Result<Answer, Trouble> {
-    match raw_entry {
+// Returns a property of the block.
+fn ask(block: &RefBlock, word: &str) -> Result<Answer, Trouble> {
+    match word {
         "entries" => Ok(Answer::Number(block.entries() as u64)),
         "cluster_bits" => Ok(Answer::Number(u64::from(block.cluster_bits()))),
         "cluster" => Ok(cluster(block)),
@@ -120,11 +120,11 @@ fn ask(block: &RefBlock, raw_entry: &str) -> Result<Answer, Trouble> {
     }
 }
 
-fn mark(block: &mut RefBlock, raw_entry: &str) -> Result<Answer, Trouble> {
-    match raw_entry {
+fn mark(block: &mut RefBlock, word: &str) -> Result<Answer, Trouble> {
+    match word {
         "set_modified" => block.set_modified(),
         "clear_modified" => block.clear_modified(),
-        _ => return ask(block, raw_entry),
+        _ => return ask(block, word),
     }
     Ok(Answer::Done)
 }
@@ -134,10 +134,10 @@ fn place(block: &mut RefBlock, cluster: u64) -> Answer {
     Answer::Done
 }
 
-/// A call of a block alone.
+/// Makes a call of a block that needs no storage.
 pub fn block_call(block: &mut RefBlock, words: &[&str]) -> Result<Answer, Trouble> {
     match words {
-        [raw_entry] => mark(block, raw_entry),
+        [word] => mark(block, word),
         ["set_cluster", cluster] => Ok(place(block, number(cluster)?)),
         ["get", index] => count(block, size(index)?),
         ["is_zero", index] => is_zero(block, size(index)?),
@@ -171,7 +171,7 @@ fn write_if_modified(
     Ok(Answer::Done)
 }
 
-/// A call of a block over the storage.
+/// Makes a call of a block that needs the storage.
 pub fn block_in_file(
     alloc: Global,
     block: &mut RefBlock,

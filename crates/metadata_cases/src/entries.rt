@@ -1,9 +1,9 @@
-// Single words of tables.
+// Runs the lines of a script that make or decode a single entry of a table.
 ghost use Rattle.std.specs.Prelude.{◌≤◌, ◌<◌, ◌^◌, ◌-◌, ◌≡◌};
 
 use crate::answer::{Answer, answered};
 use cases::{Trouble, number, size};
-use qcow2_metadata::words::{block_offset_in, offset_in, word_at};
+use qcow2_metadata::words::{block_offset_in, offset_in, raw_entry_at};
 use qcow2_metadata::{Header, L1Entry, L2Entry, RefTableEntry, TableEntry};
 use qcow2_types::HostOffset;
 use std::alloc::Global;
@@ -15,9 +15,9 @@ fn place_or_none(place: Option<HostOffset>) -> Answer {
     }
 }
 
-// A word of the L1 table: one that is made, or one of an image with this header.
-fn l1_entry(header: &Header, how: &str, raw_entry: &str) -> Result<L1Entry, Trouble> {
-    let number = number(raw_entry)?;
+// Builds an L1 entry: a new one, or one decoded with this header.
+fn l1_entry(header: &Header, how: &str, word: &str) -> Result<L1Entry, Trouble> {
+    let number = number(word)?;
     match how {
         "plain" => Ok(L1Entry::try_from_plain(number, header)?),
         "naming" if number < 1 << 63 => Ok(L1Entry::naming(HostOffset(number))),
@@ -26,8 +26,8 @@ fn l1_entry(header: &Header, how: &str, raw_entry: &str) -> Result<L1Entry, Trou
     }
 }
 
-fn reftable_entry(header: &Header, how: &str, raw_entry: &str) -> Result<RefTableEntry, Trouble> {
-    let number = number(raw_entry)?;
+fn reftable_entry(header: &Header, how: &str, word: &str) -> Result<RefTableEntry, Trouble> {
+    let number = number(word)?;
     match how {
         "plain" => Ok(RefTableEntry::try_from_plain(number, header)?),
         "naming" => Ok(RefTableEntry::naming(HostOffset(number))),
@@ -36,7 +36,7 @@ fn reftable_entry(header: &Header, how: &str, raw_entry: &str) -> Result<RefTabl
     }
 }
 
-// A word of an L2 table that is made with a place.
+// Builds an L2 entry with an offset.
 fn placed_l2_entry(how: &str, place: u64) -> Result<L2Entry, Trouble> {
     if place >= (1 << 63) - 1 {
         return Err(Trouble::NoCall);
@@ -50,8 +50,8 @@ fn placed_l2_entry(how: &str, place: u64) -> Result<L2Entry, Trouble> {
     }
 }
 
-fn l2_entry(header: &Header, how: &str, raw_entry: &str) -> Result<L2Entry, Trouble> {
-    let number = number(raw_entry)?;
+fn l2_entry(header: &Header, how: &str, word: &str) -> Result<L2Entry, Trouble> {
+    let number = number(word)?;
     match how {
         "plain" => Ok(L2Entry::try_from_plain(number, header)?),
         "plain_unmarked" => Ok(L2Entry::try_from_plain(number, header)?.without_copied()),
@@ -61,8 +61,8 @@ fn l2_entry(header: &Header, how: &str, raw_entry: &str) -> Result<L2Entry, Trou
     }
 }
 
-fn l1_part(entry: L1Entry, raw_entry: &str) -> Result<Answer, Trouble> {
-    match raw_entry {
+fn l1_part(entry: L1Entry, word: &str) -> Result<Answer, Trouble> {
+    match word {
         "word" => Ok(Answer::Word(entry.to_plain())),
         "table" => Ok(place_or_none(entry.l2_offset())),
         "copied" => Ok(Answer::Flag(entry.is_copied())),
@@ -71,8 +71,8 @@ fn l1_part(entry: L1Entry, raw_entry: &str) -> Result<Answer, Trouble> {
     }
 }
 
-fn reftable_part(entry: RefTableEntry, raw_entry: &str) -> Result<Answer, Trouble> {
-    match raw_entry {
+fn reftable_part(entry: RefTableEntry, word: &str) -> Result<Answer, Trouble> {
+    match word {
         "word" => Ok(Answer::Word(entry.to_plain())),
         "block" => Ok(place_or_none(entry.refblock_offset())),
         "reserved" => Ok(Answer::Word(entry.reserved_bits())),
@@ -80,7 +80,7 @@ fn reftable_part(entry: RefTableEntry, raw_entry: &str) -> Result<Answer, Troubl
     }
 }
 
-// The range of a compressed word.
+// Returns the range of a compressed entry.
 fn range(header: &Header, entry: L2Entry) -> Answer {
     match entry.compressed_range(header.cluster_bits()) {
         Some((place, length)) => Answer::Range(place.0, length),
@@ -88,8 +88,8 @@ fn range(header: &Header, entry: L2Entry) -> Answer {
     }
 }
 
-fn l2_part(header: &Header, entry: L2Entry, raw_entry: &str) -> Result<Answer, Trouble> {
-    match raw_entry {
+fn l2_part(header: &Header, entry: L2Entry, word: &str) -> Result<Answer, Trouble> {
+    match word {
         "word" => Ok(Answer::Word(entry.to_plain())),
         "cluster" => Ok(place_or_none(entry.cluster_offset(false))),
         "external_cluster" => Ok(place_or_none(entry.cluster_offset(true))),
@@ -103,7 +103,7 @@ fn l2_part(header: &Header, entry: L2Entry, raw_entry: &str) -> Result<Answer, T
     }
 }
 
-/// A part of a word: `l1 PART HOW NUMBER`, and so for `l2` and `reftable`.
+/// Returns a part of an entry: `l1 PART HOW NUMBER`, and likewise for `l2` and `reftable`.
 pub fn entry(alloc: Global, header: &Header, words: &[&str]) -> Result<String, Trouble> {
     match words {
         ["l1", part, how, raw_entry] => answered(
@@ -126,15 +126,15 @@ pub fn entry(alloc: Global, header: &Header, words: &[&str]) -> Result<String, T
     }
 }
 
-// The number of eight of these bytes.
+// Decodes the eight bytes at an offset.
 fn number_at(bytes: &[u8], at: usize) -> Result<Answer, Trouble> {
     if at > bytes.len() {
         return Err(Trouble::NoCall);
     }
-    Ok(Answer::Word(word_at(bytes, at)))
+    Ok(Answer::Word(raw_entry_at(bytes, at)))
 }
 
-/// A number in the bytes of the file, or the place in a word.
+/// Returns a number in the bytes of the file, or the offset in a raw entry.
 pub fn plain(alloc: Global, words: &[&str], file: &[u8]) -> Result<String, Trouble> {
     match words {
         ["word_at", at] => answered(alloc, number_at(file, size(at)?)),

@@ -1,4 +1,4 @@
-// The bytes of a file, and the storage that they are in.
+// The bytes of a case's file, and the storage that holds them.
 use crate::answer::{Answer, answered};
 use cases::{Alignments, Notes, Shaped, Trouble, bytes, joined, number, ok, runs, size, told};
 use imago_storage::{FuseStorage, Storage, StorageExt};
@@ -8,10 +8,10 @@ use std::cell::Cell;
 /// The most bytes of a file.
 const MOST: usize = 16_777_216;
 
-/// A storage that notes its calls, and of which one may fail.
+/// A storage that records its calls. One of its calls may fail.
 pub type Image<'a> = FuseStorage<Shaped<'a>>;
 
-/// Puts bytes over those of a file from a place on, and zeroes before them where it is shorter.
+/// Overwrites the file with `bytes` from offset `at` on. A shorter file is first extended with zeroes.
 fn put(file: &mut Vec<u8>, at: usize, bytes: &[u8]) -> Result<(), Trouble> {
     if at > MOST || bytes.len() > MOST {
         return Err(Trouble::NoCall);
@@ -28,21 +28,22 @@ fn put(file: &mut Vec<u8>, at: usize, bytes: &[u8]) -> Result<(), Trouble> {
     Ok(())
 }
 
-// Words, each behind a blank but the first.
+// Joins the words of a text, with a blank between them.
 fn sentence(alloc: Global, words: &[&str]) -> Result<String, AllocError> {
     let mut text = String::new(alloc);
-    for raw_entry in words.iter() {
-        joined(&mut text, raw_entry)?;
+    for word in words.iter() {
+        joined(&mut text, word)?;
     }
     Ok(text)
 }
 
-/// Changes the bytes of the file: `put OFFSET BYTES`, `raw_entry OFFSET NUMBER` for eight bytes, the highest first, `text OFFSET WORDS`,
-/// and `cut LENGTH`.
+/// Changes the bytes of the file.
+///
+/// The calls are `put OFFSET BYTES`, `word OFFSET NUMBER` for eight bytes in big-endian order, `text OFFSET WORDS`, and `cut LENGTH`.
 pub fn edit(alloc: Global, file: &mut Vec<u8>, words: &[&str]) -> Result<String, Trouble> {
     match words {
         ["put", at, rest @ ..] => put(file, size(at)?, &bytes(alloc, rest)?)?,
-        ["word", at, raw_entry] => put(file, size(at)?, &number(raw_entry)?.to_be_bytes())?,
+        ["word", at, word] => put(file, size(at)?, &number(word)?.to_be_bytes())?,
         ["text", at, rest @ ..] => put(file, size(at)?, sentence(alloc, rest)?.as_bytes())?,
         ["cut", length] => file.truncate(size(length)?),
         _ => return Err(Trouble::NoCall),
@@ -50,7 +51,7 @@ pub fn edit(alloc: Global, file: &mut Vec<u8>, words: &[&str]) -> Result<String,
     Ok(ok(alloc)?)
 }
 
-/// The file's bytes in a storage with all four alignments, whose `n`th call fails; none does where `n` is 0.
+/// Puts the file's bytes into a storage. All four alignments are `align`, and its `n`th call fails. If `n` is 0, no call fails.
 pub fn image_of<'a>(
     file: &Vec<u8>,
     align: usize,
@@ -74,7 +75,7 @@ fn read(alloc: Global, image: &mut Image<'_>, offset: u64, n: usize) -> Result<S
     Ok(runs(alloc, &buf)?)
 }
 
-/// What the storage holds, and what it was asked.
+/// Returns what the storage holds, or which requests it got.
 pub fn look(
     alloc: Global,
     image: &mut Image<'_>,

@@ -1,4 +1,4 @@
-// The header of an image.
+// Runs the lines of a script that call the header of an image.
 ghost use Rattle.std.specs.Prelude.{◌≤◌, IfOk};
 
 use crate::answer::{Answer, answered};
@@ -11,13 +11,13 @@ use qcow2_metadata::{Header, L1Table, RefTable, Table};
 use qcow2_types::{ClustersToFreeEntry, FeatureType, PendingClusters};
 use std::alloc::Global;
 
-// A text of a script: `-` for none, `n*3` for `nnn`, and else the word.
-fn text_of(alloc: Global, raw_entry: &str) -> Result<Option<String>, Trouble> {
-    if raw_entry == "-" {
+// Parses a text of a script: `-` for none, `n*3` for `nnn`, and any other word as it is.
+fn text_of(alloc: Global, word: &str) -> Result<Option<String>, Trouble> {
+    if word == "-" {
         return Ok(None);
     }
-    let Some((part, count)) = raw_entry.split_once("*") else {
-        return Ok(Some(raw_entry.to_string(alloc)?));
+    let Some((part, count)) = word.split_once("*") else {
+        return Ok(Some(word.to_string(alloc)?));
     };
     let count = number(count)?;
     if count > 4096 {
@@ -30,17 +30,17 @@ fn text_of(alloc: Global, raw_entry: &str) -> Result<Option<String>, Trouble> {
     Ok(Some(text))
 }
 
-fn refcount_order(raw_entry: &str) -> Result<u32, Trouble>
+fn refcount_order(word: &str) -> Result<u32, Trouble>
     ensures { IfOk result (λ order. order ≤ 6) }
 {
-    let order = number(raw_entry)?;
+    let order = number(word)?;
     if order > 6 {
         return Err(Trouble::NoCall);
     }
     Ok(order as u32)
 }
 
-/// A new header: `CLUSTER_BITS REFCOUNT_ORDER BACKING_FILE BACKING_FORMAT DATA_FILE`.
+/// Creates a header: `CLUSTER_BITS REFCOUNT_ORDER BACKING_FILE BACKING_FORMAT DATA_FILE`.
 pub fn new_header(alloc: Global, words: &[&str]) -> Result<Header, Trouble> {
     let [bits, order, name, format, data_file] = words else {
         return Err(Trouble::NoCall);
@@ -51,13 +51,9 @@ pub fn new_header(alloc: Global, words: &[&str]) -> Result<Header, Trouble> {
     Ok(Header::new(alloc, bits, order, name, format, data_file)?)
 }
 
-/// The header in the file, loaded for reading or for writing.
-pub fn load_header(
-    alloc: Global,
-    image: &mut Image<'_>,
-    raw_entry: &str,
-) -> Result<Header, Trouble> {
-    let writable = match raw_entry {
+/// Loads the header in the file, for reading or for writing.
+pub fn load_header(alloc: Global, image: &mut Image<'_>, word: &str) -> Result<Header, Trouble> {
+    let writable = match word {
         "reading" => false,
         "writing" => true,
         _ => return Err(Trouble::NoCall),
@@ -65,9 +61,9 @@ pub fn load_header(
     Ok(Header::load(alloc, image, writable)?)
 }
 
-// Its numbers about tables.
-fn place_field(header: &Header, raw_entry: &str) -> Result<u64, Trouble> {
-    match raw_entry {
+// Returns a number about tables from the header.
+fn place_field(header: &Header, word: &str) -> Result<u64, Trouble> {
+    match word {
         "l1_offset" => Ok(header.l1_table_offset().0),
         "l1_entries" => Ok(header.l1_table_entries() as u64),
         "reftable_offset" => Ok(header.reftable_offset().0),
@@ -78,8 +74,8 @@ fn place_field(header: &Header, raw_entry: &str) -> Result<u64, Trouble> {
     }
 }
 
-fn field(header: &Header, raw_entry: &str) -> Result<u64, Trouble> {
-    match raw_entry {
+fn field(header: &Header, word: &str) -> Result<u64, Trouble> {
+    match word {
         "version" => Ok(u64::from(header.version())),
         "size" => Ok(header.size()),
         "cluster_bits" => Ok(u64::from(header.cluster_bits())),
@@ -88,11 +84,11 @@ fn field(header: &Header, raw_entry: &str) -> Result<u64, Trouble> {
         "refcount_order" => Ok(u64::from(header.refcount_order())),
         "rb_bits" => Ok(u64::from(header.rb_bits())),
         "rb_entries" => Ok(header.rb_entries() as u64),
-        _ => place_field(header, raw_entry),
+        _ => place_field(header, word),
     }
 }
 
-// A text of the header, or `none`.
+// Returns a text of the header, or `none`.
 fn shown(alloc: Global, text: Option<&str>) -> Result<String, Trouble> {
     Ok(text.unwrap_or("none").to_string(alloc)?)
 }
@@ -116,7 +112,7 @@ fn getter(alloc: Global, header: &Header, words: &[&str]) -> Result<String, Trou
         ["data_file"] => shown(alloc, header.external_data_filename()),
         ["external_data"] => answered(alloc, Ok(Answer::Flag(header.external_data_file()))),
         ["feature", kind, bit] => { feature_name(alloc, header, feature_type(kind)?, number(bit)?) }
-        [raw_entry] => answered(alloc, Ok(Answer::Number(field(header, raw_entry)?))),
+        [word] => answered(alloc, Ok(Answer::Number(field(header, word)?))),
         _ => Err(Trouble::NoCall),
     }
 }
@@ -134,14 +130,14 @@ fn write(alloc: Global, header: &mut Header, image: &mut Image<'_>) -> Result<St
     Ok(ok(alloc)?)
 }
 
-// One of the three writes of the first fields.
+// Makes one of the three writes of a part of the header.
 fn write_pointer(
     alloc: Global,
     header: &Header,
     image: &mut Image<'_>,
-    raw_entry: &str,
+    word: &str,
 ) -> Result<String, Trouble> {
-    match raw_entry {
+    match word {
         "size" => header.write_size(alloc, image)?,
         "l1" => header.write_l1_table_pointer(alloc, image)?,
         "reftable" => header.write_reftable_pointer(alloc, image)?,
@@ -150,19 +146,19 @@ fn write_pointer(
     Ok(ok(alloc)?)
 }
 
-// Takes over what the header in the file says.
+// Takes the values from the header in the file.
 fn update(
     alloc: Global,
     header: &mut Header,
     image: &mut Image<'_>,
-    raw_entry: &str,
+    word: &str,
 ) -> Result<String, Trouble> {
-    let other = load_header(alloc, image, raw_entry)?;
+    let other = load_header(alloc, image, word)?;
     header.update(&other)?;
     Ok(ok(alloc)?)
 }
 
-/// A call of the header that needs no storage.
+/// Makes a call of the header that needs no storage.
 pub fn header_call(alloc: Global, header: &mut Header, words: &[&str]) -> Result<String, Trouble> {
     match words {
         ["set_size", size] => {
@@ -178,7 +174,7 @@ pub fn header_call(alloc: Global, header: &mut Header, words: &[&str]) -> Result
     }
 }
 
-/// A call of the header over the storage.
+/// Makes a call of the header that needs the storage.
 pub fn header_in_file(
     alloc: Global,
     header: &mut Header,
@@ -187,13 +183,13 @@ pub fn header_in_file(
 ) -> Result<String, Trouble> {
     match words {
         ["write"] => write(alloc, header, image),
-        ["write", raw_entry] => write_pointer(alloc, header, image, raw_entry),
-        ["update", raw_entry] => update(alloc, header, image, raw_entry),
+        ["write", word] => write_pointer(alloc, header, image, word),
+        ["update", word] => update(alloc, header, image, word),
         _ => Err(Trouble::NoCall),
     }
 }
 
-/// Takes over the place of an L1 table, whose clusters are pending until then.
+/// Makes the header reference an L1 table. Before the call the table's clusters are pending (allocated, and not yet referenced).
 pub fn link_l1(alloc: Global, header: &mut Header, table: &L1Table) -> Result<String, Trouble> {
     if table.cluster_bits() != header.cluster_bits() || !is_placed(table) {
         return Err(Trouble::NoCall);
@@ -209,7 +205,7 @@ pub fn link_l1(alloc: Global, header: &mut Header, table: &L1Table) -> Result<St
     Ok(ok(alloc)?)
 }
 
-/// Takes over the place of a refcount table.
+/// Makes the header reference a refcount table.
 pub fn name_reftable(
     alloc: Global,
     header: &mut Header,

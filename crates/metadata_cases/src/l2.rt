@@ -1,4 +1,4 @@
-// L2 tables.
+// Runs the lines of a script that call an L2 table.
 ghost use Rattle.std.specs.Prelude.{◌≡◌, OnOk};
 ghost use Rattle.qcow2_metadata.specs.Tables.{with_raw_entry};
 
@@ -11,7 +11,7 @@ use qcow2_metadata::{Header, L2Mapping, L2Table, StoredL2Table, Table};
 use qcow2_types::{ClusterCount, ClustersToFreeEntry, GuestCluster, HostCluster, PendingClusters};
 use std::alloc::Global;
 
-/// A new table, in which nothing is mapped.
+/// Creates a table in which nothing is mapped.
 pub fn new_l2(alloc: Global, header: &Header) -> Result<L2Table, Trouble> {
     Ok(L2Table::new_cleared(alloc, header)?)
 }
@@ -30,12 +30,12 @@ pub fn load_l2(
     Ok(L2Table::load(alloc, image, header, cluster, entries)?)
 }
 
-/// A copy, in which no cluster is marked as copied.
+/// Copies the table. The entries of the copy don't have the COPIED flag, unless the image has an external data file.
 pub fn copy_of(alloc: Global, table: &L2Table) -> Result<L2Table, Trouble> {
     Ok(table.clone(alloc)?)
 }
 
-/// Writes the table to its cluster, if it is modified.
+/// Writes the table to its cluster if the table is dirty.
 pub fn write_if_modified(
     alloc: Global,
     table: &mut L2Table,
@@ -51,7 +51,7 @@ pub fn write_if_modified(
     Ok(Answer::Done)
 }
 
-// What the table says of a guest cluster.
+// Returns the table's mapping of a guest cluster.
 fn mapping(table: &L2Table, cluster: GuestCluster) -> Result<L2Mapping, Trouble> {
     if !fits(cluster.0, table.cluster_bits(), 0) {
         return Err(Trouble::NoCall);
@@ -59,7 +59,7 @@ fn mapping(table: &L2Table, cluster: GuestCluster) -> Result<L2Mapping, Trouble>
     Ok(table.get_mapping(cluster))
 }
 
-// What the guard says of it.
+// Like `mapping`, but through the write guard.
 fn guarded_mapping(table: &mut L2Table, cluster: GuestCluster) -> Result<L2Mapping, Trouble> {
     if !fits(cluster.0, table.cluster_bits(), 0) {
         return Err(Trouble::NoCall);
@@ -68,7 +68,7 @@ fn guarded_mapping(table: &mut L2Table, cluster: GuestCluster) -> Result<L2Mappi
     Ok(guard.get_mapping(cluster))
 }
 
-// Where the compressed bytes of a guest cluster are.
+// Returns the range of the compressed data of a guest cluster.
 fn packed(table: &L2Table, cluster: GuestCluster) -> Answer {
     match table.lock_compressed_read(cluster) {
         Some(read) => Answer::Range(read.host_offset().0, read.length()),
@@ -76,7 +76,7 @@ fn packed(table: &L2Table, cluster: GuestCluster) -> Answer {
     }
 }
 
-// Where the guard says that they are.
+// Like `packed`, but through the write guard.
 fn guarded_packed(table: &mut L2Table, cluster: GuestCluster) -> Answer {
     let guard = table.lock_write();
     match guard.compressed_read_guard(cluster) {
@@ -85,7 +85,7 @@ fn guarded_packed(table: &mut L2Table, cluster: GuestCluster) -> Answer {
     }
 }
 
-// The clusters that are handed back.
+// Returns the clusters to free that a change gives back.
 fn handed_back(entry: Option<ClustersToFreeEntry>) -> Answer {
     match entry {
         Some(entry) => {
@@ -96,7 +96,7 @@ fn handed_back(entry: Option<ClustersToFreeEntry>) -> Answer {
     }
 }
 
-// Data in a cluster that nothing names yet.
+// Makes a pending data cluster, which nothing references yet.
 fn pending(cluster: HostCluster, is_pending: bool) -> Option<PendingClusters> {
     if !is_pending {
         return None;
@@ -133,7 +133,7 @@ fn zero(table: &mut L2Table, index: usize, keep: bool) -> Result<Answer, Trouble
     }
 }
 
-// Discards the guest cluster at an index. What the guard did is known of the table.
+// Discards the guest cluster at an index. The contract says what the guard's change means for the table.
 fn discard(table: &mut L2Table, index: usize) -> Result<Answer, Trouble>
     ensures { OnOk result (table.new ≡ with_raw_entry table.old index 0) }
 {
@@ -160,7 +160,7 @@ fn change(table: &mut L2Table, words: &[&str]) -> Result<Answer, Trouble> {
     }
 }
 
-/// A call of an L2 table alone.
+/// Makes a call that only L2 tables have.
 pub fn l2_call(alloc: Global, table: &mut L2Table, words: &[&str]) -> Result<String, Trouble> {
     match words {
         ["mapping", cluster] => {
@@ -182,7 +182,7 @@ pub fn l2_call(alloc: Global, table: &mut L2Table, words: &[&str]) -> Result<Str
     }
 }
 
-/// A call of the table in a cluster, which is loaded for it and only read.
+/// Makes a call of the table in a cluster. The table is loaded for the call and only read.
 pub fn stored_call(
     alloc: Global,
     image: &mut Image<'_>,
@@ -197,8 +197,8 @@ pub fn stored_call(
     let table = StoredL2Table::load(alloc, image, header, cluster)?;
     match words {
         ["entries"] => answered(alloc, Ok(Answer::Number(table.entries() as u64))),
-        ["mapping", raw_entry] => {
-            let guest = GuestCluster(number(raw_entry)?);
+        ["mapping", word] => {
+            let guest = GuestCluster(number(word)?);
             if !fits(guest.0, bits, 0) {
                 return Err(Trouble::NoCall);
             }

@@ -1,4 +1,5 @@
-// The laws of the metadata. One that no program can call says nothing.
+// Calls the laws (functions without code whose contracts are theorems) of qcow2_metadata, to show that they can be called. A law with
+// preconditions that no program meets says nothing.
 use crate::answer::Answer;
 use crate::limits::is_addressable;
 use cases::Trouble;

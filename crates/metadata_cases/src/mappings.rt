@@ -1,4 +1,4 @@
-// What words of L2 tables mean, in three words each.
+// The mappings of L2 entries. Each is three words of a script.
 ghost use Rattle.std.specs.Prelude.{◌≤◌};
 
 use crate::answer::Answer;
@@ -12,8 +12,10 @@ fn mark(copied: bool) -> &'static str {
     if copied { "copied" } else { "shared" }
 }
 
-/// A mapping as a script has it: `data CLUSTER MARK`, `zeroes CLUSTER MARK` with `-` for no cluster, `below PLACE -`, or
-/// `packed PLACE LENGTH`. A mark is `copied` or `shared`.
+/// Returns the text of a mapping.
+///
+/// It is `data CLUSTER MARK`, `zeroes CLUSTER MARK` with `-` for no cluster, `below PLACE -`, or `packed PLACE LENGTH`. A mark is `copied`
+/// or `shared`.
 pub fn mapping_text(alloc: Global, mapping: L2Mapping) -> Result<String, AllocError> {
     match mapping {
         L2Mapping::DataFile {
@@ -52,9 +54,9 @@ fn zeroes_text(
     }
 }
 
-// Whether a mark is `copied`.
-fn is_copied(raw_entry: &str) -> Result<bool, Trouble> {
-    match raw_entry {
+// Returns true if a mark is `copied`.
+fn is_copied(word: &str) -> Result<bool, Trouble> {
+    match word {
         "copied" => Ok(true),
         "shared" => Ok(false),
         _ => Err(Trouble::NoCall),
@@ -90,8 +92,8 @@ fn written_as(kind: &str, first: &str, second: &str) -> Result<Written, Trouble>
     }
 }
 
-// The mapping that is written so. It is no function, so that nothing is called while another mapping is held: a check has no proof of that
-// where the types in it are another crate's.
+// Converts a `Written` to a mapping. It is a macro so that nothing is called while another mapping is held. A check has no proof of such a
+// call if the types are another crate's.
 macro_rules! mapping {
     ($written:expr) => {
         match $written {
@@ -124,7 +126,7 @@ fn goes_on(mapping: Written, before: Written, bits: u32) -> Answer
     Answer::Flag(mapping.is_consecutive(&before, bits))
 }
 
-/// Whether a mapping goes on from the one before: `BITS`, the mapping, `after` and the one before.
+/// Returns whether a mapping continues the mapping before it. The line is `BITS`, the mapping, `after` and the mapping before it.
 pub fn follows(words: &[&str]) -> Result<Answer, Trouble> {
     match words {
         [bits, a, b, c, "after", x, y, z] => {

@@ -1,4 +1,4 @@
-// Feature bits, clusters that are handed over, and the parts of a header that have a fixed size.
+// Runs the lines of a script on feature bits, clusters to free, and the parts of a header with a fixed size.
 ghost use Rattle.std.specs.Prelude.{◌≡◌, length};
 
 use crate::answer::{Answer, answered};
@@ -9,9 +9,9 @@ use qcow2_types::{
 };
 use std::alloc::Global;
 
-/// The word of a type of features.
-pub fn feature_type(raw_entry: &str) -> Result<FeatureType, Trouble> {
-    match raw_entry {
+/// Parses a type of features.
+pub fn feature_type(word: &str) -> Result<FeatureType, Trouble> {
+    match word {
         "incompatible" => Ok(FeatureType::Incompatible),
         "compatible" => Ok(FeatureType::Compatible),
         "autoclear" => Ok(FeatureType::Autoclear),
@@ -19,8 +19,8 @@ pub fn feature_type(raw_entry: &str) -> Result<FeatureType, Trouble> {
     }
 }
 
-fn incompatible_feature(raw_entry: &str) -> Result<(FeatureType, u8), Trouble> {
-    match raw_entry {
+fn incompatible_feature(word: &str) -> Result<(FeatureType, u8), Trouble> {
+    match word {
         "dirty" => Ok(IncompatibleFeatures::Dirty.into()),
         "corrupt" => Ok(IncompatibleFeatures::Corrupt.into()),
         "external_data_file" => Ok(IncompatibleFeatures::ExternalDataFile.into()),
@@ -30,12 +30,12 @@ fn incompatible_feature(raw_entry: &str) -> Result<(FeatureType, u8), Trouble> {
     }
 }
 
-fn feature(raw_entry: &str) -> Result<(FeatureType, u8), Trouble> {
-    match raw_entry {
+fn feature(word: &str) -> Result<(FeatureType, u8), Trouble> {
+    match word {
         "lazy_refcounts" => Ok(CompatibleFeatures::LazyRefcounts.into()),
         "bitmaps" => Ok(AutoclearFeatures::Bitmaps.into()),
         "raw_external_data" => Ok(AutoclearFeatures::RawExternalData.into()),
-        _ => incompatible_feature(raw_entry),
+        _ => incompatible_feature(word),
     }
 }
 
@@ -47,14 +47,14 @@ fn type_word(kind: FeatureType) -> &'static str {
     }
 }
 
-// A feature's type, the type's number, and the feature's bit.
-fn shown_feature(alloc: Global, raw_entry: &str) -> Result<String, Trouble> {
-    let (kind, bit) = feature(raw_entry)?;
+// Returns a feature's type, the number of the type, and the feature's bit.
+fn shown_feature(alloc: Global, word: &str) -> Result<String, Trouble> {
+    let (kind, bit) = feature(word)?;
     let (name, number) = (type_word(kind), kind.to_kind());
     Ok(format!(in alloc; "{name} {number} bit {bit}")?)
 }
 
-// The type with a number.
+// Returns the type with a number.
 fn type_of_number(alloc: Global, kind: u64) -> Result<String, Trouble> {
     if kind > 255 {
         return Err(Trouble::NoCall);
@@ -66,16 +66,16 @@ fn type_of_number(alloc: Global, kind: u64) -> Result<String, Trouble> {
     Ok(name.to_string(alloc)?)
 }
 
-// The clusters of a script: data, or metadata.
-fn entry_of(raw_entry: &str, first: u64, count: u64) -> Result<ClustersToFreeEntry, Trouble> {
-    match raw_entry {
+// Makes an entry of clusters of a script: data or metadata.
+fn entry_of(word: &str, first: u64, count: u64) -> Result<ClustersToFreeEntry, Trouble> {
+    match word {
         "data" => Ok(ClustersToFreeEntry::data(HostCluster(first), ClusterCount(count))),
         "metadata" => Ok(ClustersToFreeEntry::metadata(HostCluster(first), ClusterCount(count))),
         _ => Err(Trouble::NoCall),
     }
 }
 
-// What a look at an entry says, and then its parts.
+// Returns the text of an entry: first its getters, then its parts.
 fn shown_entry(alloc: Global, entry: ClustersToFreeEntry) -> Result<String, Trouble> {
     let (first, count) = (entry.first_cluster().0, entry.count().0);
     let is_metadata = entry.is_metadata();
@@ -84,7 +84,8 @@ fn shown_entry(alloc: Global, entry: ClustersToFreeEntry) -> Result<String, Trou
     Ok(format!(in alloc; "{first} {count} {is_metadata} parts {part} {number} {mark}")?)
 }
 
-// Clusters that are pending, and then named, or to be freed after all.
+// Makes pending clusters (allocated, and not yet referenced). Then the clusters are made persistent, or become an entry of clusters to
+// free.
 fn pending(alloc: Global, entry: ClustersToFreeEntry, is_named: bool) -> Result<String, Trouble> {
     let pending = PendingClusters::new(entry);
     let first = pending.cluster().0;
@@ -109,8 +110,8 @@ fn newer(bytes: &[u8]) -> Result<V3HeaderBase, Trouble> {
     Ok(V3HeaderBase::from_bytes(bytes))
 }
 
-fn older_field(v2: &V2Header, raw_entry: &str) -> Result<u64, Trouble> {
-    match raw_entry {
+fn older_field(v2: &V2Header, word: &str) -> Result<u64, Trouble> {
+    match word {
         "magic" => Ok(u64::from(v2.magic)),
         "version" => Ok(u64::from(v2.version)),
         "backing_filename_offset" => Ok(v2.backing_filename_offset),
@@ -128,8 +129,8 @@ fn older_field(v2: &V2Header, raw_entry: &str) -> Result<u64, Trouble> {
     }
 }
 
-fn newer_field(v3: &V3HeaderBase, raw_entry: &str) -> Result<u64, Trouble> {
-    match raw_entry {
+fn newer_field(v3: &V3HeaderBase, word: &str) -> Result<u64, Trouble> {
+    match word {
         "incompatible_features" => Ok(v3.incompatible_features),
         "compatible_features" => Ok(v3.compatible_features),
         "autoclear_features" => Ok(v3.autoclear_features),
@@ -139,7 +140,7 @@ fn newer_field(v3: &V3HeaderBase, raw_entry: &str) -> Result<u64, Trouble> {
     }
 }
 
-// The bytes of a part of a header, written over others.
+// Returns some of the bytes of a version 2 header, written over other bytes.
 fn older_bytes(alloc: Global, v2: &V2Header, at: usize, count: usize) -> Result<String, Trouble> {
     let mut bytes = [0xaau8; 72];
     v2.to_bytes(&mut bytes);
@@ -155,65 +156,65 @@ fn newer_bytes(alloc: Global, v3: &V3HeaderBase) -> Result<String, Trouble> {
     Ok(runs(alloc, &bytes)?)
 }
 
-fn older_part(alloc: Global, raw_entry: &str, bytes: &[u8]) -> Result<String, Trouble> {
+fn older_part(alloc: Global, word: &str, bytes: &[u8]) -> Result<String, Trouble> {
     let v2 = older(bytes)?;
-    answered(alloc, Ok(Answer::Word(older_field(&v2, raw_entry)?)))
+    answered(alloc, Ok(Answer::Word(older_field(&v2, word)?)))
 }
 
-fn newer_part(alloc: Global, raw_entry: &str, v3: &V3HeaderBase) -> Result<String, Trouble> {
-    if raw_entry == "bytes" {
+fn newer_part(alloc: Global, word: &str, v3: &V3HeaderBase) -> Result<String, Trouble> {
+    if word == "bytes" {
         return newer_bytes(alloc, v3);
     }
-    answered(alloc, Ok(Answer::Word(newer_field(v3, raw_entry)?)))
+    answered(alloc, Ok(Answer::Word(newer_field(v3, word)?)))
 }
 
-// How many bytes a part of a header has.
-fn part_length(raw_entry: &str) -> Result<Answer, Trouble> {
-    match raw_entry {
+// Returns the length in bytes of a part of a header.
+fn part_length(word: &str) -> Result<Answer, Trouble> {
+    match word {
         "older" => Ok(Answer::Number(V2Header::SIZE as u64)),
         "newer" => Ok(Answer::Number(V3HeaderBase::SIZE as u64)),
         _ => Err(Trouble::NoCall),
     }
 }
 
-// The part of a header that the bytes of the file are.
+// Makes a call of a part of a header, decoded from the bytes of the file.
 fn part(alloc: Global, words: &[&str], file: &[u8]) -> Result<String, Trouble> {
     match words {
-        [raw_entry, "length"] => answered(alloc, part_length(raw_entry)),
+        [word, "length"] => answered(alloc, part_length(word)),
         ["older", "bytes", at, count] => {
             older_bytes(alloc, &older(file)?, size(at)?, size(count)?)
         }
-        ["older", raw_entry] => older_part(alloc, raw_entry, file),
-        ["newer", raw_entry] => newer_part(alloc, raw_entry, &newer(file)?),
-        ["default", raw_entry] => newer_part(alloc, raw_entry, &V3HeaderBase::default()),
+        ["older", word] => older_part(alloc, word, file),
+        ["newer", word] => newer_part(alloc, word, &newer(file)?),
+        ["default", word] => newer_part(alloc, word, &V3HeaderBase::default()),
         _ => Err(Trouble::NoCall),
     }
 }
 
-// Clusters that are handed over: what they are, the first, and how many.
+// Parses clusters: data or metadata, the first cluster, and the count.
 fn handed_over(words: &[&str]) -> Result<ClustersToFreeEntry, Trouble> {
-    let [raw_entry, first, count] = words else {
+    let [word, first, count] = words else {
         return Err(Trouble::NoCall);
     };
-    entry_of(raw_entry, number(first)?, number(count)?)
+    entry_of(word, number(first)?, number(count)?)
 }
 
-// An entry that is looked at, or is pending and then named, or not.
-fn entry(alloc: Global, raw_entry: &str, entry: ClustersToFreeEntry) -> Result<String, Trouble> {
-    match raw_entry {
+// Shows an entry, or makes its clusters pending and then persistent or free.
+fn entry(alloc: Global, word: &str, entry: ClustersToFreeEntry) -> Result<String, Trouble> {
+    match word {
         "named" => pending(alloc, entry, true),
         "unnamed" => pending(alloc, entry, false),
         _ => shown_entry(alloc, entry),
     }
 }
 
-/// The answer about features, clusters that are handed over, and parts of a header in the bytes of the file.
+/// Makes a call of features, clusters to free, or parts of a header in the bytes of the file.
 pub fn parts(alloc: Global, words: &[&str], file: &[u8]) -> Result<String, Trouble> {
     match words {
-        ["feature", raw_entry] => shown_feature(alloc, raw_entry),
+        ["feature", word] => shown_feature(alloc, word),
         ["feature_type", kind] => type_of_number(alloc, number(kind)?),
         ["to_free", rest @ ..] => entry(alloc, "alone", handed_over(rest)?),
-        ["pending", raw_entry, rest @ ..] => entry(alloc, raw_entry, handed_over(rest)?),
+        ["pending", word, rest @ ..] => entry(alloc, word, handed_over(rest)?),
         ["part", rest @ ..] => part(alloc, rest, file),
         _ => Err(Trouble::NoCall),
     }

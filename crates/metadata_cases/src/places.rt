@@ -1,4 +1,4 @@
-// Places in the guest's disk and in the image file.
+// Runs the lines of a script on offsets and clusters, in the guest's disk and in the image file.
 ghost use Rattle.std.specs.Prelude.{◌≡◌, ◌≤◌, ◌<◌};
 
 use crate::answer::{Answer, answered};
@@ -7,10 +7,10 @@ use cases::{Trouble, number};
 use qcow2_types::{ClusterCount, GuestCluster, GuestOffset, HostCluster, HostOffset};
 use std::alloc::Global;
 
-fn guest_offset(raw_entry: &str, offset: GuestOffset, bits: u32) -> Result<Answer, Trouble>
+fn guest_offset(word: &str, offset: GuestOffset, bits: u32) -> Result<Answer, Trouble>
     requires { (9 ≤ bits) × (bits ≤ 21) }
 {
-    match raw_entry {
+    match word {
         "in_cluster" => Ok(Answer::Number(offset.in_cluster_offset(bits) as u64)),
         "cluster" => Ok(Answer::Number(offset.cluster(bits).0)),
         "begins" => Ok(Answer::number_or_none(
@@ -24,10 +24,10 @@ fn guest_offset(raw_entry: &str, offset: GuestOffset, bits: u32) -> Result<Answe
     }
 }
 
-fn host_offset(raw_entry: &str, offset: HostOffset, bits: u32) -> Result<Answer, Trouble>
+fn host_offset(word: &str, offset: HostOffset, bits: u32) -> Result<Answer, Trouble>
     requires { (9 ≤ bits) × (bits ≤ 21) }
 {
-    match raw_entry {
+    match word {
         "in_cluster" => Ok(Answer::Number(offset.in_cluster_offset(bits) as u64)),
         "cluster" => Ok(Answer::Number(offset.cluster(bits).0)),
         "begins" => Ok(Answer::number_or_none(
@@ -37,32 +37,32 @@ fn host_offset(raw_entry: &str, offset: HostOffset, bits: u32) -> Result<Answer,
     }
 }
 
-// Where a guest cluster begins, and what the next table maps first.
-fn guest_begin(raw_entry: &str, cluster: GuestCluster, bits: u32) -> Result<Answer, Trouble>
+// Returns the offset of a guest cluster, or the first cluster that the next L2 table maps.
+fn guest_begin(word: &str, cluster: GuestCluster, bits: u32) -> Result<Answer, Trouble>
     requires { (9 ≤ bits) × (bits ≤ 21) }
 {
     if !fits(cluster.0, bits, 0) {
         return Err(Trouble::NoCall);
     }
-    match raw_entry {
+    match word {
         "offset" => Ok(Answer::Number(cluster.offset(bits).0)),
         "next_table" => Ok(Answer::Number(cluster.first_in_next_l2(bits).0)),
         _ => Err(Trouble::NoCall),
     }
 }
 
-fn guest_cluster(raw_entry: &str, cluster: GuestCluster, bits: u32) -> Result<Answer, Trouble>
+fn guest_cluster(word: &str, cluster: GuestCluster, bits: u32) -> Result<Answer, Trouble>
     requires { (9 ≤ bits) × (bits ≤ 21) }
 {
-    match raw_entry {
+    match word {
         "l1_index" => Ok(Answer::Number(cluster.l1_index(bits) as u64)),
         "l2_index" => Ok(Answer::Number(cluster.l2_index(bits) as u64)),
         "next" => Ok(Answer::number_or_none(cluster.next_in_l2(bits).map(|cluster| cluster.0))),
-        _ => guest_begin(raw_entry, cluster, bits),
+        _ => guest_begin(word, cluster, bits),
     }
 }
 
-// The guest cluster with these indices.
+// Returns the guest cluster with these indices in the L1 table and in its L2 table.
 fn guest_of_indices(l1_index: u64, l2_index: u64, bits: u32) -> Result<Answer, Trouble>
     requires { (9 ≤ bits) × (bits ≤ 21) }
 {
@@ -77,7 +77,7 @@ fn guest_of_indices(l1_index: u64, l2_index: u64, bits: u32) -> Result<Answer, T
     Ok(Answer::Number(cluster.0))
 }
 
-// Where a host cluster begins, or the place in it that a guest offset has in its own.
+// Returns the offset of a host cluster. With `guest`, returns the host offset at the same distance from the start of its cluster.
 fn host_begin(
     cluster: HostCluster,
     guest: Option<GuestOffset>,
@@ -98,11 +98,11 @@ fn host_begin(
     }
 }
 
-// Where a host cluster is counted: each index, and both.
-fn host_counter(raw_entry: &str, cluster: HostCluster, bits: u32) -> Result<Answer, Trouble>
+// Returns the indices of a host cluster's refcount: one index, or one of the pair.
+fn host_counter(word: &str, cluster: HostCluster, bits: u32) -> Result<Answer, Trouble>
     requires { bits ≤ 24 }
 {
-    match raw_entry {
+    match word {
         "rt_index" => Ok(Answer::Number(cluster.rt_index(bits) as u64)),
         "rb_index" => Ok(Answer::Number(cluster.rb_index(bits) as u64)),
         "rt_of_both" => Ok(Answer::Number(cluster.rt_rb_indices(bits).0 as u64)),
@@ -111,7 +111,7 @@ fn host_counter(raw_entry: &str, cluster: HostCluster, bits: u32) -> Result<Answ
     }
 }
 
-// The host cluster with these indices.
+// Returns the host cluster whose refcount has these indices in the refcount table and in its block.
 fn host_of_indices(rt_index: u64, rb_index: u64, bits: u32) -> Result<Answer, Trouble>
     requires { bits ≤ 24 }
 {
@@ -122,11 +122,11 @@ fn host_of_indices(rt_index: u64, rb_index: u64, bits: u32) -> Result<Answer, Tr
     Ok(Answer::Number(cluster.0))
 }
 
-// A count of clusters, or of their bytes.
-fn count_of(raw_entry: &str, n: u64, bits: u32) -> Result<Answer, Trouble>
+// Returns a count of clusters, or of their bytes.
+fn count_of(word: &str, n: u64, bits: u32) -> Result<Answer, Trouble>
     requires { (9 ≤ bits) × (bits ≤ 21) }
 {
-    match raw_entry {
+    match word {
         "of_bytes" => Ok(Answer::Number(ClusterCount::from_byte_size(n, bits).0)),
         "of_whole" => Ok(Answer::number_or_none(ClusterCount::checked_from_byte_size(n, bits).map(
             |count| count.0,
@@ -137,60 +137,60 @@ fn count_of(raw_entry: &str, n: u64, bits: u32) -> Result<Answer, Trouble>
 }
 
 fn guest(words: &[&str]) -> Result<Answer, Trouble> {
-    let [kind, raw_entry, n, bits] = words else {
+    let [kind, word, n, bits] = words else {
         return Err(Trouble::NoCall);
     };
     let (n, bits) = (number(n)?, cluster_bits(bits)?);
     match *kind {
-        "offset" => guest_offset(raw_entry, GuestOffset(n), bits),
-        "cluster" => guest_cluster(raw_entry, GuestCluster(n), bits),
-        "of" => guest_of_indices(number(raw_entry)?, n, bits),
+        "offset" => guest_offset(word, GuestOffset(n), bits),
+        "cluster" => guest_cluster(word, GuestCluster(n), bits),
+        "of" => guest_of_indices(number(word)?, n, bits),
         _ => Err(Trouble::NoCall),
     }
 }
 
-// Where host clusters begin.
-fn host_place(kind: &str, raw_entry: &str, n: u64, bits: u32) -> Result<Answer, Trouble>
+// Makes a call of host offsets.
+fn host_place(kind: &str, word: &str, n: u64, bits: u32) -> Result<Answer, Trouble>
     requires { (9 ≤ bits) × (bits ≤ 21) }
 {
     match kind {
-        "offset" => host_offset(raw_entry, HostOffset(n), bits),
+        "offset" => host_offset(word, HostOffset(n), bits),
         "begin" => host_begin(HostCluster(n), None, bits),
-        "beside" => host_begin(HostCluster(n), Some(GuestOffset(number(raw_entry)?)), bits),
+        "beside" => host_begin(HostCluster(n), Some(GuestOffset(number(word)?)), bits),
         _ => Err(Trouble::NoCall),
     }
 }
 
-// Where host clusters are counted.
-fn host_count(kind: &str, raw_entry: &str, n: u64, bits: u32) -> Result<Answer, Trouble>
+// Makes a call of the indices of refcounts.
+fn host_count(kind: &str, word: &str, n: u64, bits: u32) -> Result<Answer, Trouble>
     requires { bits ≤ 24 }
 {
     match kind {
-        "counter" => host_counter(raw_entry, HostCluster(n), bits),
-        "of" => host_of_indices(number(raw_entry)?, n, bits),
+        "counter" => host_counter(word, HostCluster(n), bits),
+        "of" => host_of_indices(number(word)?, n, bits),
         _ => Err(Trouble::NoCall),
     }
 }
 
 fn host(words: &[&str]) -> Result<Answer, Trouble> {
-    let [kind, raw_entry, n, bits] = words else {
+    let [kind, word, n, bits] = words else {
         return Err(Trouble::NoCall);
     };
     let n = number(n)?;
     match *kind {
-        "counter" | "of" => host_count(kind, raw_entry, n, block_bits(bits)?),
-        _ => host_place(kind, raw_entry, n, cluster_bits(bits)?),
+        "counter" | "of" => host_count(kind, word, n, block_bits(bits)?),
+        _ => host_place(kind, word, n, cluster_bits(bits)?),
     }
 }
 
 fn clusters(words: &[&str]) -> Result<Answer, Trouble> {
-    let [raw_entry, n, bits] = words else {
+    let [word, n, bits] = words else {
         return Err(Trouble::NoCall);
     };
-    count_of(raw_entry, number(n)?, cluster_bits(bits)?)
+    count_of(word, number(n)?, cluster_bits(bits)?)
 }
 
-/// The answer about places, or about counts of clusters.
+/// Returns the answer about offsets, or about counts of clusters.
 pub fn places(alloc: Global, words: &[&str]) -> Result<String, Trouble> {
     let [topic, rest @ ..] = words else {
         return Err(Trouble::NoCall);

@@ -1,4 +1,4 @@
-// The values of a case: a file, the storage that it is in, a header, and one table of each kind.
+// The values of a case (a script with its own file): the file, the storage that holds it, a header, and one table of each kind.
 ghost use Rattle.std.specs.Prelude.{◌≤◌};
 
 use crate::answer::{Answer, answered};
@@ -15,6 +15,7 @@ use qcow2_metadata::{Header, L1Table, L2Table, RefBlock, RefTable, Table};
 use qcow2_types::HostCluster;
 use std::alloc::Global;
 use std::cell::Cell;
+/// The values of a case. Each of them except the file is `None` until a call makes or loads it.
 
 #[derive(Drop)]
 pub struct Metadata<'a> {
@@ -28,18 +29,19 @@ pub struct Metadata<'a> {
     block: Option<RefBlock>,
 }
 
-// Whether an L2 table alone has calls that begin with this word.
-fn is_alone(raw_entry: &str) -> bool {
+// Returns true if only L2 tables have calls that begin with this word.
+fn is_alone(word: &str) -> bool {
     matches!(
-        raw_entry,
+        word,
         "mapping" | "guard" | "packed" | "map" | "zero" | "discard"
     )
 }
 
-// A cluster of a script.
-fn cluster(raw_entry: &str) -> Result<HostCluster, Trouble> {
-    Ok(HostCluster(number(raw_entry)?))
+// Parses the number of a host cluster.
+fn cluster(word: &str) -> Result<HostCluster, Trouble> {
+    Ok(HostCluster(number(word)?))
 }
+/// Creates the values of an empty case. The storages record their requests in `notes`.
 
 impl<'a> Metadata<'a> {
     pub fn new(alloc: Global, notes: &'a Cell<Notes>) -> Self {
@@ -55,7 +57,7 @@ impl<'a> Metadata<'a> {
         }
     }
 
-    /// Lets go of all.
+    /// Drops all values of the case.
     pub fn clear(&mut self) {
         self.notes.set(Notes::none());
         self.file.clear();
@@ -67,14 +69,14 @@ impl<'a> Metadata<'a> {
         self.block = None;
     }
 
-    /// Puts the file into a storage of an alignment, whose `n`th call fails.
+    /// Puts the file into a storage with alignment `align` whose `n`th call fails.
     pub fn open(&mut self, alloc: Global, align: &str, n: &str) -> Result<String, Trouble> {
         let image = image_of(&self.file, size(align)?, number(n)?, self.notes)?;
         self.image = Some(image);
         Ok(ok(alloc)?)
     }
 
-    /// What the storage holds.
+    /// Returns what the storage holds, or which requests it got.
     pub fn look(&mut self, alloc: Global, words: &[&str]) -> Result<String, Trouble> {
         match &mut self.image {
             Some(image) => look(alloc, image, self.notes, words),
@@ -82,7 +84,7 @@ impl<'a> Metadata<'a> {
         }
     }
 
-    /// The header, where there is one.
+    /// Returns the header, if the case has one.
     pub fn header(&self) -> Result<&Header, Trouble> {
         match &self.header {
             Some(header) => Ok(header),
@@ -90,11 +92,11 @@ impl<'a> Metadata<'a> {
         }
     }
 
-    fn load_header(&mut self, alloc: Global, raw_entry: &str) -> Result<Answer, Trouble> {
+    fn load_header(&mut self, alloc: Global, word: &str) -> Result<Answer, Trouble> {
         let Some(image) = &mut self.image else {
             return Err(Trouble::NoCall);
         };
-        let header = load_header(alloc, image, raw_entry)?;
+        let header = load_header(alloc, image, word)?;
         self.header = Some(header);
         Ok(Answer::Done)
     }
@@ -133,10 +135,10 @@ impl<'a> Metadata<'a> {
         name_reftable(alloc, header, table)
     }
 
-    /// A call of the header.
+    /// Makes a call of the header.
     pub fn header_words(&mut self, alloc: Global, words: &[&str]) -> Result<String, Trouble> {
         match words {
-            ["load", raw_entry] => answered(alloc, self.load_header(alloc, raw_entry)),
+            ["load", word] => answered(alloc, self.load_header(alloc, word)),
             ["new", rest @ ..] => answered(alloc, self.new_header(alloc, rest)),
             ["set_l1"] => self.link_l1(alloc),
             ["set_reftable"] => self.name_reftable(alloc),
@@ -145,13 +147,13 @@ impl<'a> Metadata<'a> {
         }
     }
 
-    /// A call of the L1 table.
+    /// Makes a call of the L1 table.
     pub fn l1_words(&mut self, alloc: Global, words: &[&str]) -> Result<Answer, Trouble> {
         let tables = (&mut self.l1, &self.l2);
         upper_words(alloc, tables, &self.header, &mut self.image, words)
     }
 
-    /// A call of the refcount table.
+    /// Makes a call of the refcount table.
     pub fn reftable_words(&mut self, alloc: Global, words: &[&str]) -> Result<Answer, Trouble> {
         let tables = (&mut self.reftable, &self.block);
         upper_words(alloc, tables, &self.header, &mut self.image, words)
@@ -188,7 +190,7 @@ impl<'a> Metadata<'a> {
         write_if_modified(alloc, table, image)
     }
 
-    // What the L2 table in a cluster is asked for, which is only read.
+    // Makes a call of the L2 table in a cluster of the file. The table is only read.
     fn l2_stored(
         &mut self,
         alloc: Global,
@@ -201,7 +203,7 @@ impl<'a> Metadata<'a> {
         stored_call(alloc, image, header, cluster, words)
     }
 
-    // What an L2 table alone is asked for.
+    // Makes a call that only L2 tables have.
     fn l2_alone(&mut self, alloc: Global, words: &[&str]) -> Result<String, Trouble> {
         match &mut self.l2 {
             Some(table) => l2_call(alloc, table, words),
@@ -209,15 +211,15 @@ impl<'a> Metadata<'a> {
         }
     }
 
-    /// A call of the L2 table.
+    /// Makes a call of the L2 table.
     pub fn l2_words(&mut self, alloc: Global, words: &[&str]) -> Result<String, Trouble> {
         match words {
-            ["load", raw_entry] => answered(alloc, self.load_l2(alloc, cluster(raw_entry)?)),
-            ["stored", raw_entry, rest @ ..] => self.l2_stored(alloc, cluster(raw_entry)?, rest),
+            ["load", word] => answered(alloc, self.load_l2(alloc, cluster(word)?)),
+            ["stored", word, rest @ ..] => self.l2_stored(alloc, cluster(word)?, rest),
             ["new"] => answered(alloc, self.new_l2(alloc)),
             ["copy"] => answered(alloc, self.copy_l2(alloc)),
             ["write_if_modified"] => answered(alloc, self.write_l2_if_modified(alloc)),
-            [raw_entry, ..] if is_alone(raw_entry) => self.l2_alone(alloc, words),
+            [word, ..] if is_alone(word) => self.l2_alone(alloc, words),
             _ => answered(
                 alloc,
                 table_words(alloc, &mut self.l2, &mut self.image, words),
@@ -254,10 +256,10 @@ impl<'a> Metadata<'a> {
         }
     }
 
-    /// A call of the refcount block.
+    /// Makes a call of the refcount block.
     pub fn block_words(&mut self, alloc: Global, words: &[&str]) -> Result<Answer, Trouble> {
         match words {
-            ["load", raw_entry] => self.load_block(alloc, cluster(raw_entry)?),
+            ["load", word] => self.load_block(alloc, cluster(word)?),
             ["new"] => self.new_block(alloc),
             ["write" | "write_if_modified"] => self.block_in_file(alloc, words),
             _ => self.block_alone(words),

@@ -1,4 +1,4 @@
-// The operators of places and counts, and their texts.
+// Runs the lines of a script on the operators of offsets, clusters and counts, and on their texts.
 ghost use Rattle.std.specs.Prelude.{◌≤◌, ◌<◌, ◌+◌, ◌^◌};
 
 use crate::answer::{Answer, answered};
@@ -32,7 +32,7 @@ fn difference(kind: &str, a: u64, b: u64) -> Result<u64, Trouble>
     }
 }
 
-// How far one place is from another.
+// Returns the distance from `b` to `a`.
 fn distance(kind: &str, a: u64, b: u64) -> Result<u64, Trouble>
     requires { b ≤ a }
 {
@@ -93,7 +93,7 @@ fn lowered_count(a: u64, b: u64) -> u64
     count.0
 }
 
-// The sum by an assignment.
+// Adds with the assignment operator.
 fn raised(kind: &str, a: u64, b: u64) -> Result<u64, Trouble>
     requires { a + b < 2 ^ 64 }
 {
@@ -105,7 +105,7 @@ fn raised(kind: &str, a: u64, b: u64) -> Result<u64, Trouble>
     }
 }
 
-// The difference by an assignment.
+// Subtracts with the assignment operator.
 fn lowered(kind: &str, a: u64, b: u64) -> Result<u64, Trouble>
     requires { b ≤ a }
 {
@@ -117,7 +117,7 @@ fn lowered(kind: &str, a: u64, b: u64) -> Result<u64, Trouble>
     }
 }
 
-// A sum, where it is a number of 64 bits.
+// Adds, if the sum fits in 64 bits.
 fn upward(operator: &str, kind: &str, a: u64, b: u64) -> Result<u64, Trouble> {
     if a.checked_add(b).is_none() {
         return Err(Trouble::NoCall);
@@ -129,7 +129,7 @@ fn upward(operator: &str, kind: &str, a: u64, b: u64) -> Result<u64, Trouble> {
     }
 }
 
-// A difference, where there is one.
+// Subtracts, if `b` isn't greater than `a`.
 fn downward(operator: &str, kind: &str, a: u64, b: u64) -> Result<u64, Trouble> {
     if a < b {
         return Err(Trouble::NoCall);
@@ -141,7 +141,7 @@ fn downward(operator: &str, kind: &str, a: u64, b: u64) -> Result<u64, Trouble> 
     }
 }
 
-// Whether one comes before the other.
+// Returns true if `a` is less than `b`.
 fn is_before(kind: &str, a: u64, b: u64) -> Result<bool, Trouble> {
     match kind {
         "guest_offset" => Ok(GuestOffset(a) < GuestOffset(b)),
@@ -153,16 +153,16 @@ fn is_before(kind: &str, a: u64, b: u64) -> Result<bool, Trouble> {
     }
 }
 
-fn operator(raw_entry: &str, kind: &str, a: u64, b: u64) -> Result<Answer, Trouble> {
-    match raw_entry {
-        "+" | "+=" => Ok(Answer::Number(upward(raw_entry, kind, a, b)?)),
-        "-" | "-=" | "from" => Ok(Answer::Number(downward(raw_entry, kind, a, b)?)),
+fn operator(word: &str, kind: &str, a: u64, b: u64) -> Result<Answer, Trouble> {
+    match word {
+        "+" | "+=" => Ok(Answer::Number(upward(word, kind, a, b)?)),
+        "-" | "-=" | "from" => Ok(Answer::Number(downward(word, kind, a, b)?)),
         "before" => Ok(Answer::Flag(is_before(kind, a, b)?)),
         _ => Err(Trouble::NoCall),
     }
 }
 
-// The text of a place or a count.
+// Returns the text of an offset or a count.
 fn shown(alloc: Global, kind: &str, n: u64) -> Result<String, Trouble> {
     match kind {
         "guest_offset" => Ok(GuestOffset(n).to_string(alloc)?),
@@ -172,11 +172,13 @@ fn shown(alloc: Global, kind: &str, n: u64) -> Result<String, Trouble> {
     }
 }
 
-/// The answer of an operator: `sum KIND A OPERATOR B`, where `from` is the distance from B to A; or the text of a place.
+/// Returns the answer of an operator, or the text of a value.
+///
+/// The line is `sum KIND A OPERATOR B`, where `from` is the distance from B to A, or `shown KIND N`.
 pub fn sums(alloc: Global, words: &[&str]) -> Result<String, Trouble> {
     match words {
-        ["sum", kind, a, raw_entry, b] => {
-            answered(alloc, operator(raw_entry, kind, number(a)?, number(b)?))
+        ["sum", kind, a, word, b] => {
+            answered(alloc, operator(word, kind, number(a)?, number(b)?))
         }
         ["shown", kind, n] => shown(alloc, kind, number(n)?),
         _ => Err(Trouble::NoCall),

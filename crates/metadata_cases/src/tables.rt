@@ -1,4 +1,4 @@
-// What each table of 64-bit words can be asked.
+// Runs the lines of a script that call an L1, an L2 or a refcount table: the calls that all three have.
 ghost use Rattle.std.specs.Prelude.{◌≡◌, ◌<◌, ◌≤◌, IsTrue, length};
 ghost use Rattle.qcow2_types.specs.Header.{Shaped};
 ghost use Rattle.qcow2_metadata.specs.Tables.{IsPlacedTable};
@@ -17,9 +17,9 @@ pub enum TableCall {
     Name,
     MaxEntries,
     Entries,
-    /// The word at an index, or the empty one.
+    /// The entry at an index. Past the end, it is the empty entry.
     Word(usize),
-    /// The word at an index, or none.
+    /// The entry at an index. Past the end, it is `None`.
     Kept(usize),
     Cluster,
     Offset,
@@ -36,15 +36,15 @@ pub enum TableCall {
 }
 
 impl TableCall {
-    /// Whether it needs the storage.
+    /// Returns true if the call needs the storage.
     pub fn is_write(&self) -> bool {
         matches!(self, TableCall::Write | TableCall::WriteWord(_))
     }
 }
 
-// A call without a number.
-fn short_call(raw_entry: &str) -> Result<TableCall, Trouble> {
-    match raw_entry {
+// Parses a call without a number.
+fn short_call(word: &str) -> Result<TableCall, Trouble> {
+    match word {
         "name" => Ok(TableCall::Name),
         "most" => Ok(TableCall::MaxEntries),
         "entries" => Ok(TableCall::Entries),
@@ -62,10 +62,10 @@ fn short_call(raw_entry: &str) -> Result<TableCall, Trouble> {
     }
 }
 
-// The call of these words.
+// Parses a call.
 fn table_call(words: &[&str]) -> Result<TableCall, Trouble> {
     match words {
-        [raw_entry] => short_call(raw_entry),
+        [word] => short_call(word),
         ["word", index] => Ok(TableCall::Word(size(index)?)),
         ["kept", index] => Ok(TableCall::Kept(size(index)?)),
         ["set_cluster", cluster] => Ok(TableCall::SetCluster(HostCluster(number(cluster)?))),
@@ -74,7 +74,7 @@ fn table_call(words: &[&str]) -> Result<TableCall, Trouble> {
     }
 }
 
-/// Whether a table has a cluster that words can name.
+/// Returns true if a table has a cluster, and the cluster's offset fits an entry.
 pub fn is_placed<T: Table>(table: &T) -> bool
     ensures { IsTrue result → IsPlacedTable (T.value table.now) }
 {
@@ -84,7 +84,7 @@ pub fn is_placed<T: Table>(table: &T) -> bool
     }
 }
 
-// The word at an index, where there is one.
+// Returns the entry at an index, if any.
 fn kept<T: Table>(table: &T, index: usize) -> Answer {
     match table.get_ref(index) {
         Some(entry) => Answer::Word(entry.to_plain()),
@@ -92,7 +92,7 @@ fn kept<T: Table>(table: &T, index: usize) -> Answer {
     }
 }
 
-// Where the table begins.
+// Returns the offset of the table.
 fn offset<T: Table>(table: &T) -> Result<Answer, Trouble> {
     if table.get_cluster().is_some() && !is_placed(table) {
         return Err(Trouble::NoCall);
@@ -103,7 +103,7 @@ fn offset<T: Table>(table: &T) -> Result<Answer, Trouble> {
     }
 }
 
-// The table's cluster.
+// Returns the table's first cluster.
 fn cluster<T: Table>(table: &T) -> Answer {
     match table.get_cluster() {
         Some(cluster) => Answer::Number(cluster.0),
@@ -111,7 +111,7 @@ fn cluster<T: Table>(table: &T) -> Answer {
     }
 }
 
-// What it says of itself.
+// Returns a property of the table.
 fn ask<T: Table>(table: &T, call: TableCall) -> Result<Answer, Trouble> {
     match call {
         TableCall::Entries => Ok(Answer::Number(table.entries() as u64)),
@@ -129,7 +129,7 @@ fn ask<T: Table>(table: &T, call: TableCall) -> Result<Answer, Trouble> {
     }
 }
 
-// A call of the table that needs no storage.
+// Makes a call of the table that needs no storage.
 fn table_alone<T: Table>(table: &mut T, call: TableCall) -> Result<Answer, Trouble> {
     match call {
         TableCall::SetCluster(cluster) => table.set_cluster(cluster),
@@ -162,7 +162,7 @@ fn write_word<T: Table>(
     Ok(Answer::Done)
 }
 
-// A call of the table over the storage.
+// Makes a call of the table that needs the storage.
 fn table_in_file<T: Table>(
     alloc: Global,
     table: &mut T,
@@ -176,7 +176,7 @@ fn table_in_file<T: Table>(
     }
 }
 
-/// A call of the table of a case, where it has one.
+/// Makes a call of the table of a case, if the case has one.
 pub fn table_words<T: Table>(
     alloc: Global,
     table: &mut Option<T>,

@@ -1,4 +1,4 @@
-// The L1 table and the refcount table, whose words name other metadata.
+// Runs the lines of a script that call the L1 table or the refcount table. Their entries reference other metadata.
 ghost use Rattle.std.specs.Prelude.{◌≤◌, IsTrue, Some};
 ghost use Rattle.qcow2_metadata.specs.Tables.{CanBeReferenced};
 
@@ -11,12 +11,12 @@ use qcow2_metadata::{Header, L1Table, L2Table, RefBlock, RefTable, Table};
 use qcow2_types::{ClusterCount, ClustersToFreeEntry, HostCluster, PendingClusters};
 use std::alloc::Global;
 
-/// What differs between the two tables whose words name other metadata.
+/// The L1 table or the refcount table. The trait has the calls in which they differ.
 pub trait Upper: Table + Drop {
-    /// What its words name.
+    /// The metadata that its entries reference.
     type Named;
 
-    /// Loads the table of so many words that begins with a cluster.
+    /// Loads the table of `entries` entries that begins with a cluster.
     fn loaded(
         alloc: Global,
         image: &mut Image<'_>,
@@ -25,26 +25,26 @@ pub trait Upper: Table + Drop {
         entries: usize,
     ) -> Result<Self, Trouble>;
 
-    /// A table without words.
+    /// Creates a table without entries.
     fn without_words(alloc: Global, header: &Header) -> Self;
 
-    /// A copy that has a word at an index.
+    /// Copies the table to one that has an entry at index `at`.
     fn grown(&self, alloc: Global, header: &Header, at: usize) -> Result<Self, Trouble>;
 
-    /// Names something at an index.
+    /// Makes the entry at an index reference `named`.
     fn enter(&mut self, named: &Self::Named, index: usize) -> Result<Answer, Trouble>;
 
-    /// Whether it has a word at an index.
+    /// Returns true if the table has an entry at an index.
     fn has(&self, index: usize) -> bool;
 }
 
-// Metadata in a cluster that nothing names yet.
+// Makes a pending metadata cluster, which nothing references yet.
 fn pending(cluster: HostCluster) -> Option<PendingClusters> {
     let entry = ClustersToFreeEntry::metadata(cluster, ClusterCount(1));
     Some(PendingClusters::new(entry))
 }
 
-// Whether metadata in this cluster can be named.
+// Returns true if an entry can reference metadata in this cluster.
 fn is_namable(cluster: HostCluster, bits: u32) -> bool
     requires { bits ≤ 21 }
     ensures { IsTrue result → CanBeReferenced bits (Some cluster) }
@@ -116,7 +116,7 @@ impl Upper for RefTable {
         RefTable::from_data(Vec::new(alloc), header)
     }
 
-    // The index lies past its end.
+    // The index must be past the end of the table.
     fn grown(&self, alloc: Global, header: &Header, at: usize) -> Result<Self, Trouble> {
         if self.cluster_bits() != header.cluster_bits() || self.entries() > at {
             return Err(Trouble::NoCall);
@@ -141,7 +141,7 @@ impl Upper for RefTable {
     }
 }
 
-// Puts a table in the place of the one of a case: loaded, without words, or grown.
+// Replaces the table of a case with one that is loaded, empty or grown.
 fn make<T: Upper>(
     alloc: Global,
     table: &mut Option<T>,
@@ -150,12 +150,12 @@ fn make<T: Upper>(
     words: &[&str],
 ) -> Result<Answer, Trouble> {
     let made = match (words, &*table, image) {
-        (["load", raw_entry, entries], _, Some(image)) => {
+        (["load", word, entries], _, Some(image)) => {
             T::loaded(
                 alloc,
                 image,
                 header,
-                HostCluster(number(raw_entry)?),
+                HostCluster(number(word)?),
                 size(entries)?,
             )?
         }
@@ -167,7 +167,7 @@ fn make<T: Upper>(
     Ok(Answer::Done)
 }
 
-/// A call of such a table.
+/// Makes a call of the L1 table or the refcount table.
 pub fn upper_words<T: Upper>(
     alloc: Global,
     (table, named): (&mut Option<T>, &Option<T::Named>),
