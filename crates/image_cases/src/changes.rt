@@ -1,4 +1,4 @@
-// Words that describe a file, and the storages that are made over it.
+// Calls of a script that change the file of a case (one test), or the settings of its storages.
 use crate::files::{put_counter, put_fields, put_header, put_row, put_small, put_words};
 use crate::images::Images;
 use crate::values::value;
@@ -6,7 +6,7 @@ use cases::{Trouble, bytes, number, ok, size};
 use imago_storage::{MemStorage, PreallocateMode, Storage, StorageExt};
 use std::alloc::Global;
 
-// Sets so many counters in a row.
+// Sets `times` consecutive refcounts.
 fn put_counters(
     file: &mut MemStorage,
     alloc: Global,
@@ -20,7 +20,7 @@ fn put_counters(
     Ok(())
 }
 
-// Does to a file what words say behind a place or a width.
+// Makes a change of the file that has an offset, a width or a length.
 fn put_at(file: &mut MemStorage, alloc: Global, name: &str, words: &[&str]) -> Result<(), Trouble> {
     match (name, words) {
         ("word", [place, words @ ..]) => put_words(file, alloc, number(place)?, words),
@@ -47,7 +47,7 @@ fn put_at(file: &mut MemStorage, alloc: Global, name: &str, words: &[&str]) -> R
     }
 }
 
-// Does to a file what words say.
+// Makes a change of the file.
 fn put_in(file: &mut MemStorage, alloc: Global, name: &str, words: &[&str]) -> Result<(), Trouble> {
     match name {
         "header" => put_header(file, alloc, words),
@@ -58,23 +58,24 @@ fn put_in(file: &mut MemStorage, alloc: Global, name: &str, words: &[&str]) -> R
 }
 
 impl<'a> Images<'a> {
-    /// A change of the file, or of how storages are made:
+    /// Changes the file, or the settings of storages.
     ///
-    ///     header NAME=VALUE ..                   a header, with these fields
-    ///     small NAME=VALUE ..                    the same, with the tables of a small image
-    ///     field NAME=VALUE ..                    fields of a header
-    ///     word PLACE VALUE ..                    words of 64 bits
-    ///     row PLACE COUNT FIRST STEP             words of 64 bits, each more than the one before
-    ///     put PLACE BYTES ..                     bytes
-    ///     count WIDTH BLOCK INDEX COUNT [TIMES]  a counter, or so many
-    ///     cut LENGTH                             the file's length
-    ///     align N                                the four alignments of storages
-    ///     fuse N                                 the call of a storage that fails
-    ///     fixed                                  storages' lengths can't be set
+    /// - `header NAME=VALUE ..`: a header, with these fields
+    /// - `small NAME=VALUE ..`: a header, and the tables of a small image
+    /// - `field NAME=VALUE ..`: fields of a header
+    /// - `word PLACE VALUE ..`: raw entries of 64 bits
+    /// - `row PLACE COUNT FIRST STEP`: raw entries of 64 bits, each greater by STEP than the one before
+    /// - `put PLACE BYTES ..`: bytes
+    /// - `count WIDTH BLOCK INDEX COUNT [TIMES]`: one refcount, or TIMES refcounts
+    /// - `cut LENGTH`: the file's length
+    /// - `align N`: the four alignments of storages
+    /// - `fuse N`: the call of a storage that fails
+    /// - `fixed`: the lengths of storages can't be set
     ///
     /// # Errors
     ///
-    /// `Trouble::NoCall` where the words are none of these; `Trouble::Refused` for want of memory.
+    /// - `Trouble::NoCall` if the call is none of these.
+    /// - `Trouble::Refused` if memory runs out.
     pub fn change(&mut self, alloc: Global, name: &str, words: &[&str]) -> Result<String, Trouble> {
         match (name, words) {
             ("align", [alignment]) => self.setting.alignment = size(alignment)?,

@@ -1,4 +1,4 @@
-// The making of an image, and the worked one.
+// Creates images, among them a worked image: one with known bytes at known clusters.
 use crate::files::{put_counter, put_words};
 use crate::images::{Images, refused};
 use cases::{Trouble, number, ok};
@@ -6,7 +6,8 @@ use imago_storage::{MemStorage, PreallocateMode, Storage, StorageExt};
 use qimg_core::creation::create;
 use std::alloc::Global;
 
-// A new image of 65,536 bytes that shows 01 02 03 at 510: an L2 table is in cluster 4, and the data in clusters 5 and 6.
+// Creates an image of 65,536 bytes with the bytes 01 02 03 at guest offset 510. The L2 table is in cluster 4, and the data in clusters 5
+// and 6.
 fn worked(alloc: Global) -> Result<MemStorage, Trouble> {
     let mut image = create(alloc, MemStorage::new(alloc), 65536)?;
     for cluster in 4..7 {
@@ -20,14 +21,14 @@ fn worked(alloc: Global) -> Result<MemStorage, Trouble> {
 }
 
 impl<'a> Images<'a> {
-    // Makes the worked image the file.
+    // Replaces the file with the worked image.
     fn work(&mut self, alloc: Global) -> Result<String, Trouble> {
         self.kept = None;
         self.file = Some(worked(alloc)?);
         Ok(ok(alloc)?)
     }
 
-    // Makes an image of a disk of so many bytes over the file.
+    // Creates an image of a disk of `bytes` bytes over the file.
     fn create(&mut self, alloc: Global, bytes: u64) -> Result<String, Trouble> {
         let kept = self.lend(alloc)?;
         match create(alloc, kept, bytes) {
@@ -39,14 +40,15 @@ impl<'a> Images<'a> {
         }
     }
 
-    /// A new image as the file:
+    /// Replaces the file with a new image.
     ///
-    ///     worked        one of 65,536 bytes that shows 01 02 03 at 510
-    ///     create BYTES  one of so many bytes, made over the file
+    /// - `worked`: an image of 65,536 bytes with the bytes 01 02 03 at guest offset 510
+    /// - `create BYTES`: an image of a disk of BYTES bytes, made over the file
     ///
     /// # Errors
     ///
-    /// `Trouble::NoCall` where the words are none of these; `Trouble::Refused` as the call, or for want of memory.
+    /// - `Trouble::NoCall` if the call is none of these.
+    /// - `Trouble::Refused` if the creation fails, or memory runs out.
     pub fn make(&mut self, alloc: Global, words: &[&str]) -> Result<String, Trouble> {
         match words {
             ["worked"] => self.work(alloc),

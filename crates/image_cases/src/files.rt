@@ -1,14 +1,14 @@
-// The fields of a header, and counters.
+// Writes the fields of a header, raw entries and refcounts to a file.
 use crate::values::value;
 use cases::Trouble;
 use imago_storage::{MemStorage, StorageExt};
 use std::alloc::Global;
 
-/// A field of a header: its name, its place, its width in bytes, and what it is where a case doesn't say.
+/// A field of a header: its name, its offset, its width in bytes, and its default.
 type Field = (&'static str, u64, usize, u64);
 
-// Version 3, clusters of 512 bytes, counters of 16 bits, a disk of 65,536 bytes, the refcount table in cluster 1, and two words of an
-// L1 table in cluster 3.
+// The defaults: version 3, clusters of 512 bytes, 16-bit refcounts, a disk of 65,536 bytes, the refcount table in cluster 1, and an L1
+// table with two entries in cluster 3.
 const FIELDS: [Field; 18] = [
     ("magic", 0, 4, 0x5146_49fb),
     ("version", 4, 4, 3),
@@ -30,7 +30,7 @@ const FIELDS: [Field; 18] = [
     ("header_length", 100, 4, 104),
 ];
 
-// Puts the lowest bytes of a number at a place, the highest of them first.
+// Writes the low `width` bytes of a number at an offset, in big-endian order.
 fn put_number(
     image: &mut MemStorage,
     alloc: Global,
@@ -44,11 +44,12 @@ fn put_number(
     Ok(image.write(alloc, lowest, place)?)
 }
 
-/// Puts words of 64 bits at a place and behind it.
+/// Writes raw entries of 64 bits from offset `place` on.
 ///
 /// # Errors
 ///
-/// `Trouble::NoCall` where a word is no number; `Trouble::Refused` for want of memory.
+/// - `Trouble::NoCall` if a value isn't a number.
+/// - `Trouble::Refused` if memory runs out.
 pub fn put_words(
     image: &mut MemStorage,
     alloc: Global,
@@ -63,11 +64,11 @@ pub fn put_words(
     Ok(())
 }
 
-/// Puts so many words of 64 bits at a place and behind it: a number, and each `step` more than the one before.
+/// Writes `count` raw entries of 64 bits from offset `place` on. The first is `first`, and each next one is greater by `step`.
 ///
 /// # Errors
 ///
-/// `Trouble::Refused` for want of memory.
+/// - `Trouble::Refused` if memory runs out.
 pub fn put_row(
     image: &mut MemStorage,
     alloc: Global,
@@ -85,7 +86,7 @@ pub fn put_row(
     Ok(())
 }
 
-// The field of a header with this name.
+// Returns the field of a header with this name.
 fn field_of(name: &str) -> Result<Field, Trouble> {
     for field in FIELDS {
         if field.0 == name {
@@ -95,11 +96,12 @@ fn field_of(name: &str) -> Result<Field, Trouble> {
     Err(Trouble::NoCall)
 }
 
-/// Sets fields of a header, each by a word `NAME=VALUE`.
+/// Sets fields of a header, each by a text `NAME=VALUE`.
 ///
 /// # Errors
 ///
-/// `Trouble::NoCall` where a word names no field or no number; `Trouble::Refused` for want of memory.
+/// - `Trouble::NoCall` if a text doesn't have the name of a field and a number.
+/// - `Trouble::Refused` if memory runs out.
 pub fn put_fields(image: &mut MemStorage, alloc: Global, words: &[&str]) -> Result<(), Trouble> {
     for word in words.iter() {
         let (name, number) = word.split_once("=").ok_or(Trouble::NoCall)?;
@@ -109,11 +111,11 @@ pub fn put_fields(image: &mut MemStorage, alloc: Global, words: &[&str]) -> Resu
     Ok(())
 }
 
-/// Puts a header of 104 bytes, of the fields that `FIELDS` has but for those that words set.
+/// Writes a header of 104 bytes. Its fields are the defaults of `FIELDS`, except those that `words` set.
 ///
 /// # Errors
 ///
-/// As `put_fields`.
+/// Like `put_fields`.
 pub fn put_header(image: &mut MemStorage, alloc: Global, words: &[&str]) -> Result<(), Trouble> {
     for (_, place, width, usual) in FIELDS {
         put_number(image, alloc, place, width, usual)?;
@@ -121,12 +123,12 @@ pub fn put_header(image: &mut MemStorage, alloc: Global, words: &[&str]) -> Resu
     put_fields(image, alloc, words)
 }
 
-/// Puts a header as `put_header`, and the tables of a small image: the refcount block is cluster 2, which counts clusters 0 to 6 once,
-/// the L2 table is cluster 4, and the data is clusters 5 and 6.
+/// Writes a header like `put_header`, and the tables of a small image. The refcount block is cluster 2, in which clusters 0 to 6 have
+/// refcount 1. The L2 table is cluster 4, and the data is in clusters 5 and 6.
 ///
 /// # Errors
 ///
-/// As `put_fields`.
+/// Like `put_fields`.
 pub fn put_small(image: &mut MemStorage, alloc: Global, words: &[&str]) -> Result<(), Trouble> {
     put_header(image, alloc, words)?;
     put_words(image, alloc, 512, &["0x400"])?;
@@ -140,7 +142,7 @@ pub fn put_small(image: &mut MemStorage, alloc: Global, words: &[&str]) -> Resul
     put_words(image, alloc, 2048, &["copied+0xa00", "copied+0xc00"])
 }
 
-// Sets a counter of less than 8 bits, which begins so many bits behind a place.
+// Sets a refcount of less than 8 bits, which begins `bit` bits after offset `place`.
 fn put_narrow(
     image: &mut MemStorage,
     alloc: Global,
@@ -163,11 +165,12 @@ fn put_narrow(
     Ok(image.write(alloc, &[lowest], at)?)
 }
 
-/// Sets a counter of so many bits in a block.
+/// Sets a refcount of `width` bits in the block at offset `block`.
 ///
 /// # Errors
 ///
-/// `Trouble::NoCall` where counters have no such width; `Trouble::Refused` for want of memory.
+/// - `Trouble::NoCall` if no refcount has this width.
+/// - `Trouble::Refused` if memory runs out.
 pub fn put_counter(
     image: &mut MemStorage,
     alloc: Global,

@@ -1,10 +1,10 @@
-// What the checker answers, in words.
+// The texts of the checker's answers.
 use cases::{Trouble, joined};
 use imago_storage::Fault;
 use qimg_core::check::CheckFault;
 use std::alloc::{AllocError, Global};
 
-// Leaks by cluster, each with how many counts are too many.
+// Returns the text of the leaks: each cluster with its excess refcount.
 fn leaks(alloc: Global, found: &[(u64, u64)]) -> Result<String, AllocError> {
     if found.is_empty() {
         return "no leaks".to_string(alloc);
@@ -17,7 +17,7 @@ fn leaks(alloc: Global, found: &[(u64, u64)]) -> Result<String, AllocError> {
     Ok(text)
 }
 
-// A finding: its text as an error, its name, and its cluster where it has one.
+// Returns the text of a finding: its text as an error, its name, and its cluster, if it has one.
 fn finding(alloc: Global, fault: CheckFault) -> Result<String, AllocError> {
     let (name, cluster) = match fault {
         CheckFault::Header => ("header", None),
@@ -36,11 +36,12 @@ fn finding(alloc: Global, fault: CheckFault) -> Result<String, AllocError> {
     }
 }
 
-/// What the checker answers: `no leaks`, `leaks` and each as `CLUSTER:SURPLUS`, or its finding, as `error 25 shared table 3`.
+/// Returns the text of the checker's answer: `no leaks`, `leaks` with each leak as `CLUSTER:EXCESS`, or a finding, such as
+/// `error 25 shared table 3`.
 ///
 /// # Errors
 ///
-/// `Trouble::Refused` for want of memory, and for a fault of the storage.
+/// - `Trouble::Refused` if memory runs out, or if the storage failed.
 pub fn told(alloc: Global, answer: Result<Vec<(u64, u64)>, CheckFault>) -> Result<String, Trouble> {
     match answer {
         Ok(found) => Ok(leaks(alloc, &found)?),
@@ -50,11 +51,12 @@ pub fn told(alloc: Global, answer: Result<Vec<(u64, u64)>, CheckFault>) -> Resul
     }
 }
 
-/// The text that the checker displays where it met this.
+/// Returns the text that the checker displays for a resource error.
 ///
 /// # Errors
 ///
-/// `Trouble::NoCall` where it is neither `memory` nor `storage`, which no other answer shows; `Trouble::Refused` for want of memory.
+/// - `Trouble::NoCall` if the name is neither `memory` nor `storage`. The answers of `check` show the other texts.
+/// - `Trouble::Refused` if memory runs out.
 pub fn text_of(alloc: Global, name: &str) -> Result<String, Trouble> {
     let fault = match name {
         "memory" => CheckFault::Memory,

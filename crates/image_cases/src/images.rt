@@ -1,28 +1,33 @@
-// The values of a case, and the words of its lines.
+// The values of a case (one test of a script). Each call is passed to the module that makes it.
 use crate::kept::{Image, Noted, Setting};
 use cases::{Layer, Notes, Trouble};
 use imago_storage::{Fault, MemStorage};
 use std::alloc::Global;
 use std::cell::Cell;
 
-/// How storages are made where a case doesn't say.
+/// The default settings of storages.
 const USUAL: Setting = Setting {
     alignment: 1,
     fuse: 0,
     is_fixed: false,
 };
 
-/// A file, or the storage that was last made over it.
+/// A file, or the storage that was made of it last.
 #[derive(Drop)]
+/// The cells of the records of storages.
 pub struct Images<'a> {
+    /// The settings of the next storage.
     pub noted: Noted<'a>,
+    /// The file, if no storage was made of it.
     pub setting: Setting,
+    /// The storage that was made of the file last.
     pub file: Option<MemStorage>,
     pub kept: Option<Image<'a>>,
 }
 
 impl<'a> Images<'a> {
-    /// No file. Storages note what they are asked in these cells, and how often.
+    /// Creates the values of a case, without a file. The storages record their requests in `notes`, and the number of their calls in
+    /// `calls`.
     pub fn new(notes: &'a Cell<Notes>, calls: &'a Cell<u64>) -> Self {
         Images {
             noted: Noted { notes, calls },
@@ -32,11 +37,11 @@ impl<'a> Images<'a> {
         }
     }
 
-    /// Takes the file out, empty where there is none.
+    /// Takes the file out of the case. Without a file, an empty one is made.
     ///
     /// # Errors
     ///
-    /// `Trouble::Refused` for want of memory.
+    /// - `Trouble::Refused` if memory runs out.
     pub fn take_file(&mut self, alloc: Global) -> Result<MemStorage, Trouble> {
         if let Some(mut kept) = self.kept.take() {
             return Ok(MemStorage::from_bytes(kept.bytes()?)?);
@@ -51,7 +56,8 @@ impl<'a> Images<'a> {
     ///
     /// # Errors
     ///
-    /// As `take_file`, and `Trouble::NoCall` where there is no such storage.
+    /// - `Trouble::NoCall` if the settings don't fit: see `Kept::new`.
+    /// - `Trouble::Refused` if memory runs out.
     pub fn lend(&mut self, alloc: Global) -> Result<Image<'a>, Trouble> {
         let bytes = self.take_file(alloc)?.into_bytes()?;
         Image::new(alloc, bytes, self.setting, self.noted)
@@ -88,11 +94,12 @@ impl<'a> Layer for Images<'a> {
     }
 }
 
-/// The answer of a call that was refused. A limit is told with its number.
+/// Returns the answer of a call that failed. A limit is printed with its number.
 ///
 /// # Errors
 ///
-/// `Trouble::Refused` with the fault, which then is the answer, where it is no limit; or for want of memory.
+/// - `Trouble::Refused` with the fault, if the fault isn't a limit. The fault is the answer of the call then.
+/// - `Trouble::Refused` if memory runs out.
 pub fn refused(alloc: Global, fault: Fault) -> Result<String, Trouble> {
     match fault {
         Fault::Limit(passed) => Ok(format!(in alloc; "{fault} limit {passed}")?),

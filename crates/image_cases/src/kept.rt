@@ -1,4 +1,4 @@
-// The storage of a script's images.
+// The storage of a script's images, with a log of its changes and a count of its calls.
 ghost use Rattle.imago_storage.specs.Log.{log_state, log_aligned};
 
 use cases::{Alignments, Notes, Shaped, Trouble};
@@ -8,25 +8,27 @@ use imago_storage::{
 use std::alloc::Global;
 use std::cell::Cell;
 
-/// How storages are made.
+/// The settings of storages.
 #[derive(Clone, Copy)]
 pub struct Setting {
     /// The four alignments, in bytes.
     pub alignment: usize,
-    /// The call that fails, counted from 1; none where it is 0.
+    /// The number of the call that fails, from 1 on. With 0, no call fails.
     pub fuse: u64,
-    /// Whether the length can't be set.
+    /// True if the length can't be set.
     pub is_fixed: bool,
 }
 
-/// Where storages note what they are asked, and how often they were called, refused calls counted, too.
+/// The cells in which storages record their requests and the number of their calls. Calls that fail are counted, too.
 #[derive(Clone, Copy)]
 pub struct Noted<'a> {
+    /// The requests.
     pub notes: &'a Cell<Notes>,
+    /// The number of calls.
     pub calls: &'a Cell<u64>,
 }
 
-/// A storage with a log, which counts its calls, and whose length may be fixed.
+/// A storage with a log. It counts its calls except `invalidate_cache`, and may refuse resizes.
 #[derive(Drop)]
 pub struct Kept<'a, S> {
     below: LogStorage<S>,
@@ -34,22 +36,23 @@ pub struct Kept<'a, S> {
     is_fixed: bool,
 }
 
-/// A storage in memory of which one call may fail.
+/// A storage in memory with one call that may fail.
 pub type Image<'a> = Kept<'a, FuseStorage<Shaped<'a>>>;
 
 impl<'a> Kept<'a, FuseStorage<Shaped<'a>>> {
-    /// A storage of these bytes. It notes what it is asked from then on.
+    /// Creates a storage of these bytes. Recording starts after this call.
     ///
     /// # Errors
     ///
-    /// `Trouble::NoCall` where a call shall fail and the bytes aren't whole units; `Trouble::Refused` for want of memory.
+    /// - `Trouble::NoCall` if the alignment isn't valid, or if a fuse is set and the length of `bytes` isn't a multiple of the alignment.
+    /// - `Trouble::Refused` if memory runs out.
     pub fn new(
         alloc: Global,
         bytes: Vec<u8>,
         setting: Setting,
         noted: Noted<'a>,
     ) -> Result<Self, Trouble> {
-        // A log begins with one read of all bytes, if there are any.
+        // A new log first reads all bytes, unless the storage is empty. The fuse counts this read.
         let copied = u64::from(!bytes.is_empty());
         let length = bytes.len();
         let n = setting.alignment;
@@ -74,16 +77,16 @@ impl<'a> Kept<'a, FuseStorage<Shaped<'a>>> {
 }
 
 impl<'a, S: Storage> Kept<'a, S> {
-    /// The changes so far.
+    /// Returns the changes up to now, the oldest first.
     pub fn requests(&self) -> &[Request] {
         self.below.requests()
     }
 
-    /// The bytes.
+    /// Returns the bytes of the storage.
     ///
     /// # Errors
     ///
-    /// `Fault::Memory`.
+    /// - `Fault::Memory` if memory runs out.
     pub fn bytes(&mut self) -> Result<Vec<u8>, Fault> {
         let last = self.below.requests().len();
         self.below.stop_at(last)

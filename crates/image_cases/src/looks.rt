@@ -1,4 +1,4 @@
-// Words that look at a file, at what it shows, and at what its storage was asked.
+// Calls that print the file, the guest's bytes, or the requests of the storage.
 use crate::findings;
 use crate::images::{Images, refused};
 use crate::kept::Image;
@@ -9,10 +9,10 @@ use qimg_core::check::check;
 use qimg_core::plain::{ChainFile, plain_read};
 use std::alloc::{AllocError, Global};
 
-/// What a buffer has before it is read into.
+/// The content of a buffer before it is read into.
 const BLANK: u8 = 7;
 
-// A change of a storage, in words.
+// Returns the text of a change of a storage, such as `write OFFSET LENGTH`.
 fn change_told(alloc: Global, request: &Request) -> Result<String, AllocError> {
     match request {
         Request::Write { offset, bytes } => {
@@ -24,14 +24,14 @@ fn change_told(alloc: Global, request: &Request) -> Result<String, AllocError> {
     }
 }
 
-// The change of this number, from 1 on.
+// Returns the text of the change with this number, from 1 on.
 fn nth_change(alloc: Global, requests: &[Request], nth: usize) -> Result<String, Trouble> {
     let index = nth.checked_sub(1).ok_or(Trouble::NoCall)?;
     let request = requests.get(index).ok_or(Trouble::NoCall)?;
     Ok(change_told(alloc, request)?)
 }
 
-// The format of a file of a chain.
+// Parses the format of a file of a chain.
 fn format_of(word: &str) -> Result<Format, Trouble> {
     match word {
         "qcow2" => Ok(Format::Qcow2),
@@ -42,7 +42,7 @@ fn format_of(word: &str) -> Result<Format, Trouble> {
 }
 
 impl<'a> Images<'a> {
-    // So many bytes of the file from a place on, 0 past its end.
+    // Returns `length` bytes of the file from `offset` on. Bytes past its end are 0.
     fn bytes_of_file(
         &mut self,
         alloc: Global,
@@ -56,7 +56,7 @@ impl<'a> Images<'a> {
         Ok(runs(alloc, &buf)?)
     }
 
-    // A plain read of a chain of files of these formats, each with the bytes of the file.
+    // Makes a plain read of a chain of files with these formats. Each file has the bytes of the case's file.
     fn plain_bytes(
         &mut self,
         alloc: Global,
@@ -83,7 +83,7 @@ impl<'a> Images<'a> {
         }
     }
 
-    // The checker's answer.
+    // Returns the checker's answer.
     fn checked(&mut self, alloc: Global) -> Result<String, Trouble> {
         let mut kept = self.lend(alloc)?;
         let answer = check(alloc, &mut kept);
@@ -91,7 +91,7 @@ impl<'a> Images<'a> {
         findings::told(alloc, answer)
     }
 
-    // What the storage that was last made tells of itself.
+    // Returns the recorded changes of the storage that was made last.
     fn kept_told(&self, alloc: Global, name: &str, words: &[&str]) -> Result<String, Trouble> {
         let Some(kept) = &self.kept else {
             return Err(Trouble::NoCall);
@@ -103,20 +103,22 @@ impl<'a> Images<'a> {
         }
     }
 
-    /// A look at the file, which stays as it is:
+    /// Prints something about the file. The file doesn't change.
     ///
-    ///     check                            what the checker answers
-    ///     plain OFFSET LENGTH [FORMAT ..]  bytes by a plain read, of one qcow2 file or a chain of such; `none` is a chain of no file
-    ///     bytes OFFSET LENGTH              bytes of the file
-    ///     length                           the file's length
-    ///     changes                          how many changes of the storage there were that was last made
-    ///     change N                         one of them, from 1 on
-    ///     calls                            how often it was called
-    ///     finding NAME                     the text of an answer of the checker
+    /// - `check`: the checker's answer
+    /// - `plain OFFSET LENGTH [FORMAT ..]`: bytes by a plain read, of one qcow2 file or of a chain of files with these formats; `none` is
+    ///   a chain without files
+    /// - `bytes OFFSET LENGTH`: bytes of the file
+    /// - `length`: the file's length
+    /// - `changes`: the number of changes of the storage that was made last
+    /// - `change N`: the Nth change of the storage that was made last, from 1 on
+    /// - `calls`: the number of calls of the storage that was made last
+    /// - `finding NAME`: the text of a resource error of the checker
     ///
     /// # Errors
     ///
-    /// `Trouble::NoCall` where the words are none of these; `Trouble::Refused` as the call, or for want of memory.
+    /// - `Trouble::NoCall` if the call is none of these.
+    /// - `Trouble::Refused` if the checker or the read fails with a fault, or memory runs out.
     pub fn look(&mut self, alloc: Global, name: &str, words: &[&str]) -> Result<String, Trouble> {
         match (name, words) {
             ("check", []) => self.checked(alloc),

@@ -1,26 +1,31 @@
-//! Cases of the checker, the plain reader and the making of images, over images that scripts describe.
+//! Runs scripts that check the checker, the plain reader (which uses no driver) and the creation of images. The scripts describe the images
+//! byte by byte. Terms are explained in docs/GLOSSARY.md.
 //!
-//! A case begins with an empty file. A VALUE is a number, `copied`, `compressed`, `zero` or `greatest` (the marks and the greatest offset
-//! of words of tables), `A<<B`, or a sum of these, as `copied+0xa00`.
+//! A case begins with an empty file. A VALUE is a number, `copied`, `compressed`, `zero` or `greatest` (the flags and the greatest offset
+//! of raw entries), `A<<B`, or a sum of these, such as `copied+0xa00`.
 //!
 //! # The file
 //!
-//! - `header NAME=VALUE ..`: a header of version 3 with clusters of 512 bytes and counters of 16 bits, for a disk of 65,536 bytes, its
-//!   refcount table in cluster 1 and its L1 table in cluster 3, but for these fields. `small NAME=VALUE ..`: the same with a block in
-//!   cluster 2, which counts clusters 0 to 6 once, an L2 table in cluster 4, and data in clusters 5 and 6. `field NAME=VALUE ..`.
-//! - `create BYTES`: the file is a new image of a disk of so many bytes, as `create` makes it over the one that it was. `worked`: one of
-//!   65,536 bytes that shows 01 02 03 at 510, with an L2 table in cluster 4, and data in clusters 5 and 6.
-//! - `word PLACE VALUE ..`; `row PLACE COUNT FIRST STEP`: so many words, each more than the one before; `put PLACE BYTES`; `count WIDTH
-//!   BLOCK INDEX COUNT [TIMES]`: a counter of the block at a place, or so many; `cut LENGTH`.
-//! - How storages are made of it: `align N`, `fuse N` (its Nth call fails), `fixed` (no resizes).
+//! - `header NAME=VALUE ..`: a header of version 3 with clusters of 512 bytes and 16-bit refcounts, for a disk of 65,536 bytes. The
+//!   refcount table is in cluster 1 and the L1 table in cluster 3. The given fields replace these defaults. `small NAME=VALUE ..` also
+//!   writes the tables: a refcount block in cluster 2 in which clusters 0 to 6 have refcount 1, an L2 table in cluster 4, and data in
+//!   clusters 5 and 6. `field NAME=VALUE ..` sets fields.
+//! - `create BYTES`: replaces the file with a new image of a disk of BYTES bytes. `create` makes the image over the old file. `worked`: an
+//!   image of 65,536 bytes with the bytes 01 02 03 at guest offset 510, an L2 table in cluster 4, and data in clusters 5 and 6.
+//! - `word PLACE VALUE ..`: raw entries from offset PLACE on. `row PLACE COUNT FIRST STEP`: COUNT raw entries, each greater by STEP than
+//!   the one before. `put PLACE BYTES`. `count WIDTH BLOCK INDEX COUNT [TIMES]`: sets TIMES refcounts of WIDTH bits, from INDEX on, to
+//!   COUNT, in the refcount block at offset BLOCK. `cut LENGTH`.
+//! - Settings of the storages that are made of the file: `align N`, `fuse N` (the Nth call fails), `fixed` (no resizes).
 //!
-//! # Looks
+//! # Results
 //!
-//! - `check`: `no leaks`, `leaks CLUSTER:SURPLUS ..`, or a finding, as `error 27 under-counted 5`. `finding NAME`: the text of one.
-//! - `plain OFFSET LENGTH [FORMAT ..]`: bytes by a plain read, of one qcow2 file or a chain of `qcow2`, `raw` and `vmdk` ones; `none` is a
-//!   chain of no file.
+//! - `check`: `no leaks`, `leaks CLUSTER:EXCESS ..`, or a finding, such as `error 27 under-counted 5`. `finding NAME`: the text of a
+//!   finding.
+//! - `plain OFFSET LENGTH [FORMAT ..]`: bytes by a plain read, of one qcow2 file or of a chain of `qcow2`, `raw` and `vmdk` files; `none`
+//!   is a chain without files.
 //! - `bytes OFFSET LENGTH`, `length` of the file.
-//! - Of the storage that was last made: `calls`, how many; `changes`, how many of them changed it; `change N`, as `write OFFSET LENGTH`.
+//! - Of the storage that was made last: `calls`, the number of calls; `changes`, the number of calls that changed it; `change N`, the Nth
+//!   call that changed it, such as `write OFFSET LENGTH`.
 #![tactic(auto)]
 
 mod changes;

@@ -1,19 +1,19 @@
-// The numbers of images.
+// The numbers of a script: flags, offsets and sums of them.
 use cases::{Trouble, number};
 
-/// The mark of a word that alone names its cluster.
+/// The COPIED flag of an L1 or L2 entry.
 const COPIED: u64 = 1 << 63;
 
-/// The mark of a compressed cluster's word.
+/// The flag of a compressed cluster in an L2 entry.
 const COMPRESSED: u64 = 1 << 62;
 
-/// The mark of an L2 word whose cluster reads as zeroes.
+/// The zero flag of an L2 entry.
 const ZERO: u64 = 1;
 
-/// The greatest host offset of a word, with clusters of 512 bytes.
+/// The greatest host offset of an entry, with clusters of 512 bytes.
 const GREATEST: u64 = 0x00ff_ffff_ffff_fe00;
 
-// The number of one part of a sum.
+// Parses one part of a sum.
 fn part(word: &str) -> Result<u64, Trouble> {
     match word {
         "copied" => Ok(COPIED),
@@ -24,12 +24,11 @@ fn part(word: &str) -> Result<u64, Trouble> {
     }
 }
 
-/// The number that a word is: a number, a mark of the words of tables, `A<<B` for a number at bit B, or a sum of these, as
-/// `copied+0xa00`.
+/// Parses a value: a number, a flag of raw entries, `A<<B` for A shifted left by B bits, or a sum of these, such as `copied+0xa00`.
 ///
 /// # Errors
 ///
-/// `Trouble::NoCall` where it is none, or passes 64 bits.
+/// - `Trouble::NoCall` if the text isn't a value, or if the value doesn't fit in 64 bits.
 pub fn value(word: &str) -> Result<u64, Trouble> {
     let mut sum = 0u64;
     for one in word.split("+") {
@@ -42,7 +41,7 @@ pub fn value(word: &str) -> Result<u64, Trouble> {
     Ok(sum)
 }
 
-// A number with so many zero bits behind it.
+// Shifts a number left by `bit` bits.
 fn shifted(factor: u64, bit: u64) -> Result<u64, Trouble> {
     if bit > 63 {
         return Err(Trouble::NoCall);
