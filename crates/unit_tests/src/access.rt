@@ -1,4 +1,4 @@
-// Values of imago_access that no call of a disk makes, and comparisons of its types.
+// Tests of values of `imago_access` that no call of a disk makes, and of comparisons of its types.
 use imago_access::{Format, Mapping, PreallocateMode, PreparedDataMapping, ShallowMapping};
 use std::process::Abort;
 use std::test::Fail;

@@ -1,4 +1,4 @@
-// An example of the library: a raw image in memory is written and read.
+// An example of the library: writes to a raw image in memory and reads it again.
 use imago_access::FormatAccess;
 use imago_formats::Raw;
 use imago_storage::{Fault, MemStorage};
@@ -6,7 +6,7 @@ use std::alloc::Global;
 use std::process::Abort;
 use std::test::Fail;
 
-// A raw image of 4,096 zeroes, of which three bytes are written, and eight read.
+// Writes three bytes to a raw image of 4,096 zeroes, and reads eight bytes.
 fn written(alloc: Global) -> Result<[u8; 8], Fault> {
     let bytes = vec![in alloc; 0u8; 4096]?;
     let image = Raw::open_image(MemStorage::from_bytes(bytes)?, true);

@@ -1,4 +1,5 @@
-//! Tests of what only Rust says: values that no call of a disk makes, and laws of types. All else stands in scripts (`docs/CASES.md`).
+//! Tests that only Rust can express: values that no call of a disk makes, and comparisons of types. All other tests are scripts
+//! (`docs/CASES.md`).
 #![tactic(auto)]
 
 #[cfg(test)]
