@@ -1,4 +1,4 @@
-// Calls of the allocator.
+// Answers lines of a script that call the allocator.
 use crate::listing::{Waiting, is_metadata};
 use crate::opened::Open;
 use crate::texts::parts_text;
@@ -6,7 +6,7 @@ use cases::{Trouble, number, ok, size};
 use qcow2_types::{ClusterCount, HostCluster};
 
 impl<'a> Open<'a> {
-    // Hands out clusters in a row, which are pending then.
+    // Allocates consecutive clusters, which are pending then (not yet referenced).
     fn take(
         &mut self,
         waiting: &mut Waiting,
@@ -25,7 +25,7 @@ impl<'a> Open<'a> {
         Ok(parts_text(self.alloc, parts)?)
     }
 
-    // Hands out this cluster if it is free, which is pending then.
+    // Allocates one given cluster if it is free. It is pending then.
     fn take_at(&mut self, waiting: &mut Waiting, cluster: u64) -> Result<String, Trouble> {
         waiting.prepare()?;
         let found = self.allocator.allocate_cluster_at(
@@ -53,7 +53,7 @@ impl<'a> Open<'a> {
         )
     }
 
-    // Lets the refcount table grow by one word at least, and by more.
+    // Grows the refcount table by at least `more + 1` entries.
     fn grow_by(&mut self, waiting: &mut Waiting, more: usize) -> Result<(), Trouble> {
         let index = self.allocator.reftable_entries().saturating_add(more);
         self.grow(waiting, index)
@@ -66,7 +66,7 @@ impl<'a> Open<'a> {
         )
     }
 
-    /// What memory and header say of the refcount table: where it stands, its clusters, its words.
+    /// Returns the refcount table's offset and clusters in the header, and its number of entries in memory.
     pub fn reftable_text(&self) -> Result<String, Trouble> {
         let offset = self.file.header.reftable_offset().0;
         let clusters = self.file.header.reftable_clusters().0;
@@ -74,7 +74,7 @@ impl<'a> Open<'a> {
         Ok(format!(in self.alloc; "{offset} {clusters} {entries}")?)
     }
 
-    // A call that answers nothing.
+    // Makes a call without a result.
     fn change(&mut self, waiting: &mut Waiting, words: &[&str]) -> Result<(), Trouble> {
         match words {
             ["free"] => self.free(waiting),
@@ -86,7 +86,7 @@ impl<'a> Open<'a> {
         }
     }
 
-    /// The answer of a line about the allocator.
+    /// Answers a line about the allocator.
     pub fn allocate(&mut self, waiting: &mut Waiting, words: &[&str]) -> Result<String, Trouble> {
         match words {
             ["take", count, kind] => self.take(waiting, number(count)?, is_metadata(kind)?),

@@ -1,4 +1,4 @@
-// Calls of the caches, and what they hold.
+// Answers lines of a script that call the caches, or show what is in them.
 use crate::listing::Waiting;
 use crate::opened::Open;
 use crate::texts::numbers_text;
@@ -7,10 +7,10 @@ use qcow2_metadata::{L2Table, RefBlock, Table, TableEntry};
 use qcow2_types::{ClustersToFreeEntry, HostCluster, PendingClusters};
 use std::alloc::Global;
 
-/// The clusters from here on are out of reach of the words of a script.
+/// In a script, the offsets of clusters from this number on don't fit an entry.
 const FAR: u64 = 6_000_000;
 
-// Counters of a block in a row.
+// Returns consecutive refcounts of a block.
 fn counters_of(
     alloc: Global,
     block: &RefBlock,
@@ -28,7 +28,7 @@ fn counters_of(
     Ok(counters)
 }
 
-/// The text of these counters.
+/// Returns the text of consecutive refcounts of a block.
 pub fn counters_text(
     alloc: Global,
     block: &RefBlock,
@@ -39,7 +39,7 @@ pub fn counters_text(
     Ok(numbers_text(alloc, &counters)?)
 }
 
-/// The words of a table in a row, in hexadecimal digits.
+/// Returns the text of consecutive raw entries of a table, in hexadecimal.
 pub fn words_text(
     alloc: Global,
     table: &L2Table,
@@ -49,13 +49,13 @@ pub fn words_text(
     let mut text = String::new(alloc);
     for index in first..first.saturating_add(count) {
         let value = table.get(index).to_plain();
-        let raw_entry = format!(in alloc; "{value:x}")?;
-        joined(&mut text, raw_entry.as_str())?;
+        let word = format!(in alloc; "{value:x}")?;
+        joined(&mut text, word.as_str())?;
     }
     Ok(text)
 }
 
-// The host cluster of the word at an index of a table.
+// Returns the host cluster of the entry at an index of a table.
 fn mapping_text(alloc: Global, table: &L2Table, index: usize) -> Result<String, Trouble> {
     let _bits = table.cluster_bits();
     match table.get(index).cluster_offset(false) {
@@ -64,7 +64,7 @@ fn mapping_text(alloc: Global, table: &L2Table, index: usize) -> Result<String, 
     }
 }
 
-// A word of a table names pending clusters, which answers those that it named before; or none where it can't.
+// Links pending clusters in a table, and returns the clusters that the entry referenced before. If they can't be linked, returns `None`.
 #[tactic(auto, using(qcow2_metadata::proofs::PlaceLemmas::near_reach))]
 fn name(
     table: &mut L2Table,
@@ -90,7 +90,7 @@ fn unname(table: &mut L2Table, index: usize) -> Option<ClustersToFreeEntry> {
 }
 
 impl<'a> Open<'a> {
-    // The table in a cluster, found or loaded.
+    // Returns the table in a cluster, found or loaded.
     fn table(&mut self, cluster: u64) -> Result<&mut L2Table, Trouble> {
         Ok(
             self.caches
@@ -98,7 +98,7 @@ impl<'a> Open<'a> {
         )
     }
 
-    // The block in a cluster, found or loaded.
+    // Returns the block in a cluster, found or loaded.
     fn block(&mut self, cluster: u64) -> Result<&mut RefBlock, Trouble> {
         Ok(
             self.caches
@@ -106,7 +106,7 @@ impl<'a> Open<'a> {
         )
     }
 
-    // A word of a table names what is pending. The answer is what it named before, which waits to be freed.
+    // Links the last pending clusters in a table. The clusters that the entry referenced before are added to the list and printed.
     fn name(
         &mut self,
         waiting: &mut Waiting,
@@ -122,7 +122,7 @@ impl<'a> Open<'a> {
         waiting.push(replaced)
     }
 
-    // A word of a table names nothing any more. The answer is what it named, which waits to be freed.
+    // Clears an entry of a table. The clusters that it referenced are added to the list and printed.
     fn unname(
         &mut self,
         waiting: &mut Waiting,
@@ -134,7 +134,7 @@ impl<'a> Open<'a> {
         waiting.push(named)
     }
 
-    // What a table or a block holds.
+    // Answers a line about the contents of a table or a block.
     fn look(&mut self, words: &[&str]) -> Result<String, Trouble> {
         let alloc = self.alloc;
         match words {
@@ -157,7 +157,7 @@ impl<'a> Open<'a> {
         }
     }
 
-    // Finds a table or a block, which is marked as modified where it is touched.
+    // Finds a table or a block, and makes it dirty if it is touched.
     fn find(&mut self, words: &[&str]) -> Result<(), Trouble> {
         match words {
             ["find_table", cluster] => {
@@ -173,7 +173,7 @@ impl<'a> Open<'a> {
         Ok(())
     }
 
-    // Announces what is written first, writes, or drops.
+    // Sets the write order, flushes, or drops.
     fn order(&mut self, words: &[&str]) -> Result<(), Trouble> {
         match words {
             ["blocks_first"] => self.caches.l2_depends_on_rb(&mut self.file)?,
@@ -187,7 +187,7 @@ impl<'a> Open<'a> {
         Ok(())
     }
 
-    /// The answer of a line about the caches.
+    /// Answers a line about the caches.
     pub fn cache(&mut self, waiting: &mut Waiting, words: &[&str]) -> Result<String, Trouble> {
         match words {
             ["name", cluster, index] => self.name(waiting, number(cluster)?, size(index)?),

@@ -1,12 +1,12 @@
-// The image that a case describes, by words at their places.
+// The image that a case describes, built from fields and entries at given offsets.
 use cases::{Trouble, bytes, number};
 use imago_storage::{MemStorage, PreallocateMode, Storage, StorageExt};
 use std::alloc::Global;
 
-/// The mark of a word that alone names its cluster.
+/// The COPIED flag of an entry.
 const COPIED: u64 = 1 << 63;
 
-/// The most bytes of an image.
+/// The maximum size of an image, in bytes.
 const MOST: u64 = 67_108_864;
 
 /// The file of an image that is being described.
@@ -14,17 +14,17 @@ const MOST: u64 = 67_108_864;
 pub struct Draft {
     alloc: Global,
     file: MemStorage,
-    /// The size of a cluster, in bytes.
+    /// The cluster size, in bytes.
     cluster: u64,
-    /// The width of a counter, in bits.
+    /// The width of a refcount, in bits.
     width: u64,
-    /// Where the refcount table stands.
+    /// The offset of the refcount table.
     reftable: u64,
-    /// Where the L1 table stands.
+    /// The offset of the L1 table.
     l1: u64,
 }
 
-// The power of two that a width of counters is.
+// Returns the binary logarithm of a refcount width.
 fn order(width: u64) -> Result<u64, Trouble> {
     match width {
         1 => Ok(0),
@@ -38,7 +38,7 @@ fn order(width: u64) -> Result<u64, Trouble> {
     }
 }
 
-// The size of a cluster that is 2 to this power.
+// Returns the cluster size for a number of bits.
 fn cluster_size(bits: u64) -> Result<u64, Trouble> {
     match bits {
         9 => Ok(512),
@@ -50,7 +50,7 @@ fn cluster_size(bits: u64) -> Result<u64, Trouble> {
 }
 
 impl Draft {
-    /// An empty file.
+    /// Returns an empty file.
     pub fn new(alloc: Global) -> Self {
         Draft {
             alloc,
@@ -62,7 +62,7 @@ impl Draft {
         }
     }
 
-    /// A copy of its bytes.
+    /// Returns a copy of the file's bytes.
     pub fn copy(&self) -> Result<Vec<u8>, Trouble> {
         Ok(self.file.bytes()?)
     }
@@ -84,12 +84,13 @@ impl Draft {
         Ok(u64::from_be_bytes(bytes))
     }
 
-    // Where a cluster stands.
+    // Returns the offset of a cluster.
     fn place(&self, cluster: u64) -> u64 {
         cluster.wrapping_mul(self.cluster)
     }
 
-    // A header of version 3 with clusters of 2 to this power of bytes and counters of this width, in a file of so many clusters of zeroes.
+    // Starts a file of `clusters` clusters of zeros with a header of version 3, for clusters of 2^`bits` bytes and refcounts of `width`
+    // bits.
     fn begin(&mut self, bits: u64, width: u64, clusters: u64) -> Result<(), Trouble> {
         let order = order(width)?;
         let cluster = cluster_size(bits)?;
@@ -106,20 +107,20 @@ impl Draft {
         self.raw_entry(96, order << 32 | 104)
     }
 
-    // A refcount table of so many clusters.
+    // Sets the cluster and the length, in clusters, of the refcount table.
     fn put_reftable(&mut self, cluster: u64, clusters: u64) -> Result<(), Trouble> {
         self.reftable = self.place(cluster);
         self.raw_entry(48, self.reftable)?;
         self.raw_entry(56, clusters.wrapping_mul(1 << 32))
     }
 
-    // A word of the refcount table.
+    // Sets an entry of the refcount table.
     fn put_block(&mut self, index: u64, cluster: u64) -> Result<(), Trouble> {
         let place = self.reftable.wrapping_add(index.wrapping_mul(8));
         self.raw_entry(place, self.place(cluster))
     }
 
-    // An L1 table of so many words, for a disk of so many bytes.
+    // Sets the cluster and the number of entries of the L1 table, and the disk's size in bytes.
     fn put_l1(&mut self, cluster: u64, words: u64, size: u64) -> Result<(), Trouble> {
         self.l1 = self.place(cluster);
         self.raw_entry(24, size)?;
@@ -127,19 +128,19 @@ impl Draft {
         self.raw_entry(40, self.l1)
     }
 
-    // A word of the L1 table, which alone names its L2 table.
+    // Sets an L1 entry, with its COPIED flag.
     fn put_table(&mut self, index: u64, cluster: u64) -> Result<(), Trouble> {
         let place = self.l1.wrapping_add(index.wrapping_mul(8));
         self.raw_entry(place, COPIED | self.place(cluster))
     }
 
-    // A word of an L2 table, which alone names its cluster.
+    // Sets an L2 entry, with its COPIED flag.
     fn put_mapping(&mut self, table: u64, index: u64, cluster: u64) -> Result<(), Trouble> {
         let place = self.place(table).wrapping_add(index.wrapping_mul(8));
         self.raw_entry(place, COPIED | self.place(cluster))
     }
 
-    // Sets the counter of this width at the bit where it begins, counted from a byte's least one.
+    // Sets a refcount of a block. `bit` is its first bit, counted from the least significant bit of each byte.
     fn put_counter(&mut self, block: u64, bit: u64, times: u64) -> Result<(), Trouble> {
         let place = block.wrapping_add(bit / 8);
         match self.width {
@@ -150,14 +151,14 @@ impl Draft {
         }
     }
 
-    // The same of a counter within a byte, which was 0 before.
+    // Sets a refcount that is smaller than a byte and was 0 before.
     fn put_small_counter(&mut self, place: u64, shift: u64, times: u64) -> Result<(), Trouble> {
         let [before, ..] = self.word_at(place)?.to_be_bytes();
         let counter = ((times << (shift % 8)) & 0xff) as u8;
         self.put(place, &[before | counter])
     }
 
-    // Counts clusters so often, in the blocks that the refcount table names.
+    // Sets the refcounts of clusters to `times`, in the blocks that the refcount table references.
     fn count(&mut self, first: u64, clusters: u64, times: u64) -> Result<(), Trouble> {
         let counters = (self.cluster.saturating_mul(8) / self.width.max(1)).max(1);
         for step in 0..clusters {
@@ -173,8 +174,8 @@ impl Draft {
         Ok(())
     }
 
-    // An image with clusters of 512 bytes, of which so many are counted: the refcount table is cluster 1, and names the block in
-    // cluster 2.
+    // Starts an image with clusters of 512 bytes. The first `counted` clusters have refcount 1. The refcount table is cluster 1, and
+    // references the block in cluster 2.
     fn make(&mut self, width: u64, counted: u64) -> Result<(), Trouble> {
         self.begin(9, width, counted.max(3))?;
         self.put_reftable(1, 1)?;
@@ -182,7 +183,7 @@ impl Draft {
         self.count(0, counted, 1)
     }
 
-    // What tables name.
+    // Handles lines about L1 and L2 tables.
     fn describe_tables(&mut self, words: &[&str]) -> Result<(), Trouble> {
         match words {
             ["l1", cluster, entries, size] => {
@@ -196,7 +197,7 @@ impl Draft {
         }
     }
 
-    // What is counted, and where.
+    // Handles lines about refcounts and the refcount table.
     fn describe_counts(&mut self, words: &[&str]) -> Result<(), Trouble> {
         match words {
             ["reftable", cluster, clusters] => {
@@ -211,7 +212,7 @@ impl Draft {
         }
     }
 
-    /// Takes a line of the image's description.
+    /// Handles a line of the image's description.
     pub fn describe(&mut self, words: &[&str]) -> Result<(), Trouble> {
         match words {
             ["image", bits, width, clusters] => {

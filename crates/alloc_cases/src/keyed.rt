@@ -1,4 +1,4 @@
-// A cache of numbers by number, over a backend that notes what it is asked, and fails where it is told to.
+// A cache of numbers by number, over a backend that notes its calls. A script can make some of these calls fail.
 ghost use Rattle.std.specs.Prelude.{⊤};
 
 use cases::{Trouble, joined, number, ok, size};
@@ -7,13 +7,13 @@ use qcow2_alloc::{AsyncLruCache, AsyncLruCacheBackend, NotLent};
 use std::alloc::{AllocError, Global};
 use std::cell::Cell;
 
-/// How many values are noted.
+/// The maximum number of values that are noted.
 const ROOM: usize = 64;
 
-/// How often a script can hold on to a value.
+/// The maximum number of pins of a value.
 const PINS: u64 = 8;
 
-/// Values that were flushed, or dropped without a flush, by key. They take no memory, so that its want is the cache's own.
+/// Values that were flushed, or dropped without a flush, by key. Notes take no memory, so that only the cache itself can run out of memory.
 #[derive(Clone, Copy)]
 pub struct Noted {
     pairs: [(u64, u64); ROOM],
@@ -37,14 +37,14 @@ impl Noted {
     }
 }
 
-/// What was flushed, and how often a value was loaded.
+/// The values that were flushed, and the number of loads.
 #[derive(Drop)]
 pub struct Device {
     flushed: Noted,
     loads: u64,
 }
 
-/// Loads the key as the value. It refuses to load one key and to flush odd ones, where it is told to.
+/// A backend that loads the key as the value. It can be set to fail to load one key, or to flush odd keys.
 #[derive(Drop)]
 struct Backend<'a> {
     fails_odd_flushes: bool,
@@ -95,7 +95,7 @@ pub struct Keyed<'a> {
     dropped: &'a Cell<Noted>,
 }
 
-// Keys with their values.
+// Returns the text of keys with their values.
 fn noted_text(alloc: Global, noted: Noted) -> Result<String, AllocError> {
     let mut text = String::new(alloc);
     for (key, value) in noted.pairs.iter().take(noted.count) {
@@ -108,9 +108,9 @@ fn noted_text(alloc: Global, noted: Noted) -> Result<String, AllocError> {
     Ok(text)
 }
 
-// Whether something may be flushed.
-fn may_flush(raw_entry: &str) -> Result<bool, Trouble> {
-    match raw_entry {
+// Returns true for `flushing`, and false for `unflushed`.
+fn may_flush(word: &str) -> Result<bool, Trouble> {
+    match word {
         "flushing" => Ok(true),
         "unflushed" => Ok(false),
         _ => Err(Trouble::NoCall),
@@ -118,7 +118,7 @@ fn may_flush(raw_entry: &str) -> Result<bool, Trouble> {
 }
 
 impl<'a> Keyed<'a> {
-    // A cache of so many values.
+    // Returns a cache of at most `size` values.
     fn of_backend(
         alloc: Global,
         size: usize,
@@ -139,7 +139,7 @@ impl<'a> Keyed<'a> {
         })
     }
 
-    /// A cache of so many values, by the words of a script: `sound`, `odd_flushes_fail` or `load_fails KEY`.
+    /// Returns a cache for the words of a script: its size, and `sound`, `odd_flushes_fail` or `load_fails KEY`.
     pub fn new(alloc: Global, words: &[&str], dropped: &'a Cell<Noted>) -> Result<Self, Trouble> {
         let mut backend = Backend {
             fails_odd_flushes: false,
@@ -162,7 +162,7 @@ impl<'a> Keyed<'a> {
         Keyed::of_backend(alloc, size, backend, dropped)
     }
 
-    // The value at a key, found or loaded.
+    // Returns the text of the value at a key, found or loaded.
     fn find(&mut self, key: u64, may_flush: bool) -> Result<String, Trouble> {
         let alloc = self.alloc;
         match self.cache.get_or_insert(&mut self.device, key, may_flush) {
@@ -184,7 +184,7 @@ impl<'a> Keyed<'a> {
         }
     }
 
-    // Puts a value at a key. The answer is the value that comes back, if one does.
+    // Puts a value at a key. Returns the text of the value that the cache returned, if any.
     fn insert(&mut self, key: u64, value: u64, may_flush: bool) -> Result<String, Trouble> {
         match self.cache.insert(&mut self.device, key, value, may_flush) {
             Ok(None) => Ok(ok(self.alloc)?),
@@ -194,7 +194,7 @@ impl<'a> Keyed<'a> {
         }
     }
 
-    // Keys from one on are found or loaded where there is room.
+    // Finds or loads `count` keys from `first` on. No value is flushed for them.
     fn fill(&mut self, first: u64, count: u64) -> Result<(), Trouble> {
         for step in 0..count {
             self.find(first.wrapping_add(step), false)?;
@@ -202,7 +202,7 @@ impl<'a> Keyed<'a> {
         Ok(())
     }
 
-    // The value at a key, if it is there.
+    // Returns the text of the value at a key, if it is cached.
     fn at(&self, key: u64) -> Result<String, Trouble> {
         match self.cache.get(key) {
             Some(value) => Ok(value.to_string(self.alloc)?),
@@ -210,7 +210,7 @@ impl<'a> Keyed<'a> {
         }
     }
 
-    // How often the value at a key is held on to, if it is there.
+    // Returns the number of pins of the value at a key, if it is cached.
     fn pins(&self, key: u64) -> Result<String, Trouble> {
         match self.cache.pins(key) {
             Some(pins) => Ok(pins.to_string(self.alloc)?),
@@ -218,7 +218,7 @@ impl<'a> Keyed<'a> {
         }
     }
 
-    // Holds on to the value at a key, which is there.
+    // Adds a pin to the value at a key, which must be cached.
     fn pin(&mut self, key: u64) -> Result<(), Trouble> {
         match self.cache.pins(key) {
             Some(pins) if pins < PINS => {
@@ -229,7 +229,7 @@ impl<'a> Keyed<'a> {
         }
     }
 
-    // Lets go of the value at a key, which is held on to.
+    // Removes a pin from the value at a key, which must be pinned.
     fn unpin(&mut self, key: u64) -> Result<(), Trouble> {
         match self.cache.pins(key) {
             Some(pins) if pins > 0 => {
@@ -240,20 +240,20 @@ impl<'a> Keyed<'a> {
         }
     }
 
-    // What was flushed since this was last told, in order.
+    // Returns the values that were flushed since the last call, in order.
     fn flushed(&mut self) -> Result<String, Trouble> {
         let text = noted_text(self.alloc, self.device.flushed)?;
         self.device.flushed = Noted::nothing();
         Ok(text)
     }
 
-    // What was dropped without a flush since this was last told, in order.
+    // Returns the values that were dropped without a flush since the last call, in order.
     fn dropped(&mut self) -> Result<String, Trouble> {
         let dropped = self.dropped.replace(Noted::nothing());
         Ok(noted_text(self.alloc, dropped)?)
     }
 
-    // What the device tells.
+    // Answers a line that reads the cache or its device.
     fn tell(&mut self, words: &[&str]) -> Result<String, Trouble> {
         match words {
             ["flushed"] => self.flushed(),
@@ -265,7 +265,7 @@ impl<'a> Keyed<'a> {
         }
     }
 
-    // A call that answers nothing.
+    // Makes a call without a result.
     fn change(&mut self, words: &[&str]) -> Result<(), Trouble> {
         match words {
             ["fill", first, count] => self.fill(number(first)?, number(count)?),
@@ -279,7 +279,7 @@ impl<'a> Keyed<'a> {
         }
     }
 
-    /// The answer of a line about the cache.
+    /// Answers a line about the cache.
     pub fn answer(&mut self, words: &[&str]) -> Result<String, Trouble> {
         match words {
             ["find", key, flushing] => self.find(number(key)?, may_flush(flushing)?),

@@ -1,4 +1,4 @@
-// The list of clusters that wait to be freed, and those that are pending: handed out, and named by nothing yet.
+// The free list, and the pending clusters: those that are allocated and not referenced yet.
 use crate::texts::{Parts, parts_text};
 use cases::{Trouble, joined, number, ok, size};
 use imago_storage::Fault;
@@ -6,20 +6,20 @@ use qcow2_alloc::{ClustersToFreeList, PendingAllocation};
 use qcow2_types::{ClusterCount, ClustersToFreeEntry, HostCluster, PendingClusters};
 use std::alloc::{AllocError, Global};
 
-/// The list, what is pending, those that came last at the end, and what was taken out of the list.
+/// The free list, the pending clusters, the newest last, and the entries that were taken out of the list.
 #[derive(Drop)]
 pub struct Waiting {
     alloc: Global,
     pub list: ClustersToFreeList,
     pending: Vec<Parts>,
     taken: ClustersToFreeList,
-    /// How many clusters were named.
+    /// The number of pending clusters that a line said are referenced.
     kept: u64,
 }
 
-/// Whether the word names metadata.
-pub fn is_metadata(raw_entry: &str) -> Result<bool, Trouble> {
-    match raw_entry {
+/// Returns true for `metadata`, and false for `data`.
+pub fn is_metadata(word: &str) -> Result<bool, Trouble> {
+    match word {
         "data" => Ok(false),
         "metadata" => Ok(true),
         _ => Err(Trouble::NoCall),
@@ -50,12 +50,12 @@ fn into_parts(entry: ClustersToFreeEntry) -> Parts {
     (first.0, count.0, is_metadata)
 }
 
-// Clusters of a script: kind, first and count.
+// Parses clusters of a script: kind, first and count.
 fn parts(kind: &str, first: &str, count: &str) -> Result<Parts, Trouble> {
     Ok((number(first)?, number(count)?, is_metadata(kind)?))
 }
 
-// The entries of a list, in their order.
+// Returns the text of a list's entries, in their order.
 fn list_text(alloc: Global, list: &ClustersToFreeList) -> Result<String, AllocError> {
     let mut text = String::new(alloc);
     for index in 0..list.len() {
@@ -79,17 +79,17 @@ impl Waiting {
         }
     }
 
-    /// The entries of the list, in their order.
+    /// Returns the text of the list's entries, in their order.
     pub fn text(&self) -> Result<String, AllocError> {
         list_text(self.alloc, &self.list)
     }
 
-    /// Takes memory for one note more.
+    /// Reserves memory for one more note.
     pub fn prepare(&mut self) -> Result<(), Trouble> {
         Ok(self.pending.reserve(1)?)
     }
 
-    /// Notes clusters that were handed out as pending. The room for their entry is left to the list.
+    /// Notes allocated clusters as pending. The slot for their entry is left to the list.
     pub fn note(&mut self, pending: PendingAllocation) -> Result<Parts, Trouble> {
         let PendingAllocation { pending, hold } = pending;
         hold.leave();
@@ -98,12 +98,12 @@ impl Waiting {
         Ok(parts)
     }
 
-    /// How many runs of clusters are pending.
+    /// Returns the number of pending runs of clusters.
     pub fn pending(&self) -> usize {
         self.pending.len()
     }
 
-    /// The clusters that became pending last, which are to be named now.
+    /// Returns the last pending clusters, for an entry to reference.
     pub fn last(&mut self) -> Option<PendingClusters> {
         match self.pending.pop() {
             Some(parts) => Some(PendingClusters::new(entry(parts))),
@@ -111,14 +111,14 @@ impl Waiting {
         }
     }
 
-    /// Lets the room for an entry go, where some is held.
+    /// Releases a reserved slot, if any.
     pub fn release(&mut self) {
         if let Some(hold) = self.list.reserved_slot() {
             self.list.release(hold);
         }
     }
 
-    // The entry was refused, and given back.
+    // Returns the trouble for an entry that couldn't be added. The entry must have been returned unchanged.
     fn refused(&self, refusal: Fault, back: ClustersToFreeEntry, parts: Parts) -> Trouble {
         if into_parts(back) == parts {
             Trouble::Refused(refusal)
@@ -134,7 +134,7 @@ impl Waiting {
         }
     }
 
-    /// Puts clusters that nothing names any more on the list.
+    /// Adds clusters that nothing references any more to the list.
     pub fn push(&mut self, freed: Option<ClustersToFreeEntry>) -> Result<String, Trouble> {
         let Some(freed) = freed else {
             return Ok("nothing".to_string(self.alloc)?);
@@ -154,7 +154,7 @@ impl Waiting {
         }
     }
 
-    // What became pending last is named, or comes back, where there is any.
+    // Marks the last pending clusters as referenced, or gives them back.
     fn settle(&mut self, is_named: bool) -> Result<String, Trouble> {
         let Some(parts) = self.pending.pop() else {
             return Ok("none".to_string(self.alloc)?);
@@ -172,19 +172,19 @@ impl Waiting {
         Ok(ok(self.alloc)?)
     }
 
-    /// How many clusters were named by a line, and by no table.
+    /// Returns the number of pending clusters that a line said are referenced. No table references them.
     pub fn kept(&self) -> u64 {
         self.kept
     }
 
-    // Holds room for an entry more, which is left to the list.
+    // Reserves a slot, which is left to the list.
     fn hold(&mut self) -> Result<(), Trouble> {
-        let hold = self.list.hold()?;
+        let hold = self.list.reserve_slot()?;
         hold.leave();
         Ok(())
     }
 
-    // Gives these clusters back, for which room is held.
+    // Gives clusters back, in a reserved slot.
     fn give_back(&mut self, parts: Parts) -> Result<(), Trouble> {
         let Some(hold) = self.list.reserved_slot() else {
             return Err(Trouble::NoCall);
@@ -219,7 +219,7 @@ impl Waiting {
         Ok(())
     }
 
-    // What the list tells.
+    // Answers a line that reads the list.
     fn tell(&self, words: &[&str]) -> Result<String, Trouble> {
         match words {
             ["list"] => Ok(self.text()?),
@@ -234,7 +234,7 @@ impl Waiting {
         }
     }
 
-    // What changes the list and answers nothing.
+    // Makes a change of the list that has no result.
     fn change(&mut self, words: &[&str]) -> Result<(), Trouble> {
         match words {
             ["wait", kind, first, count] => self.push_parts(parts(kind, first, count)?),
@@ -247,7 +247,7 @@ impl Waiting {
         }
     }
 
-    /// The answer of a line about the list.
+    /// Answers a line about the list.
     pub fn answer(&mut self, words: &[&str]) -> Result<String, Trouble> {
         match words {
             ["keep"] => self.settle(true),

@@ -1,4 +1,5 @@
-// What the file of an open image holds, what it was asked, and what its stops leave.
+// Answers lines of a script about the file of an open image: its bytes, its requests and its crash images (the file after a crash between
+// two requests).
 use crate::judging::{Verdict, judge};
 use crate::opened::{Disk, Open, is_addressable};
 use crate::texts::{leaks_text, numbers_text};
@@ -9,10 +10,10 @@ use qcow2_metadata::RefBlock;
 use qcow2_types::HostCluster;
 use std::alloc::Global;
 
-/// The most bytes that are read at once.
+/// The maximum number of bytes of one read.
 const MOST: usize = 1_048_576;
 
-// A change of the file: a write of whole clusters of 512 bytes by their numbers, any other one by its range.
+// Returns the text of a change. A write of whole clusters of 512 bytes is printed by their numbers, any other write by its range.
 fn request_text(alloc: Global, request: &Request) -> Result<String, Trouble> {
     match request {
         Request::Write { offset, bytes } => {
@@ -32,7 +33,7 @@ fn request_text(alloc: Global, request: &Request) -> Result<String, Trouble> {
     }
 }
 
-// The block that a file has in a cluster.
+// Loads the block that a file has in a cluster.
 fn block_of<'a>(
     alloc: Global,
     file: &mut ImageFile<Disk<'a>>,
@@ -45,13 +46,13 @@ fn block_of<'a>(
 }
 
 impl<'a> Open<'a> {
-    // The changes of the file since they were last told.
+    // Returns the changes of the file since the last call.
     fn written(&mut self) -> Result<String, Trouble> {
         let mut text = String::new(self.alloc);
         let requests = self.file.image.requests();
         for request in requests.iter().skip(self.told) {
-            let raw_entry = request_text(self.alloc, request)?;
-            joined(&mut text, raw_entry.as_str())?;
+            let word = request_text(self.alloc, request)?;
+            joined(&mut text, word.as_str())?;
         }
         self.told = requests.len();
         if text.is_empty() {
@@ -60,7 +61,7 @@ impl<'a> Open<'a> {
         Ok(text)
     }
 
-    // The file that a stop leaves.
+    // Returns the crash image after `k` changes.
     fn stop(&mut self, k: usize) -> Result<Vec<u8>, Trouble> {
         if k > self.file.image.requests().len() {
             return Err(Trouble::NoCall);
@@ -68,7 +69,7 @@ impl<'a> Open<'a> {
         Ok(self.file.image.stop_at(k)?)
     }
 
-    // What the checker says of each stop that it hasn't judged yet.
+    // Checks each crash image that wasn't checked yet.
     fn stops(&mut self) -> Result<String, Trouble> {
         let last = self.file.image.requests().len();
         for k in self.judged..last.saturating_add(1) {
@@ -81,14 +82,14 @@ impl<'a> Open<'a> {
         Ok("sound".to_string(self.alloc)?)
     }
 
-    // What the checker says of the last stop.
+    // Returns the checker's verdict on the last crash image.
     fn last_verdict(&mut self) -> Result<Verdict, Trouble> {
         let last = self.file.image.requests().len();
         let bytes = self.stop(last)?;
         judge(self.alloc, bytes)
     }
 
-    // The clusters that leak where the last stop leaves the file, or how many.
+    // Returns the clusters that leak in the last crash image, or their number.
     pub fn leaks(&mut self, is_count: bool) -> Result<String, Trouble> {
         match self.last_verdict()? {
             Ok(leaks) if is_count => Ok(leaks.len().to_string(self.alloc)?),
@@ -112,7 +113,7 @@ impl<'a> Open<'a> {
         Ok(u64::from_be_bytes(bytes))
     }
 
-    // The block of the file that counts a cluster, if there is one: by the header and the refcount table of the file.
+    // Returns the block with a cluster's refcount, if any, by the header and the refcount table of the file.
     fn block_in_file(&mut self, cluster: u64) -> Result<Option<RefBlock>, Trouble> {
         let offset = self.word_at(48)?;
         let per_block = self.file.header.rb_entries() as u64;
@@ -124,7 +125,7 @@ impl<'a> Open<'a> {
         Ok(Some(block_of(self.alloc, &mut self.file, block)?))
     }
 
-    // How often the file counts a cluster.
+    // Returns a cluster's refcount in the file.
     fn counted(&mut self, cluster: u64) -> Result<u64, Trouble> {
         let bits = self.file.header.rb_bits();
         match self.block_in_file(cluster)? {
@@ -139,7 +140,7 @@ impl<'a> Open<'a> {
         }
     }
 
-    // How often the file counts clusters in a row.
+    // Returns the text of the refcounts of consecutive clusters in the file.
     fn counted_text(&mut self, first: u64, count: u64) -> Result<String, Trouble> {
         let mut counts = Vec::new(self.alloc);
         for step in 0..count {
@@ -149,7 +150,7 @@ impl<'a> Open<'a> {
         Ok(numbers_text(self.alloc, &counts)?)
     }
 
-    /// The answer of a line about the file.
+    /// Answers a line about the file.
     pub fn look_at_file(&mut self, words: &[&str]) -> Result<String, Trouble> {
         let alloc = self.alloc;
         match words {

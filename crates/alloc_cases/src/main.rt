@@ -1,61 +1,69 @@
-//! Calls of the caches of a qcow2 image, of its allocator and of the list of what waits to be freed, and their answers, by scripts.
+//! Runs scripts with calls of a qcow2 image's caches, its allocator and its free list, and compares the results. Terms are explained in
+//! docs/GLOSSARY.md.
 //!
-//! The first lines of a case describe an image, `open` opens it, and each further line is a call. Clusters in a row are `data FIRST+COUNT`
-//! or `metadata FIRST+COUNT`. Words of tables are answered in hexadecimal digits without `0x`, all other numbers in decimal ones.
+//! The first lines of a case describe an image, `open` opens it, and each further line is a call. Consecutive clusters are written as
+//! `data FIRST+COUNT` or `metadata FIRST+COUNT`. Raw entries of tables are printed in hexadecimal without `0x`, all other numbers in
+//! decimal.
 //!
 //! # The image
 //!
-//! - `image BITS WIDTH CLUSTERS`: a header for clusters of 2 to this power of bytes (9, 10, 12 or 16) and counters of so many bits, before
-//!   so many clusters of zeroes. `made WIDTH COUNTED`: one of clusters of 512 bytes, so many counted, whose refcount table is cluster 1 and
-//!   names the block in cluster 2.
-//! - `reftable CLUSTER CLUSTERS`, `block INDEX CLUSTER`: where the refcount table stands, and a word of it; `count FIRST COUNT [TIMES]`.
-//! - `l1 CLUSTER WORDS SIZE`, `table INDEX CLUSTER`, `mapped TABLE INDEX CLUSTER`: the L1 table of a disk of SIZE bytes, a word of it, and
-//!   a word of an L2 table.
-//! - `raw_entry OFFSET VALUE`, `put OFFSET BYTES`.
-//! - `open TABLES BLOCKS [MARK]`: caches for so many tables and blocks; the search for free clusters begins at MARK, or at 0. `fuse N`: the
-//!   Nth call of the storage fails from the opening on. `fuse BEFORE N MOST`: the Nth behind so many, where N is at most the last number.
-//! - `asked`: what the storage was asked since this was last told.
+//! - `image BITS WIDTH CLUSTERS`: a header for clusters of 2^BITS bytes and refcounts of WIDTH bits, at the start of CLUSTERS clusters of
+//!   zeros. BITS is 9, 10, 12 or 16. `made WIDTH COUNTED`: an image with clusters of 512 bytes. The first COUNTED clusters have refcount 1,
+//!   the refcount table is cluster 1, and it references the block in cluster 2.
+//! - `reftable CLUSTER CLUSTERS`, `block INDEX CLUSTER`: the refcount table, and an entry of it. `count FIRST COUNT [TIMES]`: refcounts.
+//! - `l1 CLUSTER ENTRIES SIZE`, `table INDEX CLUSTER`, `mapped TABLE INDEX CLUSTER`: the L1 table of a disk of SIZE bytes, an L1 entry, and
+//!   an L2 entry.
+//! - `word OFFSET VALUE`, `put OFFSET BYTES`: 8 bytes, or any bytes, at an offset.
+//! - `open TABLES BLOCKS [MARK]`: opens the image with caches for TABLES tables and BLOCKS blocks. The search for free clusters starts at
+//!   MARK, or at 0. `fuse N`: the Nth storage request from the opening on fails. `fuse BEFORE N MOST`: request BEFORE + N fails, unless N
+//!   is 0 or greater than MOST.
+//! - `asked`: the storage requests since the last `asked`.
 //!
 //! # The allocator
 //!
-//! - `take COUNT KIND`, `take_at CLUSTER`, which are pending then; `free`; `grow INDEX`, `grow_by MORE`: the refcount table; `mark
-//!   CLUSTER`: the search begins there, over the table loaded anew; `drop_counts`: drops the cached blocks.
-//! - `reftable_in_memory`: its offset and clusters, and its words in memory.
+//! - `take COUNT KIND`, `take_at CLUSTER`: allocate clusters, which are pending then (not yet referenced). `free`: frees the list.
+//!   `grow INDEX`, `grow_by MORE`: grow the refcount table. `mark CLUSTER`: sets the first-free hint, where searches for free clusters
+//!   start, and reloads the refcount table. `drop_counts`: drops the cached blocks.
+//! - `reftable_in_memory`: the table's offset and clusters, and its number of entries in memory.
 //!
 //! # The caches
 //!
-//! - `find_table`, `find_block`, `touch_table`, `touch_block CLUSTER`: a touched one is modified. `words`, `counts CLUSTER FIRST COUNT`;
-//!   `mapping TABLE INDEX`; `entries CLUSTER` of a block.
-//! - `name TABLE INDEX`: a word names what became pending last; `unname TABLE INDEX`. Both answer what waits then, or `nothing`.
-//! - `blocks_first`, `tables_first`, `flush`, `flush_blocks`, `drop_tables`, `drop_blocks`.
-//! - `put_table`, `put_block FROM TO`: what the file has in one cluster is put at another; `back_table`, `back_block FIRST COUNT`: where
-//!   that stands which came back, whether it is modified, and what it holds; `put_again table | block`.
+//! - `find_table`, `find_block`, `touch_table`, `touch_block CLUSTER`: look up a table or a block; a touched one is dirty. `words`,
+//!   `counts CLUSTER FIRST COUNT`: raw entries of a table, refcounts of a block. `mapping TABLE INDEX`: the host cluster of an L2 entry.
+//!   `entries CLUSTER`: the number of a block's refcounts.
+//! - `name TABLE INDEX`: links the last pending clusters. `unname TABLE INDEX`: clears an entry. Both print the clusters that they add to
+//!   the list, or `nothing`.
+//! - `blocks_first`, `tables_first`: set the write order. `flush`, `flush_blocks`, `drop_tables`, `drop_blocks`.
+//! - `put_table`, `put_block FROM TO`: put the table or block that the file has in cluster FROM into the cache at cluster TO. `back_table`,
+//!   `back_block FIRST COUNT`: the cluster, state and contents of the value that a failed put returned. `put_again table | block`: puts it
+//!   again.
 //!
 //! # The file
 //!
-//! - `written`: the changes since they were last told, `5` for one of that cluster, `5+2` for one of two, `OFFSET:LENGTH` for any other;
-//!   `stops`: `sound`, or the checker's fault in the file that a stop leaves; `leaks`, `leaked`: which clusters leak where the last stop
-//!   leaves the file, and how many; `leaks_are_kept`: whether as many leak as were kept.
-//! - `counted FIRST COUNT`, `word_in_file OFFSET` (decimal), `bytes_in_file OFFSET COUNT`.
+//! - `written`: the changes since the last `written`: `5` for a write of cluster 5, `5+2` for one of two clusters, `OFFSET:LENGTH` for any
+//!   other. `stops`: `sound`, or the checker's fault in a crash image (the file after a crash between two requests). `leaks`, `leaked`: the
+//!   clusters that leak in the last crash image, and their number. `leaks_are_kept`: `yes` if that is the number of clusters that `keep`
+//!   consumed.
+//! - `counted FIRST COUNT`: refcounts in the file. `word_in_file OFFSET`: 8 bytes as a decimal number. `bytes_in_file OFFSET COUNT`.
 //!
 //! # The list
 //!
-//! - `wait KIND FIRST COUNT`; `guard KIND FIRST COUNT`: pending clusters with room held for them; `keep`, `return`: what became pending
-//!   last is named, or comes back, `none` where there is nothing; `hold`, `give_back KIND FIRST COUNT`; `shorten INDEX COUNT`; `remove
-//!   INDEX`; `take_list`, and `taken`, what that took.
+//! - `wait KIND FIRST COUNT`: adds an entry. `guard KIND FIRST COUNT`: makes clusters pending, with a reserved slot (memory for their
+//!   entry). `keep`, `return`: the last pending clusters are referenced, or given back; `none` if nothing is pending. `hold`: reserves a
+//!   slot. `give_back KIND FIRST COUNT`; `shorten INDEX COUNT`; `remove INDEX`; `take_list`, and `taken`, the entries that it took.
 //! - `list`, `held`, `length`, `first_metadata`.
 //!
 //! # A cache of numbers
 //!
-//! - `cache of ROOM sound | odd_flushes_fail | load_fails KEY`: it loads each key as its value.
-//! - `cache fill FIRST COUNT`; `cache find KEY HOW`, `cache insert KEY VALUE HOW`, with `flushing` where another may be flushed for it, or
-//!   `unflushed`; `cache write KEY VALUE`; `cache flush`, `drop`; `cache forget`, `pin`, `unpin KEY`.
-//! - `cache at KEY`, `cache pins KEY`; `cache flushed`, `dropped` since they were last told, the first 64; `cache loads`.
+//! - `cache of SIZE sound | odd_flushes_fail | load_fails KEY`: a cache that loads each key as its value.
+//! - `cache fill FIRST COUNT`; `cache find KEY HOW`, `cache insert KEY VALUE HOW`, where HOW is `flushing` if another value may be flushed,
+//!   or `unflushed`; `cache write KEY VALUE`; `cache flush`, `drop`; `cache forget`, `pin`, `unpin KEY`.
+//! - `cache at KEY`, `cache pins KEY`; `cache flushed`, `dropped`: the first 64 values since the last such line; `cache loads`.
 //!
 //! # Any call
 //!
-//! - `steady CALL`: leaves all as it was where memory is refused before anything was done, and is made once more then. `any CALL`: `ok`,
-//!   whatever it answers but a refusal.
+//! - `steady CALL`: if memory runs out before the call has done anything, the state must be unchanged, and the call is made again.
+//!   `any CALL`: `ok` for any result but an error.
 #![tactic(auto)]
 
 mod allocating;
@@ -94,30 +102,30 @@ struct Values<'a> {
     dropped: &'a Cell<Noted>,
 }
 
-/// What a line is about.
+/// The topic of a line.
 #[derive(Clone, Copy)]
 enum Topic {
     /// The description of the image.
     Image,
-    /// The list of what waits.
+    /// The free list.
     List,
     /// The allocator.
     Allocator,
     /// The caches.
     Caches,
-    /// What is put into the caches.
+    /// Values that are put into the caches.
     Putting,
     /// The file.
     File,
-    /// The opening of the image, and what its storage was asked.
+    /// Opening the image, and its storage requests.
     Opening,
     /// A cache of numbers.
     Keyed,
 }
 
-// What a line about an open image is about, by its first word.
-fn open_topic(raw_entry: &str) -> Option<Topic> {
-    match raw_entry {
+// Returns the topic of a line about an open image, by its first word.
+fn open_topic(word: &str) -> Option<Topic> {
+    match word {
         "take"
         | "take_at"
         | "free"
@@ -151,9 +159,9 @@ fn open_topic(raw_entry: &str) -> Option<Topic> {
     }
 }
 
-// What a line is about, by its first word.
-fn topic_of(raw_entry: &str) -> Option<Topic> {
-    match raw_entry {
+// Returns the topic of a line, by its first word.
+fn topic_of(word: &str) -> Option<Topic> {
+    match word {
         "image"
         | "made"
         | "word"
@@ -180,7 +188,7 @@ fn topic_of(raw_entry: &str) -> Option<Topic> {
         | "remove" => { Some(Topic::List) }
         "fuse" | "open" | "asked" => Some(Topic::Opening),
         "cache" => Some(Topic::Keyed),
-        _ => open_topic(raw_entry),
+        _ => open_topic(word),
     }
 }
 
@@ -202,7 +210,7 @@ impl<'a> Values<'a> {
         Ok(())
     }
 
-    // Lets the call of this number fail, behind so many that don't.
+    // Makes storage request `before + number` fail, or none if `number` is 0.
     fn set_fuse(&mut self, before: u64, number: u64) {
         self.fuse = if number == 0 {
             0
@@ -211,7 +219,7 @@ impl<'a> Values<'a> {
         };
     }
 
-    // The same where the number is within so many, and else none fails.
+    // Like `set_fuse`, but no request fails if `number` is greater than `most`.
     fn set_fuse_within(&mut self, before: u64, number: u64, most: u64) {
         self.set_fuse(before, if number > most { 0 } else { number });
     }
@@ -232,7 +240,7 @@ impl<'a> Values<'a> {
         Ok(ok(self.alloc)?)
     }
 
-    // A line about the cache of numbers.
+    // Answers a line about the cache of numbers.
     fn call_keyed(&mut self, words: &[&str]) -> Result<String, Trouble> {
         let [_, rest @ ..] = words else {
             return Err(Trouble::NoCall);
@@ -253,7 +261,7 @@ impl<'a> Values<'a> {
         Ok(ok(self.alloc)?)
     }
 
-    // A line about an open image.
+    // Answers a line about an open image.
     fn call(&mut self, topic: Topic, words: &[&str]) -> Result<String, Trouble> {
         let Some(open) = &mut self.open else {
             return Err(Trouble::NoCall);
@@ -269,12 +277,12 @@ impl<'a> Values<'a> {
 }
 
 impl<'a> Values<'a> {
-    // Makes the call of these words.
+    // Makes the call of a line.
     fn make(&mut self, words: &[&str]) -> Result<String, Trouble> {
-        let Some(raw_entry) = words.first() else {
+        let Some(word) = words.first() else {
             return Err(Trouble::NoCall);
         };
-        match topic_of(raw_entry) {
+        match topic_of(word) {
             Some(Topic::Image) => self.describe(words),
             Some(Topic::List) => self.waiting.answer(words),
             Some(Topic::Opening) => self.begin_open(words),
@@ -284,7 +292,7 @@ impl<'a> Values<'a> {
         }
     }
 
-    // The list, and the refcount table in memory; and how many changes the file has seen, and how many runs of clusters are pending.
+    // Returns a text of the list and of the refcount table in memory, and the numbers of changes of the file and of pending runs.
     fn state(&self) -> Result<(String, [usize; 2]), Trouble> {
         let Some(open) = &self.open else {
             return Err(Trouble::NoCall);
@@ -297,7 +305,7 @@ impl<'a> Values<'a> {
         Ok((text, [changes, self.waiting.pending()]))
     }
 
-    // Whether as many clusters leak where the last stop leaves the file as were handed out and kept.
+    // Returns `yes` if as many clusters leak in the last crash image as were allocated and kept.
     fn leaks_are_kept(&mut self) -> Result<String, Trouble> {
         let kept = self.waiting.kept();
         let Some(open) = &mut self.open else {
@@ -305,11 +313,11 @@ impl<'a> Values<'a> {
         };
         let leaked = open.leaks(true)?;
         let is_kept = leaked.as_str() == kept.to_string(self.alloc)?.as_str();
-        let raw_entry = if is_kept { "yes" } else { "no" };
-        Ok(raw_entry.to_string(self.alloc)?)
+        let word = if is_kept { "yes" } else { "no" };
+        Ok(word.to_string(self.alloc)?)
     }
 
-    // Makes a call that leaves all as it was where memory is refused before it has done anything, and then makes it once more.
+    // Makes a call. If memory runs out before the call has done anything, checks that the state is unchanged, and makes the call again.
     fn make_steady(&mut self, words: &[&str]) -> Result<String, Trouble> {
         let (before, done) = self.state()?;
         match self.make(words) {

@@ -1,4 +1,4 @@
-// An open image: its file under a log and a fuse, its caches and its allocator.
+// An open image: its file in a `LogStorage` over a `FuseStorage`, its caches and its allocator.
 ghost use Rattle.std.specs.Prelude.{◌≤◌, IsTrue};
 ghost use Rattle.qcow2_metadata.specs.Places.{IsAddressable};
 
@@ -11,36 +11,36 @@ use qcow2_types::{HostCluster, MAX_OFFSET};
 use std::alloc::Global;
 use std::cell::Cell;
 
-/// The storage below an image: it tells its stops, one call of it may fail, and it notes what it is asked.
+/// The storage below an image: it exposes its crash images, one request may fail, and it notes all requests.
 pub type Disk<'a> = LogStorage<FuseStorage<Shaped<'a>>>;
 
-/// An open image, and what a script was told of it.
+/// An open image, and the parts that a script has already printed.
 #[derive(Drop)]
 pub struct Open<'a> {
     pub alloc: Global,
     pub file: ImageFile<Disk<'a>>,
     pub caches: MetadataCaches<Disk<'a>>,
     pub allocator: Allocator,
-    /// How many changes of the file were told.
+    /// The number of changes of the file that were printed.
     pub told: usize,
-    /// How many stops were judged.
+    /// The number of crash images that were checked.
     pub judged: usize,
 }
 
-/// How an image is opened.
+/// The parameters for opening an image.
 #[derive(Clone, Copy)]
 pub struct Opening {
-    /// For how many L2 tables the caches have room.
+    /// The capacity of the cache of L2 tables.
     pub tables: usize,
-    /// For how many refcount blocks they have.
+    /// The capacity of the cache of refcount blocks.
     pub blocks: usize,
-    /// Where the search for free clusters begins, if not where it does by itself.
+    /// The start of the search for free clusters, if not the default.
     pub mark: Option<u64>,
-    /// The call of the storage that fails, counted from 1, or 0 for none.
+    /// The storage request that fails, counted from 1, or 0 for none.
     pub fuse: u64,
 }
 
-/// Whether words can name the cluster.
+/// Returns true if the cluster fits the offset field of an entry.
 pub fn is_addressable(cluster: HostCluster, cluster_bits: u32) -> bool
     requires { cluster_bits ≤ 21 }
     ensures { IsTrue result → IsAddressable cluster_bits cluster }
@@ -54,13 +54,14 @@ pub fn is_addressable(cluster: HostCluster, cluster_bits: u32) -> bool
     }
 }
 
-// The header at the start of a file, as it is written to.
+// Loads the header at the start of a file, for writing.
 fn header_of(alloc: Global, bytes: Vec<u8>) -> Result<Header, Trouble> {
     let mut image = MemStorage::from_bytes(bytes)?;
     Ok(Header::load(alloc, &mut image, true)?)
 }
 
-// The storage of these bytes, whose call of this number fails. The log reads them by a call of its own.
+// Returns the storage for an image's bytes. The request of number `fuse` fails, counted from 1; 0 means none. The log's own first read
+// isn't counted.
 fn disk_of<'a>(
     alloc: Global,
     bytes: Vec<u8>,
@@ -75,7 +76,7 @@ fn disk_of<'a>(
     Ok(LogStorage::new(alloc, FuseStorage::new(shaped, fuse))?)
 }
 
-// The refcount table that a header names.
+// Loads the refcount table that a header references.
 fn table_of<'a>(alloc: Global, file: &mut ImageFile<Disk<'a>>) -> Result<RefTable, Trouble> {
     let bits = file.header.cluster_bits();
     let Some(cluster) = file.header.reftable_offset().checked_cluster(bits) else {
@@ -88,7 +89,7 @@ fn table_of<'a>(alloc: Global, file: &mut ImageFile<Disk<'a>>) -> Result<RefTabl
     Ok(RefTable::load(alloc, &mut file.image, &file.header, cluster, entries)?)
 }
 
-// The allocator of an image, whose search begins where it is told to.
+// Returns the allocator of an image, with the given start of its search if any.
 fn allocator_of<'a>(
     alloc: Global,
     file: &mut ImageFile<Disk<'a>>,
@@ -115,7 +116,7 @@ fn caches_of<'a>(
 }
 
 impl<'a> Open<'a> {
-    /// Opens the image of these bytes, of which `copy` is a copy.
+    /// Opens the image in `bytes`. `copy` is a copy of them.
     pub fn new(
         alloc: Global,
         bytes: Vec<u8>,
@@ -138,7 +139,7 @@ impl<'a> Open<'a> {
         })
     }
 
-    /// Lets the search for free clusters begin here. The refcount table is loaded anew.
+    /// Sets the start of the search for free clusters, and reloads the refcount table.
     pub fn set_mark(&mut self, mark: u64) -> Result<(), Trouble> {
         self.allocator = allocator_of(self.alloc, &mut self.file, Some(mark))?;
         Ok(())

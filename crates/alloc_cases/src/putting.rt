@@ -1,4 +1,4 @@
-// Tables and blocks that are put into the caches, and those that come back.
+// Tables and blocks that are put into the caches, and those that a failed put returns.
 use crate::caching::{counters_text, words_text};
 use crate::opened::{Disk, Open};
 use cases::{Trouble, number, ok, size};
@@ -10,14 +10,14 @@ use qcow2_metadata::{L2Table, RefBlock, Table};
 use qcow2_types::HostCluster;
 use std::alloc::Global;
 
-/// What was refused, and came back.
+/// The table and the block that failed puts returned.
 #[derive(Drop)]
 pub struct Returned {
     table: Option<L2Table>,
     block: Option<RefBlock>,
 }
 
-// Puts a table, which comes back where that is refused.
+// Puts a table into the cache. On error the table is returned.
 fn put_table<'a>(
     caches: &mut MetadataCaches<Disk<'a>>,
     file: &mut ImageFile<Disk<'a>>,
@@ -29,7 +29,7 @@ fn put_table<'a>(
     }
 }
 
-// Puts a block, which comes back where that is refused.
+// Puts a block into the cache. On error the block is returned.
 fn put_block<'a>(
     caches: &mut MetadataCaches<Disk<'a>>,
     file: &mut ImageFile<Disk<'a>>,
@@ -41,7 +41,7 @@ fn put_block<'a>(
     }
 }
 
-// Where something stands, and whether it was changed since.
+// Returns the text of a value's cluster, and of its state: modified or clean.
 fn state_text(
     alloc: Global,
     cluster: Option<HostCluster>,
@@ -82,7 +82,7 @@ impl Returned {
         }
     }
 
-    // Puts the table that the file has in one cluster, into another where they differ: there it is modified.
+    // Puts the table that the file has in cluster `from` into the cache at cluster `to`. It is dirty if the clusters differ.
     fn put_table_of<'a>(&mut self, open: &mut Open<'a>, from: u64, to: u64) -> Result<(), Trouble> {
         let backend = L2CacheBackend::new(open.alloc);
         let mut table = backend.load(&mut open.file, HostCluster(from))?;
@@ -92,7 +92,7 @@ impl Returned {
         self.put_table(open, table)
     }
 
-    // The same of a block.
+    // Puts the block that the file has in cluster `from` into the cache at cluster `to`. It is dirty if the clusters differ.
     fn put_block_of<'a>(&mut self, open: &mut Open<'a>, from: u64, to: u64) -> Result<(), Trouble> {
         let backend = RefBlockCacheBackend::new(open.alloc);
         let mut block = backend.load(&mut open.file, HostCluster(from))?;
@@ -102,7 +102,7 @@ impl Returned {
         self.put_block(open, block)
     }
 
-    // Puts what came back once more.
+    // Puts the returned value again.
     fn put_again<'a>(&mut self, open: &mut Open<'a>, kind: &str) -> Result<(), Trouble> {
         match kind {
             "table" => match self.table.take() {
@@ -117,7 +117,7 @@ impl Returned {
         }
     }
 
-    // Where the table stands that came back, and words of it.
+    // Returns the text of the returned table: its cluster, its state and some entries.
     fn table_text(&self, alloc: Global, first: usize, count: usize) -> Result<String, Trouble> {
         match &self.table {
             Some(table) => {
@@ -129,7 +129,7 @@ impl Returned {
         }
     }
 
-    // Where the block stands that came back, and counters of it.
+    // Returns the text of the returned block: its cluster, its state and some refcounts.
     fn block_text(&self, alloc: Global, first: usize, count: usize) -> Result<String, Trouble> {
         match &self.block {
             Some(block) => {
@@ -150,7 +150,7 @@ impl Returned {
         }
     }
 
-    /// The answer of a line about what is put.
+    /// Answers a line about values that are put into the caches.
     pub fn answer<'a>(&mut self, open: &mut Open<'a>, words: &[&str]) -> Result<String, Trouble> {
         let alloc = open.alloc;
         match words {

@@ -1,18 +1,18 @@
-// The texts of answers.
+// Formats results of calls as text.
 use cases::joined;
 use std::alloc::{AllocError, Global};
 
-/// Clusters as a script has them: the first, how many, and whether they held metadata.
+/// A run of clusters in a script: the first, their number, and whether they are metadata.
 pub type Parts = (u64, u64, bool);
 
-/// The text of clusters in a row: `data 8+3`.
+/// Returns the text of consecutive clusters: `data 8+3`.
 pub fn parts_text(alloc: Global, parts: Parts) -> Result<String, AllocError> {
     let (first, count, is_metadata) = parts;
     let kind = if is_metadata { "metadata" } else { "data" };
     format!(in alloc; "{kind} {first}+{count}")
 }
 
-/// Numbers with those that follow each other and are equal as one: `1*8 0`. None are `-`.
+/// Returns the text of numbers, with equal consecutive ones together: `1*8 0`. The text of no numbers is `-`.
 pub fn numbers_text(alloc: Global, numbers: &[u64]) -> Result<String, AllocError> {
     let mut text = String::new(alloc);
     let mut value = 0u64;
@@ -50,7 +50,7 @@ fn push_numbers(
     joined(text, run.as_str())
 }
 
-/// Clusters that leak, each run of those that are counted once too often as one: `8-31 40*2`. None are `none`.
+/// Returns the text of leaked clusters, with each run of an excess refcount of 1 together: `8-31 40*2`. The text of no clusters is `none`.
 pub fn leaks_text(alloc: Global, leaks: &[(u64, u64)]) -> Result<String, AllocError> {
     let mut text = String::new(alloc);
     let mut first = 0u64;
@@ -76,7 +76,7 @@ pub fn leaks_text(alloc: Global, leaks: &[(u64, u64)]) -> Result<String, AllocEr
     Ok(text)
 }
 
-// Puts the clusters from the first to before the end at the end of a text.
+// Appends the clusters from `first` to before `end` to a text.
 fn push_run(alloc: Global, text: &mut String, first: u64, end: u64) -> Result<(), AllocError> {
     if end <= first {
         return Ok(());
