@@ -7,7 +7,7 @@ use Rattle.imago_storage.specs.declared.fault.Fault.{Fault}
 use Rattle.imago_storage.specs.declared.fault.Fault.TheVariants.{Failed, MissingData, DamagedTable, Memory, Storage}
 use Rattle.imago_access.specs.Layer.{Layer, unmapped}
 use Rattle.imago_access.specs.Chain.{at}
-use Rattle.imago_access.specs.Files.{Pairs, IsLater}
+use Rattle.imago_access.specs.Files.{Pairs, IsLater, byte_in, files}
 use Rattle.imago_access.specs.Mappings.{AreExplicitZeroes, EachIs, ReportsExplicitZero, Names, IsRun, IsDeepRun, ReportsWritable, stored_at, DeepNames, DeepNamesWritable, AreWritable, SaysBarred, IsRunBelow, HasStorage, IsThere, lower, is_deep_end}
 use Rattle.imago_access.specs.Refusals.{LookCause, DeepLookCause}
 use Rattle.imago_access.specs.declared.mapping.Mapping.{Mapping}
@@ -105,3 +105,24 @@ writable_here layer below offset asked storage place writable writable_locations
   from : (home : Option (ℕ × ℕ)) → layer.writable_location offset ≡ home → IsSome home → IsTrue writable
   from (Some place') is some_place = let same = writable_locations can.0 some place'.0 place'.1 is in cc
   from None is none = absurd (cc none)
+
+-- A run of the top layer itself.
+module _ {D St : Type 0} (g : Ghosts D St) (d : D) (ds : List D) (layer : Layer) (below : List Layer) (offset n : ℕ)
+    (inside : offset + n ≤ layer.size) where
+  pub names_raw : (storage place : ℕ) (writable : Bool) → Names layer (byte_in (files g d)) offset n (shallow.Raw storage place writable)
+      → DeepNames (layer ∷ below) (at (layer ∷ below)) (stored_at g (d ∷ ds)) offset n (Raw 0 storage place writable)
+  names_raw storage place writable names =
+      (λ i lt. at_own layer below (offset + i) _ (omega (arith, inside, lt)) (names.0 i lt), λ is. (names.1 is, names.2 is))
+
+  pub names_zero : (explicit : Bool) → Names layer (byte_in (files g d)) offset n (shallow.Zero explicit)
+      → DeepNames (layer ∷ below) (at (layer ∷ below)) (stored_at g (d ∷ ds)) offset n (Zero explicit)
+  names_zero explicit names = (
+    λ i lt. at_own layer below (offset + i) _ (omega (arith, inside, lt)) (names.0 i lt),
+    λ is. names.0,
+    λ none. inr
+        (inr (names.1 none)),
+  )
+
+  pub names_special : (place : ℕ) → Names layer (byte_in (files g d)) offset n (shallow.Special place)
+      → DeepNames (layer ∷ below) (at (layer ∷ below)) (stored_at g (d ∷ ds)) offset n (Special 0 place)
+  names_special place names = (λ i lt. at_own layer below (offset + i) _ (omega (arith, inside, lt)) (names.0 i lt), names.1, names.0)

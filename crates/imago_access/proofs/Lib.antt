@@ -12,6 +12,7 @@ pub mod ChangeCauses
 pub mod ResizeCauses
 pub mod Untouched
 pub mod Answers
+pub mod OnErrors
 pub mod Room
 pub mod Uncut
 pub mod CommitCauses

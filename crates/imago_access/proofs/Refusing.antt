@@ -1,5 +1,5 @@
 -- An early error of a change is one of its listed errors.
-use Rattle.std.proofs.Common.{◌≡◌, ◌⊎◌, refl, inl, inr, ℕ, ◌+◌, ◌<◌, ◌^◌, List, ◌∷◌, arith, subst}
+use Rattle.std.proofs.Common.{◌≡◌, ◌⊎◌, refl, inl, inr, ℕ, ◌+◌, ◌<◌, ◌^◌, List, ◌∷◌, arith, subst, sym}
 use Rattle.std.specs.Prelude.{Bool, true, false, Option, Some, None, if◌then◌else◌, eqb, leb, ltb, not, IsFalse}
 use Rattle.std.proofs.lemmas.Bool.{cases_lt, ne_eqb}
 use Rattle.std.proofs.lemmas.Bool.Decides.{nat_tests}
@@ -11,7 +11,8 @@ use Rattle.imago_storage.specs.declared.fault.Fault.{Fault}
 use Rattle.imago_storage.specs.declared.fault.Fault.TheVariants.{ReadOnly, PastEnd, RangeOverflow, MissingData, Failed}
 use Rattle.imago_access.specs.Chain.{disk_of, unit_of_chain}
 use Rattle.imago_access.specs.Layer.{Layer}
-use Rattle.imago_access.specs.Refusals.{change_refusal, ChangeCause}
+use Rattle.imago_access.specs.Files.{ImageCause, IsNotResourceError}
+use Rattle.imago_access.specs.Refusals.{change_refusal, range_refusal, unusable_fault, ChangeCause}
 
 first_cause : (b : Bool) (fault e : Fault) (rest : Option Fault) → (if b then Some fault else rest) ≡ Some e → ((b ≡ true) × (fault ≡ e)) ⊎ ((b ≡ false) × (rest ≡ Some e))
 first_cause true fault e rest h = inl (refl, cc h)
@@ -55,3 +56,40 @@ refusal_cause below layer call causes olds news e alters h =
             ]
       ]
     ]
+
+-- The early error of a usable image, and of one that can't be used.
+abbrev guarded : Bool → Bool → Option Fault → Option Fault
+guarded failed missing rest = if failed then Some Failed else if missing then Some MissingData else rest
+
+guarded_none : (failed missing : Bool) (rest : Option Fault) → guarded failed missing None ≡ None → guarded failed missing rest ≡ rest
+guarded_none true missing rest is = absurd (cc is)
+guarded_none false true rest is = absurd (cc is)
+guarded_none false false rest is = refl
+
+guarded_some : (failed missing : Bool) (rest : Option Fault) (e : Fault) → guarded failed missing None ≡ Some e
+    → guarded failed missing rest ≡ Some e
+guarded_some true missing rest e is = is
+guarded_some false true rest e is = is
+guarded_some false false rest e is = absurd (cc is)
+
+abbrev IsMild : Fault → Type 0
+IsMild e = IsNotResourceError e × ((olds news : List StorageState) → ImageCause olds news e)
+
+guarded_mild : (failed missing : Bool) (e : Fault) → guarded failed missing None ≡ Some e → IsMild e
+guarded_mild true missing e is = let same : Failed ≡ e = cc is in subst IsMild same (tt, λ olds news. tt)
+guarded_mild false true e is = let same : MissingData ≡ e = cc is in subst IsMild same (tt, λ olds news. tt)
+guarded_mild false false e is = absurd (cc is)
+
+module _ (layer : Layer) (unit offset n : ℕ) where
+  pub usable_refusal : (writable : Bool) (unit' size : ℕ) → unusable_fault layer ≡ None → writable ≡ layer.fixed.writable → unit' ≡ unit
+      → size ≡ layer.size → range_refusal writable unit' size offset n ≡ change_refusal unit layer offset n
+  usable_refusal writable unit' size usable same same_unit same_size = rw (same, same_unit, same_size) (sym
+      (guarded_none layer.failed layer.fixed.missing (range_refusal layer.fixed.writable unit layer.size offset n) usable))
+
+  pub unusable_refusal : (e : Fault) → unusable_fault layer ≡ Some e → change_refusal unit layer offset n ≡ Some e
+  unusable_refusal e =
+      guarded_some layer.failed layer.fixed.missing (range_refusal layer.fixed.writable unit layer.size offset n) e
+
+pub unusable_cause : (layer : Layer) (e : Fault) → unusable_fault layer ≡ Some e
+    → IsNotResourceError e × ((olds news : List StorageState) → ImageCause olds news e)
+unusable_cause layer e = guarded_mild layer.failed layer.fixed.missing e

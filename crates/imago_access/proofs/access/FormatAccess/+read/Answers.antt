@@ -1,12 +1,16 @@
 use Rattle.std.proofs.Common.{rules, refl, arith, inr, subst, ◌∙◌, ◌∷◌, List, length, map, sym}
 use Rattle.std.proofs.lemmas.Grind.{common_steps}
-use Rattle.std.specs.Prelude.{⊤}
+use Rattle.std.specs.Prelude.{⊤, IfErr, OnOk}
+use Rattle.imago_storage.specs.Disk.{Shows}
 use Rattle.imago_storage.specs.Through.{Overflows}
-use Rattle.imago_access.specs.Chain.{at, unit_of_chain}
+use Rattle.imago_access.specs.Chain.{at, Each, unit_of_chain}
 use Rattle.imago_access.specs.Layers.{chain, layers}
 use Rattle.imago_access.specs.Files.{ImageCause, IsNotResourceError, files_of, files, byte_in, Pairs, HadNoResourceError}
-use Rattle.imago_access.specs.Going.{LookupCall}
+use Rattle.imago_access.specs.Going.{LookupCall, MarksSomeFailed}
+use Rattle.imago_access.specs.ChainCalls.{ChainFails}
+use Rattle.imago_access.specs.ChainLooks.{ReadRefused, ReadsRun}
 use Rattle.imago_access.proofs.Answers.{handed_on}
+use Rattle.imago_access.proofs.OnErrors.{none_on_err, nothing_on_err}
 use Rattle.imago_access.proofs.Looking.{chain_later, looked_both, looked_weaker, all_looked_same, all_looked_both}
 use Rattle.imago_access.proofs.Reading.{ends_below, pairs_length, rest_calm, rest_cause, run_shown, longer_overflows, named_calm}
 use Rattle.imago_access.proofs.ReadCauses.{look_cause, read_cause_below, read_mapped_cause, indirect_free, indirect_inside, raw_reach, barred_there}
@@ -143,5 +147,79 @@ read_part-returns-in-Special-clause-lookup_call g t c = let d = g.D.DriverModel 
 pub read_part-returns-in-Special-clause-cause : goal.read_part-returns-in-Special-clause-cause
 read_part-returns-in-Special-clause-cause g t c = λ see. let d = g.D.DriverModel in barred_there (d.layer c.args.driver.now) (byte_in (files d c.get_mapping.new.self)) c.args.offset (length c.args.buf.now) c.in_ok-mapping.mapping c.in_ok-mapping.length (c.in_ok-mapping.ensures.looks see.0) (map d.layer (layers c.args.below.now)) c.in-Special.offset c.requires.nonempty c.in-Special.is c.in_ok-mapping.ensures.run
 
+pub read_run-returns-clause-shown : goal.read_run-returns-clause-shown
+read_run-returns-clause-shown g t c = let d = g.D.DriverModel in subst
+    (λ a. ReadsRun d c.args.offset c.read_part.result c.read_part.new.buf (chain a)) c.self.view_is c.read_part.ensures.shown
+
+pub read_run-returns-clause-lookup_call : goal.read_run-returns-clause-lookup_call
+read_run-returns-clause-lookup_call g t c = let d = g.D.DriverModel in subst
+    (λ a. Pairs (LookupCall d (HadNoResourceError c.read_part.result)) (chain a) (c.read_part.new.driver ∷ layers c.read_part.new.below))
+    c.self.view_is c.read_part.ensures.lookup_call
+
+pub read_run-returns-clause-failed : goal.read_run-returns-clause-failed
+read_run-returns-clause-failed g t c = let d = g.D.DriverModel in subst
+    (λ a. IfErr c.read_part.result (ChainFails d a (c.read_part.new.driver, layers c.read_part.new.below))) c.self.view_is
+    c.read_part.ensures.failed
+
+pub read_run-returns-clause-marks_failed : goal.read_run-returns-clause-marks_failed
+read_run-returns-clause-marks_failed g t c = let d = g.D.DriverModel in subst
+    (λ a. IfErr c.read_part.result (MarksSomeFailed d (chain a) (c.read_part.new.driver ∷ layers c.read_part.new.below))) c.self.view_is
+    c.read_part.ensures.marks_failed
+
+pub read_run-returns-clause-cause : goal.read_run-returns-clause-cause
+read_run-returns-clause-cause g t c = let d = g.D.DriverModel in subst
+    (λ a. ReadRefused d c.args.offset (length c.args.buf.now) c.read_part.result (chain a)
+    (c.read_part.new.driver ∷ layers c.read_part.new.below)) c.self.view_is c.read_part.ensures.cause
+
+pub read_below-returns-in-Some-clause-shown : goal.read_below-returns-in-Some-clause-shown
+read_below-returns-in-Some-clause-shown g t c = let d = g.D.DriverModel in subst
+    (λ b. Each d.coherent (layers b) → OnOk c.read_all.result (Shows (at (map d.layer (layers b))) c.args.offset c.read_all.new.buf))
+    (sym c.in-Some.is) (subst (λ a. Each d.coherent (chain a) → OnOk c.read_all.result
+    (Shows (at (map d.layer (chain a))) c.args.offset c.read_all.new.buf)) c.deref_mut.ensures.value c.read_all.ensures.shown)
+
+pub read_below-returns-in-Some-clause-lookup_call : goal.read_below-returns-in-Some-clause-lookup_call
+read_below-returns-in-Some-clause-lookup_call g t c = let d = g.D.DriverModel in subst
+    (λ b. Pairs (LookupCall d (HadNoResourceError c.read_all.result)) (layers b) (chain c.read_all.new.self)) (sym c.in-Some.is)
+    (subst (λ a. Pairs (LookupCall d (HadNoResourceError c.read_all.result)) (chain a) (chain c.read_all.new.self))
+    c.deref_mut.ensures.value c.read_all.ensures.lookup_call)
+
+pub read_below-returns-in-Some-clause-failed : goal.read_below-returns-in-Some-clause-failed
+read_below-returns-in-Some-clause-failed g t c = let d = g.D.DriverModel in subst
+    (λ b. IfErr c.read_all.result (ImageCause (files_of d (layers b)) (files_of d (chain c.read_all.new.self)))) (sym c.in-Some.is)
+    (subst (λ a. IfErr c.read_all.result (ImageCause (files_of d (chain a)) (files_of d (chain c.read_all.new.self))))
+    c.deref_mut.ensures.value c.read_all.ensures.failed)
+
+pub read_below-returns-in-Some-clause-marks_failed : goal.read_below-returns-in-Some-clause-marks_failed
+read_below-returns-in-Some-clause-marks_failed g t c = let d = g.D.DriverModel in subst
+    (λ b. IfErr c.read_all.result (MarksSomeFailed d (layers b) (chain c.read_all.new.self))) (sym c.in-Some.is)
+    (subst (λ a. IfErr c.read_all.result (MarksSomeFailed d (chain a) (chain c.read_all.new.self))) c.deref_mut.ensures.value
+    c.read_all.ensures.marks_failed)
+
 pub read_below-returns-in-Some-clause-cause : goal.read_below-returns-in-Some-clause-cause
-read_below-returns-in-Some-clause-cause g t c = rw (c.in-Some.is, ← c.deref_mut.ensures.value) c.read_all.ensures.cause
+read_below-returns-in-Some-clause-cause g t c = let d = g.D.DriverModel in subst
+    (λ b. ReadRefused d c.args.offset (length c.args.buf.now) c.read_all.result (layers b) (chain c.read_all.new.self)) (sym c.in-Some.is)
+    (subst (λ a. ReadRefused d c.args.offset (length c.args.buf.now) c.read_all.result (chain a) (chain c.read_all.new.self))
+    c.deref_mut.ensures.value c.read_all.ensures.cause)
+
+pub read_part-returns-in_err-mapping-clause-run : goal.read_part-returns-in_err-mapping-clause-run
+read_part-returns-in_err-mapping-clause-run g t c = none_on_err _ _ _ c.from_residual.ensures.1
+
+pub read_part-returns-in_err-mapping-clause-shown : goal.read_part-returns-in_err-mapping-clause-shown
+read_part-returns-in_err-mapping-clause-shown g t c = λ see. none_on_err _ _ _ c.from_residual.ensures.1
+
+pub read_part-returns-in_err-read_mapped-in-Raw-clause-run : goal.read_part-returns-in_err-read_mapped-in-Raw-clause-run
+read_part-returns-in_err-read_mapped-in-Raw-clause-run g t c = none_on_err _ _ _ c.from_residual-in_err-read_mapped-in-Raw.ensures.1
+
+pub read_part-returns-in_err-read_mapped-in-Raw-clause-shown : goal.read_part-returns-in_err-read_mapped-in-Raw-clause-shown
+read_part-returns-in_err-read_mapped-in-Raw-clause-shown g t c = λ see. none_on_err _ _ _
+    c.from_residual-in_err-read_mapped-in-Raw.ensures.1
+
+pub read_part-returns-in_err-read_below-in-Indirect-clause-run : goal.read_part-returns-in_err-read_below-in-Indirect-clause-run
+read_part-returns-in_err-read_below-in-Indirect-clause-run g t c = none_on_err _ _ _ c.from_residual-in_err-read_below-in-Indirect.ensures.1
+
+pub read_part-returns-in_err-read_below-in-Indirect-clause-shown : goal.read_part-returns-in_err-read_below-in-Indirect-clause-shown
+read_part-returns-in_err-read_below-in-Indirect-clause-shown g t c = λ see. none_on_err _ _ _
+    c.from_residual-in_err-read_below-in-Indirect.ensures.1
+
+pub read_all-returns-in_err-done-clause-shown : goal.read_all-returns-in_err-done-clause-shown
+read_all-returns-in_err-done-clause-shown g t c = λ see. nothing_on_err _ _ _ c.from_residual.ensures.1
