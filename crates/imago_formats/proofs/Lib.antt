@@ -1,4 +1,5 @@
 pub mod RawSteps
+pub mod RawWrites
 pub mod Growing
 mod WordLemmas
 pub mod LineLemmas
