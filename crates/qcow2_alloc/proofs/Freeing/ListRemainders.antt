@@ -1,6 +1,6 @@
 -- The entries that are left when freeing stops, and the write order at that point.
 use Rattle.std.proofs.Common.{◌≡◌, ℕ, ◌-◌, ◌<◌, refl, arith, ap, sym, subst, ◌∙◌, List, [], ◌∷◌, Bool, true, false, zero, suc, inl, inr, Result, Ok, Err}
-use Rattle.std.specs.Prelude.{OnOk, not}
+use Rattle.std.specs.Prelude.{◌==◌, OnOk, length, not}
 use Rattle.std.specs.List.{AllByRecursion, filter, remove}
 use Rattle.std.proofs.lemmas.Bool.{cases_Bool}
 use Rattle.imago_storage.specs.declared.fault.Fault.{Fault}
@@ -11,6 +11,7 @@ use Rattle.qcow2_alloc.specs.FreeList.{entry_at, shorter, shortened}
 use Rattle.qcow2_alloc.specs.Freeing.{data_in, IsSublist, IsRest, IsRestInTurn, OrdersFreeing}
 use Rattle.qcow2_alloc.specs.GuestView.{metadata_in}
 use Rattle.qcow2_alloc.proofs.Freeing.FreesInTurn.{filter-takes, filter-drops}
+use borrow.Author.Tests.{ne_eqb}
 
 pub sublist-all : (es : List FreeEntry) → IsSublist es es
 sublist-all [] = tt
@@ -130,3 +131,29 @@ order-announced external pending left old result new turned inside some gone = r
     on-ok : (r : Result Unit Fault) → OnOk r (new ≡ RbDependsOnL2)
     on-ok (Ok done) = turned
     on-ok (Err fault) = tt
+
+-- The write order stays if no guest data was on the list.
+pub order-without-data : (external : Bool) (pending left : List FreeEntry) (old : CacheDependency) (result : Result Unit Fault)
+    (new : CacheDependency) → new ≡ old
+    → data_in pending ≡ [] → OrdersFreeing external pending left old result new
+order-without-data external pending left old result new same none =
+    record { either = inl same; order_unchanged = λ why. same; announced = λ inside some. absurd (some none) }
+
+-- The write order stays if guest data is in an external file.
+pub order-external : (external : Bool) (pending left : List FreeEntry) (old : CacheDependency) (result : Result Unit Fault)
+    (new : CacheDependency) → new ≡ old
+    → external ≡ true → OrdersFreeing external pending left old result new
+order-external external pending left old result new same outside =
+    record { either = inl same; order_unchanged = λ why. same; announced = λ inside some. absurd (let no = sym outside ∙ inside in cc no) }
+
+-- The write order stays if the call fails before the order is set.
+pub order-failed : (external : Bool) (pending left : List FreeEntry) (old : CacheDependency) (fault : Fault)
+    (new : CacheDependency) → new ≡ old
+    → OrdersFreeing external pending left old (Err fault) new
+order-failed external pending left old fault new same =
+    record { either = inl same; order_unchanged = λ why. same; announced = λ inside some. tt }
+
+-- A list is empty if the test of its length says so.
+pub none-listed : (es : List FreeEntry) (empty : Bool) → empty ≡ (length es == 0) → empty ≡ true → es ≡ []
+none-listed [] empty is told = refl
+none-listed (e ∷ es) empty is told = let other : (length (e ∷ es) == 0) ≡ false = ne_eqb _ _ (omega arith) in absurd (cc (is, other, told))

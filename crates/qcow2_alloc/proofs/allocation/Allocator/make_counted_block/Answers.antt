@@ -1,4 +1,4 @@
-use Rattle.std.proofs.Common.{◌≡◌, ◌*◌, ◌<◌, ◌∙◌, arith, ap, subst}
+use Rattle.std.proofs.Common.{◌≡◌, ◌*◌, ◌<◌, ◌∙◌, arith, ap, refl, subst, sym}
 use Rattle.imago_storage.specs.declared.fault.Fault.TheVariants.{DamagedTable}
 use Rattle.qcow2_types.specs.Counts.{counters_of_block}
 use Rattle.qcow2_metadata.specs.Blocks.{Block}
@@ -102,3 +102,53 @@ returns-clause-at g c =
     let reach : IsAddressable h.cluster_bits c.args.place = subst (λ b. IsAddressable b c.args.place) c.cluster_bits.ensures.value named.1 in
     written-on-ok table c.args.index c.args.place h.cluster_bits c.in_ok-block.block _ _ (table_of c.write_block.new.self) c.write_block.result c.requires.inside c.cluster_bits.ensures.shaped.low reach
     (ap (λ (b : Block). b.cluster_bits) c.in_ok-block.ensures.ok) (ap (λ (b : Block). b.cluster) c.in_ok-block.ensures.ok) named.0.offset_nonzero c.write_block.ensures.names
+
+pub returns-then-place-own_place-clause-at : goal.returns-then-place-own_place-clause-at
+returns-then-place-own_place-clause-at g c = tt
+
+pub returns-then-place-own_place-clause-mark : goal.returns-then-place-own_place-clause-mark
+returns-then-place-own_place-clause-mark g c = refl
+
+pub returns-in_err-check_place-clause-at : goal.returns-in_err-check_place-clause-at
+returns-in_err-check_place-clause-at g c = rw (handed-on _ _ c.from_residual.ensures.1) tt
+
+pub returns-in_err-check_place-clause-mark : goal.returns-in_err-check_place-clause-mark
+returns-in_err-check_place-clause-mark g c = refl
+
+pub returns-in_err-block-clause-at : goal.returns-in_err-block-clause-at
+returns-in_err-block-clause-at g c = rw (handed-on _ _ c.from_residual-in_err-block.ensures.1) tt
+
+pub returns-in_err-block-clause-mark : goal.returns-in_err-block-clause-mark
+returns-in_err-block-clause-mark g c = refl
+
+pub returns-in_err-rb_forget-clause-at : goal.returns-in_err-rb_forget-clause-at
+returns-in_err-rb_forget-clause-at g c = rw (handed-on _ _ c.from_residual-in_err-rb_forget.ensures.1) tt
+
+pub returns-in_err-rb_forget-clause-mark : goal.returns-in_err-rb_forget-clause-mark
+returns-in_err-rb_forget-clause-mark g c = refl
+
+pub returns-in_err-count_cluster-clause-at : goal.returns-in_err-count_cluster-clause-at
+returns-in_err-count_cluster-clause-at g c = rw (handed-on _ _ c.from_residual-in_err-count_cluster.ensures.1) tt
+
+pub returns-in_err-count_cluster-clause-mark : goal.returns-in_err-count_cluster-clause-mark
+returns-in_err-count_cluster-clause-mark g c = refl
+
+pub returns-in_err-flush_rb-clause-at : goal.returns-in_err-flush_rb-clause-at
+returns-in_err-flush_rb-clause-at g c = rw (handed-on _ _ c.from_residual-in_err-flush_rb.ensures.1) tt
+
+pub returns-in_err-flush_rb-clause-mark : goal.returns-in_err-flush_rb-clause-mark
+returns-in_err-flush_rb-clause-mark g c = refl
+
+pub returns-clause-mark : goal.returns-clause-mark
+returns-clause-mark g c = c.write_block.ensures.mark
+
+pub write_block-requires-clause-inside : goal.write_block-requires-clause-inside
+write_block-requires-clause-inside g c = c.requires.inside
+
+pub write_block-requires-clause-placed : goal.write_block-requires-clause-placed
+write_block-requires-clause-placed g c = c.in_ok-check_place.ensures.ok.0.placed
+
+pub write_block-requires-clause-bits : goal.write_block-requires-clause-bits
+write_block-requires-clause-bits g c =
+    ap (λ (b : Block). b.cluster_bits) c.in_ok-block.ensures.ok ∙ sym c.cluster_bits.ensures.value
+    ∙ sym c.in_ok-check_place.ensures.ok.0.bits

@@ -1,4 +1,4 @@
-use Rattle.std.proofs.Common.{◌≡◌, arith, subst}
+use Rattle.std.proofs.Common.{◌≡◌, ◌∙◌, arith, refl, subst, sym}
 use Rattle.qcow2_metadata.specs.Places.{IsAddressable}
 use Rattle.qcow2_alloc.specs.Allocators.{table_of, metadata_of}
 use Rattle.qcow2_alloc.specs.Causes.{HasCause}
@@ -6,7 +6,7 @@ use Rattle.qcow2_alloc.specs.MakingBlocks.{naming_causes}
 use Rattle.qcow2_alloc.specs.GuestView.{IsSound, counted}
 use Rattle.qcow2_alloc.specs.State.{image_state}
 use Rattle.qcow2_alloc.proofs.Searching.FreeClusters.{uncounted-free}
-use Rattle.qcow2_alloc.proofs.Blocks.BlockCreationCalls.{begins-none, first-counted, unmade-memory, unmade-place, unforgotten}
+use Rattle.qcow2_alloc.proofs.Blocks.BlockCreationCalls.{begins-none, first-counted, namable, unmade-memory, unmade-place, unforgotten}
 use Rattle.qcow2_alloc.proofs.Blocks.OwnBlocks.{own-uncounted, own-made-at}
 use Rattle.qcow2_alloc.proofs.Faults.{handed-on}
 use Rattle.qcow2_alloc.proofs.allocation.Allocator.make_own_block.Goals as goal
@@ -70,3 +70,41 @@ returns-clause-at g c =
     subst (λ (n : ℕ). OnOk c.write_block.result ((n ≢ 0) × (block_offset (slice_index (table_of c.write_block.new.self).raw_entries c.args.index) ≡ n * 2 ^ h.cluster_bits))) c.own_place-place.ensures.first
     (written-on-ok table c.args.index d h.cluster_bits c.in_ok-block.block _ _ (table_of c.write_block.new.self) c.write_block.result c.requires.inside c.cluster_bits.ensures.shaped.low reach
     (ap (λ (b : Block). b.cluster_bits) c.in_ok-block.ensures.ok) (ap (λ (b : Block). b.cluster) c.in_ok-block.ensures.ok) named.0.offset_nonzero c.write_block.ensures.names)
+
+pub returns-in_err-check_place-clause-at : goal.returns-in_err-check_place-clause-at
+returns-in_err-check_place-clause-at g c = rw (handed-on _ _ c.from_residual.ensures.1) tt
+
+pub returns-in_err-check_place-clause-mark : goal.returns-in_err-check_place-clause-mark
+returns-in_err-check_place-clause-mark g c = refl
+
+pub returns-in_err-block-clause-at : goal.returns-in_err-block-clause-at
+returns-in_err-block-clause-at g c = rw (handed-on _ _ c.from_residual-in_err-block.ensures.1) tt
+
+pub returns-in_err-block-clause-mark : goal.returns-in_err-block-clause-mark
+returns-in_err-block-clause-mark g c = refl
+
+pub returns-in_err-rb_forget-clause-at : goal.returns-in_err-rb_forget-clause-at
+returns-in_err-rb_forget-clause-at g c = rw (handed-on _ _ c.from_residual-in_err-rb_forget.ensures.1) tt
+
+pub returns-in_err-rb_forget-clause-mark : goal.returns-in_err-rb_forget-clause-mark
+returns-in_err-rb_forget-clause-mark g c = refl
+
+pub returns-clause-mark : goal.returns-clause-mark
+returns-clause-mark g c = c.write_block.ensures.mark
+
+pub write_block-requires-clause-inside : goal.write_block-requires-clause-inside
+write_block-requires-clause-inside g c = c.requires.inside
+
+pub write_block-requires-clause-placed : goal.write_block-requires-clause-placed
+write_block-requires-clause-placed g c = c.in_ok-check_place.ensures.ok.0.placed
+
+pub write_block-requires-clause-bits : goal.write_block-requires-clause-bits
+write_block-requires-clause-bits g c =
+    ap (λ (b : Block). b.cluster_bits) c.in_ok-block.ensures.ok ∙ sym c.cluster_bits.ensures.value
+    ∙ sym c.in_ok-check_place.ensures.ok.0.bits
+
+pub write_block-requires-clause-can_be_referenced : goal.write_block-requires-clause-can_be_referenced
+write_block-requires-clause-can_be_referenced g c =
+    let named = c.in_ok-check_place.ensures.ok in
+    namable (table_of c.args.self.now) c.cluster_bits.result c.own_place-place.result named.0 named.1 c.in_ok-block.block.cluster
+    (ap (λ (b : Block). b.cluster) c.in_ok-block.ensures.ok)

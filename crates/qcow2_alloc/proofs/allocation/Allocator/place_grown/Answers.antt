@@ -96,3 +96,41 @@ returns-in-Err-place_copy-clause-grows g c = λ at grown.
     (no-place g.S.Storage.state at (allocator_state c.args.self.now c.args.caches.now c.args.file.now c.args.list.now) c.in-Ok.room copy c.free_area_start-from.result c.find_free_area.inside.0 C.caches C.file c.in-Ok.ensures.looks
     (c.free_area_start-from.ensures ∙ ap (λ k. min mark (length table.raw_entries * k)) c.rb_bits.ensures.entries) n grown.long (filled h table at copy low grown)
     c.in-Err-place_copy.fault (omega (arith, n, one, enough)) c.in-Err-place_copy.ensures.err)
+
+pub find_free_area-requires-clause-count_bounded : goal.find_free_area-requires-clause-count_bounded
+find_free_area-requires-clause-count_bounded g c =
+    let long : length c.args.copy.raw_entries ≤ 2 ^ 20 =
+    subst (λ (t : TableValue). length t.raw_entries ≤ 2 ^ 20) c.copy.view_is c.copy.invariant.long in
+    let high : c.args.copy.layout.cluster_bits ≤ 21 =
+    subst (λ (t : TableValue). t.layout.cluster_bits ≤ 21) c.copy.view_is c.copy.invariant.high in
+    let few = few-clusters c.args.copy.layout.cluster_bits c.args.copy high long in
+    let n : c.find_free_area.inside.0 ≡ clusters_of c.args.copy c.args.copy.layout.cluster_bits = c.find_free_area.view_is
+    ∙ c.cluster_count.ensures in
+    omega (arith, n, few)
+
+pub find_free_area-requires-clause-start_in_space : goal.find_free_area-requires-clause-start_in_space
+find_free_area-requires-clause-start_in_space g c =
+    let is = c.free_area_start-from.ensures
+    ∙ ap (λ k. min (first_free_of c.args.self.now) (length (table_of c.args.self.now).raw_entries * k)) c.rb_bits.ensures.entries in
+    omega (arith, is)
+
+pub enter_free_area-requires-clause-plan : goal.enter_free_area-requires-clause-plan
+enter_free_area-requires-clause-plan g c = c.in-Ok-place_copy.ensures.ok.0
+
+pub enter_free_area-requires-clause-held : goal.enter_free_area-requires-clause-held
+enter_free_area-requires-clause-held g c = c.requires.held
+
+pub release-requires : goal.release-requires
+release-requires g c = c.requires.held
+
+pub release-requires-in-Err-place_copy : goal.release-requires-in-Err-place_copy
+release-requires-in-Err-place_copy g c = c.requires.held
+
+pub returns-in-Err-clause-held : goal.returns-in-Err-clause-held
+returns-in-Err-clause-held g c = ap (λ (l : FreeList). l.held) c.release.ensures
+
+pub returns-in-Err-place_copy-clause-held : goal.returns-in-Err-place_copy-clause-held
+returns-in-Err-place_copy-clause-held g c = ap (λ (l : FreeList). l.held) c.release-in-Err-place_copy.ensures
+
+pub returns-in-Ok-place_copy-clause-held : goal.returns-in-Ok-place_copy-clause-held
+returns-in-Ok-place_copy-clause-held g c = c.enter_free_area.ensures.held

@@ -1,5 +1,8 @@
-use Rattle.std.proofs.Common.{◌≡◌, ◌<◌, ◌≤◌, ◌/◌, ◌^◌, ℕ, Bool, false, refl, arith, ap, subst, ◌∙◌, pow_pos, Ok, Err, ◌+◌, true, sym, length, IsTrue, inl, inr}
+use Rattle.std.proofs.Common.{◌≡◌, ◌<◌, ◌≤◌, ◌/◌, ◌^◌, ℕ, Bool, false, refl, arith, ap, subst, ◌∙◌, pow_pos, Ok, Err, ◌+◌, ◌-◌, true, sym}
+use Rattle.std.proofs.Common.{length, IsTrue, inl, inr}
 use Rattle.std.proofs.lemmas.Bool.{cases_lt}
+use Rattle.std.proofs.lemmas.Nat.{le-div}
+use Rattle.std.proofs.Math.Nat.{div-mul-le_self}
 use Rattle.imago_storage.specs.declared.fault.Fault.TheVariants.{Limit}
 use Rattle.qcow2_types.specs.Counts.{counters_of_block}
 use Rattle.qcow2_alloc.specs.declared.allocation.readying_runs.Provision.{Provision}
@@ -177,3 +180,68 @@ returns-in_err-first-clause-untouched_unless_begun g c = λ not.
       subst (λ caches. KeepsClean state (cached_file caches c.args.file.now) (cached_file new.caches new.file)) same.2
           (subst (λ file. KeepsClean state (cached_file l.caches file) (cached_file new.caches new.file)) same.3 looked.clean),
     )
+
+pub returns-in_err-first-clause-begins : goal.returns-in_err-first-clause-begins
+returns-in_err-first-clause-begins g c = rw (handed-on _ _ c.from_residual.ensures.1) tt
+
+pub returns-in_err-first-clause-held : goal.returns-in_err-first-clause-held
+returns-in_err-first-clause-held g c = c.loop-first.invariant.2
+
+pub returns-in_err-last_index-clause-begins : goal.returns-in_err-last_index-clause-begins
+returns-in_err-last_index-clause-begins g c = rw (handed-on _ _ c.from_residual-in_err-last_index.ensures.1) tt
+
+pub returns-in_err-last_index-clause-held : goal.returns-in_err-last_index-clause-held
+returns-in_err-last_index-clause-held g c = c.loop-first.invariant.2
+
+pub returns-in_err-last_index-clause-untouched_unless_begun : goal.returns-in_err-last_index-clause-untouched_unless_begun
+returns-in_err-last_index-clause-untouched_unless_begun g c = λ not. absurd (cc not)
+
+pub returns-in_err-ready_blocks-clause-begins : goal.returns-in_err-ready_blocks-clause-begins
+returns-in_err-ready_blocks-clause-begins g c = rw (handed-on _ _ c.from_residual-in_err-ready_blocks.ensures.1) tt
+
+pub returns-in_err-ready_blocks-clause-held : goal.returns-in_err-ready_blocks-clause-held
+returns-in_err-ready_blocks-clause-held g c = c.in_err-ready_blocks.ensures.held ∙ c.loop-first.invariant.2
+
+pub returns-in_err-ready_blocks-clause-untouched_unless_begun : goal.returns-in_err-ready_blocks-clause-untouched_unless_begun
+returns-in_err-ready_blocks-clause-untouched_unless_begun g c = λ not. absurd (cc not)
+
+pub returns-then-has_grown_short_of-clause-begins : goal.returns-then-has_grown_short_of-clause-begins
+returns-then-has_grown_short_of-clause-begins g c = tt
+
+pub returns-then-has_grown_short_of-clause-untouched_unless_begun : goal.returns-then-has_grown_short_of-clause-untouched_unless_begun
+returns-then-has_grown_short_of-clause-untouched_unless_begun g c = λ not. absurd (cc not)
+
+pub returns-then-has_grown_short_of-clause-held : goal.returns-then-has_grown_short_of-clause-held
+returns-then-has_grown_short_of-clause-held g c = c.loop-first.invariant.2
+
+pub returns-in-Complete-clause-begins : goal.returns-in-Complete-clause-begins
+returns-in-Complete-clause-begins g c = refl
+
+pub returns-in-Complete-clause-untouched_unless_begun : goal.returns-in-Complete-clause-untouched_unless_begun
+returns-in-Complete-clause-untouched_unless_begun g c = λ not. absurd (cc not)
+
+pub returns-in-Complete-clause-held : goal.returns-in-Complete-clause-held
+returns-in-Complete-clause-held g c = c.in_ok-ready_blocks.ensures.held ∙ c.loop-first.invariant.2
+
+pub last_index-requires : goal.last_index-requires
+last_index-requires g c = record { nonempty = c.requires.nonempty }
+
+pub rt_index-first_index-requires : goal.rt_index-first_index-requires
+rt_index-first_index-requires g c = record { bits = c.rb_bits.ensures.bounds.1 }
+
+pub ready_blocks-requires-clause-index_bounded : goal.ready_blocks-requires-clause-index_bounded
+ready_blocks-requires-clause-index_bounded g c = c.in_ok-last_index.ensures.index_bounded
+
+pub ready_blocks-requires-clause-order : goal.ready_blocks-requires-clause-order
+ready_blocks-requires-clause-order g c =
+    let first = c.in_ok-first.first in
+    let bits = c.rb_bits.ensures in
+    let k = counters_of_block c.find_run.new.file.header.fields in
+    let positive = pow_pos c.rb_bits.result in
+    let size = bits.entries in
+    let some : 0 < k = omega (arith, positive, size) in
+    let index : c.rt_index-first_index.result ≡ first / k = c.rt_index-first_index.ensures ∙ ap (λ (m : ℕ). first / m) size in
+    let last : c.in_ok-last_index.last_index ≡ (first + (c.args.count - 1)) / k = c.in_ok-last_index.ensures.index in
+    let under = div-mul-le_self first k in
+    let le : first / k ≤ (first + (c.args.count - 1)) / k = le-div (first / k) (first + (c.args.count - 1)) k some (omega (arith, under)) in
+    omega (arith, index, last, le)
