@@ -568,8 +568,8 @@ pub fn a_quarter_is_room()
         → IsRoomy m mark n }
 {}
 
-/// Law: if an image has enough space for an allocation, it still has it after clusters on the free list were freed. So if an allocation
-/// fails with `Fault::Limit`, there wasn't enough space before the freeing, either.
+/// Law: freeing the clusters on the free list never makes an allocation impossible. An allocation frees them first. So if it then fails
+/// with `Fault::Limit` (no free run of clusters is long enough), no run was long enough before they were freed, either.
 pub fn what_is_freed_leaves_room()
     ensures { (m m' : MetadataWithFirstFree) (n : ℕ) → IsFreed m m' → IsRoomy m.image m.mark n → IsRoomy m'.image m'.mark n }
 {}
