@@ -42,7 +42,7 @@ module _ {D St : Type 0} (g : Ghosts D St) (call : PartCall) (offset n : ℕ) (d
     room = λ well_formed no_change_refused. leaves_same;
     keeps_layer_state = record { fixed = refl; size = refl; unspent = refl; failed = λ f. f };
     mutating_call = went_same g _ _ d;
-    stays_begun = λ x whole begun part no_change_refused. begun;
+    stays_begun = λ x whole begun part kind no_change_refused. begun;
     crash_images = λ well_formed below told. passes_none (Left below (g.layer d) (g.image d).bytes g.sound (g.layer d).size (g.layer d).size (PartGives call below offset n)) (g.image d) (g.image d) refl (refl, refl, refl, refl);
   }
 
@@ -59,7 +59,7 @@ module _ {D St : Type 0} (g : Ghosts D St) (call : PartCall) (offset n : ℕ) (d
     room = λ well_formed no_change_refused. leaves_same;
     keeps_layer_state = record { fixed = refl; size = refl; unspent = refl; failed = λ f. f };
     mutating_call = went_same g _ _ d;
-    stays_begun = λ x whole begun part no_change_refused. begun;
+    stays_begun = λ x whole begun part kind no_change_refused. begun;
     crash_images = λ well_formed below told. passes_none (Left below (g.layer d) (g.image d).bytes g.sound (g.layer d).size (g.layer d).size (PartGives call below offset n)) (g.image d) (g.image d) refl (refl, refl, refl, refl);
   }
 

@@ -148,7 +148,7 @@ module _ {D E St Su : Type 0} (f : D → E) (h : Ghosts E Su) (g : Ghosts D St) 
     room = λ well_formed whole. leaves_as call offset n (k.room well_formed whole);
     keeps_layer_state = k.keeps_layer_state;
     mutating_call = went_as (HadNoResourceError result) (HadNoResourceError result) does.mutating_call;
-    stays_begun = λ x whole begun part no_change_refused. on x whole begun;
+    stays_begun = λ x whole begun part kind no_change_refused. on x whole begun;
     crash_images = k.crash_images;
   }
 

@@ -78,7 +78,8 @@ pub record DoesPart {D St : Type 0} (call : PartCall) (g : Ghosts D St) (offset 
   pub room : g.well_formed old → HadNoResourceError result → LeavesPart call g offset n old new
   pub keeps_layer_state : KeepsLayerState (g.layer old) (g.layer new)
   pub mutating_call : MutatingCall g (HadNoResourceError result) (HadNoResourceError result) old new
-  pub stays_begun : (d : D) (whole : Call) → g.began d whole old → IsPartOf whole offset n → HadNoResourceError result → g.began d whole new
+  pub stays_begun : (d : D) (whole : Call) → g.began d whole old → IsPartOf whole offset n → IsFor call whole → HadNoResourceError result
+      → g.began d whole new
   pub crash_images : g.well_formed old → (below : List Layer) → IsToldOver call below (g.layer old)
       → KeepsCrashImages g below (PartGives call below offset n) old new
 

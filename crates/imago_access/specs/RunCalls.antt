@@ -56,6 +56,12 @@ WorkKeeps (writing offset bytes) p = ⊤
 WorkKeeps (writing_zeroes offset n) p = ⊤
 WorkKeeps (zeroing_by how offset n) p = (how ≡ zeroing_is.Keep) ⊎ IsOut offset n p
 
+-- The call is one that such a change can be part of. A zeroing is only part of a call of its own kind.
+abbrev pub IsKindOf : Work → Call → Type 0
+IsKindOf (writing offset bytes) call = ⊤
+IsKindOf (writing_zeroes offset n) call = ⊤
+IsKindOf (zeroing_by how offset n) call = IsFor (zero_by how) call
+
 -- The effect of the change: it gives its values to bytes of its range, and only allocates in units that the range touches.
 pub record DoesWork {D St B T : Type 0} (g : Ghosts D St) (u : GhostsBelow B) (work : Work)
     (result : Result T Fault) (old new : D × B) : Type 0 where
@@ -63,7 +69,7 @@ pub record DoesWork {D St B T : Type 0} (g : Ghosts D St) (u : GhostsBelow B) (w
   pub room : IsIntact g u old.0 old.1 → HadNoResourceError result
       → LeavesAllocation g (WorkKeeps work) (IsApart (g.layer old.0).fixed.unit (start_of work) (extent_of work)) old.0 new.0
   pub stays_begun : (d : D) (call : Call) → g.began d call old.0 → IsPartOf call (start_of work) (extent_of work)
-      → OnOk result (g.began d call new.0)
+      → IsKindOf work call → OnOk result (g.began d call new.0)
 
 -- The failed state of an image whose format marks failures, if a change by the driver may be done in part. After `Storage` the image has
 -- failed. After `Memory` it has failed or is still well-formed (its invariant holds).
@@ -147,9 +153,10 @@ abbrev pub SettlingRefused : {D St : Type 0} → Ghosts D St → Result Unit Fau
 SettlingRefused g result old new = g.well_formed old → (below : List Layer) (offset n : ℕ) → 0 < n
     → IfErr result (PartCause below (g.layer old) offset n (λ _. ⊥) (files g old) (files g new))
 
--- If the part had no resource error, the call around it still counts as begun.
-abbrev pub StaysBegun : {D St : Type 0} → Ghosts D St → ℕ → ℕ → Type 0 → D → D → Type 0
-StaysBegun {D} g offset n whole old new = (d : D) (call : Call) → g.began d call old → IsPartOf call offset n → whole → g.began d call new
+-- If the part had no resource error, the call around it still counts as begun. The part is of the call's own kind.
+abbrev pub StaysBegun : {D St : Type 0} → PartCall → Ghosts D St → ℕ → ℕ → Type 0 → D → D → Type 0
+StaysBegun {D} part g offset n whole old new = (d : D) (call : Call) → g.began d call old → IsPartOf call offset n → IsFor part call → whole
+    → g.began d call new
 
 -- `DriverRangeChange` over all possible layers below.
 abbrev pub DriverRangeChangeAnywhere : {D St : Type 0} → Ghosts D St → Type 0 → (ℕ → Value → Type 0) → D → D → Type 0

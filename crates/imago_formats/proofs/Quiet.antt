@@ -134,7 +134,7 @@ module _ {D St : Type 0} (g : Ghosts D St) where
     room = λ well_formed w. leaves_same call offset n d;
     keeps_layer_state = like_same (g.layer d) (g.layer d) refl;
     mutating_call = went_same ⊤ ⊤ d;
-    stays_begun = λ x whole b part w. b;
+    stays_begun = λ x whole b part kind w. b;
     crash_images = λ well_formed below told. stops_same below (PartGives call below offset n) d;
   }
     where
@@ -152,7 +152,7 @@ module _ {D St : Type 0} (g : Ghosts D St) where
     room = λ well_formed w. leaves_same call offset n d;
     keeps_layer_state = like_same (g.layer d) (g.layer d) refl;
     mutating_call = went_same (IsNotResourceError e) (IsNotResourceError e) d;
-    stays_begun = λ x whole b part w. b;
+    stays_begun = λ x whole b part kind w. b;
     crash_images = λ well_formed below told. stops_same below (PartGives call below offset n) d;
   }
 

@@ -75,8 +75,8 @@ module _ {D E St Su : Type 0} {f : D → E} {h : Ghosts E Su} {g : Ghosts D St} 
     room = λ well_formed whole. leaves_part call offset n (d.room well_formed whole);
     keeps_layer_state = d.keeps_layer_state;
     mutating_call = mutating_call kind a b (HadNoResourceError result) (HadNoResourceError result) d.mutating_call;
-    stays_begun = λ e call now part whole.
-        begun kind a b (λ x c. IsPartOf c offset n → h.began x c (f b)) (λ x c is inside. d.stays_begun x c is inside whole) e call now part;
+    stays_begun = λ e whole now part by no_change_refused.
+        begun kind a b (λ x c. IsPartOf c offset n → IsFor call c → h.began x c (f b)) (λ x c is inside own. d.stays_begun x c is inside own no_change_refused) e whole now part by;
     crash_images = λ well_formed below told. stops kind a b below _ _ (PartGives call below offset n) (d.crash_images well_formed below told);
   }
 

@@ -49,7 +49,7 @@ fn discard_part<D: FormatDriverInstance>(
     ensures values { DiscardsAlone D.DriverModel discarding offset length result driver.old driver.new }
     ensures keeps_layer_state { KeepsLayerState (D.layer driver.old) (D.layer driver.new) }
     ensures mutating_call { MutatingCall D.DriverModel (HadNoResourceError result) (HadNoResourceError result) driver.old driver.new }
-    ensures stays_begun { StaysBegun D.DriverModel offset length (HadNoResourceError result) driver.old driver.new }
+    ensures stays_begun { StaysBegun (discard_by discarding) D.DriverModel offset length (HadNoResourceError result) driver.old driver.new }
     ensures crash_images { DiscardCrashImages D.DriverModel discarding offset length driver.old driver.new }
     ensures room { D.well_formed driver.old → HadNoResourceError result → GivesUp D.DriverModel offset length driver.old driver.new }
     ensures given { D.well_formed driver.old → IfOk result (λ r. (p : ℕ) → IsIn r.0 r.1 p → D.unallocated driver.new p) }

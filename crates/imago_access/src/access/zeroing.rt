@@ -5,7 +5,7 @@ ghost use Rattle.imago_storage.specs.Steps.{Call, write_zeroes, discard_to_zero}
 ghost use Rattle.imago_access.specs.Layer.{Layer, IsFree, KeepsLayerState};
 ghost use Rattle.imago_access.specs.Room.{Takes};
 ghost use Rattle.imago_access.specs.Files.{HadNoResourceError};
-ghost use Rattle.imago_access.specs.PartCalls.{IsPart, PartRefused};
+ghost use Rattle.imago_access.specs.PartCalls.{IsFor, IsPart, PartRefused};
 ghost use Rattle.imago_access.specs.Going.{MutatingCall, MarksFailed};
 ghost use Rattle.imago_access.specs.Changes.{Rewrites, PartRewrites, ToZero, Wrote};
 ghost use Rattle.imago_access.specs.Parts.{IsPartOf};
@@ -57,7 +57,7 @@ fn zero_part<D: FormatDriverInstance>(
     ensures given { D.well_formed driver.old → IfOk result (IsLeftIn D.DriverModel zeroing driver.new) }
     ensures reach { D.well_formed driver.old → IfOk result (ReachesUnits (D.layer driver.old) offset length) }
     ensures mutating_call { MutatingCall D.DriverModel (HadNoResourceError result) (HadNoResourceError result) driver.old driver.new }
-    ensures stays_begun { StaysBegun D.DriverModel offset length (HadNoResourceError result) driver.old driver.new }
+    ensures stays_begun { StaysBegun (zero_by zeroing) D.DriverModel offset length (HadNoResourceError result) driver.old driver.new }
     ensures crash_images { D.well_formed driver.old → (below : List Layer) → KeepsCrashImages D.DriverModel below (GivesZero offset length) driver.old driver.new }
     ensures refused { PartRefused (zero_by zeroing) D.DriverModel offset length result driver.old driver.new }
 {
@@ -181,7 +181,8 @@ fn zero_by_driver<D: FormatDriverInstance>(
     ensures room { ZeroingLeaves D.DriverModel zeroing offset n result driver.old driver.new }
     ensures given { LeavesUnitsBehind D.DriverModel zeroing offset n result driver.old driver.new }
     ensures mutating_call { MutatingCall D.DriverModel (HadNoResourceError result) (HadNoResourceError result) driver.old driver.new }
-    ensures stays_begun { (d : D) (call : Call) → D.began d call driver.old → IsPartOf call offset n → OnOk result (D.began d call driver.new) }
+    ensures stays_begun { (d : D) (call : Call) → D.began d call driver.old → IsPartOf call offset n → IsFor (zero_by zeroing) call
+        → OnOk result (D.began d call driver.new) }
     ensures crash_images { D.well_formed driver.old → (below : List Layer) → KeepsCrashImages D.DriverModel below (GivesZero offset n) driver.old driver.new }
     ensures failed { IfErr result (Fails D.DriverModel driver.old driver.new) }
     ensures marks_failed { IfErr result (MarksFailed D.DriverModel driver.old driver.new) }

@@ -24,7 +24,7 @@ loop-at-init g c = let d = g.D.DriverModel in record {
   range_change = λ below. ran_same {B = List Layer} d alone_ghosts ⊤ (GivesDiscarded c.args.discarding below c.args.offset c.args.n) c.args.driver.now below;
   room = λ well_formed. room_same d (IsOut c.args.offset c.args.n) (λ _. ⊤) c.args.driver.now;
   given = λ well_formed. given_none (d.unallocated c.args.driver.now) (d.layer c.args.driver.now).fixed.unit (d.layer c.args.driver.now).size c.args.offset c.args.n;
-  began = λ x call b part. b;
+  began = λ x call b part kind. b;
 }
 
 pub loop-at-preserved : goal.loop-at-preserved
@@ -45,7 +45,7 @@ loop-at-preserved g c = let d = g.D.DriverModel in
           let reach : Reaches unit size at rest c.in-Ok.start c.in-Ok.given_up = subst (λ (f : Fixed). Reaches f.unit size at rest c.in-Ok.start c.in-Ok.given_up) l.like.fixed (subst (λ (z : ℕ). Reaches (d.layer mid).fixed.unit z at rest c.in-Ok.start c.in-Ok.given_up) l.like.size (done.reach s)) in
           given_both (d.unallocated last) unit size c.args.offset c.args.n (d.unallocated mid) at (c.in-Ok.start + c.in-Ok.given_up) (omega (arith, done.part.inside.0)) (λ p u of low is. (done.room s tt).free p tt is) (l.given well_formed)
           (given_part (d.unallocated last) unit size at rest c.in-Ok.start c.in-Ok.given_up reach (done.given s));
-      began = λ x call b part. done.stays_begun x call (l.began x call b part) (record { start = omega (arith, part.start, l.from); end = omega (arith, part.end, l.from) }) tt;
+      began = λ x call b part kind. done.stays_begun x call (l.began x call b part kind) (record { start = omega (arith, part.start, l.from); end = omega (arith, part.end, l.from) }) kind tt;
     }
 
 pub returns-in-Ok-2 : goal.returns-in-Ok-2
@@ -93,7 +93,7 @@ returns-in-Err g c = let d = g.D.DriverModel in
       crash_images = λ well_formed below backed. (ran below).crash_images (intact_alone d g.met.D.FormatDriverInstance.free_loose below c.args.driver.now c.requires.free well_formed backed);
       room = λ well_formed whole. gives_up_both d c.args.offset c.args.n at rest first mid last l.from (omega (arith, l.from)) (l.room well_formed) (done.room (safe_on well_formed) not_resource_error);
       gives_up = λ well_formed below x call began part is_for none.
-          absurd (undeclined below (d.layer mid) at rest (d.own_cause x below call) (files d mid) (files d last) c.in-Err.fault none declined (done.refused.cause (safe_on well_formed) below x call (l.began x call began part) (record { start = omega (arith, part.start, l.from); end = omega (arith, part.end, l.from) }) is_for));
+          absurd (undeclined below (d.layer mid) at rest (d.own_cause x below call) (files d mid) (files d last) c.in-Err.fault none declined (done.refused.cause (safe_on well_formed) below x call (l.began x call began part is_for) (record { start = omega (arith, part.start, l.from); end = omega (arith, part.end, l.from) }) is_for));
       failed = tt;
       marks_failed = tt;
       cause = λ well_formed below x call began part is_for. tt;
@@ -123,7 +123,7 @@ returns-in-Err-2 g c = let d = g.D.DriverModel in
           let has_no_dirty_data = (l.range_change []).mutating_call.safely (tt, tt) well_formed in
           part_cause_later below (d.layer c.args.driver.now) (d.layer c.loop-at.driver) c.args.offset c.args.n c.loop-at.at (c.args.offset + c.args.n - c.loop-at.at) (files d c.args.driver.now) (files d c.loop-at.driver) (files d c.discard_part.new.driver)
           l.like.fixed l.like.size (g.met.D.FormatDriverInstance.well_formed_is_usable c.args.driver.now well_formed) (g.met.D.FormatDriverInstance.well_formed_is_usable c.loop-at.driver has_no_dirty_data) (layer_aligned d.layer g.met.D.FormatDriverInstance.aligned c.args.driver.now).positive
-          l.from (omega (arith, l.from)) (l.range_change []).mutating_call.counts_not_fallen (d.own_cause x below call) (d.own_cause x below call) c.in-Err.fault (λ h. h) (undeclined_cause below (d.layer c.loop-at.driver) c.loop-at.at (c.args.offset + c.args.n - c.loop-at.at) (d.own_cause x below call) (files d c.loop-at.driver) (files d c.discard_part.new.driver) c.in-Err.fault (λ h. absurd (cc (c.if-is_declined.ensures.1 h))) (done.refused.cause has_no_dirty_data below x call (l.began x call began part) within is_for));
+          l.from (omega (arith, l.from)) (l.range_change []).mutating_call.counts_not_fallen (d.own_cause x below call) (d.own_cause x below call) c.in-Err.fault (λ h. h) (undeclined_cause below (d.layer c.loop-at.driver) c.loop-at.at (c.args.offset + c.args.n - c.loop-at.at) (d.own_cause x below call) (files d c.loop-at.driver) (files d c.discard_part.new.driver) c.in-Err.fault (λ h. absurd (cc (c.if-is_declined.ensures.1 h))) (done.refused.cause has_no_dirty_data below x call (l.began x call began part is_for) within is_for));
     }
 
 pub returns-clause-mutating_call : goal.returns-clause-mutating_call

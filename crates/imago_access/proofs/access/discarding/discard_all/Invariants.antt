@@ -2,9 +2,10 @@ use Rattle.std.proofs.Common.{◌-◌, ◌≡◌, ◌≤◌, List}
 use Rattle.std.specs.Prelude.{⊤}
 use Rattle.imago_storage.specs.Steps.{Call}
 use Rattle.imago_access.specs.Layer.{Layer, KeepsLayerState}
-use Rattle.imago_access.specs.RangeCalls.{GivesDiscarded}
+use Rattle.imago_access.specs.RangeCalls.{GivesDiscarded, discard_by}
 use Rattle.imago_access.specs.Room.{GivesUp, IsGivenUpTo}
 use Rattle.imago_access.specs.Parts.{IsPartOf}
+use Rattle.imago_access.specs.PartCalls.{IsFor}
 use Rattle.imago_access.specs.Running.{DriverRangeChange}
 use Rattle.imago_access.proofs.access.discarding.discard_all.Given as goal
 
@@ -16,7 +17,7 @@ invariant-loop-at g l = let d = g.D.DriverModel in record {
   range_change : (below : List Layer) → DriverRangeChange d ⊤ (GivesDiscarded l.discarding below l.offset l.n) below l.fn.driver l.driver;
   room : d.well_formed l.fn.driver → GivesUp d l.offset l.n l.fn.driver l.driver;
   given : d.well_formed l.fn.driver → IsGivenUpTo (d.unallocated l.driver) (d.layer l.fn.driver).fixed.unit (d.layer l.fn.driver).size l.offset l.n l.at;
-  began : (x : _) (call : Call) → d.began x call l.fn.driver → IsPartOf call l.offset l.n → d.began x call l.driver;
+  began : (x : _) (call : Call) → d.began x call l.fn.driver → IsPartOf call l.offset l.n → IsFor (discard_by l.discarding) call → d.began x call l.driver;
 }
 
 -- proposed from the loop's first test

@@ -4,6 +4,8 @@ use Rattle.imago_access.specs.Stops.{KeepsCrashImages, GivesAny, GivesBelow}
 use Rattle.imago_access.specs.Running.{IsBetween}
 use Rattle.imago_access.specs.RangeCalls.{GivesDiscarded, discard_by}
 use Rattle.imago_access.specs.PartCalls.{PartRefused}
+use Rattle.imago_access.specs.RunCalls.{StaysBegun}
+use Rattle.imago_access.specs.Files.{HadNoResourceError}
 use Rattle.imago_access.specs.declared.access.discarding.Discarding.{Discarding}
 use Rattle.imago_access.proofs.Rewriting.{result_between, any_shows, below_shows}
 use Rattle.imago_access.proofs.access.discarding.discard_part.Goals as goal
@@ -38,3 +40,11 @@ returns-in-ToAny-clause-refused g c = let d = g.D.DriverModel in let r = c.disca
 pub returns-in-ToBacking-clause-refused : goal.returns-in-ToBacking-clause-refused
 returns-in-ToBacking-clause-refused g c = let d = g.D.DriverModel in let r = c.discard_to_backing in
     subst (λ (k : Discarding). PartRefused (discard_by k) d c.args.offset c.args.length r.result c.args.driver.now r.new.self) (sym c.in-ToBacking.is) r.ensures.refused
+
+pub returns-in-ToAny-clause-stays_begun : goal.returns-in-ToAny-clause-stays_begun
+returns-in-ToAny-clause-stays_begun g c = let d = g.D.DriverModel in let r = c.discard_to_any in
+    subst (λ (k : Discarding). StaysBegun (discard_by k) d c.args.offset c.args.length (HadNoResourceError r.result) c.args.driver.now r.new.self) (sym c.in-ToAny.is) r.ensures.does.stays_begun
+
+pub returns-in-ToBacking-clause-stays_begun : goal.returns-in-ToBacking-clause-stays_begun
+returns-in-ToBacking-clause-stays_begun g c = let d = g.D.DriverModel in let r = c.discard_to_backing in
+    subst (λ (k : Discarding). StaysBegun (discard_by k) d c.args.offset c.args.length (HadNoResourceError r.result) c.args.driver.now r.new.self) (sym c.in-ToBacking.is) r.ensures.does.stays_begun

@@ -57,7 +57,7 @@ loop-done-preserved g c = let d = g.D.DriverModel in let b = g.B.LayersBelowMode
       room = λ i. room_then d (λ _. ⊤) (λ _. ⊤) c.args.offset (length bytes) (c.args.offset + done) (length (rest_of done bytes)) y0 y1 y2 l.range_change.mutating_call.fixed (omega arith) (omega (arith, rest_long done bytes l.inside, l.inside)) (λ p there. tt) (l.room i) (c.in_ok-done.ensures.does.room (l.range_change.intact tt i) tt);
       range_change = ran_both d b ⊤ (GivesBytes c.args.offset bytes) (GivesBytes (c.args.offset + done) (rest_of done bytes)) (GivesBytes c.args.offset bytes) y0 y1 y2 x0 x1 x2 (λ p v gave. gave) (gives_rest c.args.offset done bytes l.inside) l.range_change
           (ran_weaker d b ⊤ ⊤ (GivesBytes (c.args.offset + done) (rest_of done bytes)) y1 y2 x1 x2 (λ h. h) c.in_ok-done.ensures.does.range_change);
-      began = λ e call begun part. c.in_ok-done.ensures.does.stays_begun e call (l.began e call begun part) (part_rest call c.args.offset done bytes l.inside part);
+      began = λ e call begun part. c.in_ok-done.ensures.does.stays_begun e call (l.began e call begun part) (part_rest call c.args.offset done bytes l.inside part) tt;
     }
 
 pub returns-in_err-done-clause-does : goal.returns-in_err-done-clause-does
@@ -67,7 +67,7 @@ returns-in_err-done-clause-does g c = rw (handed_on _ _ c.from_residual.ensures.
       (λ p v gave. gave) (gives_rest c.args.offset done bytes l.inside) l.range_change c.in_err-done.ensures.does.range_change;
   room = λ i not_resource_error. let d = g.D.DriverModel in let l = c.loop-done.invariant in let done = c.loop-done.done in let bytes = c.args.bytes.now in
       room_then d (λ _. ⊤) (λ _. ⊤) c.args.offset (length bytes) (c.args.offset + done) (length (rest_of done bytes)) c.args.driver.now c.loop-done.driver c.write_run.new.driver l.range_change.mutating_call.fixed (omega arith) (omega (arith, rest_long done bytes l.inside, l.inside)) (λ p there. tt) (l.room i) (c.in_err-done.ensures.does.room (l.range_change.intact tt i) not_resource_error);
-  stays_begun = λ e call begun part. tt;
+  stays_begun = λ e call begun part kind. tt;
 })
 
 pub returns-in_err-done-clause-refused : goal.returns-in_err-done-clause-refused
@@ -96,7 +96,7 @@ pub returns-clause-does : goal.returns-clause-does
 returns-clause-does g c = record {
   range_change = c.loop-done.invariant.range_change;
   room = λ i whole. c.loop-done.invariant.room i;
-  stays_begun = λ e call begun part. c.loop-done.invariant.began e call begun part;
+  stays_begun = λ e call begun part kind. c.loop-done.invariant.began e call begun part;
 }
 
 pub returns-clause-refused : goal.returns-clause-refused

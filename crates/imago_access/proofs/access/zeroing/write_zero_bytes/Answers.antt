@@ -57,7 +57,7 @@ loop-done-preserved g c = let count = c.in_ok-done.field-0 in let d = g.D.Driver
           (subst (λ (m : ℕ). IsUncutAt (d.layer y1).fixed.unit (d.layer y1).size start m (start + count)) left (c.in_ok-done.ensures.uncut (l.range_change.intact tt i))));
       takes = λ i. room_then d (λ _. ⊤) (λ _. ⊤) c.args.offset c.args.n (c.args.offset + done) rest y0 y1 y2 l.range_change.mutating_call.fixed (omega arith) (omega (arith, l.inside)) (λ p there. tt) (l.takes i) (c.in_ok-done.ensures.does.room (l.range_change.intact tt i) tt);
       range_change = ran;
-      began = λ e call begun part. c.in_ok-done.ensures.does.stays_begun e call (l.began e call begun part) (record { start = omega (arith, part.start); end = omega (arith, part.end, l.inside) });
+      began = λ e call begun part. c.in_ok-done.ensures.does.stays_begun e call (l.began e call begun part) (record { start = omega (arith, part.start); end = omega (arith, part.end, l.inside) }) tt;
     }
 
 pub returns-in_err-done-clause-does : goal.returns-in_err-done-clause-does
@@ -71,7 +71,7 @@ returns-in_err-done-clause-does g c = rw (handed_on _ _ c.from_residual.ensures.
       let done = c.loop-done.done in let rest = c.args.n - done in
       let y0 = c.args.driver.now in let y1 = c.loop-done.driver in let y2 = c.write_zero_run.new.driver in let x0 = c.args.below.now in let x1 = c.loop-done.below in let x2 = c.write_zero_run.new.below in
       room_then d (λ _. ⊤) (λ _. ⊤) c.args.offset c.args.n (c.args.offset + done) rest y0 y1 y2 l.range_change.mutating_call.fixed (omega arith) (omega (arith, l.inside)) (λ p there. tt) (l.takes i) (c.in_err-done.ensures.does.room (l.range_change.intact tt i) not_resource_error);
-  stays_begun = λ e call begun part. tt;
+  stays_begun = λ e call begun part kind. tt;
 })
 
 pub returns-in_err-done-clause-refused : goal.returns-in_err-done-clause-refused
@@ -95,7 +95,7 @@ pub returns-clause-does : goal.returns-clause-does
 returns-clause-does g c = record {
   range_change = c.loop-done.invariant.range_change;
   room = λ i whole. c.loop-done.invariant.takes i;
-  stays_begun = λ e call begun part. c.loop-done.invariant.began e call begun part;
+  stays_begun = λ e call begun part kind. c.loop-done.invariant.began e call begun part;
 }
 
 pub returns-clause-refused : goal.returns-clause-refused

@@ -50,7 +50,7 @@ returns-in_ok-commit_or_abandon-in-Ok-clause-does g c = record {
       takes_run d (IsApart (d.layer a0).fixed.unit c.args.offset c.args.n) a0 a1 a2 a3 (c.in_ok-mapping.ensures.does.room i.is_well_formed i.is_coherent tt) (wrote.room safe1 tt)
       (zeroes_loose (d.layer a0).fixed.unit c.args.offset c.args.n n (d.layer a1) (d.layer a2) run (c.in_ok-mapping.ensures.does.no_range_overflow i.is_well_formed i.is_coherent) (wrote.ok safe1))
       (c.in_ok-commit_or_abandon-in-Ok.ensures.room ((wrote.range_change []).mutating_call.safely (tt, tt) safe1) tt);
-  stays_begun = λ e call begun part. c.in_ok-commit_or_abandon-in-Ok.ensures.stays_begun e call (c.in-Ok.ensures.stays_begun e call (c.in_ok-mapping.ensures.does.stays_begun e call begun part tt));
+  stays_begun = λ e call begun part kind. c.in_ok-commit_or_abandon-in-Ok.ensures.stays_begun e call (c.in-Ok.ensures.stays_begun e call (c.in_ok-mapping.ensures.does.stays_begun e call begun part tt));
 }
 
 pub returns-in_err-commit_or_abandon-in-Ok-clause-does : goal.returns-in_err-commit_or_abandon-in-Ok-clause-does
@@ -77,7 +77,7 @@ returns-in_err-commit_or_abandon-in-Ok-clause-does g c = rw (handed_on _ _ c.fro
       takes_run d (IsApart (d.layer a0).fixed.unit c.args.offset c.args.n) a0 a1 a2 a3 (c.in_ok-mapping.ensures.does.room i.is_well_formed i.is_coherent tt) (wrote.room safe1 tt)
       (zeroes_loose (d.layer a0).fixed.unit c.args.offset c.args.n n (d.layer a1) (d.layer a2) run (c.in_ok-mapping.ensures.does.no_range_overflow i.is_well_formed i.is_coherent) (wrote.ok safe1))
       (c.in_err-commit_or_abandon-in-Ok.ensures.room ((wrote.range_change []).mutating_call.safely (tt, tt) safe1) not_resource_error);
-  stays_begun = λ e call begun part. tt;
+  stays_begun = λ e call begun part kind. tt;
 })
 
 pub returns-in_err-commit_or_abandon-in-Ok-clause-refused : goal.returns-in_err-commit_or_abandon-in-Ok-clause-refused
@@ -120,7 +120,7 @@ returns-in-Err-clause-does g c = record {
       let safe1 : d.well_formed a1 = c.in_ok-mapping.ensures.does.mutating_call.safely (tt, i.is_coherent) i.is_well_formed in
       let wrote = c.in-Err.ensures in
       takes_none_thrice d (IsApart (d.layer a0).fixed.unit c.args.offset c.args.n) a0 a1 a2 a3 (c.in_ok-mapping.ensures.does.room i.is_well_formed i.is_coherent tt) (wrote.room safe1 not_resource_error) (c.abandon.ensures.room ((wrote.range_change []).mutating_call.safely (not_resource_error, tt) safe1));
-  stays_begun = λ e call begun part. tt;
+  stays_begun = λ e call begun part kind. tt;
 }
 
 pub returns-in-Err-clause-refused : goal.returns-in-Err-clause-refused
@@ -153,7 +153,7 @@ returns-in_err-mapping-clause-does g c = rw (handed_on _ _ c.from_residual.ensur
       ran_gives d b (IsNotResourceError c.in_err-mapping.field-0.0) GivesNone (GivesZero c.args.offset c.args.n) a0 a1 x0 x1 (λ p v none. absurd none)
       (ran_prepared d b (Err c.in_err-mapping.field-0.0) a0 a1 x0 x1 c.args.offset c.args.n true (g.met.D.FormatDriverInstance.free_loose a0 c.requires.free) e.size e.does.mutating_call e.below e.does.ok e.does.err e.does.crash_images);
   room = λ i whole. takes_none g.D.DriverModel (IsApart (g.D.DriverModel.layer c.args.driver.now).fixed.unit c.args.offset c.args.n) c.args.driver.now c.prepare_data_mapping.new.self (c.in_err-mapping.ensures.does.room i.is_well_formed i.is_coherent whole);
-  stays_begun = λ e call begun part. tt;
+  stays_begun = λ e call begun part kind. tt;
 })
 
 pub returns-in_ok-commit_or_abandon-in-Ok-clause-uncut : goal.returns-in_ok-commit_or_abandon-in-Ok-clause-uncut

@@ -31,7 +31,7 @@ loop-at-init g c = let d = g.D.DriverModel in let b = g.B.LayersBelowModel in re
   room = λ i. room_same d (λ p. (c.args.zeroing ≡ zeroing_is.Keep) ⊎ IsOut c.args.offset c.args.n p) (IsApart (d.layer c.args.driver.now).fixed.unit c.args.offset c.args.n) c.args.driver.now;
   given = λ i e call begun part is_for none. given_none (IsZeroedBy c.args.zeroing (d.unallocated c.args.driver.now) (d.zeroed c.args.driver.now)) (d.layer c.args.driver.now).fixed.unit (d.layer c.args.driver.now).size c.args.offset c.args.n;
   range_change = ran_same d b ⊤ (GivesZero c.args.offset c.args.n) c.args.driver.now c.args.below.now;
-  began = λ e call begun part. begun;
+  began = λ e call begun part kind. begun;
 }
 
 pub loop-at-preserved : goal.loop-at-preserved
@@ -59,7 +59,7 @@ loop-at-preserved g c = let d = g.D.DriverModel in let b = g.B.LayersBelowModel 
           let same : b.layers_below x1 ≡ b.layers_below x0 = (l.range_change.lookup_call.stays tt i.is_coherent).0 in
           let unit = (d.layer y0).fixed.unit in let size = (d.layer y0).size in
           let has_no_dirty_data : IsUndeclined (d.own_cause e (b.layers_below x1) call) = subst (λ (below : List Layer). IsUndeclined (d.own_cause e below call)) (sym same) none in
-          let more = done.given mid e call (l.began e call begun part) (record { start = omega (arith, part.start, l.from); end = omega (arith, part.end, l.inside) }) is_for has_no_dirty_data in
+          let more = done.given mid e call (l.began e call begun part is_for) (record { start = omega (arith, part.start, l.from); end = omega (arith, part.end, l.inside) }) is_for has_no_dirty_data in
           let given : IsGivenUpTo (IsZeroedBy c.args.zeroing (d.unallocated y2) (d.zeroed y2)) unit size at_now rest c.in_ok-at.at = subst (λ (f : Fixed). IsGivenUpTo (IsZeroedBy c.args.zeroing (d.unallocated y2) (d.zeroed y2)) f.unit size at_now rest c.in_ok-at.at) l.range_change.mutating_call.fixed (subst (λ (z : ℕ). IsGivenUpTo (IsZeroedBy c.args.zeroing (d.unallocated y2) (d.zeroed y2)) (d.layer y1).fixed.unit z at_now rest c.in_ok-at.at) l.range_change.size more) in
           let on_disk : at_now < size = omega (arith, c.loop-at-test.true, c.requires.inside) in
           let left = done.does.room mid tt in
@@ -67,7 +67,7 @@ loop-at-preserved g c = let d = g.D.DriverModel in let b = g.B.LayersBelowModel 
           (λ p u of ended was. left_on d (λ q. (c.args.zeroing ≡ zeroing_is.Keep) ⊎ IsOut at_now rest q) (IsApart (d.layer y1).fixed.unit at_now rest) c.args.zeroing y1 y2 p (λ keep. inl keep) (subst (λ (f : Fixed). IsApart f.unit at_now rest p) (sym l.range_change.mutating_call.fixed) (ended_apart unit size at_now rest u p on_disk ended of)) left was)
           (l.given i e call begun part is_for none) given;
       range_change = ran_both d b ⊤ (GivesZero c.args.offset c.args.n) (GivesZero at_now rest) (GivesZero c.args.offset c.args.n) y0 y1 y2 x0 x1 x2 (λ p v gave. gave) gives l.range_change (ran_weaker d b ⊤ ⊤ (GivesZero at_now rest) y1 y2 x1 x2 (λ h. h) done.does.range_change);
-      began = λ e call begun part. done.does.stays_begun e call (l.began e call begun part) (record { start = omega (arith, part.start, l.from); end = omega (arith, part.end, l.inside) });
+      began = λ e call begun part kind. done.does.stays_begun e call (l.began e call begun part kind) (record { start = omega (arith, part.start, l.from); end = omega (arith, part.end, l.inside) }) kind;
     }
 
 pub returns-in_err-at-clause-does : goal.returns-in_err-at-clause-does
@@ -80,7 +80,7 @@ returns-in_err-at-clause-does g c = rw (handed_on _ _ c.from_residual.ensures.1)
   room = λ i not_resource_error. let d = g.D.DriverModel in let l = c.loop-at.invariant in
       let y0 = c.args.driver.now in let y1 = c.loop-at.driver in let y2 = c.zero_run.new.driver in let at_now = c.loop-at.at in let rest = c.args.offset + c.args.n - at_now in
       room_then d (λ p. (c.args.zeroing ≡ zeroing_is.Keep) ⊎ IsOut c.args.offset c.args.n p) (λ p. (c.args.zeroing ≡ zeroing_is.Keep) ⊎ IsOut at_now rest p) c.args.offset c.args.n at_now rest y0 y1 y2 l.range_change.mutating_call.fixed l.from (omega (arith, l.inside)) (λ p there. elim there [ inl keep ↦ inl keep | inr out ↦ inr (out_wider c.args.offset c.args.n at_now rest p l.from (omega (arith, l.inside)) out) ]) (l.room i) (c.in_err-at.ensures.does.room (l.range_change.intact tt i) not_resource_error);
-  stays_begun = λ e call begun part. tt;
+  stays_begun = λ e call begun part kind. tt;
 })
 
 pub returns-in_err-at-clause-refused : goal.returns-in_err-at-clause-refused
@@ -96,7 +96,7 @@ returns-in_err-at-clause-refused g c = rw (handed_on _ _ c.from_residual.ensures
       let gives = zero_wider c.args.offset c.args.n at_now rest l.from (omega (arith, l.inside)) in
       cause_behind d b g.met.D.FormatDriverInstance.well_formed_is_usable g.met.D.FormatDriverInstance.aligned (GivesZero c.args.offset c.args.n) c.args.offset c.args.n at_now rest y0 y1 x0 x1 (files d y2 ++ b.files_of_layers_below x2)
       (λ (below : List Layer). d.own_cause e below call) c.in_err-at.field-0.0 l.from (omega (arith, l.inside)) l.range_change i
-      (c.in_err-at.ensures.refused.cause (l.range_change.intact tt i) e call (l.began e call begun part.part)
+      (c.in_err-at.ensures.refused.cause (l.range_change.intact tt i) e call (l.began e call begun part.part says.0)
       (part_within (d.layer y0) (d.layer y1) call c.args.offset c.args.n at_now rest l.range_change.mutating_call.fixed l.range_change.size l.from (omega (arith, l.inside)) (l.uncut i)
       (uncut_end (d.layer y0).fixed.unit (d.layer y0).size c.args.offset c.args.n (at_now + rest) (omega (arith, l.inside))) part) says);
 })
@@ -105,7 +105,7 @@ pub returns-clause-does : goal.returns-clause-does
 returns-clause-does g c = record {
   range_change = c.loop-at.invariant.range_change;
   room = λ i whole. c.loop-at.invariant.room i;
-  stays_begun = λ e call begun part. c.loop-at.invariant.began e call begun part;
+  stays_begun = λ e call begun part kind. c.loop-at.invariant.began e call begun part kind;
 }
 
 pub returns-clause-refused : goal.returns-clause-refused

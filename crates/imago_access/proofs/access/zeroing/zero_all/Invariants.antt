@@ -25,7 +25,7 @@ invariant-loop-at g l = let d = g.D.DriverModel in let b = g.B.LayersBelowModel 
   room : IsIntact d b l.fn.driver l.fn.below → LeavesAllocation d (λ p. (l.zeroing ≡ zeroing_is.Keep) ⊎ IsOut l.offset l.n p) (IsApart (d.layer l.fn.driver).fixed.unit l.offset l.n) l.fn.driver l.driver;
   given : IsIntact d b l.fn.driver l.fn.below → (x : _) (call : Call) → d.began x call l.fn.driver → IsPartOf call l.offset l.n → IsFor (zero_by l.zeroing) call → IsUndeclined (d.own_cause x (b.layers_below l.fn.below) call) → IsGivenUpTo (IsZeroedBy l.zeroing (d.unallocated l.driver) (d.zeroed l.driver)) (d.layer l.fn.driver).fixed.unit (d.layer l.fn.driver).size l.offset l.n l.at;
   range_change : RangeChange d b ⊤ (GivesZero l.offset l.n) (l.fn.driver, l.fn.below) (l.driver, l.below);
-  began : (x : _) (call : Call) → d.began x call l.fn.driver → IsPartOf call l.offset l.n → d.began x call l.driver;
+  began : (x : _) (call : Call) → d.began x call l.fn.driver → IsPartOf call l.offset l.n → IsFor (zero_by l.zeroing) call → d.began x call l.driver;
 }
 
 -- proposed from the loop's first test

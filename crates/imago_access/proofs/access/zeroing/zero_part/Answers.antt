@@ -3,6 +3,8 @@ use Rattle.std.specs.Prelude.{IfOk}
 use Rattle.imago_storage.specs.Steps.{IsIn}
 use Rattle.imago_access.specs.RangeCalls.{IsZeroedBy, zero_by}
 use Rattle.imago_access.specs.PartCalls.{PartRefused}
+use Rattle.imago_access.specs.RunCalls.{StaysBegun}
+use Rattle.imago_access.specs.Files.{HadNoResourceError}
 use Rattle.imago_access.specs.declared.access.zeroing.Zeroing.{Zeroing}
 use Rattle.imago_access.proofs.access.zeroing.zero_part.Goals as goal
 
@@ -27,3 +29,11 @@ returns-in-Keep-clause-refused g c = let d = g.D.DriverModel in let r = c.ensure
 pub returns-in-GiveUp-clause-refused : goal.returns-in-GiveUp-clause-refused
 returns-in-GiveUp-clause-refused g c = let d = g.D.DriverModel in let r = c.discard_to_zero in
     subst (λ (k : Zeroing). PartRefused (zero_by k) d c.args.offset c.args.length r.result c.args.driver.now r.new.self) (sym c.in-GiveUp.is) r.ensures.refused
+
+pub returns-in-Keep-clause-stays_begun : goal.returns-in-Keep-clause-stays_begun
+returns-in-Keep-clause-stays_begun g c = let d = g.D.DriverModel in let r = c.ensure_zero_mapping in
+    subst (λ (k : Zeroing). StaysBegun (zero_by k) d c.args.offset c.args.length (HadNoResourceError r.result) c.args.driver.now r.new.self) (sym c.in-Keep.is) r.ensures.does.stays_begun
+
+pub returns-in-GiveUp-clause-stays_begun : goal.returns-in-GiveUp-clause-stays_begun
+returns-in-GiveUp-clause-stays_begun g c = let d = g.D.DriverModel in let r = c.discard_to_zero in
+    subst (λ (k : Zeroing). StaysBegun (zero_by k) d c.args.offset c.args.length (HadNoResourceError r.result) c.args.driver.now r.new.self) (sym c.in-GiveUp.is) r.ensures.does.stays_begun

@@ -25,7 +25,7 @@ returns-in_err-start-clause-does g c = rw (handed_on _ _ c.from_residual.ensures
   range_change = let d = g.D.DriverModel in let b = g.B.LayersBelowModel in
       ran_zeroed d b g.met.D.FormatDriverInstance.free_loose (IsNotResourceError c.in_err-start.field-0.0) c.args.offset c.args.n c.args.driver.now c.zero_by_driver.new.driver c.args.below.now c.requires.free c.in_err-start.ensures.keeps_layer_state c.in_err-start.ensures.mutating_call c.in_err-start.ensures.values c.in_err-start.ensures.crash_images;
   room = λ i whole. room_apart g.D.DriverModel (λ (p : ℕ). (c.args.zeroing ≡ zeroing_is.Keep) ⊎ IsOut c.args.offset c.args.n p) c.args.offset c.args.n c.args.driver.now c.zero_by_driver.new.driver (c.in_err-start.ensures.room i.is_well_formed whole);
-  stays_begun = λ e call begun part. tt;
+  stays_begun = λ e call begun part kind. tt;
 })
 
 pub returns-in_err-start-clause-refused : goal.returns-in_err-start-clause-refused
@@ -61,8 +61,8 @@ returns-clause-does g c = record {
       room_both d left (λ _. ⊤) left (IsOut c.args.offset c.args.n) (IsApart (d.layer y1).fixed.unit c.args.offset gap) (IsApart unit c.args.offset c.args.n) y0 y1 y2 (λ p there. (there, tt))
       (λ p apart. (apart_out unit c.args.offset c.args.n p apart, subst (λ (f : Fixed). IsApart f.unit c.args.offset gap p) (sym done.keeps_layer_state.fixed) (apart_wider unit c.args.offset c.args.n c.args.offset gap p (omega arith) (omega (arith, inside, done.part.0)) apart)))
       (done.room i.is_well_formed tt) (c.in_ok-write_zero_bytes.ensures.does.room (one.intact tt i) tt);
-  stays_begun = λ e call begun part. let done = c.in_ok-start.ensures in
-      c.in_ok-write_zero_bytes.ensures.does.stays_begun e call (done.stays_begun e call begun part) (record { start = part.start; end = omega (arith, part.end, done.part.0, done.part.1, done.part.3) });
+  stays_begun = λ e call begun part kind. let done = c.in_ok-start.ensures in
+      c.in_ok-write_zero_bytes.ensures.does.stays_begun e call (done.stays_begun e call begun part kind) (record { start = part.start; end = omega (arith, part.end, done.part.0, done.part.1, done.part.3) }) tt;
 }
 
 pub returns-clause-refused : goal.returns-clause-refused
@@ -93,7 +93,7 @@ returns-in_err-write_zero_bytes-clause-does g c = rw (handed_on _ _ c.from_resid
       room_both d left (λ _. ⊤) left (IsOut c.args.offset c.args.n) (IsApart (d.layer y1).fixed.unit c.args.offset gap) (IsApart unit c.args.offset c.args.n) y0 y1 y2 (λ p there. (there, tt))
       (λ p apart. (apart_out unit c.args.offset c.args.n p apart, subst (λ (f : Fixed). IsApart f.unit c.args.offset gap p) (sym done.keeps_layer_state.fixed) (apart_wider unit c.args.offset c.args.n c.args.offset gap p (omega arith) (omega (arith, inside, done.part.0)) apart)))
       (done.room i.is_well_formed tt) (c.in_err-write_zero_bytes.ensures.does.room (one.intact tt i) whole);
-  stays_begun = λ e call begun part. tt;
+  stays_begun = λ e call begun part kind. tt;
 })
 
 pub returns-in_err-write_zero_bytes-clause-refused : goal.returns-in_err-write_zero_bytes-clause-refused
@@ -115,7 +115,7 @@ returns-in_err-write_zero_bytes-clause-refused g c = rw (handed_on _ _ c.from_re
       cause_behind d b g.met.D.FormatDriverInstance.well_formed_is_usable g.met.D.FormatDriverInstance.aligned (GivesZero c.args.offset c.args.n) c.args.offset c.args.n c.args.offset gap y0 y1 x0 x0 (files d y2 ++ b.files_of_layers_below x2)
       (λ (below : List Layer). d.own_cause e below call) c.in_err-write_zero_bytes.field-0.0 (omega arith) (omega (arith, inside, done.part.0)) one i
       (let back : start ≡ c.args.offset + gap = omega (arith, done.part.0) in
-      c.in_err-write_zero_bytes.ensures.refused.cause (one.intact tt i) e call (done.stays_begun e call begun part.part)
+      c.in_err-write_zero_bytes.ensures.refused.cause (one.intact tt i) e call (done.stays_begun e call begun part.part says.0)
       (part_within (d.layer y0) (d.layer y1) call c.args.offset c.args.n c.args.offset gap done.keeps_layer_state.fixed done.keeps_layer_state.size (omega arith) (omega (arith, inside, done.part.0))
       (uncut_start (d.layer y0).fixed.unit (d.layer y0).size c.args.offset c.args.n)
       (subst (IsUncutAt (d.layer y0).fixed.unit (d.layer y0).size c.args.offset c.args.n) back (done.uncut i.is_well_formed).0) part) says.1);
