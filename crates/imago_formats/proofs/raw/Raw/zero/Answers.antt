@@ -45,7 +45,7 @@ returns-in_err-zero_range-clause-does g c =
         stays_stable = λ stable. le_trans stable long;
         excess_refcount = λ whole well_formed c. refl;
       };
-      stays_begun = λ d whole began part same. tt;
+      stays_begun = λ d whole began part kind same. tt;
       crash_images = λ well_formed below told. written_stops c.zero_range.result old new c.args.offset zeroes c.zero_range.ensures.ok
           c.zero_range.ensures.err below r.size r.writable (GivesZero c.args.offset c.args.length) well_formed.1
           c.zero_range.ensures.crash_images c.zero_range.ensures.as_long
@@ -85,7 +85,7 @@ returns-clause-does g c =
         stays_stable = λ stable. le_trans stable long;
         excess_refcount = λ whole well_formed c. refl;
       };
-      stays_begun = λ d whole began part same. tt;
+      stays_begun = λ d whole began part kind same. tt;
       crash_images = λ well_formed below told. written_stops c.zero_range.result old new c.args.offset zeroes c.zero_range.ensures.ok
           c.zero_range.ensures.err below r.size r.writable (GivesZero c.args.offset c.args.length) well_formed.1
           c.zero_range.ensures.crash_images c.zero_range.ensures.as_long

@@ -18,7 +18,7 @@ returns-in-Ok-clause-does g c =
       room = λ well_formed whole. search rules;
       keeps_layer_state = search rules;
       mutating_call = search rules;
-      stays_begun = λ d whole began part same. tt;
+      stays_begun = λ d whole began part kind same. tt;
       crash_images = λ well_formed below told. given_stops old new r.size r.writable c.args.offset c.args.length c.discard.ensures.unit.positive c.size-bytes.ensures.bytes below well_formed.1 c.in-Ok.ensures.ok;
     }
 
@@ -45,6 +45,6 @@ returns-in-Err-clause-does g c =
         stays_stable = λ stable. subst (λ (n : ℕ). r.size ≤ n) (sym (ungiven_long old new c.args.offset c.args.length c.in-Err.fault refused)) stable;
         excess_refcount = λ whole well_formed c. refl;
       };
-      stays_begun = λ d whole began part same. tt;
+      stays_begun = λ d whole began part kind same. tt;
       crash_images = λ well_formed below told. search rules;
     }

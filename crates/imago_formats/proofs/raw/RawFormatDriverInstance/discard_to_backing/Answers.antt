@@ -15,7 +15,7 @@ returns-clause-does g c =
       room = λ well_formed whole. search rules;
       keeps_layer_state = zeroed.keeps_layer_state;
       mutating_call = zeroed.mutating_call;
-      stays_begun = zeroed.stays_begun;
+      stays_begun = λ d whole began part kind same. tt;
       crash_images = λ well_formed below backed. backed_stops below (g.S.Storage.state r.storage) (g.S.Storage.state c.zero.new.self.storage) r.size r.writable c.args.offset c.args.length backed (zeroed.crash_images well_formed below tt);
     }
 
