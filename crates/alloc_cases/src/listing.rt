@@ -184,6 +184,11 @@ impl Waiting {
         Ok(())
     }
 
+    // Reserves memory for `count` entries.
+    fn reserve(&mut self, count: usize) -> Result<(), Trouble> {
+        Ok(self.list.reserve(count)?)
+    }
+
     // Gives clusters back, in a reserved slot.
     fn give_back(&mut self, parts: Parts) -> Result<(), Trouble> {
         let Some(hold) = self.list.reserved_slot() else {
@@ -241,6 +246,7 @@ impl Waiting {
             ["guard", kind, first, count] => self.guard(parts(kind, first, count)?),
             ["give_back", kind, first, count] => self.give_back(parts(kind, first, count)?),
             ["hold"] => self.hold(),
+            ["reserve", count] => self.reserve(size(count)?),
             ["shorten", index, count] => self.shorten(size(index)?, number(count)?),
             ["take_list"] => self.take(),
             _ => Err(Trouble::NoCall),

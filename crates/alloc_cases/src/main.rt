@@ -50,7 +50,8 @@
 //!
 //! - `wait KIND FIRST COUNT`: adds an entry. `guard KIND FIRST COUNT`: makes clusters pending, with a reserved slot (memory for their
 //!   entry). `keep`, `return`: the last pending clusters are referenced, or given back; `none` if nothing is pending. `hold`: reserves a
-//!   slot. `give_back KIND FIRST COUNT`; `shorten INDEX COUNT`; `remove INDEX`; `take_list`, and `taken`, the entries that it took.
+//!   slot. `reserve COUNT`: reserves memory for COUNT entries, and no slot. `give_back KIND FIRST COUNT`; `shorten INDEX COUNT`;
+//!   `remove INDEX`; `take_list`, and `taken`, the entries that it took.
 //! - `list`, `held`, `length`, `first_metadata`.
 //!
 //! # A cache of numbers
@@ -181,6 +182,7 @@ fn topic_of(word: &str) -> Option<Topic> {
         | "guard"
         | "give_back"
         | "hold"
+        | "reserve"
         | "shorten"
         | "take_list"
         | "keep"

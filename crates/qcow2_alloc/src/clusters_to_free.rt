@@ -134,6 +134,29 @@ impl ClustersToFreeList {
         }
     }
 
+    /// Reserves memory for `count` entries that are added later, in addition to the reserved slots.
+    ///
+    /// It reserves no slot. Call it before a change that adds several entries, so that memory runs out before the change and not during it.
+    /// The contract of `push` still allows `Fault::Memory`.
+    ///
+    /// # Errors
+    ///
+    /// - `Fault::Memory` if memory ran out.
+    ///
+    /// # On error
+    ///
+    /// The list is unchanged, as it is after success.
+    pub fn reserve(&mut self, count: usize) -> Result<(), Fault>
+        ensures unchanged { self.new ≡ self.old }
+        ensures err { IfErr result (λ fault. fault ≡ Memory) }
+    {
+        let additional = self.held.saturating_add(count);
+        match self.entries.reserve(additional) {
+            Ok(()) => Ok(()),
+            Err(_) => Err(Fault::Memory),
+        }
+    }
+
     /// Reserves a slot: memory for one entry. With it, clusters that are allocated later can be given back without memory.
     ///
     /// # Errors
