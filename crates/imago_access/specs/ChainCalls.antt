@@ -90,7 +90,7 @@ CallRefused g call result old new = IsIntactChain g old → IfErr result (OwnCau
 
 -- If the top driver doesn't decline the call, each unit (a cluster in qcow2) that is completely in its range is deallocated
 -- (`GivesUnitsUp`) or zeroed (`ZeroesUnits`). This says nothing about a raw or VMDK top, where each byte counts as unallocated and zeroed.
--- This says nothing about a qcow2 top either, as its driver may decline each such call.
+-- A qcow2 top of version 3 declines none of these calls, and one of version 2 all but a discard to the backing file.
 abbrev pub GivesUnitsUp : {D St : Type 0} → Ghosts D St → Call → Result Unit Fault → D × List D → D × List D → Type 0
 GivesUnitsUp g call result old new = IsIntactChain g old → WontDecline g call old
     → OnOk result (IsGivenUp (g.unallocated new.0) (g.layer old.0).fixed.unit (g.layer old.0).size (offset_of call) (length_of call))

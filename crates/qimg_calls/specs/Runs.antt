@@ -54,7 +54,7 @@ pub record Made {D St : Type 0} (g : Ghosts D St) (call : Call) (answer : Answer
   pub idle : IsIdle g call old.now → WasDone answer
   pub moves : CallEffect g call answer old.now new.now
   -- The allocation that the call changes. `units` says nothing about a raw or VMDK top, where each byte counts as unallocated and zeroed.
-  -- It says nothing about a qcow2 top whose driver may decline each zeroing and discard.
+  -- A qcow2 top of version 3 declines no zeroing and no discard, and one of version 2 all but a discard to the backing file.
   pub room : GoesOn answer → LeavesRoomFor g call old.now.drivers.0 new.now.drivers.0
   pub units : WontDecline g (disk_call g old.now call) old.now.drivers → WasDone answer
       → SettlesUnits g call old.now.drivers.0 new.now.drivers.0
