@@ -1,15 +1,16 @@
 -- Lemmas on what a call needs of the layers below, and on the changes of an image since the call began.
 use Rattle.std.proofs.Common.{◌≡◌, ℕ, ◌+◌, ◌-◌, ◌*◌, ◌/◌, ◌%◌, ◌^◌, ◌<◌, ◌≤◌, refl, arith, ap, sym, subst, ◌∙◌, inl, inr, Some, List}
-use Rattle.std.specs.Prelude.{◌⊎◌, Bool, None, false, length, min, slice_index, true}
+use Rattle.std.specs.Prelude.{◌⊎◌, Bool, IsSome, None, Option, false, length, min, slice_index, true}
 use Rattle.std.proofs.lemmas.Bool.{cases_lt}
 use Rattle.std.proofs.lemmas.Nat.{div-add-mod', mod_below, pow_pos}
 use Rattle.imago_storage.specs.Disk.{Value, byte}
 use Rattle.imago_storage.specs.Causes.{offset_of, length_of}
-use Rattle.imago_storage.specs.Steps.{Call}
+use Rattle.imago_storage.specs.Steps.{Call, discard_to_backing}
 use Rattle.imago_storage.specs.declared.storage.Storage.{Ghosts}
 use Rattle.imago_access.specs.Chain.{at}
 use Rattle.imago_access.specs.Changes.{Asked, CommitsPlace, TakesByte, Wrote}
 use Rattle.imago_access.specs.Layer.{Cell, Held, Layer, beside, inside, loose, own, through}
+use Rattle.imago_access.specs.PartCalls.{IsFor, discards_to_backing}
 use Rattle.imago_access.specs.Parts.{IsUncutPart, announces}
 use Rattle.imago_access.specs.Room.{IsOfUnit, IsUncutAt, IsWholeUnit}
 use Rattle.imago_access.specs.declared.driver_model.LayersBelowModel.{Ghosts as GhostsBelow}
@@ -18,32 +19,54 @@ use Rattle.qcow2_types.specs.Header.{Fields, cluster_size}
 use Rattle.qcow2_image.specs.Filling.{IsNeededFor, NeedsShown}
 use Rattle.qcow2_image.specs.Preparing.{first_part}
 use Rattle.qcow2_image.specs.Seen.{writable_locations_of, layer_of}
-use Rattle.qcow2_image.specs.Writing.{ComesToBytes, IsNeeded, NeedsValue, Since}
+use Rattle.qcow2_image.specs.Writing.{ComesToBytes, IsNeeded, KeepsWritableLocations, MayBecome, NeedsValue, Since}
 use Rattle.qcow2_image.specs.declared.qcow2.Qcow2.{Qcow2}
 use Rattle.qcow2_image.specs.Leaking.{KeepsLeaks}
 
-bytes-then : (a b c : ℕ → Cell) → ComesToBytes a b → ComesToBytes b c → ComesToBytes a c
-bytes-then a b c first second p = elim (second p) [
-  | inr given ↦ inr given
-  | inl same ↦ elim (first p) [
+becomes-then : (call : Call) (a b c : Cell) → MayBecome call a b → MayBecome call b c → MayBecome call a c
+becomes-then call a b c first second = elim second [
+  | inr other ↦ inr other
+  | inl same ↦ elim first [
     | inl before ↦ inl (same ∙ before)
-    | inr given ↦ inr (given.0, same ∙ given.1)
+    | inr other ↦ inr (elim other [
+      | inl given ↦ inl (given.0, same ∙ given.1)
+      | inr gone ↦ inr (gone.0, same ∙ gone.1)
+    ])
   ]
 ]
 
--- A step that keeps writable locations, gives bytes and keeps the leaks preserves `Since`.
-pub since-as : {S : Type 0} (g : Ghosts S) (d old new : Qcow2 S g) → ((p : ℕ) (at : ℕ × ℕ) → writable_locations_of g old p ≡ Some at → writable_locations_of g new p ≡ Some at)
+-- Changes since a call began, one after another.
+pub since-then : {S : Type 0} (g : Ghosts S) (call : Call) (d old new : Qcow2 S g) → Since g d call old → Since g old call new
+    → Since g d call new
+since-then g call d old new first second = record {
+  writable_locations = λ keeps p at is. second.writable_locations keeps p at (first.writable_locations keeps p at is);
+  cells = λ p.
+      becomes-then call ((layer_of g d).cell p) ((layer_of g old).cell p) ((layer_of g new).cell p) (first.cells p) (second.cells p);
+  size = second.size ∙ first.size;
+  bits = second.bits ∙ first.bits;
+  version = second.version ∙ first.version;
+  leaks = λ c. let one = first.leaks c in let two = second.leaks c in omega (arith, one, two);
+}
+
+byte-becomes : (call : Call) (a b : Cell) → (b ≡ a) ⊎ ((x : ℕ) × (b ≡ own (byte x))) → MayBecome call a b
+byte-becomes call a b (inl same) = inl same
+byte-becomes call a b (inr given) = inr (inl given)
+
+-- A step that keeps writable locations, gives bytes and keeps the leaks preserves `Since`, for any call.
+pub since-as : {S : Type 0} (g : Ghosts S) (call : Call) (d old new : Qcow2 S g) → KeepsWritableLocations g old new
     → ComesToBytes (layer_of g old).cell (layer_of g new).cell
     → new.tables.file.header.fields.size ≡ old.tables.file.header.fields.size
-    → new.tables.file.header.fields.cluster_bits ≡ old.tables.file.header.fields.cluster_bits → KeepsLeaks g old new → Since g d old
-    → Since g d new
-since-as g d old new writable_locations cells size bits leaks since = record {
-  writable_locations = λ p at is. writable_locations p at (since.writable_locations p at is);
-  cells = bytes-then (layer_of g d).cell (layer_of g old).cell (layer_of g new).cell since.cells cells;
-  size = size ∙ since.size;
-  bits = bits ∙ since.bits;
-  leaks = λ c. let first = since.leaks c in let second = leaks c in omega (arith, first, second);
-}
+    → new.tables.file.header.fields.cluster_bits ≡ old.tables.file.header.fields.cluster_bits
+    → new.tables.file.header.fields.version ≡ old.tables.file.header.fields.version → KeepsLeaks g old new → Since g d call old
+    → Since g d call new
+since-as g call d old new writable_locations cells size bits version leaks since = since-then g call d old new since (record {
+  writable_locations = λ keeps. writable_locations;
+  cells = λ p. byte-becomes call ((layer_of g old).cell p) ((layer_of g new).cell p) (cells p);
+  size = size;
+  bits = bits;
+  version = version;
+  leaks = leaks;
+})
 
 -- After a commit a byte of the run has the same cell, or a byte of its own.
 pub settles-byte : (h : Held) (was is : Cell) → CommitsPlace h was is → (is ≡ was) ⊎ ((b : ℕ) × (is ≡ own (byte b)))
@@ -112,8 +135,13 @@ module _ (c size offset n : ℕ) (one : 0 < c) (some : 0 < n) (inside : offset +
 some-true : (b : Bool) → Some b ≡ Some true → b ≡ true
 some-true b is = cc is
 
+-- A discard to the backing file prepares no mapping.
+discard-prepares-none : (call : Call) (b : Bool) → IsFor discards_to_backing call → Some b ≡ announces call → ⊥
+discard-prepares-none (discard_to_backing offset n) b is announced = cc announced
+discard-prepares-none call b is announced = is
+
 -- A byte that is needed for a part of a range is needed by the whole call. It had the same value when the call began.
-module _ {S : Type 0} (g : Ghosts S) (old d : Qcow2 S g) (since : Since g d old) (below : List Layer) (asked : Asked) (call : Call)
+module _ {S : Type 0} (g : Ghosts S) (old d : Qcow2 S g) (below : List Layer) (asked : Asked) (call : Call) (since : Since g d call old)
     (some : 0 < asked.length) (inside : asked.offset + asked.length ≤ old.tables.file.header.fields.size)
     (uncut : IsUncutPart (layer_of g old) call asked.offset asked.length) (same : Some asked.overwrite ≡ announces call) where
   abbrev h : Fields
@@ -132,6 +160,7 @@ module _ {S : Type 0} (g : Ghosts S) (old d : Qcow2 S g) (since : Since g d old)
     met = asked.offset;
     in_range = (uncut.part.start, omega (arith, some, uncut.part.end));
     in_unit = first-of c h.size asked.offset asked.length one some inside;
+    prepares = subst (λ (o : Option Bool). IsSome o) same refl;
     part = λ announced whole. n.part (some-true asked.overwrite (same ∙ announced))
         (whole-part c h.size asked.offset asked.length one some inside (offset_of call) (length_of call) uncut.start uncut.end whole);
   }
@@ -141,7 +170,10 @@ module _ {S : Type 0} (g : Ghosts S) (old d : Qcow2 S g) (since : Since g d old)
       → through ((layer_of g d).cell p) (at below p) ≡ value
   shown-since value none p shows = elim (since.cells p) [
     | inl same ↦ ap (λ (x : Cell). through x (at below p)) (sym same) ∙ shows
-    | inr given ↦ absurd (none given.0 (sym (ap (λ (x : Cell). through x (at below p)) given.1) ∙ shows))
+    | inr other ↦ elim other [
+      | inl given ↦ absurd (none given.0 (sym (ap (λ (x : Cell). through x (at below p)) given.1) ∙ shows))
+      | inr gone ↦ absurd (discard-prepares-none call asked.overwrite gone.0 same)
+    ]
   ]
 
   pub needs-shown : {B : Type 0} (u : GhostsBelow B) (x : B) → below ≡ u.layers_below x → (value : Value) → ((b : ℕ) → byte b ≡ value → ⊥)

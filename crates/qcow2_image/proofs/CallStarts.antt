@@ -40,7 +40,7 @@ whole-cut (Err Storage) begun f whole = absurd whole
 whole-cut (Err fault) begun f whole = refl
 
 -- Before a change has begun, only a storage fault sets the image to failed.
-unbegun-cut : {T : Type 0} (r : Result T Fault) (f : Bool) → failed_by_resource_error r false f ≡ failed_after failed_by r f
+pub unbegun-cut : {T : Type 0} (r : Result T Fault) (f : Bool) → failed_by_resource_error r false f ≡ failed_after failed_by r f
 unbegun-cut (Ok v) f = refl
 unbegun-cut (Err Memory) f = refl
 unbegun-cut (Err Storage) f = refl

@@ -71,10 +71,10 @@ pub empty-run : (offset size asked : ℕ) → offset < size → asked ≡ 0 → 
 empty-run offset size asked inside none = (inside, omega (arith), omega (arith, inside), λ some. absurd (not-some some none))
 
 module _ {D St : Type 0} (g : Ghosts D St) where
-  like-same : (d : D) → KeepsLayerState (g.layer d) (g.layer d)
+  pub like-same : (d : D) → KeepsLayerState (g.layer d) (g.layer d)
   like-same d = record { fixed = refl; size = refl; unspent = refl; failed = λ f. f }
 
-  stops-same : (below : List Layer) (least most : ℕ) (gives : ℕ → Value → Type 0) (d : D) → KeepsCrashImagesTo g below least most gives d d
+  pub stops-same : (below : List Layer) (least most : ℕ) (gives : ℕ → Value → Type 0) (d : D) → KeepsCrashImagesTo g below least most gives d d
   stops-same below least most gives d =
       passes_none (Left below (g.layer d) (g.image d).bytes g.sound least most gives) (g.image d) (g.image d) refl (refl, refl, refl, refl)
 

@@ -33,7 +33,7 @@ use Rattle.qcow2_alloc.specs.Finding.{pinned_in}
 use Rattle.qcow2_alloc.specs.Memory.{Cached}
 use Rattle.qcow2_alloc.specs.Opening.{IsL1Of}
 use Rattle.qcow2_alloc.specs.GuestView.{Metadata, IsSound, in_memory}
-use Rattle.qcow2_alloc.specs.WellFormedness.{IsCachedTable}
+use Rattle.qcow2_alloc.specs.WellFormedness.{AreTablesClean, IsCachedTable}
 use Rattle.qcow2_alloc.proofs.Flushing.FlushRefusals.{writing-implies}
 use Rattle.qcow2_alloc.proofs.Causes.{cause-weaker}
 use Rattle.qcow2_alloc.proofs.Memory.SafeLaws.{clean-memory}
@@ -49,6 +49,7 @@ use Rattle.qcow2_clusters.specs.Progress.{Kind, Progresses}
 use Rattle.qcow2_clusters.specs.declared.space.Space.{Space}
 use Rattle.qcow2_clusters.proofs.RunNames.{run-gives, run-sets}
 use Rattle.qcow2_clusters.specs.Flushed.{Clusters, IsReady, clusters_state, nothing_cached, flushed_metadata}
+use Rattle.qcow2_clusters.specs.Storing.{Rests}
 use Rattle.qcow2_clusters.specs.WritingBack.{without_tables}
 use Rattle.qcow2_image.specs.Caching.{IsClean, IsUnpinned}
 use Rattle.qcow2_image.specs.Committing.{CommitsUnspent, LinksHost, NamesWith, SpendsUnspent, answer_of, failed_after_any, held_after, reserved_of}
@@ -77,7 +78,8 @@ own-either : (is_kept : Bool) (m : Metadata) (guest host : ℕ) → IsOwnAs is_k
 own-either true m guest host mine = inr mine
 own-either false m guest host mine = inl mine
 
-same-parts : (a b d : ℕ) → a / d ≡ b / d → a % d ≡ b % d → a ≡ b
+-- Numbers with the same quotient and remainder are equal.
+pub same-parts : (a b d : ℕ) → a / d ≡ b / d → a % d ≡ b % d → a ≡ b
 same-parts a b d rows columns =
     let product : a / d * d ≡ b / d * d = ap (λ x. x * d) rows in
     omega (arith, product, columns, div-add-mod' a d, div-add-mod' b d)
@@ -506,7 +508,7 @@ spends-by g mapping_id old mid u taken named tables names new is result answer b
   tables-same : mid.tables ≡ old.tables
   tables-same = ap (λ (d : Qcow2 _ g). d.tables) taken.2
 
--- After linking nothing that is cached is dirty or pinned.
+-- After entries were set nothing that is cached is dirty or pinned.
 none-pinned : {V : Type 0} (es : List (ℕ × Slot V)) → AllByRecursion (λ e. e.1.pins ≡ 0) es → pinned_in es ≡ 0
 none-pinned [] none = refl
 none-pinned (e ∷ es) none =
@@ -516,21 +518,21 @@ none-pinned (e ∷ es) none =
     let others = none-pinned es none.1 in
     omega (arith, rest, others)
 
-module _ {S : Type 0} (state : S → StorageState) (table guest x n : ℕ) (c : Clusters S) (result : Result Unit Fault) (file : ImageFile S)
-    (caches : MetadataCaches S) (space : Space) (names : LinksRun state table guest x n c result (clusters_state file (without_tables caches) space))
-    (kept : LeavesTable state table guest x n c result (clusters_state file caches space)) where
+module _ {S : Type 0} (state : S → StorageState) (c : Clusters S) (result : Result Unit Fault) (file : ImageFile S) (caches : MetadataCaches S)
+    (space : Space) (rests : Rests state c result (clusters_state file (without_tables caches) space)) (clean : AreTablesClean (cached_in caches))
+    (unpinned : AllByRecursion (λ e. e.1.pins ≡ 0) (cached_in caches).tables) where
   no-blocks : caches.rb.slots.entries ≡ []
-  no-blocks = ap (λ (k : Cached). k.blocks) names.rests.empty
+  no-blocks = ap (λ (k : Cached). k.blocks) rests.empty
 
   pub named-clean : IsClean (cached_in caches)
-  named-clean = (kept.clean, subst (AllByRecursion (λ e. e.1.value.modified ≡ false)) (sym no-blocks) tt)
+  named-clean = (clean, subst (AllByRecursion (λ e. e.1.value.modified ≡ false)) (sym no-blocks) tt)
 
   pub named-loose : (old : MetadataCaches S) → HasRoomOf old c.caches → IsUnpinned old → IsUnpinned caches
   named-loose old room free = (
-    none-pinned caches.l2.slots.entries kept.unpinned,
+    none-pinned caches.l2.slots.entries unpinned,
     subst (λ es. pinned_in es ≡ 0) (sym no-blocks) refl,
-    subst (λ k. 0 < k) (sym (names.rests.room.tables ∙ room.tables)) free.2,
-    subst (λ k. 0 < k) (sym (names.rests.room.blocks ∙ room.blocks)) free.3,
+    subst (λ k. 0 < k) (sym (rests.room.tables ∙ room.tables)) free.2,
+    subst (λ k. 0 < k) (sym (rests.room.blocks ∙ room.blocks)) free.3,
   )
 
 -- Linking as the call that does it, if entries can reference the clusters.

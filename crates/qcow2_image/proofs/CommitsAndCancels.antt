@@ -158,9 +158,10 @@ module _ (R : RattleType) (st : Ghosts R.Denot) (sd : mir.Syntax.Dict) (dd : mir
             let done = committed st state.mapping_id old new result s then.0 is in
             let header = s.names.header in (
               safe-now st state.mapping_id old new result s then.0 is,
-              since-as st d old new (home-grows st state.mapping_id old new result s then.0 is)
+              since-as st call d old new (home-grows st state.mapping_id old new result s then.0 is)
                   (λ p. settles-byte ((layer_of st old).held p) ((layer_of st old).cell p) ((layer_of st new).cell p) (done.cell p))
                   (ap (λ (H : Header). H.fields.size) header) (ap (λ (H : Header). H.fields.cluster_bits) header)
+                  (ap (λ (H : Header). H.fields.version) header)
                   (spent-leaks st state.mapping_id old new result s then.0 is) then.1,
             );
       }
@@ -457,9 +458,10 @@ module _ (R : RattleType) (st : Ghosts R.Denot) (sd : mir.Syntax.Dict) (dd : mir
           let then = begun well_formed in
           let gone = dropped st state.mapping_id old new s in (
             safe-after st state.mapping_id old new s then.0,
-            since-as st d old new (λ p at is. homes-same st state.mapping_id old new s p ∙ is)
+            since-as st call d old new (λ p at is. homes-same st state.mapping_id old new s p ∙ is)
                 (λ p. inl (ap (λ (f : ℕ → Cell). f p) gone.cell))
                 (ap (λ (f : ImageFile R.Denot). f.header.fields.size) s.file) (ap (λ (f : ImageFile R.Denot). f.header.fields.cluster_bits) s.file)
+                (ap (λ (f : ImageFile R.Denot). f.header.fields.version) s.file)
                 (dropped-leaks st state.mapping_id old new s then.0) then.1,
           );
     }

@@ -7,7 +7,6 @@ pub mod Steps
 pub mod Ranges
 pub mod LookupAnswers
 pub mod Ends
-pub mod PlaceContents
 pub mod Anew
 pub mod CallsWithoutChanges
 pub mod RequestsWithoutChanges
@@ -19,7 +18,6 @@ pub mod Probes
 pub mod WritesInPlace
 pub mod WritePlaces
 pub mod RangeLookups
-pub mod WriteMarks
 pub mod CallStarts
 pub mod RangeWrites
 pub mod DiskEffects
@@ -30,7 +28,6 @@ pub mod ZeroClusters
 pub mod FreeRuns
 pub mod SearchStart
 pub mod Preparations
-pub mod ContentCopies
 pub mod ClusterSteps
 pub mod Commits
 pub mod CommitsAndCancels
@@ -38,3 +35,4 @@ pub mod CommitLeaks
 pub mod LeaksWithNothingPending
 pub mod SameLeaks
 pub mod FileReads
+pub mod Clearings

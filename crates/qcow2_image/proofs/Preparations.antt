@@ -4,3 +4,5 @@ pub mod FreshRuns
 pub mod RangeRuns
 pub mod Reservations
 pub mod DriverPreparations
+pub mod PlaceContents
+pub mod ContentCopies

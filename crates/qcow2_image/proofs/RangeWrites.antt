@@ -652,9 +652,10 @@ module _ (R : RattleType) (st : Ghosts R.Denot) (sd : mir.Syntax.Dict) (dd : mir
   began-written (Ok v) answer told failed d call begun = λ well_formed.
       let now = begun well_formed in (
         safe-written answer now.0 failed told,
-        since-as st d old new (λ p at is. ap (λ (h : ℕ → Option (ℕ × ℕ)). h p) (words-written answer now.0 failed told) ∙ is)
+        since-as st call d old new (λ p at is. ap (λ (h : ℕ → Option (ℕ × ℕ)). h p) (words-written answer now.0 failed told) ∙ is)
             (wrote-byte (layer_of st old) (layer_of st new) guest bytes (wrote answer now.0 failed told))
             (ap (λ (h : Header). h.fields.size) header-same) (ap (λ (h : Header). h.fields.cluster_bits) header-same)
+            (ap (λ (h : Header). h.fields.version) header-same)
             (leaks-written answer now.0 failed told) now.1,
       )
   began-written (Err e) answer told failed d call begun = tt

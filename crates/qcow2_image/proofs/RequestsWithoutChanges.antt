@@ -1,5 +1,5 @@
 -- Lemmas on requests to the storage that change nothing, and on reloads.
-use Rattle.std.proofs.Common.{◌≡◌, ℕ, ◌≤◌, arith, ap, sym, subst, ◌∙◌, Bool, List, Some, None, Result, Ok, Err, inl}
+use Rattle.std.proofs.Common.{◌≡◌, ℕ, ◌≤◌, arith, ap, sym, subst, ◌∙◌, Bool, Some, None, Result, Ok, Err, inl}
 use Rattle.std.specs.Prelude.{[], IsTrue, IsOk, IsSome, IfSome, OnOk, OnErr, IfErr, Option}
 use Rattle.std.specs.Borrow.{RattleType}
 use Rattle.imago_storage.specs.State.{Shape, StorageState}
@@ -8,13 +8,9 @@ use Rattle.imago_storage.specs.Through.{NotRead}
 use Rattle.imago_storage.specs.declared.fault.Fault.{Fault}
 use Rattle.imago_storage.specs.declared.fault.Fault.TheVariants.{RangeOverflow, Memory, Storage}
 use Rattle.imago_storage.specs.declared.storage.Storage.{Ghosts}
-use Rattle.imago_storage.specs.Steps.{Call}
-use Rattle.imago_access.proofs.Marking.{plain_mild}
-use Rattle.imago_access.specs.Files.{HadNoResourceError, IsNotResourceError, ImageCause, files}
-use Rattle.imago_access.specs.PartCalls.{PartCall, PartRefused}
+use Rattle.imago_access.specs.Files.{HadNoResourceError}
 use Rattle.imago_access.specs.Going.{MarksFailed, ReloadingCall}
-use Rattle.imago_access.specs.Layer.{Layer, Meaning}
-use Rattle.imago_access.specs.Parts.{DeclinableCause}
+use Rattle.imago_access.specs.Layer.{Meaning}
 use Rattle.imago_access.specs.Stops.{IsMeant}
 use Rattle.imago_access.specs.declared.driver_model.DriverModel.{Ghosts as SeenGhosts}
 use Rattle.qcow2_types.specs.Bytes.{bytes_of}
@@ -239,16 +235,3 @@ module _ (R : RattleType) (st : Ghosts R.Denot) (sd : mir.Syntax.Dict) (dd : mir
     })
     from (Err Storage) is left = λ marks. is
     from (Err fault) is left = tt
-
--- A call that was declined, by the relations of the driver.
-pub declined : (R : RattleType) (st : Ghosts R.Denot) (sd : mir.Syntax.Dict) (dd : mir.Syntax.Dict) (call : PartCall) (d : Qcow2 R.Denot st) (offset n : ℕ) (result : Result (ℕ × ℕ) Fault)
-    → IfErr result IsNotResourceError → ((olds news : List StorageState) → IfErr result (ImageCause olds news))
-    → ((below : List Layer) (e : Qcow2 R.Denot st) (whole : Call) (olds news : List StorageState)
-    → IfErr result (DeclinableCause below (layer_of st d) offset n ((ghosts R st sd dd).own_cause e below whole) olds news))
-    → PartRefused call (ghosts R st sd dd) offset n result d d
-declined R st sd dd call d offset n (Ok part) not_resource_error failed cause = record { failed = tt; marks_failed = tt; cause = λ well_formed below e whole begun part is_for. tt }
-declined R st sd dd call d offset n (Err fault) not_resource_error failed cause = record {
-  failed = failed (files (ghosts R st sd dd) d) (files (ghosts R st sd dd) d);
-  marks_failed = plain_mild (ghosts R st sd dd) d d fault not_resource_error;
-  cause = λ well_formed below e whole begun part is_for. cause below e whole (files (ghosts R st sd dd) d) (files (ghosts R st sd dd) d);
-}

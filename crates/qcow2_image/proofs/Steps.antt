@@ -254,8 +254,9 @@ module _ (R : RattleType) (st : Ghosts R.Denot) (sd : mir.Syntax.Dict) (dd : mir
       let now = begun well_formed in
       let same = layer-same failed in (
         safe-same failed now.0,
-        since-as st e old new (λ p at is. homes-same p ∙ is) (λ p. inl (ap (λ (l : Layer). l.cell p) same))
-            (ap (λ (H : Header). H.fields.size) k.tables.header) (ap (λ (H : Header). H.fields.cluster_bits) k.tables.header) (leaks-kept st {T = T} old new result k) now.1,
+        since-as st call e old new (λ p at is. homes-same p ∙ is) (λ p. inl (ap (λ (l : Layer). l.cell p) same))
+            (ap (λ (H : Header). H.fields.size) k.tables.header) (ap (λ (H : Header). H.fields.cluster_bits) k.tables.header)
+            (ap (λ (H : Header). H.fields.version) k.tables.header) (leaks-kept st {T = T} old new result k) now.1,
       )
 
   pub spared : new.failed ≡ old.failed → IsLeftUntouched coherent old new

@@ -1,6 +1,6 @@
 -- Lemmas on a write in place to data clusters, and what it leaves of a consistent image.
 use Rattle.std.proofs.Common.{refl, arith, ap, sym, subst, ◌∙◌, inl, inr}
-use Rattle.std.specs.Prelude.{◌≡◌, ◌≢◌, ℕ, zero, suc, ◌+◌, ◌-◌, ◌*◌, ◌/◌, ◌<◌, ◌≤◌, Bool, Some, None, ◌⊎◌}
+use Rattle.std.specs.Prelude.{◌≡◌, ◌≢◌, ℕ, zero, suc, ◌+◌, ◌-◌, ◌*◌, ◌/◌, ◌<◌, ◌≤◌, Bool, Some, None, ◌⊎◌, List, false, true}
 use Rattle.std.proofs.lemmas.Bool.{cases_eq, cases_lt}
 use Rattle.std.proofs.lemmas.Nat.{div-mul-add, pow_pos, le-div}
 use Rattle.std.proofs.Math.Nat.{div-mul-le_self, lt-div-mul-add, mul-le-mul_right}
@@ -25,6 +25,13 @@ use Rattle.qcow2_metadata.proofs.TableFacts.{words_same}
 use Rattle.qcow2_image.specs.Holding.{place_in}
 use Rattle.qcow2_image.specs.ImageLayer.{cell_by, writable_location_by}
 use Rattle.qcow2_image.specs.Homes.{mapped, home-of, cluster-there, data-apart-from-structure, one-place}
+use Rattle.imago_storage.specs.Through.{PaddedWriteFailed, NotBegun}
+use Rattle.imago_storage.specs.declared.fault.Fault.{Fault}
+use Rattle.imago_storage.specs.declared.fault.Fault.TheVariants.{Memory, Storage}
+use Rattle.imago_storage.specs.declared.storage.Storage.{Ghosts}
+use Rattle.qcow2_image.specs.declared.qcow2.Qcow2.{Qcow2}
+use Rattle.qcow2_image.specs.Steps.{failed_by}
+use Rattle.qcow2_image.specs.Writing.{MarksFailedOnWrite}
 
 -- A byte of the disk is written where its entry says, otherwise in a cluster that no guest cluster reads.
 abbrev pub IsWrittenAt : Bytes → Fields → (p at : ℕ) → Type 0
@@ -203,3 +210,18 @@ module _ (f x : Bytes) (h : Fields) (kept : SameStructureOutside f x h nothing) 
     where
       sound : Bytes → ℕ → Bool
       sound file i = l1_entry_valid h.cluster_bits (raw_entry file h.l1_offset i)
+
+-- When a failed write to the image file sets the image to failed.
+module _ {S : Type 0} (g : Ghosts S) (old new : Qcow2 S g) where
+  -- Before the first change, only a storage fault does.
+  pub marks-before : (fault : Fault) → new.failed ≡ failed_by fault false → NotBegun (g.state old.tables.file.image) (g.state new.tables.file.image) fault
+      → MarksFailedOnWrite g old new fault
+  marks-before Memory failed refused = inr (failed, refused.unchanged_but_faults)
+  marks-before Storage failed refused = failed
+  marks-before fault failed refused = absurd refused.cause
+
+  -- After the first change, each error does.
+  pub marks-within : (unit place : ℕ) (bytes : List ℕ) (fault : Fault) → new.failed ≡ true
+      → PaddedWriteFailed unit (g.state old.tables.file.image) (g.state new.tables.file.image) place bytes fault → MarksFailedOnWrite g old new fault
+  marks-within unit place bytes Memory failed halted = inl (failed, halted.refusals)
+  marks-within unit place bytes fault failed halted = failed

@@ -70,3 +70,8 @@ IsForCluster g guest kept t asked = IsForTable g guest t asked ⊎ ((kept ≡ No
 abbrev pub HasNoPlace : {S : Type 0} (g : Ghosts S) → (asked : ℕ → Type 0) → (i enough : ℕ) → (old new : Tables S g) → ℕ → Type 0
 HasNoPlace g asked i enough old new number = (n : ℕ) × asked n × (((2 ^ 22 < i + 1) × (number ≡ min (i + 1) (2 ^ 64 - 1)))
     ⊎ ((i + 1 ≤ 2 ^ 22) × LacksFreeRun g n enough old new number))
+
+-- An L2 table of the guest cluster's own can't be allocated, or the L1 table can't be longer. No run of a quarter of the space was free.
+abbrev pub LacksPlaceForTable : {S : Type 0} (g : Ghosts S) → (guest : ℕ) → (old new : Tables S g) → ℕ → Type 0
+LacksPlaceForTable g guest old new number = let h = old.file.header.fields in
+    HasNoPlace g (IsForTable g guest old) (guest / entries_of_cluster h) (space h / 4) old new number

@@ -17,3 +17,4 @@ pub mod Allocating
 pub mod Committing
 pub mod Filling
 pub mod Preparing
+pub mod Clearing

@@ -1,27 +1,43 @@
 -- Specifies how an image before and after a write are related, and the errors of the write.
 use Rattle.std.proofs.Common.{inl, refl}
-use Rattle.std.specs.Prelude.{◌≡◌, ◌⊎◌, ⊤, ℕ, ◌+◌, ◌/◌, ◌<◌, ◌∷◌, List, Some, None, Result, MatchResult, false, true}
+use Rattle.std.specs.Prelude.{◌≡◌, ◌≢◌, ◌⊎◌, ⊤, ℕ, ◌+◌, ◌/◌, ◌<◌, ◌∷◌, List, Some, None, IsSome, Result, MatchResult, false, true}
 use Rattle.imago_storage.specs.State.{HasRisen}
 use Rattle.imago_storage.specs.Calls.{UnchangedButFaults}
 use Rattle.imago_storage.specs.Causes.{offset_of, length_of}
-use Rattle.imago_storage.specs.Steps.{Call, IsIn}
+use Rattle.imago_storage.specs.Steps.{Call, shrink, IsIn}
 use Rattle.imago_storage.specs.Through.{WriteOutcome}
 use Rattle.imago_storage.specs.declared.fault.Fault.{Fault}
-use Rattle.imago_storage.specs.declared.fault.Fault.TheVariants.{Barred, DamagedTable, Limit, Memory, Unsupported}
+use Rattle.imago_storage.specs.declared.fault.Fault.TheVariants.{Barred, DamagedTable, Limit, Memory, Unsupported, VersionLimit}
 use Rattle.imago_storage.specs.declared.storage.Storage.{Ghosts}
 use Rattle.imago_storage.specs.Disk.{Value, barred, byte, damaged_place}
 use Rattle.imago_access.specs.Chain.{at}
-use Rattle.imago_access.specs.Layer.{Cell, Layer, own}
+use Rattle.imago_access.specs.Layer.{Cell, Layer, own, unmapped}
+use Rattle.imago_access.specs.PartCalls.{PartCall, discards_to_backing, IsFor}
 use Rattle.imago_access.specs.Parts.{announces}
 use Rattle.imago_access.specs.Room.{IsOfUnit, IsWholeUnit}
 use Rattle.qcow2_types.specs.Header.{cluster_size}
 use Rattle.qcow2_alloc.specs.Causes.{Causes}
+use Rattle.qcow2_image.specs.FreeSpace.{LacksPlaceForTable}
 use Rattle.qcow2_image.specs.Rooms.{IsWellFormed}
 use Rattle.qcow2_image.specs.Seen.{writable_locations_of, layer_of}
 use Rattle.qcow2_image.specs.declared.qcow2.Qcow2.{Qcow2}
+use Rattle.qcow2_image.specs.declared.tables.Tables.{Tables}
 use Rattle.qcow2_image.specs.Leaking.{KeepsLeaks}
 use Rattle.qcow2_image.specs.Looking.{looking_causes}
 use Rattle.qcow2_image.specs.Preparing.{LacksPlace}
+
+-- The call zeroes or discards a range. The driver clears entries of L2 tables for it.
+abbrev pub IsClearing : Call → Type 0
+IsClearing call = (part : PartCall) × IsFor part call
+
+-- The call clears entries that need the zero flag, which version 2 of the format doesn't have.
+abbrev pub NeedsZeroFlag : Call → Type 0
+NeedsZeroFlag call = (part : PartCall) × IsFor part call × (part ≢ discards_to_backing)
+
+-- The driver doesn't support the call: a shrink fails. The causes of a growth are separate.
+abbrev pub IsUnsupported : Call → Type 0
+IsUnsupported (shrink size) = ⊤
+IsUnsupported call = ⊥
 
 -- Each byte that can be written in place by an entry still can.
 abbrev pub KeepsWritableLocations : {S : Type 0} (g : Ghosts S) → Qcow2 S g → Qcow2 S g → Type 0
@@ -31,30 +47,46 @@ KeepsWritableLocations g d now = (p : ℕ) (at : ℕ × ℕ) → writable_locati
 abbrev pub ComesToBytes : (old new : ℕ → Cell) → Type 0
 ComesToBytes old new = (p : ℕ) → (new p ≡ old p) ⊎ ((b : ℕ) × (new p ≡ own (byte b)))
 
--- The changes of an image since a call began.
-pub record Since {S : Type 0} (g : Ghosts S) (d now : Qcow2 S g) : Type 0 where
-  pub writable_locations : KeepsWritableLocations g d now
-  pub cells : ComesToBytes (layer_of g d).cell (layer_of g now).cell
+-- While the call runs, a byte keeps its cell, or becomes a byte of the image's own. A discard to the backing file may also unmap it.
+abbrev pub MayBecome : Call → (was is : Cell) → Type 0
+MayBecome call was is = (is ≡ was) ⊎ (((b : ℕ) × (is ≡ own (byte b))) ⊎ (IsFor discards_to_backing call × (is ≡ unmapped)))
+
+-- The changes of an image since this call began. A byte that is zeroed or discarded loses its writable location.
+pub record Since {S : Type 0} (g : Ghosts S) (d : Qcow2 S g) (call : Call) (now : Qcow2 S g) : Type 0 where
+  pub writable_locations : (IsClearing call → ⊥) → KeepsWritableLocations g d now
+  pub cells : (p : ℕ) → MayBecome call ((layer_of g d).cell p) ((layer_of g now).cell p)
   pub size : now.tables.file.header.fields.size ≡ d.tables.file.header.fields.size
   pub bits : now.tables.file.header.fields.cluster_bits ≡ d.tables.file.header.fields.cluster_bits
+  pub version : now.tables.file.header.fields.version ≡ d.tables.file.header.fields.version
   pub leaks : KeepsLeaks g d now
 
--- A call has begun on a well-formed image. The image is still well-formed, and nothing has leaked. Each byte can be written where it could,
--- and reads as before or as a byte of the image's own.
-abbrev pub HasBegun : {S : Type 0} (g : Ghosts S) → Qcow2 S g → Qcow2 S g → Type 0
-HasBegun g d now = IsWellFormed g d → IsWellFormed g now × Since g d now
+-- This call has begun on a well-formed image. The image is still well-formed, nothing has leaked, and `Since` holds.
+abbrev pub HasBegun : {S : Type 0} (g : Ghosts S) → Qcow2 S g → Call → Qcow2 S g → Type 0
+HasBegun g d call now = IsWellFormed g d → IsWellFormed g now × Since g d call now
 
 -- Law: if a call has just started on a well-formed image, `HasBegun` holds between the image and itself.
-pub begun_itself : {S : Type 0} (g : Ghosts S) (d : Qcow2 S g) → HasBegun g d d
-begun_itself g d = λ well_formed. (well_formed, record { writable_locations = λ p at is. is; cells = λ p. inl refl; size = refl; bits = refl; leaks = λ c. refl })
+pub begun_itself : {S : Type 0} (g : Ghosts S) (d : Qcow2 S g) (call : Call) → HasBegun g d call d
+begun_itself g d call = λ well_formed. (
+  well_formed,
+  record {
+    writable_locations = λ keeps p at is. is;
+    cells = λ p. inl refl;
+    size = refl;
+    bits = refl;
+    version = refl;
+    leaks = λ c. refl;
+  },
+)
 
--- A call needs what the guest reads at this offset: the range meets its cluster, and doesn't overwrite it completely.
+-- A call needs what the guest reads at this offset: it prepares mappings, and its range meets the cluster of the byte and doesn't overwrite
+-- it completely.
 pub record IsNeeded (unit size : ℕ) (call : Call) (p : ℕ) : Type 0 where
   pub cluster : ℕ
   pub here : IsOfUnit unit size cluster p
   pub met : ℕ
   pub in_range : IsIn (offset_of call) (length_of call) met
   pub in_unit : IsOfUnit unit size cluster met
+  pub prepares : IsSome (announces call)
   pub part : announces call ≡ Some true → IsWholeUnit unit size (offset_of call) (length_of call) cluster → ⊥
 
 -- A needed byte has this value, over the layers below.
@@ -62,24 +94,30 @@ abbrev pub NeedsValue : {S : Type 0} (g : Ghosts S) → Qcow2 S g → List Layer
 NeedsValue g d below call value = let h = d.tables.file.header.fields in
     (p : ℕ) × IsNeeded (cluster_size h) h.size call p × (at (layer_of g d ∷ below) p ≡ value)
 
--- At some point since the call began, the missing parts of the guest cluster of a byte couldn't be allocated. The number is that of the
--- limit. The search kept the disk, and leaked nothing.
-pub record HadNoPlace {S : Type 0} (g : Ghosts S) (d : Qcow2 S g) (p number : ℕ) : Type 0 where
+-- A call that clears entries can't allocate the L2 table of a guest cluster, or one that prepares mappings a missing part of it.
+abbrev pub LacksFor : {S : Type 0} (g : Ghosts S) → Call → (guest : ℕ) → (old new : Tables S g) → ℕ → Type 0
+LacksFor g call guest old new number =
+    (IsSome (announces call) × LacksPlace g guest old new number) ⊎ (IsClearing call × LacksPlaceForTable g guest old new number)
+
+-- At some point since the call began, what it needs for the guest cluster of a byte couldn't be allocated. The number is that of the limit.
+-- The search kept the disk, and leaked nothing.
+pub record HadNoPlace {S : Type 0} (g : Ghosts S) (d : Qcow2 S g) (call : Call) (p number : ℕ) : Type 0 where
   pub now : Qcow2 S g
   pub well_formed : IsWellFormed g now
-  pub since : Since g d now
+  pub since : Since g d call now
   pub left : Qcow2 S g
   pub left_safe : IsWellFormed g left
   pub left_disk : layer_of g left ≡ layer_of g now
   pub left_leaks : KeepsLeaks g now left
-  pub lacks : LacksPlace g (p / cluster_size now.tables.file.header.fields) now.tables left.tables number
+  pub lacks : LacksFor g call (p / cluster_size now.tables.file.header.fields) now.tables left.tables number
 
--- The driver's own reasons for not changing an image. Zeroing, discards and resizes are declined. A write fails if a byte has no writable
--- location and no cluster can be allocated for it. It also fails if a needed byte can't be read.
+-- The driver's own reasons for not changing an image. The driver or the version of the image doesn't support the call. What the call needs
+-- for a byte can't be allocated; if the call doesn't clear entries, the byte had no writable location. A needed byte can't be read.
 abbrev pub WhyUnwritten : {S : Type 0} (g : Ghosts S) → Qcow2 S g → List Layer → Call → Fault → Type 0
-WhyUnwritten g d below call Unsupported = ⊤
-WhyUnwritten g d below call (Limit number) = (p : ℕ) × IsIn (offset_of call) (length_of call) p × (writable_locations_of g d p ≡ None)
-    × HadNoPlace g d p number
+WhyUnwritten g d below call Unsupported = IsUnsupported call
+WhyUnwritten g d below call VersionLimit = (d.tables.file.header.fields.version < 3) × NeedsZeroFlag call
+WhyUnwritten g d below call (Limit number) = (p : ℕ) × IsIn (offset_of call) (length_of call) p
+    × ((IsClearing call → ⊥) → writable_locations_of g d p ≡ None) × HadNoPlace g d call p number
 WhyUnwritten g d below call DamagedTable = NeedsValue g d below call damaged_place
 WhyUnwritten g d below call Barred = NeedsValue g d below call barred
 WhyUnwritten g d below call fault = ⊥

@@ -129,7 +129,11 @@ fn new_table<S: Storage>(
 impl<S: Storage> Qcow2<S> {
     // Returns the result of a change, after it has set the image to failed if needed. A storage fault always does, and running out of
     // memory does if the change had begun, as a part may have been done.
-    fn mark_change_fault<T>(&mut self, answer: Result<T, Fault>, begun: bool) -> Result<T, Fault>
+    pub(crate) fn mark_change_fault<T>(
+        &mut self,
+        answer: Result<T, Fault>,
+        begun: bool,
+    ) -> Result<T, Fault>
         ensures same { result ≡ answer }
         ensures marks_failed { self.new ≡ record self.old { failed = failed_by_resource_error answer begun self.old.failed } }
     {

@@ -36,6 +36,7 @@ use imago_access::{
     ShallowMapping,
 };
 use imago_storage::{Fault, Storage, StorageExt};
+use qcow2_clusters::Clearing;
 use std::alloc::Global;
 
 impl<S: Storage> FormatDriverInstance for Qcow2<S> {
@@ -63,7 +64,7 @@ impl<S: Storage> FormatDriverInstance for Qcow2<S> {
 
     ghost units = { λ d. pow_pos d.tables.file.header.fields.cluster_bits };
 
-    ghost begins = { λ d call. begun_itself S.Storage.own d };
+    ghost begins = { λ d call. begun_itself S.Storage.own d call };
 
     ghost free_loose = { λ d free p. let held = holding_in S.Storage.own d.unspent in
         free_loose d.tables.file.header.fields (bytes_of (S.Storage.own.state d.tables.file.image).bytes) held p free };
@@ -378,7 +379,7 @@ impl<S: Storage> FormatDriverInstance for Qcow2<S> {
 
     fn ensure_zero_mapping(
         &mut self,
-        _alloc: Global,
+        alloc: Global,
         offset: u64,
         length: u64,
     ) -> Result<(u64, u64), Fault>
@@ -387,15 +388,13 @@ impl<S: Storage> FormatDriverInstance for Qcow2<S> {
         ensures does { DoesPart ensures_zero ⟦<Qcow2<S> as DriverModel>⟧ offset length result self.old self.new }
         ensures early_outcome { RangeEarlyOutcome ⟦<Qcow2<S> as DriverModel>⟧ offset length result self.old self.new }
         ensures refused { PartRefused ensures_zero ⟦<Qcow2<S> as DriverModel>⟧ offset length result self.old self.new }
-        // The call is declined, and changes nothing.
-        ensures same { self.new ≡ self.old }
     {
-        self.decline(offset, length)
+        self.clear(alloc, offset, length, Clearing::Keep)
     }
 
     fn discard_to_zero(
         &mut self,
-        _alloc: Global,
+        alloc: Global,
         offset: u64,
         length: u64,
     ) -> Result<(u64, u64), Fault>
@@ -404,15 +403,13 @@ impl<S: Storage> FormatDriverInstance for Qcow2<S> {
         ensures does { DoesPart discards_to_zero ⟦<Qcow2<S> as DriverModel>⟧ offset length result self.old self.new }
         ensures early_outcome { RangeEarlyOutcome ⟦<Qcow2<S> as DriverModel>⟧ offset length result self.old self.new }
         ensures refused { PartRefused discards_to_zero ⟦<Qcow2<S> as DriverModel>⟧ offset length result self.old self.new }
-        // The call is declined, and changes nothing.
-        ensures same { self.new ≡ self.old }
     {
-        self.decline(offset, length)
+        self.clear(alloc, offset, length, Clearing::GiveUp)
     }
 
     fn discard_to_any(
         &mut self,
-        _alloc: Global,
+        alloc: Global,
         offset: u64,
         length: u64,
     ) -> Result<(u64, u64), Fault>
@@ -421,15 +418,13 @@ impl<S: Storage> FormatDriverInstance for Qcow2<S> {
         ensures does { DoesPart discards_to_any ⟦<Qcow2<S> as DriverModel>⟧ offset length result self.old self.new }
         ensures early_outcome { RangeEarlyOutcome ⟦<Qcow2<S> as DriverModel>⟧ offset length result self.old self.new }
         ensures refused { PartRefused discards_to_any ⟦<Qcow2<S> as DriverModel>⟧ offset length result self.old self.new }
-        // The call is declined, and changes nothing.
-        ensures same { self.new ≡ self.old }
     {
-        self.decline(offset, length)
+        self.clear(alloc, offset, length, Clearing::GiveUp)
     }
 
     fn discard_to_backing(
         &mut self,
-        _alloc: Global,
+        alloc: Global,
         offset: u64,
         length: u64,
     ) -> Result<(u64, u64), Fault>
@@ -438,10 +433,8 @@ impl<S: Storage> FormatDriverInstance for Qcow2<S> {
         ensures does { DoesPart discards_to_backing ⟦<Qcow2<S> as DriverModel>⟧ offset length result self.old self.new }
         ensures early_outcome { RangeEarlyOutcome ⟦<Qcow2<S> as DriverModel>⟧ offset length result self.old self.new }
         ensures refused { PartRefused discards_to_backing ⟦<Qcow2<S> as DriverModel>⟧ offset length result self.old self.new }
-        // The call is declined, and changes nothing.
-        ensures same { self.new ≡ self.old }
     {
-        self.decline(offset, length)
+        self.clear(alloc, offset, length, Clearing::Unmap)
     }
 
     fn flush(&mut self, _alloc: Global) -> Result<(), Fault>

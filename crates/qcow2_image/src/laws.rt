@@ -1,9 +1,11 @@
-//! Laws of a qcow2 image: what its disk reads by the format, and what its calls leak. A law is a function without code, whose contract is a
-//! theorem for users of the definitions.
+//! Laws of a qcow2 image: what its disk reads by the format, what its calls leak, and which calls it declines. A law is a function without
+//! code, whose contract is a theorem for users of the definitions.
 
 ghost use Rattle.std.specs.Prelude.{◌≡◌, ◌<◌, ◌+◌, ℕ, List, false, Ok};
 ghost use Rattle.imago_storage.specs.Disk.{Value};
-ghost use Rattle.imago_access.specs.Layer.{Cell, IsFree, through};
+ghost use Rattle.imago_storage.specs.Steps.{Call};
+ghost use Rattle.imago_access.specs.Layer.{Cell, IsFree, Layer, through};
+ghost use Rattle.imago_access.specs.Room.{IsUndeclined};
 ghost use Rattle.qcow2_types.specs.Bytes.{Bytes, bytes_of};
 ghost use Rattle.qcow2_types.specs.Consistency.{IsConsistent, leaks};
 ghost use Rattle.qcow2_types.specs.Disk.{in_qcow2, size_in_header};
@@ -14,7 +16,10 @@ ghost use Rattle.qcow2_image.specs.Leaking.{KeepsLeaks, counts_in, leaks_of, nam
 ghost use Rattle.qcow2_image.specs.Opening.{IsOpenedAs};
 ghost use Rattle.qcow2_image.specs.Rooms.{IsWellFormed};
 ghost use Rattle.qcow2_image.specs.Seen.{layer_of};
+ghost use Rattle.qcow2_image.specs.Writing.{IsUnsupported, NeedsZeroFlag};
 
+use crate::qcow2::Qcow2;
+use imago_access::DriverModel;
 use imago_storage::Storage;
 
 /// Law: if an image is opened over a file, its disk has the size in the header, and each byte reads as the tables say.
@@ -52,4 +57,14 @@ pub fn leaks_add_up<S: Storage>()
 pub fn consistent_files_leak_alike()
     ensures { (one other : List ℕ) (H K : Header) → IsConsistent (bytes_of one) H → IsConsistent (bytes_of other) K
         → ((c : ℕ) → qcow2_leaks other c ≡ qcow2_leaks one c) → leaks (bytes_of other) K.fields ≡ leaks (bytes_of one) H.fields }
+{}
+
+/// Law: an image of version 3 has no cause of its own to decline a zeroing or a discard, and an image of version 2 has none to decline a
+/// discard to the backing file (`IsUndeclined`).
+///
+/// So for a chain with such an image on top, the clauses on zeroed and deallocated units hold. The law stands for every call but a shrink.
+pub fn zeroing_and_discards_are_not_declined<S: Storage>()
+    ensures { let d = ⟦<Qcow2<S> as DriverModel>⟧ in (image : _) (below : List Layer) (call : Call) → d.well_formed image
+        → (NeedsZeroFlag call → 2 < image.tables.file.header.fields.version) → (IsUnsupported call → ⊥)
+        → IsUndeclined (d.own_cause image below call) }
 {}

@@ -5,6 +5,7 @@
 mod allocating;
 mod builder;
 mod cache_entries;
+mod clearing;
 mod committing;
 mod drivers;
 mod file_reads;

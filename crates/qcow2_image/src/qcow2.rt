@@ -73,7 +73,8 @@ impl PreparedMappingState {
 /// A cluster that the L2 entry referenced before goes to the free list, and so does a new cluster whose mapping is cancelled. The next
 /// allocation or flush frees them.
 ///
-/// A compressed cluster is only written as a whole. Zeroing and discards are declined; a chain then writes zeroes if it may. Resizes fail.
+/// A compressed cluster is only written as a whole. A zeroing or a discard clears the L2 entries of the whole guest clusters in its range, as
+/// far as one L2 table reaches. Zero entries need version 3. Resizes fail.
 ///
 /// # On error
 ///
@@ -126,7 +127,7 @@ impl<S: Storage> DriverModel for Qcow2<S> {
 
     ghost sound = { λ kind f. is_sound kind f };
 
-    ghost began = { λ d call now. HasBegun S.Storage d now };
+    ghost began = { λ d call now. HasBegun S.Storage d call now };
 
     ghost own_cause = { λ d below call fault. IsWellFormed S.Storage d → WhyUnwritten S.Storage d below call fault };
 

@@ -1,6 +1,6 @@
 -- Lemmas that state a preparation with reserved clusters by the relations of the driver.
 use Rattle.std.proofs.Common.{◌≡◌, ℕ, ◌+◌, ◌*◌, ◌/◌, ◌%◌, ◌^◌, ◌<◌, ◌≤◌, refl, arith, ap, sym, subst, ◌∙◌, inl, inr, List, length, Option, Some, None, Result, Ok, Err}
-use Rattle.std.specs.Prelude.{⊤, ◌⊎◌, ◌++◌, ◌-◌, min, IsTrue, IsErr, IsSome, IfOk, IfErr}
+use Rattle.std.specs.Prelude.{⊤, ◌⊎◌, ◌++◌, ◌-◌, min, IsTrue, IsErr, IsSome, Bool, IfOk, IfErr}
 use Rattle.std.specs.Borrow.{RattleType}
 use Rattle.imago_storage.specs.Disk.{barred, damaged_place}
 use Rattle.imago_storage.specs.Steps.{Call}
@@ -98,9 +98,9 @@ module _ (R : RattleType) (st : Ghosts R.Denot) (sd : mir.Syntax.Dict) (dd : mir
         ∙ free-homes (holding_in st old.unspent) (writable_locations_of st old) p free
 
     pub since-disk : IsWellFormed st old → ok → mapping_id_held (holding_in st old.unspent) ≡ None → KeepsLeaks st old middle → (d : Qcow2 R.Denot st)
-        → Since st d old → Since st d middle
-    since-disk well_formed whole free leaks d since = since-as st d old middle (λ p at is. homes-disk well_formed whole free p ∙ is)
-        (λ p. inl (ap (λ (l : Layer). l.cell p) (k.layer well_formed whole))) k.size k.bits leaks since
+        (call : Call) → Since st d call old → Since st d call middle
+    since-disk well_formed whole free leaks d call since = since-as st call d old middle (λ p at is. homes-disk well_formed whole free p ∙ is)
+        (λ p. inl (ap (λ (l : Layer). l.cell p) (k.layer well_formed whole))) k.size k.bits k.version leaks since
 
   module _ {B : Type 0} (u : GhostsBelow B) (x y : B) (asked : Asked) (free : mapping_id_held (holding_in st old.unspent) ≡ None) (some : 0 < asked.length)
       (inside : asked.offset + asked.length ≤ h.size) (nowhere : IsCacheCoherent st old.tables → (layer_of st old).writable_location asked.offset ≡ None) where
@@ -144,7 +144,7 @@ module _ (R : RattleType) (st : Ghosts R.Denot) (sd : mir.Syntax.Dict) (dd : mir
             (files coherent old ++ u.files_of_layers_below x) (files coherent middle ++ u.files_of_layers_below y)
 
         -- The missing parts of the guest cluster couldn't be allocated.
-        had : (number : ℕ) → IsNotResourceError e → full number → IsWellFormed st d → HadNoPlace st d asked.offset number
+        had : (number : ℕ) → IsNotResourceError e → full number → IsWellFormed st d → HadNoPlace st d call asked.offset number
         had number not_resource_error lacks was = record {
           now = old;
           well_formed = well_formed;
@@ -153,7 +153,7 @@ module _ (R : RattleType) (st : Ghosts R.Denot) (sd : mir.Syntax.Dict) (dd : mir
           left_safe = k.safely well_formed not_resource_error;
           left_disk = k.layer well_formed not_resource_error;
           left_leaks = leaks well_formed not_resource_error;
-          lacks = lacks;
+          lacks = inl (subst (λ (o : Option Bool). IsSome o) same refl, lacks);
         }
 
         own-cause : (f : Fault) → (IsNotResourceError f → IsNotResourceError e) → HasCause (reserving_causes st full old middle) f → Cause f
@@ -168,8 +168,8 @@ module _ (R : RattleType) (st : Ghosts R.Denot) (sd : mir.Syntax.Dict) (dd : mir
         copy-cause : (f : Fault) → WhyNotCopied st u part (old, x) y f → Cause f
         copy-cause Failed is = inr is
         copy-cause MissingData is = inr is
-        copy-cause DamagedTable is = λ was. needs-shown st old d (begun was).1 (u.layers_below x) asked call some inside uncut same u x refl damaged_place (λ b same. absurd cc) is
-        copy-cause Barred is = λ was. needs-shown st old d (begun was).1 (u.layers_below x) asked call some inside uncut same u x refl barred (λ b same. absurd cc) is
+        copy-cause DamagedTable is = λ was. needs-shown st old d (u.layers_below x) asked call (begun was).1 some inside uncut same u x refl damaged_place (λ b same. absurd cc) is
+        copy-cause Barred is = λ was. needs-shown st old d (u.layers_below x) asked call (begun was).1 some inside uncut same u x refl barred (λ b same. absurd cc) is
         copy-cause Memory is = tt
         copy-cause Storage is = some_rose_right (files coherent old) (files coherent middle) (u.files_of_layers_below x) (u.files_of_layers_below y) ((k.shape, k.counts_not_fallen), tt) is
         copy-cause f is = absurd is
@@ -200,7 +200,7 @@ module _ (R : RattleType) (st : Ghosts R.Denot) (sd : mir.Syntax.Dict) (dd : mir
         };
         stays_begun = λ d call begun part whole. λ well_formed.
             let now = begun well_formed in
-            (k.safely now.0 whole, since-disk (IsNotResourceError e) k now.0 whole free (leaks now.0 whole) d now.1);
+            (k.safely now.0 whole, since-disk (IsNotResourceError e) k now.0 whole free (leaks now.0 whole) d call now.1);
         refused = record {
           failed = why-failed;
           marks_failed = over_plain coherent old middle e why-marks;
@@ -335,8 +335,8 @@ module _ (R : RattleType) (st : Ghosts R.Denot) (sd : mir.Syntax.Dict) (dd : mir
         stays_begun = λ d call begun part whole. λ well_formed.
             let now = begun well_formed in (
               safe-held now.0,
-              since-as st d old held (λ p at is. homes-disk ⊤ k now.0 tt free p ∙ is)
-                  (λ p. inl (ap (λ (l : Layer). l.cell p) (k.layer now.0 tt))) k.size k.bits (leaks-held now.0) now.1,
+              since-as st call d old held (λ p at is. homes-disk ⊤ k now.0 tt free p ∙ is)
+                  (λ p. inl (ap (λ (l : Layer). l.cell p) (k.layer now.0 tt))) k.size k.bits k.version (leaks-held now.0) now.1,
             );
         refused = record { failed = tt; marks_failed = tt; cause = λ well_formed under d call begun part same. tt };
       }

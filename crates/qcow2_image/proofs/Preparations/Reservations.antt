@@ -49,7 +49,7 @@ use Rattle.qcow2_image.proofs.ZeroClusters.{kept-behind}
 use Rattle.qcow2_image.proofs.Leaks.{leaks-all, leaks-both, leaks-but, leaks-held, leaks-then}
 use Rattle.qcow2_image.proofs.Steps.{keeps-as, keeps-both}
 use Rattle.qcow2_image.proofs.LeaksByFile.{leaks-kept}
-use Rattle.qcow2_image.proofs.ContentCopies.{why-looked}
+use Rattle.qcow2_image.proofs.Preparations.ContentCopies.{why-looked}
 
 module _ {S : Type 0} (g : Ghosts S) where
   -- A resource error leaves the image failed or unchanged, also after a lookup.
@@ -61,7 +61,7 @@ module _ {S : Type 0} (g : Ghosts S) where
   marked-behind {T} old mid new v e k marked = tt
 
   -- The causes of an error after a call that kept the disk.
-  why-loaded : (full : ℕ → Type 0) (old new : Qcow2 S g) (e : Fault) → HasCause (allocation_causes g (λ number. ⊥) old new) e
+  pub why-loaded : (full : ℕ → Type 0) (old new : Qcow2 S g) (e : Fault) → HasCause (allocation_causes g (λ number. ⊥) old new) e
       → (IsWellFormed g old → Cause (g.state old.tables.file.image).faults (g.state new.tables.file.image).faults e) → HasCause (reserving_causes g full old new) e
   why-loaded full old new Memory why known = tt
   why-loaded full old new Storage why known = why
@@ -70,7 +70,7 @@ module _ {S : Type 0} (g : Ghosts S) where
   why-loaded full old new Counter why known = known
   why-loaded full old new e why known = absurd why
 
-  allocation-reserves : {full full' : ℕ → Type 0} (old mid new : Qcow2 S g) → KeepsDisk g ⊤ old mid → IsSome mid.tables.space → ((number : ℕ) → IsWellFormed g old → full number → full' number)
+  pub allocation-reserves : {full full' : ℕ → Type 0} (old mid new : Qcow2 S g) → KeepsDisk g ⊤ old mid → IsSome mid.tables.space → ((number : ℕ) → IsWellFormed g old → full number → full' number)
       → Implies (allocation_causes g full mid new) (reserving_causes g full' old new)
   allocation-reserves old mid new k some told = let same = (k.faults tt).0 in record {
     before = omega (arith, same);
@@ -118,7 +118,7 @@ module _ {S : Type 0} (g : Ghosts S) where
   some-quarter : (d : Qcow2 S g) → IsWellFormed g d → 0 < space d.tables.file.header.fields / 4
   some-quarter d well_formed = quarter-some g d well_formed
 
-  lacks-loaded : (guest : ℕ) (kept : Option ℕ) (number : ℕ) (old mid new : Qcow2 S g) → LoadsSpace g old (Ok tt) mid
+  pub lacks-loaded : (guest : ℕ) (kept : Option ℕ) (number : ℕ) (old mid new : Qcow2 S g) → LoadsSpace g old (Ok tt) mid
       → IsWellFormed g old → IsWellFormed g mid → LacksPlaceBeside g guest kept mid.tables new.tables number → LacksPlaceBeside g guest kept old.tables new.tables number
   lacks-loaded guest kept number old mid new l well_formed safe' = lacks-since guest kept number old.tables mid.tables new.tables l.top.1
       (λ total some run. l.leaves.left total some (run-fewer g old.tables (0 + total) total (omega arith) run)) (some-quarter mid safe')
@@ -132,7 +132,7 @@ module _ {S : Type 0} (g : Ghosts S) where
       (some-quarter mid well_formed) (lacks-as-file g guest old.tables mid.tables (ap bytes_of k.tables.unchanged_but_faults.bytes) k.tables.header)
 
   -- A quarter of the space is more than is needed.
-  lacks-table : (guest : ℕ) (kept : Option ℕ) (number : ℕ) (mid new : Qcow2 S g) → IsWellFormed g mid
+  pub lacks-table : (guest : ℕ) (kept : Option ℕ) (number : ℕ) (mid new : Qcow2 S g) → IsWellFormed g mid
       → HasNoPlace g (IsForTable g guest mid.tables) (guest / entries_of_cluster mid.tables.file.header.fields)
       (enough_for_table mid.tables guest) mid.tables new.tables number
       → LacksPlaceBeside g guest kept mid.tables new.tables number
@@ -275,7 +275,7 @@ module _ {S : Type 0} (g : Ghosts S) where
       ∙ own
 
   -- Consecutive guest clusters of one table have that table.
-  under-row : (m : Metadata) (table guest n : ℕ) → guest % entries_of_cluster m.header.fields + n ≤ entries_of_cluster m.header.fields
+  pub under-row : (m : Metadata) (table guest n : ℕ) → guest % entries_of_cluster m.header.fields + n ≤ entries_of_cluster m.header.fields
       → IsUnder m table guest → (i : ℕ) → i < n → IsUnder m table (guest + i)
   under-row m table guest n fits under i less =
       let w : ℕ = entries_of_cluster m.header.fields in

@@ -98,7 +98,7 @@ impl<S: Storage> FormatDriverInstance for ImageDriver<S> {
     ghost begins = { elim [
       | variant.Raw d ↦ λ call. tt
       | variant.Vmdk d ↦ λ call. tt
-      | variant.Qcow2 d ↦ λ call. begun_itself S.Storage.own d
+      | variant.Qcow2 d ↦ λ call. begun_itself S.Storage.own d call
     ] };
 
     ghost free_loose = { elim [

@@ -11,8 +11,8 @@ invariant_of-tables-in-Ok g c =
     let names = c.in-Ok.ensures.names in
     let kept = c.in-Ok.ensures.leaves in
     record {
-      clean = named-clean g.S.Storage.state r.table c.args.guest r.host r.count lends (Ok tt) named.file named.caches named.space names kept;
-      unpinned = named-loose g.S.Storage.state r.table c.args.guest r.host r.count lends (Ok tt) named.file named.caches named.space names kept
+      clean = named-clean g.S.Storage.state lends (Ok tt) named.file named.caches named.space names.rests kept.clean kept.unpinned;
+      unpinned = named-loose g.S.Storage.state lends (Ok tt) named.file named.caches named.space names.rests kept.clean kept.unpinned
           c.args.tables.now.caches c.drop_cached-dropped.ensures.room c.args.tables.now.unpinned;
     }
 
@@ -25,8 +25,8 @@ invariant_of-tables-in-Err g c =
     let names = c.in-Err.ensures.names in
     let kept = c.in-Err.ensures.leaves in
     record {
-      clean = named-clean g.S.Storage.state r.table c.args.guest r.host r.count lends (Err fault) named.file named.caches named.space names kept;
-      unpinned = named-loose g.S.Storage.state r.table c.args.guest r.host r.count lends (Err fault) named.file named.caches named.space names kept
+      clean = named-clean g.S.Storage.state lends (Err fault) named.file named.caches named.space names.rests kept.clean kept.unpinned;
+      unpinned = named-loose g.S.Storage.state lends (Err fault) named.file named.caches named.space names.rests kept.clean kept.unpinned
           c.args.tables.now.caches c.drop_cached-dropped.ensures.room c.args.tables.now.unpinned;
     }
 

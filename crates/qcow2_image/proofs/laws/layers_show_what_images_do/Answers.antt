@@ -1,4 +1,4 @@
-use Rattle.qcow2_image.proofs.PlaceContents.{shows-the-file, size-of-file}
+use Rattle.qcow2_image.proofs.Preparations.PlaceContents.{shows-the-file, size-of-file}
 use Rattle.qcow2_image.proofs.laws.layers_show_what_images_do.Goals as goal
 
 pub returns-clause-size : goal.returns-clause-size

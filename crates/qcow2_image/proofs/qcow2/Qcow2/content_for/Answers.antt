@@ -7,7 +7,7 @@ use Rattle.qcow2_types.specs.Header.{Header, cluster_size}
 use Rattle.qcow2_metadata.proofs.Written.{overwritten}
 use Rattle.qcow2_image.specs.Allocating.{TellsShown}
 use Rattle.qcow2_image.specs.Filling.{CopiesPart, CopiesShown, first_places}
-use Rattle.qcow2_image.proofs.ContentCopies.{content-copied, content-uncopied, content-unmade, content-unseen}
+use Rattle.qcow2_image.proofs.Preparations.ContentCopies.{content-copied, content-uncopied, content-unmade, content-unseen}
 use Rattle.qcow2_alloc.proofs.Faults.{handed-on}
 use Rattle.qcow2_image.proofs.qcow2.Qcow2.content_for.Goals as goal
 

@@ -1,7 +1,7 @@
 use Rattle.std.proofs.Common.{◌≡◌, ℕ, ◌-◌, arith, length}
 use borrow.Rule.Slice.PartMut.{mid_len, mid_of}
 use Rattle.qcow2_types.specs.Header.{cluster_size}
-use Rattle.qcow2_image.proofs.ContentCopies.{nothing-copied, part-copied, part-row, zero-part}
+use Rattle.qcow2_image.proofs.Preparations.ContentCopies.{nothing-copied, part-copied, part-row, zero-part}
 use Rattle.qcow2_image.proofs.qcow2.Qcow2.copy_shown.Goals as goal
 
 pub returns-then-first-end : goal.returns-then-first-end

@@ -7,7 +7,7 @@ use Rattle.qcow2_image.specs.Holding.{place_in}
 use Rattle.qcow2_image.specs.Steps.{KeepsImage}
 use Rattle.qcow2_image.specs.declared.allocating.Shown.TheVariants as variant
 use Rattle.qcow2_image.specs.declared.qcow2.Qcow2.{Qcow2}
-use Rattle.qcow2_image.proofs.ContentCopies.{barred-copied, data-copied, zeroes-copied}
+use Rattle.qcow2_image.proofs.Preparations.ContentCopies.{barred-copied, data-copied, zeroes-copied}
 use Rattle.qcow2_image.proofs.RequestsWithoutChanges.{asked-keeps, read-faultless}
 use Rattle.qcow2_image.proofs.qcow2.Qcow2.read_shown.Goals as goal
 

@@ -5,7 +5,7 @@ use Rattle.imago_storage.proofs.Once.{not-begun-below, put-below}
 use Rattle.imago_storage.proofs.Trying.{untold}
 use Rattle.qcow2_image.specs.Seen.{with_image}
 use Rattle.qcow2_image.specs.Steps.{failed_by}
-use Rattle.qcow2_image.proofs.WriteMarks.{marks-before, marks-within}
+use Rattle.qcow2_image.proofs.WritesInPlace.{marks-before, marks-within}
 use Rattle.qcow2_image.proofs.qcow2.Qcow2.write_at.Goals as goal
 
 pub returns-in-Ok : goal.returns-in-Ok
