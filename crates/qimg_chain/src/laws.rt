@@ -1,12 +1,14 @@
 //! Laws about scripts, arguments, chains of files, plain reads, flushes and crash images. A law is a function without code. Its `ensures`
 //! clauses are a theorem for users of the definitions.
-ghost use Rattle.std.specs.Prelude.{◌≡◌, ◌∷◌, [], ℕ, Bool, List, None, Option, Result, length, true, false};
+ghost use Rattle.std.specs.Prelude.{◌≡◌, ◌∷◌, [], ℕ, Bool, IsSome, List, None, Option, Result, length, true, false};
+ghost use Rattle.imago_access.specs.ChainCalls.{WontDecline};
 ghost use Rattle.imago_access.specs.ChainLooks.{ChainReads};
 ghost use Rattle.imago_access.specs.Running.{chain_disk};
 ghost use Rattle.imago_access.specs.declared.format.Format.TheVariants.{Qcow2, Raw};
 ghost use Rattle.imago_storage.specs.Log.{log_state};
 ghost use Rattle.imago_storage.specs.MemStorage.{mem_state};
 ghost use Rattle.imago_storage.specs.State.{CrashImageIsBytes};
+ghost use Rattle.imago_storage.specs.Steps.{Call as DiskCall};
 ghost use Rattle.imago_storage.specs.Through.{EachCrashImageIn};
 ghost use Rattle.imago_storage.specs.declared.fault.Fault.{Fault};
 ghost use Rattle.imago_storage.specs.declared.log.LogStorage.{LogStorage};
@@ -14,6 +16,7 @@ ghost use Rattle.imago_storage.specs.declared.memory.MemStorage.{MemStorage};
 ghost use Rattle.qcow2_types.specs.Bytes.{bytes_of};
 ghost use Rattle.qcow2_types.specs.Consistency.{IsConsistent};
 ghost use Rattle.qcow2_types.specs.Header.{Header};
+ghost use Rattle.qcow2_image.specs.Writing.{IsClearing, NeedsZeroFlag};
 ghost use Rattle.qimg_calls.specs.Held.{chain_with_mapping};
 ghost use Rattle.qimg_calls.specs.Runs.{Driven, moment};
 ghost use Rattle.qimg_calls.specs.Since.{Since, flushed};
@@ -30,6 +33,7 @@ ghost use Rattle.qimg_chain.specs.Refusals.{FirstCause, FormChain};
 ghost use Rattle.qimg_chain.specs.Script.{IsLine};
 ghost use Rattle.qimg_chain.specs.ScriptRuns.{answers_of, calls_of};
 ghost use Rattle.qimg_chain.specs.ToldStops.{AreLoggedFiles, GoesOnTelling, IsLeftIn, IsLoggedAlone, OpensTelling, CrashImagesConsistent, TellsAll};
+ghost use Rattle.qimg_chain.specs.declared.chain.image_driver.ImageDriver.TheVariants as variant;
 ghost use Rattle.qimg_chain.specs.declared.run.fault.RunFault.{RunFault};
 ghost use Rattle.qimg_chain.specs.declared.script.line.Line.{Line};
 
@@ -73,6 +77,17 @@ pub fn a_consistent_image_may_be_written()
     ensures { (writable : Bool) (file : ChainFile MemStorage) (h : Header) → file.format ≡ Qcow2
         → IsConsistent (bytes_of (mem_state file.image).bytes) h → h.backing_name ≡ None
         → FormChain mem_state writable (file ∷ []) × OfTop (IsFit mem_state) (file ∷ []) }
+{}
+
+/// Law: a chain whose top is a well-formed qcow2 image of version 3 declines no zeroing and no discard (`WontDecline`). One of version 2
+/// declines no discard to the backing file. Version 3 is the one that can zero clusters by itself.
+///
+/// So over such a chain a successful discard leaves no cluster allocated that it covers completely, and a successful zeroing leaves no data in
+/// one. See `drive`, `units`.
+pub fn a_qcow2_top_zeroes_and_discards<S: Storage>()
+    ensures { let d = ⟦<ImageDriver<S> as DriverModel>⟧ in (image : _) (below : List _) (call : DiskCall) → d.well_formed (variant.Qcow2 image)
+        → (NeedsZeroFlag call → IsSome (d.layer (variant.Qcow2 image)).fixed.granularity) → IsClearing call
+        → WontDecline d call (variant.Qcow2 image, below) }
 {}
 
 /// Law: if a plain read of files and a read of an opened chain both succeed, they return the same bytes.
