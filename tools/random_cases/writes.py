@@ -1,29 +1,38 @@
 """Writes to qcow2 images over other layers. The image is laid out at random, with each cluster counted as often as it is named; what its
 disk shows is read out of the bytes by the rules of the format alone. From there on a disk is a list of bytes: a write in one guest cluster
-changes its range at once, whatever the stop, and nothing leaks behind a flush.
+changes its range at once, whatever the stop, and nothing leaks behind a flush. A call that clears a range changes the whole guest clusters of
+it at once that have their entries in one L2 table, and writes zeroes to the rest or leaves that.
 """
 from random_cases.images import COMPRESSED, COPIED, ZERO, Chain, Qcow2, Raw, header, lines_of, some_runs
 from random_cases.texts import WIDTH, runs
 
-BARRED, OUTSIDE = "error 8", "error 2"
+BARRED, OUTSIDE, OLD_VERSION = "error 8", "error 2", "error 11"
 STATES = " / "
 
 
+def shown_by(layers, cluster):
+    """The bytes that a chain shows, and which of its clusters can't be read, as they are compressed."""
+    found, packed, chain = bytearray(), set(), Chain(layers)
+    while len(found) < layers[0].size():
+        at = len(found)
+        kind, depth, place, length = chain.find(at, cluster - at % cluster)
+        if kind == "barred":
+            packed.add(at // cluster)
+        layer = layers[depth] if kind == "raw" else None
+        found += bytes(layer.byte(place[0], place[1] + i) for i in range(length)) if layer else bytes(length)
+    return found, packed
+
+
 class Disk:
-    """The bytes that a chain shows, but for guest clusters that can't be read, as they are compressed."""
+    """The bytes that a chain shows, but for guest clusters that can't be read, as they are compressed. `below` has those of the layers below
+    the top one, as long as the disk."""
 
     def __init__(self, layers):
         top = layers[0]
-        self.size, self.cluster, self.packed = top.size(), top.cluster, set()
-        self.bytes = bytearray()
-        chain = Chain(layers)
-        while len(self.bytes) < self.size:
-            at = len(self.bytes)
-            kind, depth, place, length = chain.find(at, self.cluster - at % self.cluster)
-            if kind == "barred":
-                self.packed.add(at // self.cluster)
-            layer = layers[depth] if kind == "raw" else None
-            self.bytes += bytes(layer.byte(place[0], place[1] + i) for i in range(length)) if layer else bytes(length)
+        self.size, self.cluster, self.version, self.words = top.size(), top.cluster, top.version, top.words
+        self.bytes, self.packed = shown_by(layers, self.cluster)
+        lower = shown_by(layers[1:], self.cluster)[0] if layers[1:] else bytearray()
+        self.below = (lower + bytes(self.size))[:self.size]
 
     def shows(self, at, n):
         if any(guest in self.packed for guest in range(at // self.cluster, (min(at + n, self.size) - 1) // self.cluster + 1)):
@@ -42,6 +51,49 @@ class Disk:
         self.packed.discard(guest)
         self.bytes[at:at + len(data)] = data
         return None
+
+
+    def seen(self):
+        return self.bytes[:], set(self.packed)
+
+    def part(self, at, end):
+        """The part of a range that the driver clears: where it starts, and how long it is."""
+        guest = -(-at // self.cluster)
+        last = -(-end // self.cluster) if end == self.size else end // self.cluster
+        count = max(0, min(last - guest, self.words - guest % self.words))
+        start = guest * self.cluster
+        return start, min(end - start, count * self.cluster) if count else 0
+
+    def clear_part(self, start, n, call):
+        self.bytes[start:start + n] = self.below[start:start + n] if call == "to_backing" else bytes(n)
+        self.packed -= set(range(start // self.cluster, -(-(start + n) // self.cluster)))
+
+    def write_zeroes(self, at, end, states):
+        """Why zeroes are refused, or nothing. They are written cluster by cluster."""
+        refused = None
+        while at < end and refused is None:
+            count = min(end - at, self.cluster - at % self.cluster)
+            refused, at = self.write(at, bytes(count)), at + count
+            states.append(self.seen())
+        return refused
+
+    def clear(self, at, n, call, states):
+        """Why a call of the chain is refused that clears a range, or nothing. `states` gets what the disk is behind each change."""
+        end, writes = at + n, call in ("zeroes", "to_zero")
+        if end > self.size:
+            return OUTSIDE
+        declines, refused = self.version == 2 and call != "to_backing", None
+        while at < end and refused is None:
+            start, length = (end, 0) if declines else self.part(at, end)
+            if length:
+                self.clear_part(start, length, call)
+                states.append(self.seen())
+            elif start == at or declines:
+                start = end
+            if writes:
+                refused = self.write_zeroes(at, min(start, end), states)
+            at = start + length
+        return refused
 
 
 class Layout:
@@ -165,7 +217,7 @@ def a_write(rng, disk):
 
 def a_range(rng, disk):
     """A write or zeroes over any range, or a bit past the disk's end: its line. Guest clusters are written as they rise, up to one that
-    refuses its part."""
+    refuses its part; zeroes are written to those that aren't whole, behind the whole ones that follow."""
     at = rng.randrange(disk.size)
     if rng.random() < 0.4:
         at -= at % disk.cluster
@@ -175,18 +227,43 @@ def a_range(rng, disk):
     if at + n == disk.size and rng.random() < 0.1:
         n += 1
     if rng.random() < 0.2:
-        call, data = f"zeroes {at} {n}", bytes(n)
-    else:
+        refused = disk.clear(at, n, "zeroes", [])
+        return f"zeroes {at} {n}" if refused is None else f"zeroes {at} {n} = {refused}"
+    data = some_runs(rng, n)
+    while len(runs(data)) > 100:
         data = some_runs(rng, n)
-        while len(runs(data)) > 100:
-            data = some_runs(rng, n)
-        call = f"write {at} {runs(data)}"
+    call = f"write {at} {runs(data)}"
     refused = OUTSIDE if at + n > disk.size else None
     while data and refused is None:
         count = disk.cluster - at % disk.cluster
         refused = disk.write(at, data[:count])
         at, data = at + count, data[count:]
     return call if refused is None else f"{call} = {refused}"
+
+
+def a_clearing(rng, disk, states):
+    """A call of a chain or of its driver that clears a range, or a bit more than is on the disk: its line."""
+    at = rng.randrange(disk.size)
+    if rng.random() < 0.6:
+        at -= at % disk.cluster
+    n = rng.choice([rng.randint(1, disk.size - at), rng.randint(1, min(disk.size - at, 3 * disk.cluster))])
+    if rng.random() < 0.5:
+        n = min(disk.size, -(-(at + n) // disk.cluster) * disk.cluster) - at
+    if at + n == disk.size and rng.random() < 0.1:
+        n += 1
+    call = rng.choice(["zeroes", "to_zero", "to_any", "to_backing"])
+    if rng.random() < 0.7:
+        refused = disk.clear(at, n, call, states)
+        return f"{call} {at} {n}" if refused is None else f"{call} {at} {n} = {refused}"
+    line = f"driver {'zero' if call == 'zeroes' else call} {at} {n}"
+    if at + n > disk.size:
+        return f"{line} = {OUTSIDE}"
+    if disk.version == 2 and call != "to_backing":
+        return f"{line} = {OLD_VERSION}"
+    start, length = disk.part(at, at + n)
+    disk.clear_part(start, length, call)
+    states.append(disk.seen())
+    return f"{line} = {start} {length}"
 
 
 def fitting(line_of, n):
@@ -265,5 +342,29 @@ def ranges(rng):
         yield a_range(rng, disk)
         if rng.random() < 0.2:
             yield "flush"
+        yield a_read(rng, disk)
+    yield from flushed(rng, disk, chain)
+
+
+def cleared(rng):
+    """A chain whose top is zeroed, discarded and written, each stop of which is judged."""
+    layers, words, lines = a_chain(rng)
+    disk, chain = Disk(layers), " over ".join(words)
+    yield from opened(rng, words, lines)
+    for _ in range(rng.randint(4, 8)):
+        if rng.random() < 0.4:
+            yield a_write(rng, disk)[2]
+            if rng.random() < 0.3:
+                yield "flush"
+            yield "forget"
+        seen = [disk.seen()]
+        yield a_clearing(rng, disk, seen)
+        if rng.random() < 0.2:
+            yield "flush"
+        # In version 2 zeroes are written to several clusters, of which some may be in a row in the file and change at once.
+        for _ in range(2 if disk.version > 2 or len(seen) < 3 else 0):
+            at = rng.randrange(disk.size)
+            yield fitting(lambda n: f"states {at} {n} {chain} = {states(disk, seen, at, n)}", rng.randint(7, 3 * disk.cluster))
+        yield "forget"
         yield a_read(rng, disk)
     yield from flushed(rng, disk, chain)
