@@ -12,3 +12,5 @@ pub mod TableCopySteps
 pub mod NewTables
 pub mod LongerL1
 pub mod SizeSteps
+pub mod SmallestImages
+pub mod NewImages

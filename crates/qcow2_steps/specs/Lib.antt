@@ -5,3 +5,4 @@ pub mod Advancing
 pub mod NewTables
 pub mod LongerL1
 pub mod Sizes
+pub mod SmallestImage

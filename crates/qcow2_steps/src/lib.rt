@@ -9,4 +9,5 @@ pub mod data;
 pub mod longer_l1;
 pub mod new_tables;
 pub mod sizes;
+pub mod smallest_image;
 pub mod words;
