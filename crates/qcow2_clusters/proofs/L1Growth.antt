@@ -164,7 +164,7 @@ module _ {S : Type 0} (state : S → StorageState) (top : TableValue) (i : ℕ) 
   }
 
 -- Each index of a file has a byte.
-each-byte : (bytes : List ℕ) → EachIndex bytes (λ k. slice_index bytes k < 256) → (k : ℕ) → slice_index bytes k < 256
+pub each-byte : (bytes : List ℕ) → EachIndex bytes (λ k. slice_index bytes k < 256) → (k : ℕ) → slice_index bytes k < 256
 each-byte bytes fit k = elim (cases_lt k (length bytes)) [
   | inl below ↦ fit k below
   | inr behind ↦ let none = get_or_past bytes k 0 behind in omega (arith, none)

@@ -25,3 +25,4 @@ pub mod TableCreation
 pub mod TableCopies
 pub mod LongerTables
 pub mod L1Growth
+pub mod DiskSizes

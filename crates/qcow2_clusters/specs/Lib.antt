@@ -11,3 +11,4 @@ pub mod Clearing
 pub mod Freeing
 pub mod MakingTables
 pub mod Lengthening
+pub mod Sizing

@@ -8,7 +8,8 @@
 //!
 //! If the image is consistent and its storage keeps what is written, each crash image of a call (the file after a crash
 //! between two requests) is consistent, and leaks clusters at worst. The guest reads each byte as before. In `link_run`
-//! and `clear_run`, bytes of their guest clusters may have the new values instead.
+//! and `clear_run`, bytes of their guest clusters may have the new values instead. After `set_disk_size` the disk has the
+//! old or the new size.
 #![tactic(auto)]
 
 mod clearing;
@@ -17,6 +18,7 @@ mod freeing;
 mod lengthening;
 mod linking;
 mod making_tables;
+mod sizing;
 mod space;
 mod storing;
 mod writing_back;
@@ -27,5 +29,6 @@ pub use freeing::free_pending_clusters;
 pub use lengthening::lengthen_l1;
 pub use linking::link_run;
 pub use making_tables::{copy_table, make_table};
+pub use sizing::set_disk_size;
 pub use space::Space;
 pub use storing::{Stored, store_run};
