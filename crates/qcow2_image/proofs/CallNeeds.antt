@@ -11,15 +11,17 @@ use Rattle.imago_access.specs.Chain.{at}
 use Rattle.imago_access.specs.Changes.{Asked, CommitsPlace, TakesByte, Wrote}
 use Rattle.imago_access.specs.Layer.{Cell, Held, Layer, beside, inside, loose, own, through}
 use Rattle.imago_access.specs.PartCalls.{IsFor, discards_to_backing}
-use Rattle.imago_access.specs.Parts.{IsUncutPart, announces}
+use Rattle.imago_access.specs.Parts.{IsPartOf, IsUncutPart, announces}
 use Rattle.imago_access.specs.Room.{IsOfUnit, IsUncutAt, IsWholeUnit}
 use Rattle.imago_access.specs.declared.driver_model.LayersBelowModel.{Ghosts as GhostsBelow}
 use Rattle.imago_access.proofs.Holding.{at_inside}
 use Rattle.qcow2_types.specs.Header.{Fields, cluster_size}
+use Rattle.qcow2_clusters.specs.Clearing.{IsPossible}
+use Rattle.qcow2_image.specs.Clearing.{clearing_of}
 use Rattle.qcow2_image.specs.Filling.{IsNeededFor, NeedsShown}
 use Rattle.qcow2_image.specs.Preparing.{first_part}
 use Rattle.qcow2_image.specs.Seen.{writable_locations_of, layer_of}
-use Rattle.qcow2_image.specs.Writing.{ComesToBytes, IsNeeded, KeepsWritableLocations, MayBecome, NeedsValue, Since}
+use Rattle.qcow2_image.specs.Writing.{ComesToBytes, IsNeeded, KeepsWritableLocations, MayBeCleared, MayBecome, NeedsValue, Since}
 use Rattle.qcow2_image.specs.declared.qcow2.Qcow2.{Qcow2}
 use Rattle.qcow2_image.specs.Leaking.{KeepsLeaks}
 
@@ -35,11 +37,37 @@ becomes-then call a b c first second = elim second [
   ]
 ]
 
+-- A call covers a cluster completely if a part of its range does.
+pub whole-of-call : (c size : ℕ) (call : Call) (offset n u : ℕ) → IsPartOf call offset n → IsWholeUnit c size offset n u
+    → IsWholeUnit c size (offset_of call) (length_of call) u
+whole-of-call c size call offset n u part whole =
+    let start = whole.start in let end = whole.end in let low = part.start in let high = part.end in record {
+      start = omega (arith, start, low);
+      on_disk = whole.on_disk;
+      end = omega (arith, end, high);
+    }
+
+-- The entries that a call may clear depend on the size, the cluster size and the version.
+pub cleared-before : (h h' : Fields) (call : Call) (p : ℕ) → h'.size ≡ h.size → h'.cluster_bits ≡ h.cluster_bits → h'.version ≡ h.version
+    → MayBeCleared h' call p → MayBeCleared h call p
+cleared-before h h' call p size bits version may = record {
+  part = may.part;
+  is_for = may.is_for;
+  possible = subst (IsPossible (clearing_of may.part)) version may.possible;
+  cluster = may.cluster;
+  here = subst (λ (b : ℕ). IsOfUnit (2 ^ b) h.size may.cluster p) bits
+      (subst (λ (s : ℕ). IsOfUnit (cluster_size h') s may.cluster p) size may.here);
+  whole = subst (λ (b : ℕ). IsWholeUnit (2 ^ b) h.size (offset_of call) (length_of call) may.cluster) bits
+      (subst (λ (s : ℕ). IsWholeUnit (cluster_size h') s (offset_of call) (length_of call) may.cluster) size may.whole);
+}
+
 -- Changes since a call began, one after another.
 pub since-then : {S : Type 0} (g : Ghosts S) (call : Call) (d old new : Qcow2 S g) → Since g d call old → Since g old call new
     → Since g d call new
 since-then g call d old new first second = record {
-  writable_locations = λ keeps p at is. second.writable_locations keeps p at (first.writable_locations keeps p at is);
+  writable_locations = λ p keeps at is. second.writable_locations p
+      (λ may. keeps (cleared-before d.tables.file.header.fields old.tables.file.header.fields call p first.size first.bits first.version may))
+      at (first.writable_locations p keeps at is);
   cells = λ p.
       becomes-then call ((layer_of g d).cell p) ((layer_of g old).cell p) ((layer_of g new).cell p) (first.cells p) (second.cells p);
   size = second.size ∙ first.size;
@@ -60,7 +88,7 @@ pub since-as : {S : Type 0} (g : Ghosts S) (call : Call) (d old new : Qcow2 S g)
     → new.tables.file.header.fields.version ≡ old.tables.file.header.fields.version → KeepsLeaks g old new → Since g d call old
     → Since g d call new
 since-as g call d old new writable_locations cells size bits version leaks since = since-then g call d old new since (record {
-  writable_locations = λ keeps. writable_locations;
+  writable_locations = λ p keeps. writable_locations p;
   cells = λ p. byte-becomes call ((layer_of g old).cell p) ((layer_of g new).cell p) (cells p);
   size = size;
   bits = bits;

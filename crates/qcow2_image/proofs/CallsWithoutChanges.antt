@@ -1,10 +1,9 @@
 -- Lemmas on driver calls that change nothing: the image has failed, the range is empty, or the call is declined.
 use Rattle.std.proofs.Common.{◌≡◌, ℕ, ◌+◌, ◌<◌, ◌≤◌, Bool, true, false, List, Result, Ok, Err, Option, Some, None, refl, sym, ◌∙◌, inl, inr, arith}
-use Rattle.std.specs.Prelude.{⊤, ◌⊎◌, IsSome, eqb, zero, suc, length, max, IsFalse, if◌then◌else◌}
+use Rattle.std.specs.Prelude.{⊤, ◌⊎◌, IsSome, eqb, zero, suc, length, max, IsFalse}
 use Rattle.imago_storage.specs.Disk.{Value}
-use Rattle.imago_storage.specs.Steps.{shrink}
 use Rattle.imago_storage.specs.declared.fault.Fault.{Fault}
-use Rattle.imago_storage.specs.declared.fault.Fault.TheVariants.{Failed, Outdated, ReadOnly, Unsupported}
+use Rattle.imago_storage.specs.declared.fault.Fault.TheVariants.{Failed, Outdated, ReadOnly}
 use Rattle.imago_access.specs.declared.driver_model.DriverModel.{Ghosts}
 use Rattle.imago_access.specs.declared.driver_model.LayersBelowModel.{Ghosts as GhostsBelow}
 use Rattle.imago_access.specs.declared.format.PreallocateMode.{PreallocateMode}
@@ -173,11 +172,9 @@ module _ {D St : Type 0} (g : Ghosts D St) where
   pub shrink-idle : (size : ℕ) (d : D) → ShrinkRefused g size (Ok tt) d d
   shrink-idle size d = record { failed = tt; marks_failed = tt; cause = λ well_formed below. tt }
 
-  pub shrink-declined : (size : ℕ) (writable : Bool) (d : D) → (g.layer d).fixed.writable ≡ writable → size < (g.layer d).size
-      → ((below : List Layer) → g.own_cause d below (shrink size) Unsupported)
-      → ShrinkRefused g size (Err (if writable then Unsupported else ReadOnly)) d d
-  shrink-declined size true d is lt own = record { failed = tt; marks_failed = tt; cause = λ well_formed below. own below }
-  shrink-declined size false d is lt own = record { failed = tt; marks_failed = tt; cause = λ well_formed below. (lt, is) }
+  pub shrink-closed : (size : ℕ) (d : D) → size < (g.layer d).size → IsFalse (g.layer d).fixed.writable
+      → ShrinkRefused g size (Err ReadOnly) d d
+  shrink-closed size d lt closed = record { failed = tt; marks_failed = tt; cause = λ well_formed below. (lt, closed) }
 
   -- A write to a mapping that has nothing to do, or fails.
   pub writes-nothing : (guest place : ℕ) (bytes : List ℕ) (d : D) → length bytes ≡ 0 → WritesMapped g guest place bytes (Ok tt) d d
@@ -261,9 +258,3 @@ module _ {D St B : Type 0} (g : Ghosts D St) (u : GhostsBelow B) where
 
   pub growth-idle : (size : ℕ) (mode : PreallocateMode) (d : D) (b : B) → GrowthRefused g u size mode (Ok tt) (d, b) (d, b)
   growth-idle size mode d b = record { failed = tt; marks_failed = tt; cause = λ well_formed see. tt }
-
-  pub growth-declined : (size : ℕ) (mode : PreallocateMode) (writable : Bool) (d : D) (b : B) → (g.layer d).fixed.writable ≡ writable
-      → (g.layer d).size < size → g.growth_cause d (u.layers_below b) size mode Unsupported
-      → GrowthRefused g u size mode (Err (if writable then Unsupported else ReadOnly)) (d, b) (d, b)
-  growth-declined size mode true d b is lt own = record { failed = tt; marks_failed = tt; cause = λ well_formed see. own }
-  growth-declined size mode false d b is lt own = record { failed = tt; marks_failed = tt; cause = λ well_formed see. (lt, is) }

@@ -54,6 +54,7 @@ use Rattle.qcow2_clusters.proofs.L1Growth.{padded-long, some-taken}
 use Rattle.qcow2_image.specs.FreeSpace.{HasNoPlace, IsForTable, IsForRawEntry, LacksFreeRun, LacksTable, LeavesFree, enough_for_one, enough_for_run, enough_for_table, enough_for_entry}
 use Rattle.qcow2_image.proofs.FreeRuns.{full-behind, full-in-run, full-more, lacks-as-words, lacks-in-file, leaves-in-run, leaves-more, leaves-none, leaves-then, run-fewer, run-same, safe-short, some-enough, full-implies}
 use Rattle.qcow2_image.specs.Looking.{place_of_table}
+use Rattle.qcow2_image.specs.Resizing.{MovesL1}
 use Rattle.qcow2_image.specs.Rooms.{IsWellFormed, rest_of}
 use Rattle.qcow2_image.specs.Seen.{file_of}
 use Rattle.qcow2_image.specs.Steps.{KeepsImage, failed_by}
@@ -173,7 +174,7 @@ l1-moved f H H' top moved of =
     subst (λ (K : Header). IsL1Of f K.fields top) (sym moved.2) (record { layout = of.layout; raw_entries = of.raw_entries; sound = of.sound })
 
 -- An L2 table that the L1 table in memory references is the one of the guest cluster.
-table-over : (f : Bytes) (h : Fields) (top : TableValue) → IsL1Of f h top → (guest table : ℕ) → place_of_table top.raw_entries h.cluster_bits guest ≡ Some table
+pub table-over : (f : Bytes) (h : Fields) (top : TableValue) → IsL1Of f h top → (guest table : ℕ) → place_of_table top.raw_entries h.cluster_bits guest ≡ Some table
     → (table ≢ 0) × (guest / entries_of_cluster h < h.l1_entries) × (l2_table f h (guest / entries_of_cluster h) ≡ table * cluster_size h)
 table-over f h top of guest table named = (
   λ none. let e : table * cluster_size h ≡ 0 * cluster_size h = ap (λ t. t * cluster_size h) none in some (omega (arith, e)),
@@ -192,7 +193,7 @@ table-over f h top of guest table named = (
       cc (sym (some-offset f h top of guest table named) ∙ is)
 
 -- If the L1 table in memory references none, the guest cluster has none.
-table-none : (f : Bytes) (h : Fields) (top : TableValue) → IsL1Of f h top → (guest : ℕ) → place_of_table top.raw_entries h.cluster_bits guest ≡ None
+pub table-none : (f : Bytes) (h : Fields) (top : TableValue) → IsL1Of f h top → (guest : ℕ) → place_of_table top.raw_entries h.cluster_bits guest ≡ None
     → l2_table f h (guest / entries_of_cluster h) ≡ 0
 table-none f h top of guest none = place-in-file f h top of (guest / entries_of_cluster h) ∙ from _ none where
   from : (n : ℕ) → (if n == 0 then None else Some (n / 2 ^ h.cluster_bits)) ≡ None → n ≡ 0
@@ -849,8 +850,7 @@ module _ {S : Type 0} (g : Ghosts S) (old : Qcow2 S g) (mid : Tables S g) (space
 
 -- The L1 table was lengthened.
 module _ {S : Type 0} (g : Ghosts S) (old : Qcow2 S g) (begun : Bool) (mid : Tables S g) (space space' : Space) (caches : MetadataCaches S) (i : ℕ)
-    (there : old.tables.space ≡ Some space) (there' : mid.space ≡ Some space') (free : old.unspent ≡ None)
-    (behind : length old.tables.l1.raw_entries ≤ i) where
+    (there : old.tables.space ≡ Some space) (there' : mid.space ≡ Some space') (free : old.unspent ≡ None) where
   abbrev with_l1 : Result Unit Fault → Qcow2 S g
   with_l1 result = record old { tables = mid; failed = failed_by_resource_error result begun old.failed }
 
@@ -898,24 +898,12 @@ module _ {S : Type 0} (g : Ghosts S) (old : Qcow2 S g) (begun : Bool) (mid : Tab
   abbrev both_tables : ℕ → ℕ
   both_tables d = old_l1 (rest_of g old.tables space) d + old_l1 (rest_of g mid space') d
 
-  word-there : (raw_entries : List ℕ) → mid.l1.raw_entries ≡ padded raw_entries (max (length raw_entries) (i + 1)) → i < length mid.l1.raw_entries
-  word-there raw_entries is =
-      let more = le-max_right (length raw_entries) (i + 1) in
-      let all : length mid.l1.raw_entries ≡ max (length raw_entries) (i + 1) = ap length is ∙ padded-long raw_entries (max (length raw_entries) (i + 1)) (le-max_left (length raw_entries) (i + 1)) in
-      omega (arith, more, all)
-
-  for-word : IsWellFormed g old → IsForRawEntry g i old.tables (l1_clusters old.tables.file.header.fields old.tables.l1 i)
-  for-word well_formed =
-      let long = top-long (file_of g old.tables) old.tables.file.header.fields old.tables.l1 well_formed.seen.l1 in
-      let all : max (length old.tables.l1.raw_entries) (i + 1) ≡ i + 1 = omega (arith, behind) in
-      (omega (arith, long, behind), ap (clusters_for old.tables.file.header.fields) all)
-
-  no-word : (number : ℕ) → IsWellFormed g old → IsTooLong g.state old.tables.l1 i (clusters_state old.tables.file caches space) (clusters_state mid.file mid.caches space') number
-      → HasNoPlace g (IsForRawEntry g i old.tables) i (enough_for_entry old.tables i) old.tables mid number
-  no-word number well_formed (inl far) = (l1_clusters old.tables.file.header.fields old.tables.l1 i, for-word well_formed, inl far)
-  no-word number well_formed (inr (near, full)) = (
+  no-room : (number : ℕ) → IsWellFormed g old → IsTooLong g.state old.tables.l1 i (clusters_state old.tables.file caches space) (clusters_state mid.file mid.caches space') number
+      → HasNoPlace g (λ n. n ≡ l1_clusters old.tables.file.header.fields old.tables.l1 i) i (enough_for_entry old.tables i) old.tables mid number
+  no-room number well_formed (inl far) = (l1_clusters old.tables.file.header.fields old.tables.l1 i, refl, inl far)
+  no-room number well_formed (inr (near, full)) = (
     l1_clusters old.tables.file.header.fields old.tables.l1 i,
-    for-word well_formed,
+    refl,
     inr (
       near,
       full-in-run g old.tables mid space space' there there' well_formed.searched (l1_clusters old.tables.file.header.fields old.tables.l1 i) number
@@ -924,12 +912,12 @@ module _ {S : Type 0} (g : Ghosts S) (old : Qcow2 S g) (begun : Bool) (mid : Tab
     ),
   )
 
-  pub lengthened : (result : Result Unit Fault) → Longer result → EnsuresEntry g i old result (with_l1 result)
+  pub lengthened : (result : Result Unit Fault) → Longer result → MovesL1 g i old result (with_l1 result)
   lengthened (Ok done) longer = record {
     keeps = longer-keeps (Ok done) both_tables both_tables longer (λ well_formed. longer.progress well_formed.seen.l1);
     leaks = λ well_formed. longer-leaks (Ok done) both_tables (longer.progress well_formed.seen.l1) well_formed;
     known = λ was. subst IsSome (sym there') refl;
-    inside = word-there old.tables.l1.raw_entries longer.raw_entries;
+    long = longer.long;
     raw_entries = longer.raw_entries;
     leaves = λ well_formed. leaves-in-run g old.tables mid space space' there there' well_formed.searched (enough_for_entry old.tables i)
         (longer.leaves (longer-ready well_formed) well_formed.seen.l1).1;
@@ -939,10 +927,58 @@ module _ {S : Type 0} (g : Ghosts S) (old : Qcow2 S g) (begun : Bool) (mid : Tab
     keeps = longer-keeps (Err fault) (λ _. 0) (λ _. 0) longer (λ well_formed. longer.progress well_formed.seen.l1);
     leaks = λ well_formed. longer-leaks (Err fault) (λ _. 0) (longer.progress well_formed.seen.l1) well_formed;
     known = λ was. subst IsSome (sym there') refl;
-    inside = tt;
+    long = tt;
     raw_entries = tt;
     leaves = λ well_formed. tt;
-    cause = cause-weaker (storing-allocates g old (with_l1 (Err fault)) (λ well_formed. (longer-ready well_formed, well_formed.seen.l1)) no-word) fault longer.cause;
+    cause = cause-weaker (storing-allocates g old (with_l1 (Err fault)) (λ well_formed. (longer-ready well_formed, well_formed.seen.l1)) no-room) fault longer.cause;
+  }
+
+-- An L1 table that has no entry at index `i` gets one when it is moved.
+module _ {S : Type 0} (g : Ghosts S) (i : ℕ) (old new : Qcow2 S g) (behind : length old.tables.l1.raw_entries ≤ i) where
+  word-there : new.tables.l1.raw_entries ≡ padded old.tables.l1.raw_entries (max (length old.tables.l1.raw_entries) (i + 1))
+      → i < length new.tables.l1.raw_entries
+  word-there is =
+      let ws = old.tables.l1.raw_entries in
+      let more = le-max_right (length ws) (i + 1) in
+      let all : length new.tables.l1.raw_entries ≡ max (length ws) (i + 1) = ap length is ∙ padded-long ws (max (length ws) (i + 1)) (le-max_left (length ws) (i + 1)) in
+      omega (arith, more, all)
+
+  for-word : IsWellFormed g old → (n : ℕ) → n ≡ l1_clusters old.tables.file.header.fields old.tables.l1 i → IsForRawEntry g i old.tables n
+  for-word well_formed n is =
+      let long = top-long (file_of g old.tables) old.tables.file.header.fields old.tables.l1 well_formed.seen.l1 in
+      let all : max (length old.tables.l1.raw_entries) (i + 1) ≡ i + 1 = omega (arith, behind) in
+      (omega (arith, long, behind), is ∙ ap (clusters_for old.tables.file.header.fields) all)
+
+  no-word : Implies (allocation_causes g (HasNoPlace g (λ n. n ≡ l1_clusters old.tables.file.header.fields old.tables.l1 i) i (enough_for_entry old.tables i)
+      old.tables new.tables) old new)
+      (allocation_causes g (HasNoPlace g (IsForRawEntry g i old.tables) i (enough_for_entry old.tables i) old.tables new.tables) old new)
+  no-word = record {
+    before = omega arith;
+    after = omega arith;
+    damaged = λ wrong is. wrong is;
+    counter = λ wrong is. wrong is;
+    full = absurd;
+    limit = λ number at well_formed. let told = at well_formed in (told.0, for-word well_formed told.0 told.1, told.2);
+  }
+
+  pub moved-ensures : (result : Result Unit Fault) → MovesL1 g i old result new → EnsuresEntry g i old result new
+  moved-ensures (Ok done) moves = record {
+    keeps = moves.keeps;
+    leaks = moves.leaks;
+    known = moves.known;
+    inside = word-there moves.raw_entries;
+    raw_entries = moves.raw_entries;
+    leaves = moves.leaves;
+    cause = tt;
+  }
+  moved-ensures (Err fault) moves = record {
+    keeps = moves.keeps;
+    leaks = moves.leaks;
+    known = moves.known;
+    inside = tt;
+    raw_entries = tt;
+    leaves = moves.leaves;
+    cause = cause-weaker no-word fault moves.cause;
   }
 
 -- The guest cluster gets a table of its own after its L1 entry exists.

@@ -85,7 +85,7 @@ cell-shown blank f h p (packed offset n) = refl
 cell-shown blank f h p mappings.unmapped = refl
 cell-shown blank f h p damaged = refl
 
-home-bits : (h h' : Fields) (p : ℕ) (w : Mapping) → h'.cluster_bits ≡ h.cluster_bits → writable_location_by h' p w ≡ writable_location_by h p w
+pub home-bits : (h h' : Fields) (p : ℕ) (w : Mapping) → h'.cluster_bits ≡ h.cluster_bits → writable_location_by h' p w ≡ writable_location_by h p w
 home-bits h h' p (data_at c true) bits = rw bits refl
 home-bits h h' p (data_at c false) bits = refl
 home-bits h h' p (zeroes c copied) bits = refl

@@ -36,3 +36,4 @@ pub mod LeaksWithNothingPending
 pub mod SameLeaks
 pub mod FileReads
 pub mod Clearings
+pub mod Resizes

@@ -1,5 +1,5 @@
 -- Specifies how the whole guest clusters of a range are zeroed or discarded. One call clears the clusters that are in one L2 table.
-use Rattle.std.specs.Prelude.{◌≡◌, ◌≢◌, ◌⊎◌, ℕ, ◌+◌, ◌-◌, ◌*◌, ◌/◌, ◌%◌, ◌^◌, ◌<◌, ◌≤◌, min, Bool, false, Some, None, IsTrue, IsSome, Result, Ok, Err, OnOk, IfOk, IfErr}
+use Rattle.std.specs.Prelude.{◌≡◌, ◌≢◌, ◌⊎◌, ℕ, ◌+◌, ◌-◌, ◌*◌, ◌/◌, ◌%◌, ◌^◌, ◌<◌, ◌≤◌, min, length, Bool, false, Some, None, IsTrue, IsSome, Result, Ok, Err, OnOk, IfOk, IfErr}
 use Rattle.imago_storage.specs.Calls.{IsFaultless, CountsNotFallen}
 use Rattle.imago_storage.specs.declared.fault.Fault.{Fault}
 use Rattle.imago_storage.specs.declared.fault.Fault.TheVariants.{Memory, VersionLimit}
@@ -60,6 +60,10 @@ pub record IsWholePart (h : Fields) (offset n : ℕ) (part : Part) : Type 0 wher
   pub fits : 0 < part.count → part.guest * cluster_size h < 2 ^ 64
   pub end : 0 < part.count → part.start + part.length ≡ min ((part.guest + part.count) * cluster_size h) h.size
   pub empty : part.count ≡ 0 → part.length ≡ 0
+  -- The bytes from its start to the end of the last whole cluster of the range.
+  pub last_whole : ℕ
+  pub whole_end : IsWholeEnd h (offset + n) last_whole
+  pub rest : 0 < part.count → part.start + part.rest ≡ min (last_whole * cluster_size h) h.size
 
 -- The entries of guest clusters are cleared in their L2 table, which then is the only cached table. What they referenced is on the list of
 -- clusters to free.
@@ -181,7 +185,21 @@ pub record ClearsWhole {S : Type 0} (g : Ghosts S) (how : Clearing) (offset n : 
   pub done : ((part.count ≡ 0) × (answer ≡ Ok tt) × (new ≡ old)) ⊎ ((0 < part.count) × ClearsPart g how part.guest part.count old answer new)
   pub is_answer : result ≡ part_answer part answer
 
+-- The call unmaps guest clusters, and the L1 table has no entry for the first one. So none of the later ones
+-- has an L1 entry either, and all are unmapped already. Nothing is done, and the part reaches to the end of the last whole cluster of the range.
+pub record SkipsRest {S : Type 0} (g : Ghosts S) (how : Clearing) (offset n : ℕ) (old : Qcow2 S g) (result : Result (ℕ × ℕ) Fault)
+    (new : Qcow2 S g) : Type 0 where
+  pub may : MayClear g offset n old
+  pub unmaps : how ≡ Unmap
+  pub part : Part
+  pub is_part : IsWholePart old.tables.file.header.fields offset n part
+  pub some : 0 < part.count
+  pub past_l1 : length old.tables.l1.raw_entries ≤ part.guest / entries_of_cluster old.tables.file.header.fields
+  pub ok : result ≡ Ok (part.start, part.rest)
+  pub same : new ≡ old
+
 -- A part of the range is cleared, and the result is that part.
 abbrev pub ClearsRange : {S : Type 0} (g : Ghosts S) → (how : Clearing) → (offset n : ℕ) → Qcow2 S g → Result (ℕ × ℕ) Fault → Qcow2 S g → Type 0
 ClearsRange g how offset n old result new =
-    ClearsNothing g offset n old result new ⊎ (RefusesVersion g how offset n old result new ⊎ ClearsWhole g how offset n old result new)
+    ClearsNothing g offset n old result new ⊎ (RefusesVersion g how offset n old result new
+    ⊎ (SkipsRest g how offset n old result new ⊎ ClearsWhole g how offset n old result new))

@@ -18,3 +18,4 @@ pub mod Committing
 pub mod Filling
 pub mod Preparing
 pub mod Clearing
+pub mod Resizing

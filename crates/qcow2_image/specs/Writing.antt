@@ -1,13 +1,13 @@
 -- Specifies how an image before and after a write are related, and the errors of the write.
 use Rattle.std.proofs.Common.{inl, refl}
-use Rattle.std.specs.Prelude.{◌≡◌, ◌≢◌, ◌⊎◌, ⊤, ℕ, ◌+◌, ◌/◌, ◌<◌, ◌∷◌, List, Some, None, IsSome, Result, MatchResult, false, true}
+use Rattle.std.specs.Prelude.{◌≡◌, ◌≢◌, ◌⊎◌, ⊤, ℕ, ◌+◌, ◌/◌, ◌<◌, ◌≤◌, ◌∷◌, List, Some, None, IsSome, Result, MatchResult, false, true}
 use Rattle.imago_storage.specs.State.{HasRisen}
 use Rattle.imago_storage.specs.Calls.{UnchangedButFaults}
 use Rattle.imago_storage.specs.Causes.{offset_of, length_of}
 use Rattle.imago_storage.specs.Steps.{Call, shrink, IsIn}
 use Rattle.imago_storage.specs.Through.{WriteOutcome}
 use Rattle.imago_storage.specs.declared.fault.Fault.{Fault}
-use Rattle.imago_storage.specs.declared.fault.Fault.TheVariants.{Barred, DamagedTable, Limit, Memory, Unsupported, VersionLimit}
+use Rattle.imago_storage.specs.declared.fault.Fault.TheVariants.{Barred, DamagedTable, Limit, Memory, VersionLimit}
 use Rattle.imago_storage.specs.declared.storage.Storage.{Ghosts}
 use Rattle.imago_storage.specs.Disk.{Value, barred, byte, damaged_place}
 use Rattle.imago_access.specs.Chain.{at}
@@ -15,8 +15,10 @@ use Rattle.imago_access.specs.Layer.{Cell, Layer, own, unmapped}
 use Rattle.imago_access.specs.PartCalls.{PartCall, discards_to_backing, IsFor}
 use Rattle.imago_access.specs.Parts.{announces}
 use Rattle.imago_access.specs.Room.{IsOfUnit, IsWholeUnit}
-use Rattle.qcow2_types.specs.Header.{cluster_size}
+use Rattle.qcow2_types.specs.Header.{Fields, cluster_size}
 use Rattle.qcow2_alloc.specs.Causes.{Causes}
+use Rattle.qcow2_clusters.specs.Clearing.{IsPossible}
+use Rattle.qcow2_image.specs.Clearing.{clearing_of}
 use Rattle.qcow2_image.specs.FreeSpace.{LacksPlaceForTable}
 use Rattle.qcow2_image.specs.Rooms.{IsWellFormed}
 use Rattle.qcow2_image.specs.Seen.{writable_locations_of, layer_of}
@@ -26,22 +28,41 @@ use Rattle.qcow2_image.specs.Leaking.{KeepsLeaks}
 use Rattle.qcow2_image.specs.Looking.{looking_causes}
 use Rattle.qcow2_image.specs.Preparing.{LacksPlace}
 
--- The call zeroes or discards a range. The driver clears entries of L2 tables for it.
+-- The call zeroes or discards a range. The driver clears entries of L2 tables for it, if the image's version has such entries.
 abbrev pub IsClearing : Call → Type 0
 IsClearing call = (part : PartCall) × IsFor part call
+
+-- The call may clear the entry of the cluster of this byte: it zeroes or discards, the image's version has such an entry, and the range
+-- of the call covers the cluster completely. The last cluster of the disk may be shorter.
+pub record MayBeCleared (h : Fields) (call : Call) (p : ℕ) : Type 0 where
+  pub part : PartCall
+  pub is_for : IsFor part call
+  pub possible : IsPossible (clearing_of part) h.version
+  pub cluster : ℕ
+  pub here : IsOfUnit (cluster_size h) h.size cluster p
+  pub whole : IsWholeUnit (cluster_size h) h.size (offset_of call) (length_of call) cluster
 
 -- The call clears entries that need the zero flag, which version 2 of the format doesn't have.
 abbrev pub NeedsZeroFlag : Call → Type 0
 NeedsZeroFlag call = (part : PartCall) × IsFor part call × (part ≢ discards_to_backing)
 
--- The driver doesn't support the call: a shrink fails. The causes of a growth are separate.
-abbrev pub IsUnsupported : Call → Type 0
-IsUnsupported (shrink size) = ⊤
-IsUnsupported call = ⊥
+-- The call is a shrink.
+abbrev pub IsShrink : Call → Type 0
+IsShrink (shrink size) = ⊤
+IsShrink call = ⊥
+
+-- The call is a shrink of a disk with `old` bytes, and this byte is past the new size.
+abbrev pub CutsOff : (old : ℕ) → Call → ℕ → Type 0
+CutsOff old (shrink size) p = (size ≤ p) × (p < old)
+CutsOff old call p = ⊥
+
+-- If this byte can be written in place by its entry, it still can, at the same location.
+abbrev pub KeepsWritableLocation : {S : Type 0} (g : Ghosts S) → Qcow2 S g → Qcow2 S g → ℕ → Type 0
+KeepsWritableLocation g d now p = (at : ℕ × ℕ) → writable_locations_of g d p ≡ Some at → writable_locations_of g now p ≡ Some at
 
 -- Each byte that can be written in place by an entry still can.
 abbrev pub KeepsWritableLocations : {S : Type 0} (g : Ghosts S) → Qcow2 S g → Qcow2 S g → Type 0
-KeepsWritableLocations g d now = (p : ℕ) (at : ℕ × ℕ) → writable_locations_of g d p ≡ Some at → writable_locations_of g now p ≡ Some at
+KeepsWritableLocations g d now = (p : ℕ) → KeepsWritableLocation g d now p
 
 -- Each byte has the same cell as before, or is now a byte of the image's own.
 abbrev pub ComesToBytes : (old new : ℕ → Cell) → Type 0
@@ -51,9 +72,9 @@ ComesToBytes old new = (p : ℕ) → (new p ≡ old p) ⊎ ((b : ℕ) × (new p 
 abbrev pub MayBecome : Call → (was is : Cell) → Type 0
 MayBecome call was is = (is ≡ was) ⊎ (((b : ℕ) × (is ≡ own (byte b))) ⊎ (IsFor discards_to_backing call × (is ≡ unmapped)))
 
--- The changes of an image since this call began. A byte that is zeroed or discarded loses its writable location.
+-- The changes of an image since this call began. Only a byte whose entry the call may clear can lose its writable location.
 pub record Since {S : Type 0} (g : Ghosts S) (d : Qcow2 S g) (call : Call) (now : Qcow2 S g) : Type 0 where
-  pub writable_locations : (IsClearing call → ⊥) → KeepsWritableLocations g d now
+  pub writable_locations : (p : ℕ) → (MayBeCleared d.tables.file.header.fields call p → ⊥) → KeepsWritableLocation g d now p
   pub cells : (p : ℕ) → MayBecome call ((layer_of g d).cell p) ((layer_of g now).cell p)
   pub size : now.tables.file.header.fields.size ≡ d.tables.file.header.fields.size
   pub bits : now.tables.file.header.fields.cluster_bits ≡ d.tables.file.header.fields.cluster_bits
@@ -69,7 +90,7 @@ pub begun_itself : {S : Type 0} (g : Ghosts S) (d : Qcow2 S g) (call : Call) →
 begun_itself g d call = λ well_formed. (
   well_formed,
   record {
-    writable_locations = λ keeps p at is. is;
+    writable_locations = λ p keeps at is. is;
     cells = λ p. inl refl;
     size = refl;
     bits = refl;
@@ -94,10 +115,19 @@ abbrev pub NeedsValue : {S : Type 0} (g : Ghosts S) → Qcow2 S g → List Layer
 NeedsValue g d below call value = let h = d.tables.file.header.fields in
     (p : ℕ) × IsNeeded (cluster_size h) h.size call p × (at (layer_of g d ∷ below) p ≡ value)
 
--- A call that clears entries can't allocate the L2 table of a guest cluster, or one that prepares mappings a missing part of it.
-abbrev pub LacksFor : {S : Type 0} (g : Ghosts S) → Call → (guest : ℕ) → (old new : Tables S g) → ℕ → Type 0
-LacksFor g call guest old new number =
-    (IsSome (announces call) × LacksPlace g guest old new number) ⊎ (IsClearing call × LacksPlaceForTable g guest old new number)
+-- A call that prepares mappings can't allocate a missing part of the mapping of a guest cluster, or its L2 table. A shrink, or a call that
+-- `clears` the entry, can't allocate the L2 table.
+abbrev pub LacksFor : {S : Type 0} (g : Ghosts S) → Call → (clears : Type 0) → (guest : ℕ) → (old new : Tables S g) → ℕ → Type 0
+LacksFor g call clears guest old new number = (IsSome (announces call) × LacksPlace g guest old new number)
+    ⊎ ((clears ⊎ IsShrink call) × LacksPlaceForTable g guest old new number)
+
+-- The call may need clusters for this byte. The byte is in its range, and has no writable location, unless the call may clear its entry. Or the
+-- call is a shrink, and the byte is past the new size.
+abbrev pub MayNeedClusters : {S : Type 0} (g : Ghosts S) → Qcow2 S g → Call → ℕ → Type 0
+MayNeedClusters g d call p =
+    (IsIn (offset_of call) (length_of call) p
+    × ((MayBeCleared d.tables.file.header.fields call p → ⊥) → writable_locations_of g d p ≡ None))
+    ⊎ CutsOff d.tables.file.header.fields.size call p
 
 -- At some point since the call began, what it needs for the guest cluster of a byte couldn't be allocated. The number is that of the limit.
 -- The search kept the disk, and leaked nothing.
@@ -109,15 +139,14 @@ pub record HadNoPlace {S : Type 0} (g : Ghosts S) (d : Qcow2 S g) (call : Call) 
   pub left_safe : IsWellFormed g left
   pub left_disk : layer_of g left ≡ layer_of g now
   pub left_leaks : KeepsLeaks g now left
-  pub lacks : LacksFor g call (p / cluster_size now.tables.file.header.fields) now.tables left.tables number
+  pub lacks : LacksFor g call (MayBeCleared d.tables.file.header.fields call p) (p / cluster_size now.tables.file.header.fields)
+      now.tables left.tables number
 
--- The driver's own reasons for not changing an image. The driver or the version of the image doesn't support the call. What the call needs
--- for a byte can't be allocated; if the call doesn't clear entries, the byte had no writable location. A needed byte can't be read.
+-- The driver's own reasons for not changing an image. The version of the image doesn't support the call. What the call needs for a byte
+-- can't be allocated. A needed byte can't be read. The causes of a growth are separate.
 abbrev pub WhyUnwritten : {S : Type 0} (g : Ghosts S) → Qcow2 S g → List Layer → Call → Fault → Type 0
-WhyUnwritten g d below call Unsupported = IsUnsupported call
 WhyUnwritten g d below call VersionLimit = (d.tables.file.header.fields.version < 3) × NeedsZeroFlag call
-WhyUnwritten g d below call (Limit number) = (p : ℕ) × IsIn (offset_of call) (length_of call) p
-    × ((IsClearing call → ⊥) → writable_locations_of g d p ≡ None) × HadNoPlace g d call p number
+WhyUnwritten g d below call (Limit number) = (p : ℕ) × MayNeedClusters g d call p × HadNoPlace g d call p number
 WhyUnwritten g d below call DamagedTable = NeedsValue g d below call damaged_place
 WhyUnwritten g d below call Barred = NeedsValue g d below call barred
 WhyUnwritten g d below call fault = ⊥

@@ -18,7 +18,7 @@ use crate::reloading::drop_cached;
 use imago_storage::{Fault, Storage};
 use qcow2_alloc::{ImageFile, MetadataCaches};
 use qcow2_clusters::{
-    Space, Stored, copy_table, fill, free_pending_clusters, lengthen_l1, make_table, store_run,
+    Space, Stored, copy_table, fill, free_pending_clusters, make_table, store_run,
 };
 use qcow2_metadata::{L1Table, L2Mapping, Table};
 use qcow2_types::{ClusterCount, GuestCluster, HostCluster};
@@ -205,25 +205,12 @@ impl<S: Storage> Qcow2<S> {
         if index < self.tables.l1.entries() {
             return Ok(());
         }
-        let Some(space) = &mut self.tables.space else {
-            return Err(Fault::DamagedTable);
-        };
-        let _dropped = drop_cached(&mut self.tables.caches);
-        let longer = lengthen_l1(
-            alloc,
-            &mut self.tables.file,
-            &mut self.tables.caches,
-            space,
-            &mut self.tables.l1,
-            index,
-            begun,
-        );
-        self.mark_change_fault(longer, *begun)
+        self.move_l1(alloc, index, begun)
     }
 
     // Returns the cluster of an L2 table that isn't shared, for a guest cluster that has an L1 entry. A missing table is made. A table that
     // may be shared, as its L1 entry has no COPIED flag, is replaced by a copy.
-    fn own_table(
+    pub(crate) fn own_table(
         &mut self,
         alloc: Global,
         guest: GuestCluster,

@@ -1,8 +1,9 @@
 // Zeroes and discards the whole guest clusters of a range. One call clears the clusters whose entries are in one L2 table, and all these
 // entries change by one request. Definitions: specs/Clearing.antt.
-ghost use Rattle.std.specs.Prelude.{◌≡◌, ◌<◌, ◌≤◌, ◌+◌, ◌%◌, ◌^◌, None, OnOk, IfErr, IsTrue};
+ghost use Rattle.std.specs.Prelude.{◌≡◌, ◌<◌, ◌≤◌, ◌+◌, ◌/◌, ◌%◌, ◌^◌, ◌↔◌, length, None, OnOk, IfErr, IsTrue};
 ghost use Rattle.imago_storage.specs.declared.fault.Fault.{Fault};
 ghost use Rattle.qcow2_types.specs.Entries.{l2_entries};
+ghost use Rattle.qcow2_types.specs.Header.{entries_of_cluster};
 ghost use Rattle.qcow2_clusters.specs.Clearing.{IsPossible};
 ghost use Rattle.qcow2_image.specs.Allocating.{Begins};
 ghost use Rattle.qcow2_image.specs.Clearing.{BeginsTables, ClearsClusters, ClearsPart, ClearsRange, ClearsTables, IsWholeEnd, IsWholePart};
@@ -19,13 +20,14 @@ use qcow2_types::{ClusterCount, GuestCluster, GuestOffset, HostCluster};
 use std::alloc::Global;
 
 // The part of a range that one call clears: `count` whole guest clusters from `guest` on, whose entries are in one L2 table. Its bytes are
-// the `length` bytes from `start` on.
+// the `length` bytes from `start` on. The whole guest clusters of the range, in any table, are the `rest` bytes from `start` on.
 #[derive(Clone, Copy)]
 pub(crate) struct Part {
     pub(crate) start: u64,
     pub(crate) guest: GuestCluster,
     pub(crate) count: ClusterCount,
     pub(crate) length: u64,
+    pub(crate) rest: u64,
 }
 
 // Returns the index of the first guest cluster after the last whole one, for a range that ends at `end`. The last cluster of the disk is
@@ -53,14 +55,18 @@ pub(crate) fn whole_part(header: &Header, offset: u64, length: u64) -> Part
     let end = offset + length;
     let guest = GuestCluster(ClusterCount::from_byte_size(offset, cluster_bits).0);
     let row = (header.l2_entries() - guest.l2_index(cluster_bits)) as u64;
-    let count = whole_end(header, end).saturating_sub(guest.0).min(row);
+    let whole = whole_end(header, end).saturating_sub(guest.0);
+    let count = whole.min(row);
     let start = guest.0.saturating_mul(cluster_size);
-    let rest = end.saturating_sub(start);
+    let left = end.saturating_sub(start);
+    let length = left.min(count * cluster_size);
+    let rest = left.min(whole.saturating_mul(cluster_size));
     Part {
         start,
         guest,
         count: ClusterCount(count),
-        length: rest.min(count * cluster_size),
+        length,
+        rest,
     }
 }
 
@@ -88,6 +94,16 @@ fn is_unmapped(l1: &L1Table, guest: GuestCluster, cluster_bits: u32, clearing: C
 {
     match clearing {
         Clearing::Unmap => l2_cluster(l1, guest, cluster_bits).is_none(),
+        Clearing::Keep | Clearing::GiveUp => false,
+    }
+}
+
+// Returns true if the call unmaps guest clusters, and the L1 table has no entry for the first one. Then it has none for a later one either.
+fn is_past_l1(header: &Header, l1: &L1Table, guest: GuestCluster, clearing: Clearing) -> bool
+    ensures { IsTrue result ↔ (clearing ≡ Clearing.Unmap) × (length l1.now.raw_entries ≤ guest / entries_of_cluster header.now.fields) }
+{
+    match clearing {
+        Clearing::Unmap => !l1.in_bounds(guest.l1_index(header.cluster_bits())),
         Clearing::Keep | Clearing::GiveUp => false,
     }
 }
@@ -133,7 +149,7 @@ fn clear_tables<S: Storage>(
 impl<S: Storage> Qcow2<S> {
     // Clears guest clusters in their L2 table, which isn't shared. A resource error after the change has begun sets the image to failed, as
     // a part may have been written.
-    fn clear_clusters(
+    pub(crate) fn clear_clusters(
         &mut self,
         table: HostCluster,
         guest: GuestCluster,
@@ -178,7 +194,8 @@ impl<S: Storage> Qcow2<S> {
     }
 
     // Clears the whole guest clusters of a range, as far as one L2 table reaches. Returns the start and the length of the part that was
-    // cleared, in bytes. Without a whole cluster the part is empty, at the first cluster boundary of the range.
+    // cleared, in bytes. Without a whole cluster the part is empty, at the first cluster boundary of the range. If the call unmaps and the
+    // clusters are past the end of the L1 table, the part has all of them, as none is mapped.
     //
     // The errors are those of any change of a range, then `Fault::VersionLimit` if the image's version has no entries of zeroes.
     // `Fault::Limit` means that no L2 table can be allocated. `Fault::Memory` and `Fault::Storage` set the image to failed, unless
@@ -205,6 +222,10 @@ impl<S: Storage> Qcow2<S> {
         let count = part.count;
         if count.0 == 0 {
             return Ok((part.start, 0));
+        }
+        let tables = &self.tables;
+        if is_past_l1(&tables.file.header, &tables.l1, part.guest, clearing) {
+            return Ok((part.start, part.rest));
         }
         self.clear_part(alloc, part.guest, count, clearing)?;
         Ok((part.start, part.length))

@@ -519,19 +519,19 @@ impl<S: Storage> FormatDriverInstance for Qcow2<S> {
 
     fn resize_grow<B: ReadBelow>(
         &mut self,
-        _alloc: Global,
+        alloc: Global,
         _below: &mut B,
         size: u64,
-        _mode: PreallocateMode,
+        mode: PreallocateMode,
     ) -> Result<(), Fault>
         requires free { IsFree (⟦<Qcow2<S> as DriverModel>⟧.layer self.old) }
         ensures resizes { let d = ⟦<Qcow2<S> as DriverModel>⟧ in Resizes d size (d.layer self.old).size result self.old self.new }
-        ensures grows { Grows ⟦<Qcow2<S> as DriverModel>⟧ B.LayersBelowModel size _mode result (self.old, _below.old) (self.new, _below.new) }
+        ensures grows { Grows ⟦<Qcow2<S> as DriverModel>⟧ B.LayersBelowModel size mode result (self.old, _below.old) (self.new, _below.new) }
         ensures unread { IsUngrown (⟦<Qcow2<S> as DriverModel>⟧.layer self.old) size → _below.new ≡ _below.old }
         ensures below { LookupCallBelow B.LayersBelowModel (HadNoResourceError result) _below.old _below.new }
-        ensures refused { GrowthRefused ⟦<Qcow2<S> as DriverModel>⟧ B.LayersBelowModel size _mode result (self.old, _below.old) (self.new, _below.new) }
-        // The call is declined, and changes nothing.
-        ensures same { self.new ≡ self.old }
+        // `Fault::Unsupported` means that the mode isn't `None`. `Fault::Limit` is for a size above 2^63 - 1, or if the L1 table for it can't
+        // be allocated. After these the disk reads as before.
+        ensures refused { GrowthRefused ⟦<Qcow2<S> as DriverModel>⟧ B.LayersBelowModel size mode result (self.old, _below.old) (self.new, _below.new) }
     {
         if self.failed {
             return Err(Fault::Failed);
@@ -539,16 +539,17 @@ impl<S: Storage> FormatDriverInstance for Qcow2<S> {
         if size <= self.tables.file.header.size() {
             return Ok(());
         }
-        Err(self.resize_refusal())
+        self.check_growth(size, mode)?;
+        self.grow(alloc, size)
     }
 
-    fn resize_shrink(&mut self, _alloc: Global, size: u64) -> Result<(), Fault>
+    fn resize_shrink(&mut self, alloc: Global, size: u64) -> Result<(), Fault>
         requires free { IsFree (⟦<Qcow2<S> as DriverModel>⟧.layer self.old) }
         ensures resizes { let d = ⟦<Qcow2<S> as DriverModel>⟧ in Resizes d (d.layer self.old).size size result self.old self.new }
         ensures shrinks { Shrinks ⟦<Qcow2<S> as DriverModel>⟧ size result self.old self.new }
+        // `Fault::Limit` means that an L2 table of a guest cluster past the new size is shared, and can't be copied. After it the disk reads
+        // as before.
         ensures refused { ShrinkRefused ⟦<Qcow2<S> as DriverModel>⟧ size result self.old self.new }
-        // The call is declined, and changes nothing.
-        ensures same { self.new ≡ self.old }
     {
         if self.failed {
             return Err(Fault::Failed);
@@ -556,6 +557,9 @@ impl<S: Storage> FormatDriverInstance for Qcow2<S> {
         if size >= self.tables.file.header.size() {
             return Ok(());
         }
-        Err(self.resize_refusal())
+        if !self.mode.writable {
+            return Err(Fault::ReadOnly);
+        }
+        self.shrink(alloc, size)
     }
 }

@@ -16,7 +16,7 @@ ghost use Rattle.qcow2_image.specs.Leaking.{KeepsLeaks, counts_in, leaks_of, nam
 ghost use Rattle.qcow2_image.specs.Opening.{IsOpenedAs};
 ghost use Rattle.qcow2_image.specs.Rooms.{IsWellFormed};
 ghost use Rattle.qcow2_image.specs.Seen.{layer_of};
-ghost use Rattle.qcow2_image.specs.Writing.{IsUnsupported, NeedsZeroFlag};
+ghost use Rattle.qcow2_image.specs.Writing.{NeedsZeroFlag};
 
 use crate::qcow2::Qcow2;
 use imago_access::DriverModel;
@@ -62,9 +62,9 @@ pub fn consistent_files_leak_alike()
 /// Law: an image of version 3 has no cause of its own to decline a zeroing or a discard, and an image of version 2 has none to decline a
 /// discard to the backing file (`IsUndeclined`).
 ///
-/// So for a chain with such an image on top, the clauses on zeroed and deallocated units hold. The law stands for every call but a shrink.
+/// So for a chain with such an image on top, the clauses on zeroed and deallocated units hold. The law stands for every call.
 pub fn zeroing_and_discards_are_not_declined<S: Storage>()
     ensures { let d = ⟦<Qcow2<S> as DriverModel>⟧ in (image : _) (below : List Layer) (call : Call) → d.well_formed image
-        → (NeedsZeroFlag call → 2 < image.tables.file.header.fields.version) → (IsUnsupported call → ⊥)
+        → (NeedsZeroFlag call → 2 < image.tables.file.header.fields.version)
         → IsUndeclined (d.own_cause image below call) }
 {}

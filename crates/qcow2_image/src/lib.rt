@@ -20,6 +20,7 @@ mod qcow2;
 mod reading;
 mod refusing;
 mod reloading;
+mod resizing;
 mod tables;
 mod unspent;
 mod writing;

@@ -4,7 +4,6 @@ ghost use Rattle.std.specs.Prelude.{◌≡◌, ◌==◌, ⊤, List, [], Some, No
 ghost use Rattle.std.specs.Option.{option_copied};
 ghost use Rattle.imago_storage.specs.Steps.{Call};
 ghost use Rattle.imago_storage.specs.declared.fault.Fault.{Fault};
-ghost use Rattle.imago_storage.specs.declared.fault.Fault.TheVariants.{Unsupported};
 ghost use Rattle.std.specs.Borrow.{Lends, sem};
 ghost use Rattle.qcow2_types.specs.Header.{has_external_data};
 ghost use Rattle.qcow2_image.specs.contracts.qcow2.Qcow2.{the_row};
@@ -14,6 +13,7 @@ ghost use Rattle.qcow2_alloc.specs.WellFormedness.{AreTablesClean, AreBlocksClea
 ghost use Rattle.imago_access.specs.Layer.{IsFree};
 ghost use Rattle.qcow2_image.specs.ImageLayer.{qcow2_text};
 ghost use Rattle.qcow2_image.specs.Leaking.{excess_refcount_of};
+ghost use Rattle.qcow2_image.specs.Resizing.{WhyUngrown};
 ghost use Rattle.qcow2_image.specs.Rooms.{IsUnallocated, HasRoom, IsZeroed, IsExplicitZero, IsWellFormed, IsCoherent, is_sound};
 ghost use Rattle.qcow2_image.specs.Writing.{HasBegun, WhyUnwritten};
 
@@ -74,7 +74,12 @@ impl PreparedMappingState {
 /// allocation or flush frees them.
 ///
 /// A compressed cluster is only written as a whole. A zeroing or a discard clears the L2 entries of the whole guest clusters in its range, as
-/// far as one L2 table reaches. Zero entries need version 3. Resizes fail.
+/// far as one L2 table reaches. Zero entries need version 3. A discard to the backing file does all of a range past the end of the L1 table
+/// by one call, as nothing is mapped there.
+///
+/// A growth moves the L1 table to new clusters, so that it is long enough. Preallocation isn't supported. A shrink first copies the shared L2
+/// tables of the guest clusters that are wholly past the new size, and unmaps these guest clusters. In both the size changes last, so a
+/// crash leaves the old or the new size.
 ///
 /// # On error
 ///
@@ -131,7 +136,7 @@ impl<S: Storage> DriverModel for Qcow2<S> {
 
     ghost own_cause = { λ d below call fault. IsWellFormed S.Storage d → WhyUnwritten S.Storage d below call fault };
 
-    ghost growth_cause = { λ d below size mode fault. fault ≡ Unsupported };
+    ghost growth_cause = { λ d below size mode fault. WhyUngrown S.Storage d below size mode fault };
 }
 
 impl<S: Storage> Qcow2<S> {

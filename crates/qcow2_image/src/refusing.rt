@@ -1,13 +1,14 @@
-// The errors of calls that change an image and fail before anything is done. Resizes fail here.
-ghost use Rattle.std.specs.Prelude.{◌≡◌, ◌<◌, ◌≤◌, ◌+◌, ◌^◌, if◌then◌else◌, false, Some, None, List, IsTrue, IfErr, OnOk};
+// The errors of calls that change an image and fail before anything is done.
+ghost use Rattle.std.specs.Prelude.{◌≡◌, ◌<◌, ◌≤◌, ◌+◌, ◌-◌, ◌^◌, false, Some, None, List, IsTrue, IfErr, OnOk};
 ghost use Rattle.imago_storage.specs.State.{StorageState};
-ghost use Rattle.imago_storage.specs.declared.fault.Fault.{Fault};
 ghost use Rattle.imago_access.specs.Files.{ImageCause};
 ghost use Rattle.imago_access.specs.Refusals.{own_refusal};
 ghost use Rattle.imago_access.specs.Spending.{commit_refusal, GivenBack};
+ghost use Rattle.imago_access.specs.declared.format.PreallocateMode.{PreallocateMode};
+ghost use Rattle.qcow2_image.specs.Resizing.{RefusesGrowth};
 
 use crate::qcow2::{PreparedMappingState, Qcow2};
-use imago_access::{DriverModel, FormatDriverInstance, check_commit, check_range};
+use imago_access::{DriverModel, FormatDriverInstance, PreallocateMode, check_commit, check_range};
 use imago_storage::{Fault, Storage, larger_alignment};
 
 impl<S: Storage> Qcow2<S> {
@@ -43,14 +44,25 @@ impl<S: Storage> Qcow2<S> {
         check_commit(self.ready(), self.mode.writable, self.number, state.number)
     }
 
-    // Returns the error of a resize that would change the size: `Fault::Unsupported`, or `Fault::ReadOnly` for a read-only image.
-    pub(crate) fn resize_refusal(&self) -> Fault
-        ensures { result ≡ (if self.now.mode.writable then Fault.Unsupported else Fault.ReadOnly) }
+    // Checks a growth to this size, if the size is above that of the disk. The error is `Fault::ReadOnly` for a read-only image,
+    // `Fault::Unsupported` for a mode with preallocation, or `Fault::Limit` for a size above 2^63 - 1.
+    pub(crate) fn check_growth(&self, size: u64, mode: PreallocateMode) -> Result<(), Fault>
+        ensures ok { OnOk result (IsTrue self.now.mode.writable × (mode ≡ PreallocateMode.None) × (size ≤ 2 ^ 63 - 1)) }
+        ensures err { IfErr result (RefusesGrowth S.Storage self.now size mode) }
     {
-        if self.mode.writable {
-            Fault::Unsupported
-        } else {
-            Fault::ReadOnly
+        if !self.mode.writable {
+            return Err(Fault::ReadOnly);
         }
+        match mode {
+            PreallocateMode::None => {}
+            PreallocateMode::Zero
+            | PreallocateMode::FormatAllocate
+            | PreallocateMode::FullAllocate
+            | PreallocateMode::WriteData => return Err(Fault::Unsupported),
+        }
+        if size > (1 << 63) - 1 {
+            return Err(Fault::Limit(size));
+        }
+        Ok(())
     }
 }

@@ -1,6 +1,6 @@
 -- Lemmas that state a zeroing or a discard by the relations of the driver, if the entries of a part of its range were cleared.
 use Rattle.std.proofs.Common.{◌≡◌, ℕ, ◌+◌, ◌/◌, ◌%◌, ◌^◌, ◌<◌, ◌≤◌, refl, arith, ap, sym, subst, ◌∙◌, inl, inr, List, [], ◌∷◌, Option, Some, None, Result, Ok, Err}
-use Rattle.std.specs.Prelude.{⊤, ◌⊎◌, IsTrue, IsSome, IfOk, IfErr}
+use Rattle.std.specs.Prelude.{⊤, ◌⊎◌, IsTrue, IsSome, IfOk, IfErr, if◌then◌else◌, ltb, ◌&&◌}
 use Rattle.std.specs.Borrow.{RattleType}
 use Rattle.std.proofs.lemmas.Bool.{cases_lt}
 use Rattle.imago_storage.specs.State.{HasRisen, StorageState}
@@ -16,9 +16,9 @@ use Rattle.imago_access.specs.Chain.{at}
 use Rattle.imago_access.specs.Changes.{PartRewrites, Rewrites}
 use Rattle.imago_access.specs.Files.{HadNoResourceError, ImageCause, IsLater, IsNotResourceError, files}
 use Rattle.imago_access.specs.Going.{MarksFailed}
-use Rattle.imago_access.specs.Layer.{Cell, KeepsLayerState, Layer, own, through, unmapped}
+use Rattle.imago_access.specs.Layer.{Cell, Fixed, KeepsLayerState, Layer, own, through, unmapped}
 use Rattle.imago_access.specs.PartCalls.{Becomes, DoesPart, IsDone, IsFor, IsToldOver, LeavesPart, PartCall, PartGives, PartRefused, discards_to_any, discards_to_backing, discards_to_zero, ensures_zero}
-use Rattle.imago_access.specs.Parts.{DeclinableCause}
+use Rattle.imago_access.specs.Parts.{DeclinableCause, IsPartOf}
 use Rattle.imago_access.specs.Room.{GivesUp, Reaches, Takes}
 use Rattle.imago_access.specs.Stops.{GivesNone, Left}
 use Rattle.imago_access.specs.declared.driver_model.DriverModel.{Ghosts as SeenGhosts}
@@ -30,7 +30,7 @@ use Rattle.qcow2_types.specs.Words.{Mapping}
 use Rattle.qcow2_types.proofs.Counting.Consistent.{consistent-shaped, some-words}
 use Rattle.qcow2_alloc.specs.Causes.{HasCause}
 use Rattle.qcow2_alloc.specs.Going.{writing_causes}
-use Rattle.qcow2_clusters.specs.Clearing.{AreUnder, cleared}
+use Rattle.qcow2_clusters.specs.Clearing.{AreUnder, IsPossible, cleared}
 use Rattle.qcow2_clusters.specs.Linking.{TakesNone}
 use Rattle.qcow2_clusters.specs.declared.clearing.Clearing.{Clearing}
 use Rattle.qcow2_clusters.specs.declared.clearing.Clearing.TheVariants.{GiveUp, Keep, Unmap}
@@ -38,23 +38,24 @@ use Rattle.qcow2_clusters.specs.declared.space.Space.{Space}
 use Rattle.qcow2_image.specs.contracts.qcow2.Qcow2DriverModel.TheImpl.{ghosts}
 use Rattle.qcow2_image.specs.Clearing.{ChangesPart, ClearsWith, IsUnreserved, IsWholePart, clearing_of, part_answer}
 use Rattle.qcow2_image.specs.Holding.{mapping_id_held}
-use Rattle.qcow2_image.specs.ImageLayer.{blanks, qcow2_fixed}
+use Rattle.qcow2_image.specs.Homes.{home-there}
+use Rattle.qcow2_image.specs.ImageLayer.{blanks, qcow2_fixed, writable_location_by}
 use Rattle.qcow2_image.specs.KeepsDisk.{KeepsDisk}
 use Rattle.qcow2_image.specs.Leaking.{KeepsLeaks}
 use Rattle.qcow2_image.specs.Preparing.{LeavesMarkedFailed}
 use Rattle.qcow2_image.specs.Rooms.{HasCluster, HasRoom, IsWellFormed, ReadsNone, is_sound, rest_of}
-use Rattle.qcow2_image.specs.Seen.{file_of, layer_of, memory_of}
+use Rattle.qcow2_image.specs.Seen.{file_of, layer_of, memory_of, writable_locations_of}
 use Rattle.qcow2_image.specs.Unspent.{holding_in}
-use Rattle.qcow2_image.specs.Writing.{MayBecome, Since}
+use Rattle.qcow2_image.specs.Writing.{MayBeCleared, MayBecome, Since}
 use Rattle.qcow2_image.specs.declared.clearing.Part.{Part}
 use Rattle.qcow2_image.specs.declared.qcow2.PreparedMappingState.{PreparedMappingState}
 use Rattle.qcow2_image.specs.declared.qcow2.Qcow2.{Qcow2}
 use Rattle.qcow2_image.specs.declared.tables.Tables.{Tables}
-use Rattle.qcow2_image.proofs.CallNeeds.{since-then}
+use Rattle.qcow2_image.proofs.CallNeeds.{since-then, whole-of-call}
 use Rattle.qcow2_image.proofs.CallStarts.{still-cut}
 use Rattle.qcow2_image.proofs.Clearings.ClearedDisk.{CellsCleared, DiskCleared, IsInClusters, MayBeShown, cleared-reads, cleared_value, disk-cleared, failed-is, fixed-same, refused-hard, stops-cleared, unspent-same, zeroed-keeps, zeroed-takes}
-use Rattle.qcow2_image.proofs.Clearings.WholeParts.{part-all, part-byte, part-reaches}
-use Rattle.qcow2_image.proofs.DiskEffects.{cell_of, whole-below}
+use Rattle.qcow2_image.proofs.Clearings.WholeParts.{part-all, part-byte, part-reaches, part-unit}
+use Rattle.qcow2_image.proofs.DiskEffects.{cell_of, home-bits, whole-below}
 use Rattle.qcow2_image.proofs.Leaks.{leaks-both}
 use Rattle.qcow2_image.proofs.LeaksByFile.{surplus-kept}
 use Rattle.qcow2_image.proofs.Preparations.Reservations.{under-row}
@@ -256,7 +257,7 @@ leaves-by discards_to_zero g offset n old new takes gives-up = gives-up tt
 leaves-by discards_to_any g offset n old new takes gives-up = gives-up tt
 leaves-by discards_to_backing g offset n old new takes gives-up = gives-up tt
 
-one-or-not : (guest n x : ℕ) → IsInClusters guest n x ⊎ (IsInClusters guest n x → ⊥)
+pub one-or-not : (guest n x : ℕ) → IsInClusters guest n x ⊎ (IsInClusters guest n x → ⊥)
 one-or-not guest n x = elim (cases_lt x guest) [
   | inl before ↦ inr (λ ours. omega (arith, before, ours.0))
   | inr from ↦ elim (cases_lt x (guest + n)) [
@@ -299,7 +300,7 @@ module _ (R : RattleType) (st : Ghosts R.Denot) (sd : mir.Syntax.Dict) (dd : mir
   h' = new.tables.file.header.fields
 
   module _ (part : Part) (whole-part : IsWholePart h offset n part) (some : 0 < part.count) (free : old.unspent ≡ None)
-      (answer : Result Unit Fault) (c : ChangesPart st (clearing_of call) part.guest part.count old answer new) where
+      (possible : IsPossible (clearing_of call) h.version) (answer : Result Unit Fault) (c : ChangesPart st (clearing_of call) part.guest part.count old answer new) where
     abbrev how : Clearing
     how = clearing_of call
 
@@ -407,9 +408,34 @@ module _ (R : RattleType) (st : Ghosts R.Denot) (sd : mir.Syntax.Dict) (dd : mir
         others = λ p out. d.cells.elsewhere p (λ ours low. part-all h offset n part whole-part p out low ours);
       }
 
-      since : (whole : Call) → IsFor call whole → Since st old whole new
-      since whole is_for = record {
-        writable_locations = λ clears. absurd (clears (call, is_for));
+      -- If the entry of a byte is the same, so is its writable location.
+      location-same : (p : ℕ) → is-now p ≡ was p → writable_locations_of st new p ≡ writable_locations_of st old p
+      location-same p same =
+          let writable : new.mode.writable ≡ old.mode.writable = ap (λ (f : Fixed). f.writable) state.fixed in
+          let by = ap (writable_location_by h' p) same
+          ∙ home-bits h h' p (was p) (changed-bits st how part.guest part.count old new answer c) in
+          λ i. if writable i && ltb p (state.size i) then by i else None
+
+      -- The call may clear the entries of the part.
+      may-clear : (whole : Call) → IsFor call whole → IsPartOf whole offset n → (p : ℕ) → p < h.size → IsOurs p → MayBeCleared h whole p
+      may-clear whole is_for of p low ours =
+          let there = part-unit h offset n part whole-part p low ours in record {
+            part = call;
+            is_for = is_for;
+            possible = possible;
+            cluster = p / cluster_size h;
+            here = there.0;
+            whole = whole-of-call (cluster_size h) h.size whole offset n (p / cluster_size h) of there.1;
+          }
+
+      since : (whole : Call) → IsFor call whole → IsPartOf whole offset n → Since st old whole new
+      since whole is_for of = record {
+        writable_locations = λ p keeps at is. elim (word-either p) [
+          | inl ours ↦
+              let there = home-there old.mode.writable (memory_of st old.tables) h p at is in
+              absurd (keeps (may-clear whole is_for of p there.1 ours.0))
+          | inr same ↦ location-same p same ∙ is
+        ];
         cells = λ p. elim (cell-either how part.guest part.count (layer_of st old) (layer_of st new) d.cells p) [
           | inl same ↦ inl same
           | inr is ↦ may-become call whole (layer_of st old).fixed.blank ((layer_of st old).cell p) ((layer_of st new).cell p) is_for blank-either is
@@ -447,9 +473,9 @@ module _ (R : RattleType) (st : Ghosts R.Denot) (sd : mir.Syntax.Dict) (dd : mir
         excess_refcount = λ whole well_formed. surplus-kept st old new (changes-leaks well_formed whole);
       };
       stays_begun = λ d whole begun of is_for whole-result. λ well_formed.
-          let then = begun well_formed in
-          let now = done then.0 whole-result in
-          (now.well_formed, since-then st whole d old new then.1 (since now whole is_for));
+          let before = begun well_formed in
+          let now = done before.0 whole-result in
+          (now.well_formed, since-then st whole d old new before.1 (since now whole is_for of));
       crash_images = λ well_formed below told. changed-stops st how part.guest part.count old new answer c well_formed whole-part.row below
           (PartGives call below offset n)
           (λ p low ours. gives-by call below (layer_of st old) offset n p blank-either told (in-range p low ours));

@@ -12,10 +12,12 @@ use Rattle.imago_access.specs.Going.{RangeEarlyOutcome}
 use Rattle.imago_access.specs.Layer.{Layer}
 use Rattle.imago_access.specs.PartCalls.{DoesPart, IsPart, PartCall, PartRefused}
 use Rattle.imago_access.specs.Refusals.{own_refusal, unusable_fault}
+use Rattle.imago_access.specs.Room.{IsOfUnit, IsWholeUnit}
 use Rattle.imago_access.specs.declared.driver_model.DriverModel.{Ghosts as SeenGhosts}
 use Rattle.imago_access.proofs.Untouched.{unchanged_same}
 use Rattle.qcow2_types.specs.Header.{Fields, cluster_size, entries_of_cluster}
-use Rattle.qcow2_image.specs.Clearing.{ClearsPart, ClearsRange, ClearsWhole, IsWholePart, MayClear, RefusesTable, SkipsPart, clearing_of, part_answer}
+use Rattle.qcow2_clusters.specs.Clearing.{IsPossible}
+use Rattle.qcow2_image.specs.Clearing.{ClearsPart, ClearsRange, ClearsWhole, IsWholePart, MayClear, RefusesTable, SkipsPart, SkipsRest, clearing_of, part_answer}
 use Rattle.qcow2_image.specs.Seen.{layer_of}
 use Rattle.qcow2_image.specs.contracts.qcow2.Qcow2DriverModel.TheImpl.{ghosts}
 use Rattle.qcow2_image.specs.declared.clearing.Part.{Part}
@@ -24,8 +26,8 @@ use Rattle.qcow2_image.specs.declared.qcow2.Qcow2.{Qcow2}
 use Rattle.qcow2_image.proofs.CallsWithoutChanges.{busy-early_outcome, idle-early_outcome, not-some}
 use Rattle.qcow2_image.proofs.Clearings.IdleParts.{early-refused, empty-reaches, idle-does, idle-refused, refused-does}
 use Rattle.qcow2_image.proofs.Clearings.PartEffects.{part-does, part-refused}
-use Rattle.qcow2_image.proofs.Clearings.RefusedParts.{skips-does, tableless-does, tableless-refused, unmaps-backing, version-refused}
-use Rattle.qcow2_image.proofs.Clearings.WholeParts.{begins, last-end, part-byte, part-reaches}
+use Rattle.qcow2_image.proofs.Clearings.RefusedParts.{rest-does, skips-does, tableless-does, tableless-refused, unmaps-backing, version-refused}
+use Rattle.qcow2_image.proofs.Clearings.WholeParts.{begins, last-end, part-byte, part-reaches, part-unit, rest-end}
 use Rattle.qcow2_image.proofs.FreeRuns.{words-some}
 
 -- An image that can be used has no early error for an empty range.
@@ -51,10 +53,26 @@ module _ (h : Fields) (offset n : ℕ) (part : Part) (is : IsWholePart h offset 
   pub first-in-range : 0 < part.count → IsIn offset n part.start
   first-in-range any = (part-byte h offset n part is part.start (first-in any)).2
 
+  -- It is in a whole cluster of the range.
+  pub first-unit : 0 < part.count → IsOfUnit (cluster_size h) h.size (part.start / cluster_size h) part.start
+      × IsWholeUnit (cluster_size h) h.size offset n (part.start / cluster_size h)
+  first-unit any =
+      let there = part-byte h offset n part is part.start (first-in any) in
+      part-unit h offset n part is part.start there.1 there.0
+
   pub first-cluster : 0 < part.count → part.start / cluster_size h ≡ part.guest
   first-cluster any =
       let at : part.start ≡ part.guest * cluster_size h + 0 = begins h offset n part is any ∙ omega arith in
       ap (λ x. x / cluster_size h) at ∙ div-mul-add part.guest (cluster_size h) 0 (pow_pos h.cluster_bits)
+
+  pub is-rest : 0 < n → 0 < part.count → IsPart offset n (part.start, part.rest)
+  is-rest some any = record {
+    inside = (
+      (let low = begins h offset n part is any in let from = is.from in omega (arith, low, from)),
+      inr (rest-end h offset n part is any),
+    );
+    empty = λ none. absurd (not-some some none);
+  }
 
   pub is-part : offset < 2 ^ 64 → 0 < n → IsPart offset n (part.start, part.length)
   is-part low some = record {
@@ -91,7 +109,10 @@ module _ (R : RattleType) (st : Ghosts R.Denot) (sd : mir.Syntax.Dict) (dd : mir
     ]
     | inr rest ↦ elim rest [
       | inl version ↦ subst (λ r. IfOk r (IsPart offset n)) (sym version.err) tt
-      | inr whole ↦ subst (λ r. IfOk r (IsPart offset n)) (sym whole.is_answer) (answered whole.part whole.answer whole.may whole.is_part)
+      | inr done ↦ elim done [
+        | inl skips ↦ subst (λ r. IfOk r (IsPart offset n)) (sym skips.ok) (is-rest h offset n skips.part skips.is_part skips.may.any skips.some)
+        | inr whole ↦ subst (λ r. IfOk r (IsPart offset n)) (sym whole.is_answer) (answered whole.part whole.answer whole.may whole.is_part)
+      ]
     ]
   ]
 
@@ -112,7 +133,7 @@ module _ (R : RattleType) (st : Ghosts R.Denot) (sd : mir.Syntax.Dict) (dd : mir
     ]
     | inr rest ↦ elim rest [
       | inl version ↦ busy version.may
-      | inr whole ↦ busy whole.may
+      | inr done ↦ elim done [ inl skips ↦ busy skips.may | inr whole ↦ busy whole.may ]
     ]
   ] where
     busy : MayClear st offset n old → RangeEarlyOutcome coherent offset n result old new
@@ -126,7 +147,7 @@ module _ (R : RattleType) (st : Ghosts R.Denot) (sd : mir.Syntax.Dict) (dd : mir
 
   -- The effect and the errors, if the part has guest clusters.
   module _ (part : Part) (is : IsWholePart h offset n part) (any : 0 < part.count) (may : MayClear st offset n old)
-      (free : old.unspent ≡ None) (answer : Result Unit Fault) where
+      (free : old.unspent ≡ None) (possible : IsPossible (clearing_of call) h.version) (answer : Result Unit Fault) where
     skipped-does : SkipsPart st (clearing_of call) part.guest old answer new → DoesPart call coherent offset n (part_answer part answer) old new
     skipped-does skips = subst (λ d. DoesPart call coherent offset n (part_answer part answer) old d) (sym skips.same)
         (subst (λ a. DoesPart call coherent offset n (part_answer part a) old old) (sym skips.ok)
@@ -143,8 +164,9 @@ module _ (R : RattleType) (st : Ghosts R.Denot) (sd : mir.Syntax.Dict) (dd : mir
 
     unmade-refused : RefusesTable st part.guest old answer new → PartRefused call coherent offset n (part_answer part answer) old new
     unmade-refused refuses = subst (λ a. PartRefused call coherent offset n (part_answer part a) old new) (sym refuses.err)
-        (tableless-refused R st sd dd call offset n old new refuses.fault free part.guest refuses.readies refuses.marked part.start
-        (first-in-range h offset n part is any) (first-cluster h offset n part is any))
+        (tableless-refused R st sd dd call offset n old new refuses.fault free part.guest refuses.readies refuses.marked possible part.start
+        (first-in-range h offset n part is any) (first-cluster h offset n part is any) (first-unit h offset n part is any).0
+        (first-unit h offset n part is any).1)
 
     cleared-does : ClearsPart st (clearing_of call) part.guest part.count old answer new
         → DoesPart call coherent offset n (part_answer part answer) old new
@@ -152,7 +174,7 @@ module _ (R : RattleType) (st : Ghosts R.Denot) (sd : mir.Syntax.Dict) (dd : mir
       | inl skips ↦ skipped-does skips
       | inr rest ↦ elim rest [
         | inl refuses ↦ unmade-does refuses
-        | inr changes ↦ part-does R st sd dd call offset n old new part is any free answer changes
+        | inr changes ↦ part-does R st sd dd call offset n old new part is any free possible answer changes
             (part_answer part answer) refl
       ]
     ]
@@ -163,7 +185,7 @@ module _ (R : RattleType) (st : Ghosts R.Denot) (sd : mir.Syntax.Dict) (dd : mir
       | inl skips ↦ skipped-refused skips
       | inr rest ↦ elim rest [
         | inl refuses ↦ unmade-refused refuses
-        | inr changes ↦ part-refused R st sd dd call offset n old new part is any free answer changes
+        | inr changes ↦ part-refused R st sd dd call offset n old new part is any free possible answer changes
             (part_answer part answer) refl
       ]
     ]
@@ -174,7 +196,7 @@ module _ (R : RattleType) (st : Ghosts R.Denot) (sd : mir.Syntax.Dict) (dd : mir
     | inl none ↦ subst (λ d. DoesPart call coherent offset n (part_answer whole.part whole.answer) old d) (sym none.2)
         (subst (λ a. DoesPart call coherent offset n (part_answer whole.part a) old old) (sym none.1)
         (unmet-does whole.part whole.is_part none.0))
-    | inr some ↦ cleared-does whole.part whole.is_part some.0 whole.may free whole.answer some.1
+    | inr some ↦ cleared-does whole.part whole.is_part some.0 whole.may free whole.version whole.answer some.1
   ])
 
   whole-refused : old.unspent ≡ None → (result : Result (ℕ × ℕ) Fault) → ClearsWhole st (clearing_of call) offset n old result new
@@ -183,8 +205,20 @@ module _ (R : RattleType) (st : Ghosts R.Denot) (sd : mir.Syntax.Dict) (dd : mir
     | inl none ↦ subst (λ d. PartRefused call coherent offset n (part_answer whole.part whole.answer) old d) (sym none.2)
         (subst (λ a. PartRefused call coherent offset n (part_answer whole.part a) old old) (sym none.1)
         (idle-refused coherent call offset n old (whole.part.start, whole.part.length)))
-    | inr some ↦ cleared-refused whole.part whole.is_part some.0 whole.may free whole.answer some.1
+    | inr some ↦ cleared-refused whole.part whole.is_part some.0 whole.may free whole.version whole.answer some.1
   ])
+
+  -- All whole clusters of the range are unmapped already.
+  rest-skipped : (result : Result (ℕ × ℕ) Fault) → SkipsRest st (clearing_of call) offset n old result new → DoesPart call coherent offset n result old new
+  rest-skipped result skips = subst (λ d. DoesPart call coherent offset n result old d) (sym skips.same)
+      (subst (λ r. DoesPart call coherent offset n r old old) (sym skips.ok)
+      (rest-does R st sd dd call offset n old skips.part skips.is_part skips.some skips.past_l1 call (unmaps-backing call skips.unmaps)))
+
+  rest-refused : (result : Result (ℕ × ℕ) Fault) → SkipsRest st (clearing_of call) offset n old result new
+      → PartRefused call coherent offset n result old new
+  rest-refused result skips = subst (λ d. PartRefused call coherent offset n result old d) (sym skips.same)
+      (subst (λ r. PartRefused call coherent offset n r old old) (sym skips.ok)
+      (idle-refused coherent call offset n old (skips.part.start, skips.part.rest)))
 
   pub clear-does : old.unspent ≡ None → (result : Result (ℕ × ℕ) Fault) → ClearsRange st (clearing_of call) offset n old result new
       → DoesPart call coherent offset n result old new
@@ -199,7 +233,7 @@ module _ (R : RattleType) (st : Ghosts R.Denot) (sd : mir.Syntax.Dict) (dd : mir
     | inr rest ↦ elim rest [
       | inl version ↦ subst (λ d. DoesPart call coherent offset n result old d) (sym version.same)
           (subst (λ r. DoesPart call coherent offset n r old old) (sym version.err) (refused-does coherent call offset n old VersionLimit))
-      | inr whole ↦ whole-does free result whole
+      | inr done ↦ elim done [ inl skips ↦ rest-skipped result skips | inr whole ↦ whole-does free result whole ]
     ]
   ]
 
@@ -215,6 +249,6 @@ module _ (R : RattleType) (st : Ghosts R.Denot) (sd : mir.Syntax.Dict) (dd : mir
       | inl version ↦ subst (λ d. PartRefused call coherent offset n result old d) (sym version.same)
           (subst (λ r. PartRefused call coherent offset n r old old) (sym version.err)
           (version-refused R st sd dd call offset n old version.version))
-      | inr whole ↦ whole-refused free result whole
+      | inr done ↦ elim done [ inl skips ↦ rest-refused result skips | inr whole ↦ whole-refused free result whole ]
     ]
   ]

@@ -1,8 +1,11 @@
 -- Lemmas on zeroes and discards of a range that clear no entry: the version has no zero entries, the guest clusters are unmapped already, or
 -- an L2 table of their own can't be made.
-use Rattle.std.proofs.Common.{◌≡◌, ℕ, ◌+◌, ◌/◌, ◌<◌, refl, arith, ap, sym, subst, ◌∙◌, false, inl, inr, List, None, Ok, Err}
+use Rattle.std.proofs.Common.{◌≡◌, ℕ, ◌+◌, ◌*◌, ◌/◌, ◌<◌, ◌≤◌, length, refl, arith, ap, sym, subst, ◌∙◌, false, inl, inr, List, None, Ok, Err}
 use Rattle.std.specs.Prelude.{⊤, ◌⊎◌, ◌≢◌, ◌-◌, slice_index}
 use Rattle.std.specs.Borrow.{RattleType}
+use Rattle.std.proofs.Math.Nat.{div-mul-le_self}
+use Rattle.std.proofs.lemmas.List.{get_or_past}
+use Rattle.std.proofs.lemmas.Nat.{le-div}
 use Rattle.imago_storage.specs.Disk.{Value}
 use Rattle.imago_storage.specs.Steps.{Call, IsIn}
 use Rattle.imago_storage.specs.declared.fault.Fault.{Fault}
@@ -13,7 +16,7 @@ use Rattle.imago_access.specs.Going.{MarksFailed}
 use Rattle.imago_access.specs.Layer.{Cell, KeepsLayerState, Layer}
 use Rattle.imago_access.specs.PartCalls.{DoesPart, IsFor, LeavesPart, PartCall, PartGives, PartRefused, discards_to_any, discards_to_backing, discards_to_zero, ensures_zero}
 use Rattle.imago_access.specs.Parts.{DeclinableCause, IsPartOf}
-use Rattle.imago_access.specs.Room.{Takes}
+use Rattle.imago_access.specs.Room.{IsOfUnit, IsWholeUnit, Takes}
 use Rattle.imago_access.specs.Stops.{GivesNone, KeepsCrashImages, Left}
 use Rattle.imago_access.specs.declared.driver_model.DriverModel.{Ghosts as SeenGhosts}
 use Rattle.imago_access.proofs.Stopping.{left_weaker, passes_weaker}
@@ -35,13 +38,14 @@ use Rattle.qcow2_image.specs.Looking.{cluster_named, place_of_table}
 use Rattle.qcow2_image.specs.Rooms.{IsWellFormed, is_sound}
 use Rattle.qcow2_image.specs.Seen.{file_of, layer_of, memory_of}
 use Rattle.qcow2_image.specs.Unspent.{holding_in}
-use Rattle.qcow2_image.specs.Writing.{HadNoPlace}
+use Rattle.qcow2_image.specs.Writing.{HadNoPlace, MayBeCleared}
 use Rattle.qcow2_image.specs.contracts.qcow2.Qcow2DriverModel.TheImpl.{ghosts}
 use Rattle.qcow2_image.specs.declared.clearing.Part.{Part}
 use Rattle.qcow2_image.specs.declared.qcow2.PreparedMappingState.{PreparedMappingState}
 use Rattle.qcow2_image.specs.declared.qcow2.Qcow2.{Qcow2}
+use Rattle.qcow2_image.proofs.CallNeeds.{cleared-before, whole-of-call}
 use Rattle.qcow2_image.proofs.Clearings.IdleParts.{idle-does}
-use Rattle.qcow2_image.proofs.Clearings.WholeParts.{IsOfPart, part-byte, part-reaches}
+use Rattle.qcow2_image.proofs.Clearings.WholeParts.{IsOfPart, part-byte, part-reaches, rest-from, rest-reaches}
 use Rattle.qcow2_image.proofs.FileWords.{entry-of-none}
 use Rattle.qcow2_image.proofs.LeaksByFile.{surplus-kept}
 use Rattle.qcow2_image.proofs.Preparations.DriverPreparations.{fixed-kept, since-disk, takes-disk}
@@ -118,6 +122,33 @@ module _ (R : RattleType) (st : Ghosts R.Denot) (sd : mir.Syntax.Dict) (dd : mir
         (idle-does coherent discards_to_backing offset n d (Ok (part.start, part.length))
         (λ well_formed. part-reaches h offset n part is-part some)
         (λ well_formed p at. (inl refl, inr (takes-none well_formed p at))))
+
+  -- Guest clusters past the end of the L1 table are unmapped.
+  module _ (d : Qcow2 R.Denot st) (part : Part) (is-part : IsWholePart d.tables.file.header.fields offset n part) (any : 0 < part.count)
+      (past : length d.tables.l1.raw_entries ≤ part.guest / entries_of_cluster d.tables.file.header.fields) where
+    abbrev K : Fields
+    K = d.tables.file.header.fields
+
+    past-unmapped : IsWellFormed st d → (x : ℕ) → part.guest ≤ x → entry (file_of st d.tables) K x ≡ unmapped
+    past-unmapped well_formed x from =
+        let e = entries_of_cluster K in
+        let row = is-part.row in
+        let some : 0 < e = omega (arith, row, any) in
+        let down : part.guest / e * e ≤ part.guest = div-mul-le_self part.guest e in
+        let later : part.guest / e ≤ x / e = le-div (part.guest / e) x e some (omega (arith, down, from)) in
+        entry-of-none (file_of st d.tables) K d.tables.l1 well_formed.seen.l1 x
+        (ap (cluster_named K.cluster_bits) (get_or_past d.tables.l1.raw_entries (x / e) 0 (omega (arith, past, later))))
+
+    past-none : IsWellFormed st d → (p : ℕ) → part.start ≤ p → TakesNone (entry (memory_of st d.tables) K (p / cluster_size K))
+    past-none well_formed p from =
+        subst TakesNone (sym (ap (λ m. entry m K (p / cluster_size K)) (memory-is st d.tables)
+        ∙ past-unmapped well_formed (p / cluster_size K) (rest-from K offset n part is-part any p from))) tt
+
+    pub rest-does : (kind : PartCall) → kind ≡ discards_to_backing → DoesPart kind coherent offset n (Ok (part.start, part.rest)) d d
+    rest-does kind is = subst (λ k. DoesPart k coherent offset n (Ok (part.start, part.rest)) d d) (sym is)
+        (idle-does coherent discards_to_backing offset n d (Ok (part.start, part.rest))
+        (λ well_formed. rest-reaches K offset n part is-part any)
+        (λ well_formed p at. (inl refl, inr (past-none well_formed p at.0))))
 
   -- The L2 table isn't made. The disk reads as before.
   module _ (old new : Qcow2 R.Denot st) (e : Fault) (free : old.unspent ≡ None) (guest : ℕ)
@@ -196,9 +227,22 @@ module _ (R : RattleType) (st : Ghosts R.Denot) (sd : mir.Syntax.Dict) (dd : mir
     own-marks f is = tt
 
     -- The call has a byte of the guest cluster in its range.
-    module _ (first : ℕ) (in-range : IsIn offset n first) (its : first / cluster_size H ≡ guest) (well_formed : IsWellFormed st old)
-        (below : List Layer) (d : Qcow2 R.Denot st) (whole : Call) (begun : coherent.began d whole old) (part : IsPartOf whole offset n)
+    module _ (possible : IsPossible (clearing_of call) H.version) (first : ℕ) (in-range : IsIn offset n first)
+        (its : first / cluster_size H ≡ guest) (here : IsOfUnit (cluster_size H) H.size (first / cluster_size H) first)
+        (whole-unit : IsWholeUnit (cluster_size H) H.size offset n (first / cluster_size H)) (well_formed : IsWellFormed st old) (below : List Layer) (d : Qcow2 R.Denot st) (whole : Call) (begun : coherent.began d whole old) (part : IsPartOf whole offset n)
         (is-for : IsFor call whole) where
+      clears : IsWellFormed st d → MayBeCleared d.tables.file.header.fields whole first
+      clears was =
+          let since = (begun was).1 in
+          cleared-before d.tables.file.header.fields H whole first since.size since.bits since.version (record {
+            part = call;
+            is_for = is-for;
+            possible = possible;
+            cluster = first / cluster_size H;
+            here = here;
+            whole = whole-of-call (cluster_size H) H.size whole offset n (first / cluster_size H) part whole-unit;
+          })
+
       had : (number : ℕ) → IsNotResourceError e → LacksPlaceForTable st guest old.tables new.tables number → IsWellFormed st d
           → HadNoPlace st d whole first number
       had number not_resource_error lacks was = record {
@@ -209,7 +253,7 @@ module _ (R : RattleType) (st : Ghosts R.Denot) (sd : mir.Syntax.Dict) (dd : mir
         left_safe = readies.keeps.safely well_formed not_resource_error;
         left_disk = readies.keeps.layer well_formed not_resource_error;
         left_leaks = readies.leaks well_formed not_resource_error;
-        lacks = inr ((call, is-for), subst (λ x. LacksPlaceForTable st x old.tables new.tables number) (sym its) lacks);
+        lacks = inr (inl (clears was), subst (λ x. LacksPlaceForTable st x old.tables new.tables number) (sym its) lacks);
       }
 
       own-cause : (f : Fault) → (IsNotResourceError f → IsNotResourceError e)
@@ -219,19 +263,23 @@ module _ (R : RattleType) (st : Ghosts R.Denot) (sd : mir.Syntax.Dict) (dd : mir
       own-cause Storage from is = inl is
       own-cause (Limit number) from is = λ was. (
         first,
-        (let low = in-range.0 in let high = in-range.1 in let start = part.start in let end = part.end in
-            (omega (arith, low, start), omega (arith, high, end))),
-        λ keeps. absurd (keeps (call, is-for)),
+        inl (
+          (let low = in-range.0 in let high = in-range.1 in let start = part.start in let end = part.end in
+              (omega (arith, low, start), omega (arith, high, end))),
+          λ keeps. absurd (keeps (clears was)),
+        ),
         had number (from tt) (is well_formed) was,
       )
       own-cause DamagedTable from is = absurd (is well_formed)
       own-cause Counter from is = absurd (is well_formed)
       own-cause f from is = absurd is
 
-    pub tableless-refused : (first : ℕ) → IsIn offset n first → first / cluster_size H ≡ guest → PartRefused call coherent offset n (Err e) old new
-    tableless-refused first in-range its = record {
+    pub tableless-refused : IsPossible (clearing_of call) H.version → (first : ℕ) → IsIn offset n first → first / cluster_size H ≡ guest
+        → IsOfUnit (cluster_size H) H.size (first / cluster_size H) first
+        → IsWholeUnit (cluster_size H) H.size offset n (first / cluster_size H) → PartRefused call coherent offset n (Err e) old new
+    tableless-refused possible first in-range its here whole-unit = record {
       failed = own-failed e readies.cause;
       marks_failed = own-marks e marked;
       cause = λ well_formed below d whole begun part is-for.
-          own-cause first in-range its well_formed below d whole begun part is-for e (λ not_resource_error. not_resource_error) readies.cause;
+          own-cause possible first in-range its here whole-unit well_formed below d whole begun part is-for e (λ not_resource_error. not_resource_error) readies.cause;
     }

@@ -1,22 +1,23 @@
 -- Lemmas on the whole guest clusters of a range.
-use Rattle.std.proofs.Common.{◌≡◌, ◌⊎◌, inl, inr, arith, ap, ◌∙◌, ℕ, ◌+◌, ◌-◌, ◌*◌, ◌/◌, ◌%◌, ◌^◌, ◌<◌, ◌≤◌}
+use Rattle.std.proofs.Common.{◌≡◌, ◌⊎◌, inl, inr, arith, ap, subst, ◌∙◌, ℕ, ◌+◌, ◌-◌, ◌*◌, ◌/◌, ◌%◌, ◌^◌, ◌<◌, ◌≤◌}
 use Rattle.std.specs.Prelude.{min}
 use Rattle.std.proofs.Math.Nat.{add-mul, div-lt_iff_lt-mul, mul-le-mul_right}
 use Rattle.std.proofs.lemmas.Bool.{cases_lt}
-use Rattle.std.proofs.lemmas.Nat.{div-add-mod', mod_below, pow_pos}
+use Rattle.std.proofs.lemmas.Nat.{div-add-mod', le-div, mod_below, pow_pos}
 use Rattle.imago_storage.specs.Steps.{IsIn, IsOut}
-use Rattle.imago_access.specs.Room.{IsWholeUnit, Reaches}
+use Rattle.imago_access.specs.Room.{IsOfUnit, IsWholeUnit, Reaches}
 use Rattle.qcow2_types.specs.Header.{Fields, cluster_size, entries_of_cluster}
 use Rattle.qcow2_image.specs.Clearing.{IsWholeEnd, IsWholePart}
 use Rattle.qcow2_image.specs.declared.clearing.Part.{Part}
 
-module _ (h : Fields) (offset n start guest count length last row : ℕ) (inside : offset + n ≤ h.size) (small : offset + n < 2 ^ 64)
+module _ (h : Fields) (offset n start guest count length rest last row : ℕ) (inside : offset + n ≤ h.size) (small : offset + n < 2 ^ 64)
     (guest-is : guest ≡ (offset + (cluster_size h - 1)) / cluster_size h)
     (end-is : IsWholeEnd h (offset + n) last)
     (row-is : row + guest % entries_of_cluster h ≡ entries_of_cluster h)
     (count-is : count ≡ min (last - guest) row)
     (start-is : start ≡ min (guest * cluster_size h) (2 ^ 64 - 1))
-    (length-is : length ≡ min (offset + n - start) (count * cluster_size h)) where
+    (length-is : length ≡ min (offset + n - start) (count * cluster_size h))
+    (rest-is : rest ≡ min (offset + n - start) ((last - guest) * cluster_size h)) where
   abbrev c : ℕ
   c = cluster_size h
 
@@ -69,7 +70,19 @@ module _ (h : Fields) (offset n start guest count length last row : ℕ) (inside
       let sum : (guest + count) * c ≡ guest * c + count * c = add-mul guest count c in
       omega (arith, begins, length-is, there, product, sum, low, inside)
 
-  pub is-whole-part : IsWholePart h offset n (record { start = start; guest = guest; count = count; length = length })
+  rest-ends : 0 < count → start + rest ≡ min (last * c) h.size
+  rest-ends some =
+      let low = first-fits some in
+      let begins : start ≡ guest * c = omega (arith, start-is, low, small) in
+      let further : guest < last = omega (arith, some, count-is) in
+      let there = (end-is.reached (last - 1) (omega (arith, further))).1 in
+      let split : last ≡ last - 1 + 1 = omega (arith, further) in
+      let product : last * c ≡ (last - 1) * c + c = ap (λ u. u * c) split ∙ next (last - 1) in
+      let whole : last ≡ guest + (last - guest) = omega (arith, further) in
+      let sum : last * c ≡ guest * c + (last - guest) * c = ap (λ u. u * c) whole ∙ add-mul guest (last - guest) c in
+      omega (arith, begins, rest-is, there, product, sum, low, inside)
+
+  pub is-whole-part : IsWholePart h offset n (record { start = start; guest = guest; count = count; length = length; rest = rest })
   is-whole-part = record {
     from = rounded.0;
     near = rounded.1;
@@ -80,6 +93,9 @@ module _ (h : Fields) (offset n start guest count length last row : ℕ) (inside
     fits = λ some. let low = first-fits some in omega (arith, low, small);
     end = ends;
     empty = λ none. let zero : count * c ≡ 0 * c = ap (λ k. k * c) none in omega (arith, zero, length-is);
+    last_whole = last;
+    whole_end = end-is;
+    rest = rest-ends;
   }
 
 -- The part is inside its range, and has all its whole guest clusters up to the end of the L2 table.
@@ -154,6 +170,17 @@ module _ (h : Fields) (offset n : ℕ) (part : Part) (is : IsWholePart h offset 
         | inr behind ↦ omega (arith, behind, end, disk, to, next, parts, rest)
       ]
 
+  -- Each byte of a guest cluster of the part is in a whole cluster of the range.
+  pub part-unit : (p : ℕ) → p < h.size → IsOfPart (p / unit)
+      → IsOfUnit unit h.size (p / unit) p × IsWholeUnit unit h.size offset n (p / unit)
+  part-unit p disk ours =
+      let parts = div-add-mod' p unit in
+      let rest = mod_below p unit some in
+      let there : part.guest + (p / unit - part.guest) ≡ p / unit = omega (arith, ours.0) in (
+        record { start = omega (arith, parts); end = omega (arith, parts, rest); on_disk = disk },
+        subst (IsWholeUnit unit h.size offset n) there (is.whole (p / unit - part.guest) (omega (arith, ours.0, ours.1))),
+      )
+
   not-before : (u : ℕ) → IsWholeUnit unit h.size offset n u → part.guest ≤ u
   not-before u whole =
       let start = whole.start in
@@ -195,3 +222,37 @@ module _ (h : Fields) (offset n : ℕ) (part : Part) (is : IsWholePart h offset 
       | inl low ↦ low
       | inr high ↦ let le : (part.guest + part.count) * unit ≤ u * unit = mul-le-mul_right unit high in absurd (omega (arith, le, less))
     ]
+
+  -- The rest of the range from the part on has all its whole guest clusters, in any table.
+  pub rest-reaches : 0 < part.count → Reaches unit h.size offset n part.start part.rest
+  rest-reaches any = record {
+    none_before = λ u whole. let le : part.guest * unit ≤ u * unit = mul-le-mul_right unit (not-before u whole) in omega (arith, le, bounds);
+    nonempty = λ u whole.
+        let end = is.rest any in
+        let low = begins any in
+        let disk = whole.on_disk in
+        let from : part.guest * unit ≤ u * unit = mul-le-mul_right unit (not-before u whole) in
+        let more = up-to u whole in
+        omega (arith, end, low, disk, from, more, some);
+    none_cut = λ u whole before. let end = is.rest any in let more = up-to u whole in omega (arith, end, more);
+  } where
+    up-to : (u : ℕ) → IsWholeUnit unit h.size offset n u → u * unit + unit ≤ is.last_whole * unit
+    up-to u whole =
+        let inside : u < is.last_whole = is.whole_end.before u whole.on_disk whole.end in
+        let more : (u + 1) * unit ≤ is.last_whole * unit = mul-le-mul_right unit (omega (arith, inside)) in
+        let next : (u + 1) * unit ≡ u * unit + unit = omega arith in
+        omega (arith, more, next)
+
+  pub rest-end : 0 < part.count → part.start + part.rest ≤ offset + n
+  rest-end any =
+      let end = is.rest any in
+      let first = is.whole 0 any in
+      let inside : part.guest + 0 < is.last_whole = is.whole_end.before (part.guest + 0) first.on_disk first.end in
+      let there = (is.whole_end.reached (is.last_whole - 1) (omega (arith, inside))).1 in
+      let split : is.last_whole ≡ is.last_whole - 1 + 1 = omega (arith, inside) in
+      let product : is.last_whole * unit ≡ (is.last_whole - 1) * unit + unit = ap (λ u. u * unit) split ∙ omega arith in
+      omega (arith, end, there, product)
+
+  -- Each of its bytes is in the first guest cluster of the part or a later one.
+  pub rest-from : 0 < part.count → (p : ℕ) → part.start ≤ p → part.guest ≤ p / unit
+  rest-from any p from = let low = begins any in le-div part.guest p unit some (omega (arith, low, from))

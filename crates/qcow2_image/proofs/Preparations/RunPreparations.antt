@@ -147,9 +147,11 @@ module _ (R : RattleType) (st : Ghosts R.Denot) (sd : mir.Syntax.Dict) (dd : mir
         → PartCause (u.layers_below x) (layer_of st old) asked.offset asked.length (coherent.own_cause d (u.layers_below x) call) (files coherent old ++ u.files_of_layers_below x) (files coherent new ++ u.files_of_layers_below x) (Limit number)
     part-nowhere number none some d call begun part had = λ well_formed. (
       asked.offset,
-      (part.part.start, omega (arith, some, part.part.end)),
-      λ keeps. none-before (writable_locations_of st d asked.offset) (writable_locations_of st old asked.offset)
-          ((begun well_formed).1.writable_locations keeps asked.offset) (words-none (holding_in st old.unspent) (writable_locations_of st old) asked.offset none),
+      inl (
+        (part.part.start, omega (arith, some, part.part.end)),
+        λ keeps. none-before (writable_locations_of st d asked.offset) (writable_locations_of st old asked.offset)
+            ((begun well_formed).1.writable_locations asked.offset keeps) (words-none (holding_in st old.unspent) (writable_locations_of st old) asked.offset none),
+      ),
       had well_formed,
     )
 

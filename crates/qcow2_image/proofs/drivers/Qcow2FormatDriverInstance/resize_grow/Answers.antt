@@ -1,10 +1,15 @@
-use Rattle.std.proofs.Common.{ℕ, ◌<◌, ◌≤◌, refl, subst, ◌∙◌, ap}
-use Rattle.std.specs.Prelude.{⊤, if◌then◌else◌, Bool}
-use Rattle.imago_storage.specs.declared.fault.Fault.TheVariants.{ReadOnly, Unsupported}
-use Rattle.imago_access.specs.Files.{IsNotResourceError}
+use Rattle.std.proofs.Common.{ℕ, ◌<◌, ◌≤◌, refl, subst}
+use Rattle.std.specs.Prelude.{⊤}
+use Rattle.imago_access.specs.Files.{HadNoResourceError}
 use Rattle.imago_access.proofs.Looking.{looked_under_same}
+use Rattle.qcow2_alloc.proofs.Faults.{handed-on}
+use Rattle.qcow2_image.specs.HeldHomes.{none-held, none-unspent}
+use Rattle.qcow2_image.specs.Resizing.{LacksL1}
 use Rattle.qcow2_image.specs.Seen.{layer_of}
-use Rattle.qcow2_image.proofs.CallsWithoutChanges.{failed-barrier, runs-barrier, resizes-failed, resizes-idle, resizes-declined, grows-idle, grows-refused, growth-failed, growth-idle, growth-declined}
+use Rattle.qcow2_image.specs.Unspent.{holding_in}
+use Rattle.qcow2_image.proofs.CallsWithoutChanges.{failed-barrier, runs-barrier, resizes-failed, resizes-idle, resizes-declined, grows-idle, grows-refused, growth-failed, growth-idle}
+use Rattle.qcow2_image.proofs.Resizes.Growth.{early-closed, grow-does, grow-refused, growth-early}
+use Rattle.qcow2_image.proofs.Resizes.SizeEffects.{resized-resizes}
 use Rattle.qcow2_image.proofs.drivers.Qcow2FormatDriverInstance.resize_grow.Goals as goal
 
 pub returns-then-self-clause-resizes : goal.returns-then-self-clause-resizes
@@ -24,9 +29,6 @@ pub returns-then-self-clause-refused : goal.returns-then-self-clause-refused
 returns-then-self-clause-refused g c =
     growth-failed _ _ _ _ c.args.self.now _ (failed-barrier (layer_of g.S.Storage c.args.self.now) c.if-self.true)
 
-pub returns-then-self-clause-same : goal.returns-then-self-clause-same
-returns-then-self-clause-same g c = refl
-
 pub returns-then-size-clause-resizes : goal.returns-then-size-clause-resizes
 returns-then-size-clause-resizes g c =
     resizes-idle _ _ _ c.args.self.now c.requires.free (runs-barrier (layer_of g.S.Storage c.args.self.now) c.if-self.false refl)
@@ -44,28 +46,51 @@ returns-then-size-clause-below g c = looked_under_same g.B.LayersBelowModel ⊤ 
 pub returns-then-size-clause-refused : goal.returns-then-size-clause-refused
 returns-then-size-clause-refused g c = growth-idle _ _ _ _ _ _
 
-pub returns-then-size-clause-same : goal.returns-then-size-clause-same
-returns-then-size-clause-same g c = refl
+pub returns-in_err-check_growth-clause-resizes : goal.returns-in_err-check_growth-clause-resizes
+returns-in_err-check_growth-clause-resizes g c = rw (handed-on _ _ c.from_residual.ensures.1)
+    (resizes-declined _ _ _ _ c.args.self.now c.requires.free (runs-barrier (layer_of g.S.Storage c.args.self.now) c.if-self.false refl)
+    (subst (λ (n : ℕ). n < c.args.size) c.size.ensures c.if-size.false)
+    (early-closed g.row.S g.S.Storage g.S.Storage-dict g.S.Destruct-dict g.B.LayersBelowModel c.args._below.now c.args.size c.args.mode
+    c.args.self.now (subst (λ (n : ℕ). n < c.args.size) c.size.ensures c.if-size.false) c.in_err-check_growth.field-0.0
+    c.in_err-check_growth.ensures.err))
+
+pub returns-in_err-check_growth-clause-grows : goal.returns-in_err-check_growth-clause-grows
+returns-in_err-check_growth-clause-grows g c = rw (handed-on _ _ c.from_residual.ensures.1) (grows-refused _ _ _ _ _ _ _)
+
+pub returns-in_err-check_growth-clause-unread : goal.returns-in_err-check_growth-clause-unread
+returns-in_err-check_growth-clause-unread g c = λ _. refl
+
+pub returns-in_err-check_growth-clause-below : goal.returns-in_err-check_growth-clause-below
+returns-in_err-check_growth-clause-below g c = looked_under_same g.B.LayersBelowModel (HadNoResourceError c.from_residual.result) c.args._below.now
+
+pub returns-in_err-check_growth-clause-refused : goal.returns-in_err-check_growth-clause-refused
+returns-in_err-check_growth-clause-refused g c = rw (handed-on _ _ c.from_residual.ensures.1)
+    (growth-early g.row.S g.S.Storage g.S.Storage-dict g.S.Destruct-dict g.B.LayersBelowModel c.args._below.now c.args.size c.args.mode
+    c.args.self.now (subst (λ (n : ℕ). n < c.args.size) c.size.ensures c.if-size.false) c.in_err-check_growth.field-0.0
+    c.in_err-check_growth.ensures.err)
+
+pub grow-requires-clause-free : goal.grow-requires-clause-free
+grow-requires-clause-free g c =
+    none-unspent g.S.Storage c.args.self.now.unspent (none-held (holding_in g.S.Storage c.args.self.now.unspent) c.requires.free)
 
 pub returns-clause-resizes : goal.returns-clause-resizes
-returns-clause-resizes g c =
-    resizes-declined _ _ _ _ c.args.self.now c.requires.free (runs-barrier (layer_of g.S.Storage c.args.self.now) c.if-self.false refl)
-    (subst (λ (n : ℕ). n < c.args.size) c.size.ensures c.if-size.false)
-    (λ closed. c.resize_refusal.ensures ∙ ap (λ (w : Bool). if w then Unsupported else ReadOnly) closed)
+returns-clause-resizes g c = resized-resizes g.row.S g.S.Storage g.S.Storage-dict g.S.Destruct-dict (λ guest. ⊥) c.args.size
+    (LacksL1 g.S.Storage c.args.self.now c.args.size) c.args.self.now c.grow.new.self c.grow.result c.grow.ensures c.args.size
+    c.args.self.now.tables.file.header.fields.size c.requires.free (runs-barrier (layer_of g.S.Storage c.args.self.now) c.if-self.false refl)
+    (subst (λ (n : ℕ). n < c.args.size) c.size.ensures c.if-size.false) c.in_ok-check_growth.ensures.ok.0
 
 pub returns-clause-grows : goal.returns-clause-grows
-returns-clause-grows g c = grows-refused _ _ _ _ _ _ _
+returns-clause-grows g c = grow-does g.row.S g.S.Storage g.S.Storage-dict g.S.Destruct-dict g.B.LayersBelowModel c.args._below.now c.args.size
+    c.args.mode c.args.self.now c.grow.new.self c.grow.result c.grow.ensures
+    (subst (λ (n : ℕ). n < c.args.size) c.size.ensures c.if-size.false) c.in_ok-check_growth.ensures.ok.1
 
 pub returns-clause-unread : goal.returns-clause-unread
 returns-clause-unread g c = λ _. refl
 
 pub returns-clause-below : goal.returns-clause-below
-returns-clause-below g c = looked_under_same g.B.LayersBelowModel (IsNotResourceError c.resize_refusal.result) c.args._below.now
+returns-clause-below g c = looked_under_same g.B.LayersBelowModel (HadNoResourceError c.grow.result) c.args._below.now
 
 pub returns-clause-refused : goal.returns-clause-refused
-returns-clause-refused g c = rw c.resize_refusal.ensures (
-    growth-declined _ _ _ _ c.args.self.now.mode.writable c.args.self.now _ refl
-    (subst (λ (n : ℕ). n < c.args.size) c.size.ensures c.if-size.false) refl)
-
-pub returns-clause-same : goal.returns-clause-same
-returns-clause-same g c = refl
+returns-clause-refused g c = grow-refused g.row.S g.S.Storage g.S.Storage-dict g.S.Destruct-dict g.B.LayersBelowModel c.args._below.now c.args.size
+    c.args.mode c.args.self.now c.grow.new.self c.grow.result c.grow.ensures
+    (subst (λ (n : ℕ). n < c.args.size) c.size.ensures c.if-size.false) c.in_ok-check_growth.ensures.ok.1

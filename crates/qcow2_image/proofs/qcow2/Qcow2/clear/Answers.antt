@@ -4,7 +4,7 @@ use Rattle.qcow2_alloc.proofs.Faults.{handed-on}
 use Rattle.qcow2_image.specs.Clearing.{MayClear}
 use Rattle.qcow2_image.specs.Seen.{layer_of}
 use Rattle.qcow2_image.proofs.CallsWithoutChanges.{runs-barrier}
-use Rattle.qcow2_image.proofs.Clearings.RangeClears.{may-clear, range-cleared, range-empty, range-impossible, range-refused, range-unmet}
+use Rattle.qcow2_image.proofs.Clearings.RangeClears.{may-clear, range-cleared, range-empty, range-impossible, range-refused, range-skipped, range-unmet}
 use Rattle.qcow2_image.proofs.qcow2.Qcow2.clear.Goals as goal
 
 pub returns-then-self : goal.returns-then-self
@@ -37,6 +37,16 @@ returns-then-count-eq0 g c =
     let none = c.if-count-eq0.true in
     range-unmet g.S.Storage c.args.clearing c.args.offset c.args.length c.args.self.now (may-clear g.S.Storage c.args.clearing c.args.offset c.args.length c.args.self.now change.ok change.writable change.inside change.fits change.runs
     (omega (arith, some))) c.in_ok-check_version.ensures.ok c.whole_part-part.result c.whole_part-part.ensures (omega (arith, c.count.view_is, none))
+
+pub returns-then-is_past_l1 : goal.returns-then-is_past_l1
+returns-then-is_past_l1 g c =
+    let change = c.in_ok-check_change.ensures in
+    let some = c.if-length-eq0.false in
+    let any = c.if-count-eq0.false in
+    let past = c.is_past_l1.ensures.0 c.if-is_past_l1.true in
+    range-skipped g.S.Storage c.args.clearing c.args.offset c.args.length c.args.self.now (may-clear g.S.Storage c.args.clearing c.args.offset c.args.length c.args.self.now change.ok change.writable change.inside change.fits change.runs
+    (omega (arith, some))) c.in_ok-check_version.ensures.ok c.whole_part-part.result c.whole_part-part.ensures past.0
+    (omega (arith, c.count.view_is, any)) past.1
 
 pub returns-in_err-clear_part : goal.returns-in_err-clear_part
 returns-in_err-clear_part g c =

@@ -1,0 +1,8 @@
+-- Lemmas on resizes of the disk.
+pub mod SizeSteps
+pub mod OwnTables
+pub mod Unmappings
+pub mod SizeChanges
+pub mod SizeEffects
+pub mod Growth
+pub mod Shrinking
