@@ -799,7 +799,7 @@ if-each None P each = tt
 if-each (Some a) P each = each a
 
 pub none-freed : {S : Type 0} (g : Ghosts S) (d : Qcow2 S g) → waits_in d.tables.space ≡ false → FreesPending g d (Ok tt) d
-none-freed g d none = record { keeps = keeps-disk-same g ⊤ d; leaks = λ well_formed whole c. refl; marks_failed = refl; no_shorter = omega arith; idle = λ untouched. (refl, refl); emptied = none; cause = tt }
+none-freed g d none = record { keeps = keeps-disk-same g ⊤ d; leaks = λ well_formed whole c. refl; marks_failed = refl; no_shorter = omega arith; idle = λ untouched. (refl, refl); emptied = none; header = refl; cause = tt }
 
 -- The free list was emptied.
 module _ {S : Type 0} (g : Ghosts S) (old : Qcow2 S g) (mid : Tables S g) (space space' : Space) (caches : MetadataCaches S)
@@ -837,6 +837,7 @@ module _ {S : Type 0} (g : Ghosts S) (old : Qcow2 S g) (mid : Tables S g) (space
     no_shorter = frees.no_shorter;
     idle = λ untouched. absurd (cc (sym (idle-waits old.tables.space untouched.1) ∙ waits));
     emptied = emptied-waits result mid.space space' there' frees.emptied;
+    header = frees.header;
     cause = if-err result _ (HasCause (pending_causes g old freed_now))
         (λ e. cause-weaker (record {
           before = omega arith;
@@ -917,6 +918,7 @@ module _ {S : Type 0} (g : Ghosts S) (old : Qcow2 S g) (begun : Bool) (mid : Tab
     keeps = longer-keeps (Ok done) both_tables both_tables longer (λ well_formed. longer.progress well_formed.seen.l1);
     leaks = λ well_formed. longer-leaks (Ok done) both_tables (longer.progress well_formed.seen.l1) well_formed;
     known = λ was. subst IsSome (sym there') refl;
+    header = longer.header;
     long = longer.long;
     raw_entries = longer.raw_entries;
     leaves = λ well_formed. leaves-in-run g old.tables mid space space' there there' well_formed.searched (enough_for_entry old.tables i)
@@ -927,6 +929,7 @@ module _ {S : Type 0} (g : Ghosts S) (old : Qcow2 S g) (begun : Bool) (mid : Tab
     keeps = longer-keeps (Err fault) (λ _. 0) (λ _. 0) longer (λ well_formed. longer.progress well_formed.seen.l1);
     leaks = λ well_formed. longer-leaks (Err fault) (λ _. 0) (longer.progress well_formed.seen.l1) well_formed;
     known = λ was. subst IsSome (sym there') refl;
+    header = tt;
     long = tt;
     raw_entries = tt;
     leaves = λ well_formed. tt;

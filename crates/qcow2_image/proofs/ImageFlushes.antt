@@ -69,13 +69,14 @@ module _ {S : Type 0} (g : Ghosts S) (old new : Qcow2 S g) (s' : StorageState) (
 pub flushes-freed : {S : Type 0} (g : Ghosts S) (old mid new : Qcow2 S g) (result : Result Unit Fault) → FreesPending g old (Ok tt) mid
     → KeepsDisk g (HadNoResourceError result) mid new → KeepsLeaks g mid new → CountsFaults (g.state mid.tables.file.image).faults (g.state new.tables.file.image).faults result
     → new.failed ≡ failed_by_resource_error result true mid.failed → new.tables.space ≡ mid.tables.space
-    → IsNoShorter (g.state mid.tables.file.image) (g.state new.tables.file.image) → FlushesFreed g old result new
-flushes-freed g old mid new result freed k leaks counts failed space long = record {
+    → new.tables.file.header ≡ mid.tables.file.header → IsNoShorter (g.state mid.tables.file.image) (g.state new.tables.file.image) → FlushesFreed g old result new
+flushes-freed g old mid new result freed k leaks counts failed space header long = record {
   keeps = keeps-disk-both g ⊤ (HadNoResourceError result) old mid new tt freed.keeps k;
   leaks = λ well_formed whole. leaks-both g old mid new (freed.leaks well_formed tt) leaks;
   marks_failed = failed ∙ ap (failed_by_resource_error result true) freed.marks_failed;
   no_shorter = let first = freed.no_shorter in omega (arith, first, long);
   emptied = on-ok result _ (ap waits_in space ∙ freed.emptied);
+  header = header ∙ freed.header;
   cause = from result counts;
 } where
   from : (r : Result Unit Fault) → CountsFaults (g.state mid.tables.file.image).faults (g.state new.tables.file.image).faults r → IfErr r (HasCause (pending_causes g old new))

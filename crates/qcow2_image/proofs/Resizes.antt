@@ -6,3 +6,4 @@ pub mod SizeChanges
 pub mod SizeEffects
 pub mod Growth
 pub mod Shrinking
+pub mod Creations

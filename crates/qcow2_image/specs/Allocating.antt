@@ -274,6 +274,7 @@ pub record FreesPending {S : Type 0} (g : Ghosts S) (old : Qcow2 S g) (result : 
   pub no_shorter : IsNoShorter (g.state old.tables.file.image) (g.state new.tables.file.image)
   pub idle : IsUntouched g old → (result ≡ Ok tt) × (new ≡ old)
   pub emptied : OnOk result (waits_in new.tables.space ≡ false)
+  pub header : new.tables.file.header ≡ old.tables.file.header
   pub cause : IfErr result (HasCause (pending_causes g old new))
 
 -- The free list is emptied, and then the file is flushed. The file gets no shorter.
@@ -283,4 +284,5 @@ pub record FlushesFreed {S : Type 0} (g : Ghosts S) (old : Qcow2 S g) (result : 
   pub marks_failed : new.failed ≡ failed_by_resource_error result true old.failed
   pub no_shorter : IsNoShorter (g.state old.tables.file.image) (g.state new.tables.file.image)
   pub emptied : OnOk result (waits_in new.tables.space ≡ false)
+  pub header : new.tables.file.header ≡ old.tables.file.header
   pub cause : IfErr result (HasCause (pending_causes g old new))

@@ -7,6 +7,7 @@ pub mod Rooms
 pub mod Steps
 pub mod Caching
 pub mod Opening
+pub mod Creating
 pub mod Homes
 pub mod HeldHomes
 pub mod Writing

@@ -13,12 +13,14 @@ use Rattle.imago_access.specs.Stops.{GivesNone, Left}
 use Rattle.imago_access.specs.declared.format.PreallocateMode.{PreallocateMode}
 use Rattle.imago_access.specs.declared.format.PreallocateMode.TheVariants as ways
 use Rattle.qcow2_types.specs.Entries.{entry, l2_table}
-use Rattle.qcow2_types.specs.Header.{Fields, cluster_size, entries_of_cluster}
+use Rattle.qcow2_types.specs.Header.{Fields, cluster_size, entries_of_cluster, Header}
+use Rattle.qcow2_types.specs.Switched.{with_size}
 use Rattle.qcow2_metadata.specs.Tables.{padded}
 use Rattle.qcow2_types.specs.Words.{unmapped}
 use Rattle.qcow2_alloc.specs.Causes.{HasCause}
 use Rattle.qcow2_alloc.specs.Crowding.{space}
 use Rattle.qcow2_alloc.specs.Going.{writing_causes}
+use Rattle.qcow2_steps.specs.Advancing.{KeepsHeader}
 use Rattle.qcow2_clusters.specs.Lengthening.{l1_clusters}
 use Rattle.qcow2_image.specs.Allocating.{allocation_causes, failed_by_resource_error, reserving_causes, HasOwnTable}
 use Rattle.qcow2_image.specs.FreeSpace.{HasNoPlace, LacksPlaceForTable, LeavesFree, enough_for_entry}
@@ -41,6 +43,7 @@ pub record MovesL1 {S : Type 0} (g : Ghosts S) (i : ℕ) (old : Qcow2 S g) (resu
   pub keeps : KeepsDisk g (HadNoResourceError result) old new
   pub leaks : IsWellFormed g old → HadNoResourceError result → KeepsLeaks g old new
   pub known : IsSome old.tables.space → IsSome new.tables.space
+  pub header : OnOk result (KeepsHeader old.tables.file.header new.tables.file.header)
   pub long : OnOk result (i < new.tables.file.header.fields.l1_entries)
   pub raw_entries : OnOk result (new.tables.l1.raw_entries ≡ padded old.tables.l1.raw_entries (max (length old.tables.l1.raw_entries) (i + 1)))
   pub leaves : IsWellFormed g old → OnOk result (LeavesFree g (enough_for_entry old.tables i) old.tables new.tables)
@@ -59,6 +62,7 @@ pub record SizesImage {S : Type 0} (g : Ghosts S) (n : ℕ) (old : Qcow2 S g) (r
   pub bits : new.tables.file.header.fields.cluster_bits ≡ old.tables.file.header.fields.cluster_bits
   pub version : new.tables.file.header.fields.version ≡ old.tables.file.header.fields.version
   pub faults : HadNoResourceError result → IsFaultless (g.state old.tables.file.image) (g.state new.tables.file.image)
+  pub header : OnOk result (new.tables.file.header ≡ with_size old.tables.file.header n)
   pub size : OnOk result (new.tables.file.header.fields.size ≡ n)
   pub unsized : OnErr result (new.tables.file.header.fields.size ≡ old.tables.file.header.fields.size)
   pub crash_images : IsWellFormed g old → n ≤ 2 ^ 63 - 1 → (below : List Layer)
@@ -200,6 +204,19 @@ pub record ResizesDisk {S : Type 0} (g : Ghosts S) (cut : ℕ → Type 0) (n : �
 -- The disk becomes longer. `Limit` means that the L1 table for the new size can't be allocated.
 abbrev pub GrowsDisk : {S : Type 0} (g : Ghosts S) → (n : ℕ) → Qcow2 S g → Result Unit Fault → Qcow2 S g → Type 0
 GrowsDisk g n old result new = ResizesDisk g (λ guest. ⊥) n (LacksL1 g old n) old result new
+
+-- Both headers have the same cluster size, refcount width, and backing file.
+pub record HasSameFormat (H K : Header) : Type 0 where
+  pub cluster_bits : K.fields.cluster_bits ≡ H.fields.cluster_bits
+  pub refcount_order : K.fields.refcount_order ≡ H.fields.refcount_order
+  pub backing_name : K.backing_name ≡ H.backing_name
+  pub backing_format : K.backing_format ≡ H.backing_format
+
+-- The header has the same cluster size, refcount width, and backing file as before. Each L2 entry means the same.
+pub record KeepsMappings {S : Type 0} (g : Ghosts S) (old new : Qcow2 S g) : Type 0 where
+  pub format : HasSameFormat old.tables.file.header new.tables.file.header
+  pub raw_entries : IsWellFormed g old → (guest : ℕ)
+      → entry (file_of g new.tables) new.tables.file.header.fields guest ≡ entry (file_of g old.tables) old.tables.file.header.fields guest
 
 -- The disk becomes shorter. Guest clusters that are wholly past the new size, from `first` to before `last`, may be unmapped before. `Limit`
 -- means that an L2 table of one of these can't be allocated.

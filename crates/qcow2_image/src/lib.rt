@@ -7,6 +7,7 @@ mod builder;
 mod cache_entries;
 mod clearing;
 mod committing;
+mod creating;
 mod drivers;
 mod file_reads;
 mod filling;
@@ -26,4 +27,5 @@ mod unspent;
 mod writing;
 
 pub use builder::Qcow2OpenBuilder;
+pub use creating::Qcow2CreateBuilder;
 pub use qcow2::{PreparedMappingState, Qcow2};

@@ -3,7 +3,7 @@ ghost use Rattle.std.specs.Prelude.{◌≡◌, ◌<◌, ◌≤◌, ◌+◌, ◌-
 ghost use Rattle.imago_storage.specs.declared.fault.Fault.{Fault};
 ghost use Rattle.qcow2_types.specs.Entries.{l2_entries};
 ghost use Rattle.qcow2_image.specs.Allocating.{Begins};
-ghost use Rattle.qcow2_image.specs.Resizing.{GrowsDisk, MovesL1, OwnsTables, ShrinksDisk, SizesImage, UnmapsTail, SharesNone};
+ghost use Rattle.qcow2_image.specs.Resizing.{GrowsDisk, MovesL1, OwnsTables, ShrinksDisk, SizesImage, UnmapsTail, SharesNone, KeepsMappings};
 ghost use Rattle.qcow2_image.specs.Rooms.{IsWellFormed};
 
 use crate::lookup::l2_cluster;
@@ -184,7 +184,8 @@ impl<S: Storage> Qcow2<S> {
         requires free { self.old.unspent ≡ None }
         requires longer { self.old.tables.file.header.fields.size < size }
         requires fits { size ≤ 2 ^ 63 - 1 }
-        ensures { GrowsDisk S.Storage size self.old result self.new }
+        ensures grows { GrowsDisk S.Storage size self.old result self.new }
+        ensures keeps { OnOk result (KeepsMappings S.Storage self.old self.new) }
     {
         let cluster_bits = self.tables.file.header.cluster_bits();
         let index = GuestOffset(size - 1).l1_index(cluster_bits);

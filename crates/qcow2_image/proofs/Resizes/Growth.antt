@@ -1,6 +1,6 @@
 -- Lemmas on growths: the L1 table moves, and then the size changes.
-use Rattle.std.proofs.Common.{◌≡◌, ℕ, ◌+◌, ◌-◌, ◌/◌, ◌^◌, ◌<◌, ◌≤◌, arith, ap, sym, subst, inl, inr, Bool, false, List, [], None, Result, Ok, Err}
-use Rattle.std.specs.Prelude.{⊤, ◌++◌, IsFalse, is_some, not, max, min}
+use Rattle.std.proofs.Common.{◌≡◌, ℕ, ◌+◌, ◌-◌, ◌/◌, ◌^◌, ◌<◌, ◌≤◌, arith, ap, sym, subst, inl, inr, Bool, false, List, [], None, Result, Ok, Err, refl, ◌∙◌, true}
+use Rattle.std.specs.Prelude.{⊤, ◌++◌, IsFalse, is_some, not, max, min, ◌⊎◌, OnOk, IsTrue}
 use Rattle.std.specs.Borrow.{RattleType}
 use Rattle.imago_storage.specs.State.{HasRisen, StorageState}
 use Rattle.imago_storage.specs.Steps.{IsFilled}
@@ -22,15 +22,16 @@ use Rattle.imago_access.specs.declared.format.PreallocateMode.TheVariants as way
 use Rattle.imago_access.proofs.ImageCauses.{failed_left}
 use Rattle.imago_access.proofs.Marking.{over_plain}
 use Rattle.imago_access.proofs.Stopping.{left_weaker, passes_weaker}
-use Rattle.qcow2_types.specs.Header.{cluster_size}
+use Rattle.qcow2_types.specs.Header.{cluster_size, Fields, Header, entries_of_cluster}
 use Rattle.qcow2_alloc.specs.Causes.{HasCause}
 use Rattle.qcow2_alloc.specs.Crowding.{space}
+use Rattle.qcow2_steps.specs.Advancing.{KeepsHeader}
 use Rattle.qcow2_clusters.specs.Lengthening.{l1_clusters}
 use Rattle.qcow2_image.specs.Allocating.{Begins, LoadsSpace, allocation_causes, reserving_causes}
 use Rattle.qcow2_image.specs.FreeSpace.{HasNoPlace, enough_for_entry}
 use Rattle.qcow2_image.specs.KeepsDisk.{KeepsDisk}
 use Rattle.qcow2_image.specs.Preparing.{LeavesMarkedFailed}
-use Rattle.qcow2_image.specs.Resizing.{GivesBlank, GrowsDisk, LacksL1, MovesL1, RefusesGrowth, SizesImage, WhyUngrown, last_entry}
+use Rattle.qcow2_image.specs.Resizing.{GivesBlank, GrowsDisk, HasSameFormat, KeepsMappings, LacksL1, MovesL1, RefusesGrowth, SizesImage, WhyUngrown, last_entry}
 use Rattle.qcow2_image.specs.Rooms.{IsWellFormed, is_sound}
 use Rattle.qcow2_image.specs.Seen.{layer_of}
 use Rattle.qcow2_image.specs.contracts.qcow2.Qcow2DriverModel.TheImpl.{ghosts}
@@ -43,6 +44,15 @@ use Rattle.qcow2_image.proofs.Leaks.{leaks-both}
 use Rattle.qcow2_image.proofs.Preparations.Reservations.{why-loaded}
 use Rattle.qcow2_image.proofs.Resizes.SizeChanges.{resize-sized, resize-stopped, unmapped-kept}
 use Rattle.qcow2_image.proofs.Resizes.SizeEffects.{err-map, ok-both, resized-failed, resized-fixed, resized-marks, resized-mutates, resized-state, resized-unspent}
+
+-- A header that references other tables has the same format.
+format-moved : (H K : Header) → KeepsHeader H K → HasSameFormat H K
+format-moved H K (l1, entries, table, clusters, is) = record {
+  cluster_bits = ap (λ (L : Header). L.fields.cluster_bits) is;
+  refcount_order = ap (λ (L : Header). L.fields.refcount_order) is;
+  backing_name = ap (λ (L : Header). L.backing_name) is;
+  backing_format = ap (λ (L : Header). L.backing_format) is;
+}
 
 module _ {S : Type 0} (g : Ghosts S) (n : ℕ) where
   -- The free space isn't loaded.
@@ -118,6 +128,28 @@ module _ {S : Type 0} (g : Ghosts S) (n : ℕ) where
       (unmapped-kept g (λ guest. ⊥) ⊤ old mid (keeps-disk-both g ⊤ ⊤ old first mid tt l.keeps m.keeps)
       (λ well_formed whole. leaks-both g old first mid l.leaks (m.leaks (l.keeps.safely well_formed tt) tt)))
       (λ well_formed. fits) result s
+
+  -- The L1 table moves, and then the size changes: the format and the meaning of each L2 entry are kept.
+  pub mappings-kept : (i : ℕ) (old first mid new : Qcow2 S g) (result : Result Unit Fault) → n ≤ 2 ^ 63 - 1 → LoadsSpace g old (Ok tt) first
+      → MovesL1 g i first (Ok tt) mid → SizesImage g n mid result new → OnOk result (KeepsMappings g old new)
+  mappings-kept i old first mid new (Err e) fits l m s = tt
+  mappings-kept i old first mid new (Ok done) fits l m s =
+      let moved = format-moved first.tables.file.header mid.tables.file.header m.header in record {
+        format = record {
+          cluster_bits = ap (λ (K : Header). K.fields.cluster_bits) s.header ∙ (moved.cluster_bits
+              ∙ ap (λ (K : Header). K.fields.cluster_bits) l.top.1);
+          refcount_order = ap (λ (K : Header). K.fields.refcount_order) s.header ∙ (moved.refcount_order
+              ∙ ap (λ (K : Header). K.fields.refcount_order) l.top.1);
+          backing_name = ap (λ (K : Header). K.backing_name) s.header ∙ (moved.backing_name
+              ∙ ap (λ (K : Header). K.backing_name) l.top.1);
+          backing_format = ap (λ (K : Header). K.backing_format) s.header ∙ (moved.backing_format
+              ∙ ap (λ (K : Header). K.backing_format) l.top.1);
+        };
+        raw_entries = λ well_formed guest.
+            let loaded = l.keeps.safely well_formed tt in
+            s.raw_entries (m.keeps.safely loaded tt) fits guest
+            ∙ (m.keeps.raw_entries loaded tt guest ∙ l.keeps.raw_entries well_formed tt guest);
+      }
 
 module _ (R : RattleType) (st : Ghosts R.Denot) (sd : mir.Syntax.Dict) (dd : mir.Syntax.Dict) {B : Type 0} (u : GhostsBelow B) (x : B) (n : ℕ)
     (mode : PreallocateMode) where

@@ -262,6 +262,7 @@ module _ {S : Type 0} (g : Ghosts S) (n : ℕ) (old : Qcow2 S g) (mid : Tables S
     bits = ap (λ (K : Header). K.fields.cluster_bits) sizes.ok;
     version = ap (λ (K : Header). K.fields.version) sizes.ok;
     faults = λ whole. (sizes.put.put.answer.faults, sizes.put.put.answer.refusals);
+    header = sizes.ok;
     size = ap (λ (K : Header). K.fields.size) sizes.ok;
     unsized = tt;
     crash_images = λ well_formed low below. stops well_formed low (Ok done) sizes below;
@@ -281,6 +282,7 @@ module _ {S : Type 0} (g : Ghosts S) (n : ℕ) (old : Qcow2 S g) (mid : Tables S
     bits = ap (λ (K : Header). K.fields.cluster_bits) sizes.err;
     version = ap (λ (K : Header). K.fields.version) sizes.err;
     faults = λ whole. put-faultless s (g.state mid.file.image) 0 _ (Err fault) sizes.put.put (whole-below {T = Unit} (Err fault) whole);
+    header = tt;
     size = tt;
     unsized = ap (λ (K : Header). K.fields.size) sizes.err;
     crash_images = λ well_formed low below. stops well_formed low (Err fault) sizes below;

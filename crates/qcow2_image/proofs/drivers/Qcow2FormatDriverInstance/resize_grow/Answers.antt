@@ -75,13 +75,13 @@ grow-requires-clause-free g c =
 
 pub returns-clause-resizes : goal.returns-clause-resizes
 returns-clause-resizes g c = resized-resizes g.row.S g.S.Storage g.S.Storage-dict g.S.Destruct-dict (λ guest. ⊥) c.args.size
-    (LacksL1 g.S.Storage c.args.self.now c.args.size) c.args.self.now c.grow.new.self c.grow.result c.grow.ensures c.args.size
+    (LacksL1 g.S.Storage c.args.self.now c.args.size) c.args.self.now c.grow.new.self c.grow.result c.grow.ensures.grows c.args.size
     c.args.self.now.tables.file.header.fields.size c.requires.free (runs-barrier (layer_of g.S.Storage c.args.self.now) c.if-self.false refl)
     (subst (λ (n : ℕ). n < c.args.size) c.size.ensures c.if-size.false) c.in_ok-check_growth.ensures.ok.0
 
 pub returns-clause-grows : goal.returns-clause-grows
 returns-clause-grows g c = grow-does g.row.S g.S.Storage g.S.Storage-dict g.S.Destruct-dict g.B.LayersBelowModel c.args._below.now c.args.size
-    c.args.mode c.args.self.now c.grow.new.self c.grow.result c.grow.ensures
+    c.args.mode c.args.self.now c.grow.new.self c.grow.result c.grow.ensures.grows
     (subst (λ (n : ℕ). n < c.args.size) c.size.ensures c.if-size.false) c.in_ok-check_growth.ensures.ok.1
 
 pub returns-clause-unread : goal.returns-clause-unread
@@ -92,5 +92,5 @@ returns-clause-below g c = looked_under_same g.B.LayersBelowModel (HadNoResource
 
 pub returns-clause-refused : goal.returns-clause-refused
 returns-clause-refused g c = grow-refused g.row.S g.S.Storage g.S.Storage-dict g.S.Destruct-dict g.B.LayersBelowModel c.args._below.now c.args.size
-    c.args.mode c.args.self.now c.grow.new.self c.grow.result c.grow.ensures
+    c.args.mode c.args.self.now c.grow.new.self c.grow.result c.grow.ensures.grows
     (subst (λ (n : ℕ). n < c.args.size) c.size.ensures c.if-size.false) c.in_ok-check_growth.ensures.ok.1

@@ -34,4 +34,5 @@ returns g c =
     (leaks-asked g.S.Storage m d t c.flush-answer.ensures.unchanged_but_faults state (ap (λ (x : Qcow2 g.row.S.Denot g.S.Storage). x.tables.file.header) is)
     (ap (λ (x : Qcow2 g.row.S.Denot g.S.Storage). x.tables.space) is) (ap (λ (x : Qcow2 g.row.S.Denot g.S.Storage). x.unspent) is))
     (subst (λ (u : StorageState). CountsFaults (g.S.Storage.state m.tables.file.image).faults u.faults answer) (sym state) c.flush-answer.ensures.faults) failed
-    (ap (λ (x : Qcow2 g.row.S.Denot g.S.Storage). x.tables.space) is) (asked-long g.S.Storage m d t c.flush-answer.ensures.unchanged_but_faults state))
+    (ap (λ (x : Qcow2 g.row.S.Denot g.S.Storage). x.tables.space) is)
+    (ap (λ (x : Qcow2 g.row.S.Denot g.S.Storage). x.tables.file.header) is) (asked-long g.S.Storage m d t c.flush-answer.ensures.unchanged_but_faults state))
