@@ -1,9 +1,6 @@
 use Rattle.std.proofs.Common.{◌<◌, arith, inl, inr, None, Some, Option, ℕ}
 use Rattle.std.specs.Prelude.{IsSome, if◌then◌else◌, ltb}
 use Rattle.std.proofs.lemmas.Bool.{cases_lt, le-ltb}
-use Rattle.imago_storage.specs.Steps.{Call, shrink}
-use Rattle.imago_access.specs.PartCalls.{discards_to_any, discards_to_backing, discards_to_zero, ensures_zero}
-use Rattle.qcow2_image.specs.Writing.{IsClearing, IsUnsupported}
 use Rattle.qimg_chain.proofs.laws.a_qcow2_top_zeroes_and_discards.Goals as goal
 
 -- Only version 3 has entries of zeroes.
@@ -13,17 +10,9 @@ newer version size some = elim (cases_lt 2 version) [
   | inr older ↦ absurd (cc (rw (le-ltb 2 version older) at some))
 ]
 
--- A zeroing or a discard is no shrink.
-clearing-supported : (call : Call) → IsClearing call → IsUnsupported call → ⊥
-clearing-supported (shrink size) (ensures_zero, is) why = is
-clearing-supported (shrink size) (discards_to_zero, is) why = is
-clearing-supported (shrink size) (discards_to_any, is) why = is
-clearing-supported (shrink size) (discards_to_backing, is) why = is
-clearing-supported call clears why = why
-
 pub returns : goal.returns
 returns g c = λ image below call well_formed granular clears. (
-  λ why. clearing-supported call clears (why well_formed),
+  λ why. why well_formed,
   λ why. let found = why well_formed in let old = found.0 in
       let above = newer image.tables.file.header.fields.version _ (granular found.1) in absurd (omega (arith, old, above)),
 )
