@@ -49,7 +49,7 @@ put-reaches (Ok v) old new at bytes end some alignment is through =
 put-reaches (Err e) old new at bytes end some alignment is not = tt
 
 -- A write of no bytes makes no request.
-put-nothing : (s : StorageState) (at : ℕ) → WriteOutcome {T = Unit} s s at [] (Ok tt)
+pub put-nothing : (s : StorageState) (at : ℕ) → WriteOutcome {T = Unit} s s at [] (Ok tt)
 put-nothing s at = record {
   answer = record {
     shape = refl;

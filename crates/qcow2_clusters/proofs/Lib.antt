@@ -10,6 +10,7 @@ pub mod RunStores
 pub mod StoreSettlement
 pub mod RunWrites
 pub mod FileEnds
+pub mod ZeroRuns
 pub mod ZeroClusterFills
 pub mod LoneTables
 pub mod ClusterNames

@@ -1,5 +1,5 @@
 -- Specifies how data is stored in newly allocated clusters, which no table references yet.
-use Rattle.std.specs.Prelude.{◌≡◌, ◌≢◌, ◌+◌, ◌-◌, ◌*◌, ◌<◌, ◌≤◌, ℕ, List, length, slice_index, Result, Ok, Err, IfOk, IfErr, IsTrue, OnOk}
+use Rattle.std.specs.Prelude.{◌≡◌, ◌≢◌, ◌+◌, ◌-◌, ◌*◌, ◌<◌, ◌≤◌, ℕ, List, length, replicate, slice_index, Result, Ok, Err, IfOk, IfErr, IsTrue, OnOk}
 use Rattle.imago_storage.specs.State.{StorageState}
 use Rattle.imago_storage.specs.Calls.{IsFaultless, CountsNotFallen}
 use Rattle.imago_storage.specs.Through.{WriteOutcome}
@@ -141,4 +141,12 @@ pub record ReachesRun {S : Type 0} (state : S → StorageState) (x n : ℕ) (bef
   pub header : after.header ≡ before.header
   pub same : IsTrue (state before.image).shape.keeps
       → OnOk result ((p : ℕ) → slice_index (state after.image).bytes p ≡ slice_index (state before.image).bytes p)
+  pub long : OnOk result (ReachesEnd state x n before after)
+
+-- Zeroes are written over `n` consecutive clusters, and the file reaches the end of the last one.
+pub record ZeroesRun {S : Type 0} (state : S → StorageState) (x n : ℕ) (before : ImageFile S) (result : Result Unit Fault)
+    (after : ImageFile S) : Type 0 where
+  pub put : WriteOutcome (state before.image) (state after.image) (x * cluster_size before.header.fields)
+      (replicate (n * cluster_size before.header.fields) 0) result
+  pub header : after.header ≡ before.header
   pub long : OnOk result (ReachesEnd state x n before after)

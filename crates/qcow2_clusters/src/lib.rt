@@ -31,4 +31,4 @@ pub use linking::link_run;
 pub use making_tables::{copy_table, make_table};
 pub use sizing::set_disk_size;
 pub use space::Space;
-pub use storing::{Stored, store_run};
+pub use storing::{Stored, store_run, store_zeroes};

@@ -1,5 +1,5 @@
 // Stores data in newly allocated clusters, which no table references yet. Definitions: specs/Storing.antt.
-ghost use Rattle.std.specs.Prelude.{◌≡◌, ◌≤◌, ◌<◌, ◌+◌, ◌-◌, ◌*◌, ◌^◌, ℕ, Bool, List, IfOk, OnOk, false, length};
+ghost use Rattle.std.specs.Prelude.{◌≡◌, ◌≤◌, ◌<◌, ◌+◌, ◌-◌, ◌*◌, ◌^◌, ℕ, Bool, List, [], IfOk, OnOk, false, length, replicate};
 ghost use Rattle.imago_storage.specs.Calls.{UnchangedButFaults};
 ghost use Rattle.imago_storage.specs.Through.{WriteOutcome};
 ghost use Rattle.qcow2_types.specs.Header.{cluster_size};
@@ -7,11 +7,11 @@ ghost use Rattle.qcow2_metadata.specs.Places.{IsAddressable};
 ghost use Rattle.qcow2_clusters.specs.Flushed.{AreEmpty, Clusters, HasEntries, clusters_state};
 ghost use Rattle.qcow2_clusters.specs.WritingBack.{AreUnpinned};
 ghost use Rattle.qcow2_clusters.specs.LeftUntouched.{LeavesUntouched, LeavesUnsettledUntouched};
-ghost use Rattle.qcow2_clusters.specs.Storing.{ReachesEnd, ReachesRun, Stores, StoresRun, StoresRunUnsettled};
+ghost use Rattle.qcow2_clusters.specs.Storing.{ReachesEnd, ReachesRun, Stores, StoresRun, StoresRunUnsettled, ZeroesRun};
 
 use crate::space::Space;
 use crate::writing_back::end_change;
-use imago_storage::{Fault, Storage, StorageExt, WriteFault};
+use imago_storage::{Fault, PreallocateMode, Storage, StorageExt, WriteFault, write_full_zeroes};
 use qcow2_alloc::{ImageFile, MetadataCaches, PendingAllocation, ReservedSlot};
 use qcow2_types::{ClusterCount, HostCluster};
 use std::alloc::Global;
@@ -232,4 +232,111 @@ pub(crate) fn store<S: Storage>(
     ensures untouched_unless_begun { LeavesUntouched S.state begun.old (clusters_state file.old caches.old space.old) result begun.new (clusters_state file.new caches.new space.new) }
 {
     store_run(alloc, file, caches, space, content, ClusterCount(1), begun)
+}
+
+// Writes zeroes over consecutive clusters, as the mode says. A storage that can't zero a range and keep it allocated gets the zeroes as
+// data.
+fn zero_run<S: Storage>(
+    alloc: Global,
+    file: &mut ImageFile<S>,
+    first: HostCluster,
+    count: ClusterCount,
+    mode: PreallocateMode,
+) -> Result<(), Fault>
+    requires reach { IsAddressable file.old.header.fields.cluster_bits (first + (count - 1)) }
+    requires end_bounded { first + count < 2 ^ 64 }
+    requires any { 0 < count }
+    ensures { ZeroesRun S.state first count file.old result file.new }
+{
+    let cluster_bits = file.header.cluster_bits();
+    let start = first.offset(cluster_bits).0;
+    let length = (first + count).offset(cluster_bits).0 - start;
+    match mode {
+        PreallocateMode::None | PreallocateMode::Zero => {
+            file.image.write_zeroes(alloc, start, length)
+        }
+        PreallocateMode::Allocate => {
+            match file.image.write_allocated_zeroes(alloc, start, length) {
+                Ok(()) => Ok(()),
+                Err(fault) => match fault {
+                    Fault::Unsupported => {
+                        write_full_zeroes(&mut file.image, alloc, start, length)
+                    }
+                    _ => Err(fault),
+                },
+            }
+        }
+        PreallocateMode::WriteData => write_full_zeroes(&mut file.image, alloc, start, length),
+    }
+}
+
+// Allocates consecutive clusters.
+fn allocate_run<S: Storage>(
+    file: &mut ImageFile<S>,
+    caches: &mut MetadataCaches<S>,
+    space: &mut Space,
+    count: ClusterCount,
+    begun: &mut bool,
+) -> Result<Stored, Fault>
+    requires caches_empty { AreEmpty caches.old }
+    requires room { HasEntries caches.old }
+    requires any { 0 < count }
+    ensures allocates { StoresRunUnsettled S.state count [] (clusters_state file.old caches.old space.old) result
+        (clusters_state file.new caches.new space.new) }
+    ensures untouched_unless_begun { LeavesUnsettledUntouched S.state begun.old (clusters_state file.old caches.old space.old) result begun.new
+        (clusters_state file.new caches.new space.new) }
+{
+    let pending = space
+        .allocator
+        .try_allocate_clusters(file, caches, &mut space.to_free, count, false, begun)?;
+    let PendingAllocation { pending, hold } = pending;
+    let cluster = pending.cluster();
+    let _parts = pending.into_entry().into_parts();
+    Ok(Stored { cluster, hold })
+}
+
+/// Allocates `count` consecutive clusters, and writes zeroes over all of them.
+///
+/// No table references the clusters yet. `PreallocateMode::None` and `PreallocateMode::Zero` let the storage keep the zeroes unallocated.
+/// `PreallocateMode::Allocate` keeps the clusters allocated in the storage; if it can't, the zeroes are written as data.
+/// `PreallocateMode::WriteData` writes them as data. All else is as by `store_run`.
+///
+/// # Preconditions
+///
+/// Nothing is cached.
+///
+/// # Errors
+///
+/// The errors are those of `store_run`.
+///
+/// # On error
+///
+/// No slot is reserved. If `begun` isn't set, nothing has changed.
+pub fn store_zeroes<S: Storage>(
+    alloc: Global,
+    file: &mut ImageFile<S>,
+    caches: &mut MetadataCaches<S>,
+    space: &mut Space,
+    count: ClusterCount,
+    mode: PreallocateMode,
+    begun: &mut bool,
+) -> Result<Stored, Fault>
+    requires caches_empty { AreEmpty caches.old }
+    requires room { HasEntries caches.old }
+    requires any { 0 < count }
+    ensures stores { let n = count * cluster_size file.old.header.fields in
+        StoresRun S.state count (replicate n 0) (clusters_state file.old caches.old space.old) result (clusters_state file.new caches.new space.new) }
+    ensures reaches { IfOk result (λ first. ReachesEnd S.state first count file.old file.new) }
+    ensures untouched_unless_begun { LeavesUntouched S.state begun.old (clusters_state file.old caches.old space.old) result begun.new (clusters_state file.new caches.new space.new) }
+{
+    let allocated = allocate_run(file, caches, space, count, begun);
+    let first = write_back_stored(file, caches, space, allocated)?;
+    let Stored { cluster, hold } = first;
+    match zero_run(alloc, file, cluster, count, mode) {
+        Ok(()) => Ok(Stored { cluster, hold }),
+        Err(fault) => {
+            space.to_free.release(hold);
+            Err(fault)
+        }
+    }
 }
