@@ -53,7 +53,7 @@ full-whole (Ok v) full = absurd (cc full)
 full-whole (Err e) full = absurd (cc full)
 
 -- The type of the result doesn't matter.
-cut-same : (T U : Type 0) (e : Fault) (f : Bool) → failed_by_resource_error {T = T} (Err e) true f ≡ failed_by_resource_error {T = U} (Err e) true f
+pub cut-same : (T U : Type 0) (e : Fault) (f : Bool) → failed_by_resource_error {T = T} (Err e) true f ≡ failed_by_resource_error {T = U} (Err e) true f
 cut-same T U Memory f = refl
 cut-same T U Storage f = refl
 cut-same T U e f = refl

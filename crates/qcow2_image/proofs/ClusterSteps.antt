@@ -556,11 +556,13 @@ module _ {S : Type 0} (g : Ghosts S) (guest : ℕ) (bytes : List ℕ) (old new :
     size = k.size;
     bits = k.bits;
     version = k.version;
+    format = k.format;
     faults = k.faults;
     crash_images = λ known. k.crash_images known.well_formed;
     safely = λ known. k.safely known.well_formed;
     layer = λ known. k.layer known.well_formed;
     raw_entries = λ known. k.raw_entries known.well_formed;
+    values = λ known. k.values known.well_formed;
   }
 
   top-none : (ok : Type 0) → KeepsTop g (IsWellFormed g old × ok) old new → KeepsTop g (HasKept g guest None old × ok) old new

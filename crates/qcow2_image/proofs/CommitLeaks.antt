@@ -86,7 +86,7 @@ module _ (m : Metadata) (table guest x : ℕ) (is-sound : IsSound m) (under : Is
       omega (arith, le, all, more, none)
 
   -- Linking a reserved cluster references it once more.
-  newly-reserved : IsReserved m x → (c : ℕ) → newly x (taken_before m guest) c ≡ one_at x c
+  pub newly-reserved : IsReserved m x → (c : ℕ) → newly x (taken_before m guest) c ≡ one_at x c
   newly-reserved reserved c =
       let w = raw_entry m.file (l2_table m.file h i) j in
       ap (λ (o : Mapping). newly x (allocation_of h.cluster_bits o) c) word-is
@@ -100,7 +100,7 @@ module _ (m : Metadata) (table guest x : ℕ) (is-sound : IsSound m) (under : Is
   newly-own true own c = ap (λ (o : Mapping). newly x (allocation_of h.cluster_bits o) c) own.file ∙ kept-newly x c
   newly-own false own c = newly-reserved own c ∙ sym (one-run x c)
 
-covers-more : (x n c : ℕ) → covers c (run_of x (suc n)) ≡ covers c (run_of x n) + covers c (run_of (x + n) 1)
+pub covers-more : (x n c : ℕ) → covers c (run_of x (suc n)) ≡ covers c (run_of x n) + covers c (run_of (x + n) 1)
 covers-more x n c = elim (cases_lt c x) [
   | inl before ↦
       let a = covers-before c x (suc n) before in
@@ -128,7 +128,7 @@ covers-more x n c = elim (cases_lt c x) [
   ]
 ]
 
-covers-none : (x c : ℕ) → covers c (run_of x 0) ≡ 0
+pub covers-none : (x c : ℕ) → covers c (run_of x 0) ≡ 0
 covers-none x c = elim (cases_lt c x) [
   | inl before ↦ covers-before c x 0 before
   | inr from ↦ covers-behind c x 0 (omega (arith, from))

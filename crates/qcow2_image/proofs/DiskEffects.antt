@@ -48,7 +48,7 @@ use Rattle.qcow2_clusters.specs.declared.space.Space.{Space}
 use Rattle.qcow2_image.specs.HeldHomes.{clusters-from}
 use Rattle.qcow2_image.specs.Holding.{PreparedMappingRun, IsHeld, IsOwnAs, IsUncopied, mapping_id_held, held_of, held_place, held_with, writable_locations_with, in_clusters}
 use Rattle.qcow2_image.specs.ImageLayer.{blank_of, cell_by, cells, writable_location_by, writable_locations, meaning_of, qcow2_fixed}
-use Rattle.qcow2_image.specs.KeepsDisk.{KeepsDisk, KeepsDiskWhere}
+use Rattle.qcow2_image.specs.KeepsDisk.{HasSameFormat, KeepsDisk, KeepsDiskWhere}
 use Rattle.qcow2_image.specs.Rooms.{HoldsIn, IsWellFormed, is_sound, rest_of, searched_from}
 use Rattle.qcow2_image.specs.Seen.{IsOfFile, IsCacheCoherent, file_of, layer_of, memory_of}
 use Rattle.qcow2_image.specs.Steps.{KeepsImage}
@@ -59,6 +59,32 @@ use Rattle.qcow2_image.specs.declared.tables.Tables.{Tables}
 use Rattle.qcow2_image.proofs.RequestsWithoutChanges.{seen-same}
 use Rattle.qcow2_image.proofs.Steps.{layer-by, memory-is, still-marked, unmarked}
 use Rattle.qcow2_image.proofs.SearchStart.{counted-at-rest, counted-first, counted-in-file, counted-same}
+
+-- A header that references other tables has the same format.
+pub format-moved : (H K : Header) → KeepsHeader H K → HasSameFormat H K
+format-moved H K (l1, entries, table, clusters, is) = record {
+  cluster_bits = ap (λ (L : Header). L.fields.cluster_bits) is;
+  refcount_order = ap (λ (L : Header). L.fields.refcount_order) is;
+  backing_name = ap (λ (L : Header). L.backing_name) is;
+  backing_format = ap (λ (L : Header). L.backing_format) is;
+}
+
+-- Two changes in sequence keep the format.
+pub format-both : (H K L : Header) → HasSameFormat H K → HasSameFormat K L → HasSameFormat H L
+format-both H K L one two = record {
+  cluster_bits = two.cluster_bits ∙ one.cluster_bits;
+  refcount_order = two.refcount_order ∙ one.refcount_order;
+  backing_name = two.backing_name ∙ one.backing_name;
+  backing_format = two.backing_format ∙ one.backing_format;
+}
+
+pub format-same : (H K : Header) → K ≡ H → HasSameFormat H K
+format-same H K same = record {
+  cluster_bits = ap (λ (L : Header). L.fields.cluster_bits) same;
+  refcount_order = ap (λ (L : Header). L.fields.refcount_order) same;
+  backing_name = ap (λ (L : Header). L.backing_name) same;
+  backing_format = ap (λ (L : Header). L.backing_format) same;
+}
 
 -- The crates below and the driver have the same resource errors.
 pub whole-below : {T : Type 0} (r : Result T Fault) → HadNoResourceError r → going.HadNoResourceError r
@@ -414,6 +440,7 @@ module _ {S : Type 0} (g : Ghosts S) (sure ok : Type 0) (kind : Kind) (old new :
     size = size-same;
     bits = bits-same;
     version = ap (λ (K : Header). K.fields.version) a.header.4;
+    format = format-moved old.tables.file.header new.tables.file.header a.header;
     faults = a.faults;
     crash_images = λ known below.
         let s = g.state old.tables.file.image in
@@ -425,6 +452,7 @@ module _ {S : Type 0} (g : Ghosts S) (sure ok : Type 0) (kind : Kind) (old new :
     safely = safe-now;
     layer = layer-same;
     raw_entries = words-same;
+    values = value-same;
   }
 
 -- Two such calls one after another. The second one needs that the first had no resource error.
@@ -462,11 +490,13 @@ module _ {S : Type 0} (g : Ghosts S) (sure first-sure second-sure first-ok ok : 
     size = second.size ∙ first.size;
     bits = second.bits ∙ first.bits;
     version = second.version ∙ first.version;
+    format = format-both a.tables.file.header b.tables.file.header c.tables.file.header first.format second.format;
     faults = λ whole. ((second.faults whole).0 ∙ (first.faults done).0, (second.faults whole).1 ∙ (first.faults done).1);
     crash_images = both-stops;
     safely = λ known whole. second.safely (two known) whole;
     layer = λ known whole. second.layer (two known) whole ∙ first.layer (one known) done;
     raw_entries = λ known whole guest. second.raw_entries (two known) whole guest ∙ first.raw_entries (one known) done guest;
+    values = λ known whole p. second.values (two known) whole p ∙ first.values (one known) done p;
   }
 
 -- Two calls that keep the disk. The image is well-formed after the first.
@@ -501,6 +531,7 @@ module _ {S : Type 0} (g : Ghosts S) (ok : Type 0) (old new : Qcow2 S g) (kept :
     size = ap (λ (x : Fields). x.size) fields;
     bits = ap (λ (x : Fields). x.cluster_bits) fields;
     version = ap (λ (x : Fields). x.version) fields;
+    format = format-same old.tables.file.header new.tables.file.header header;
     faults = faults;
     crash_images = λ well_formed below. passes_none (Left below (layer_of g old) before.bytes is_sound (layer_of g old).size (layer_of g old).size GivesNone) before after
         kept.shape (kept.crash_image, kept.past_crash_images, kept.bytes, kept.refusals);
@@ -509,6 +540,7 @@ module _ {S : Type 0} (g : Ghosts S) (ok : Type 0) (old new : Qcow2 S g) (kept :
         old.mode new.mode old.number new.number old.failed new.failed (holding_in g old.unspent) (holding_in g new.unspent) kept.shape kept.bytes
         (memory-is g new.tables ∙ ap bytes_of kept.bytes ∙ sym (memory-is g old.tables)) fields mode number (whole w) (ap (holding_in g) unspent);
     raw_entries = λ well_formed w guest. λ i. entry (bytes_of (kept.bytes i)) (fields i) guest;
+    values = λ well_formed w p. λ i. own_value (bytes_of (kept.bytes i)) (bytes_of (kept.bytes i)) (fields i) p;
   }
 
 pub keeps-disk-same : {S : Type 0} (g : Ghosts S) (ok : Type 0) (d : Qcow2 S g) → KeepsDisk g ok d d

@@ -67,13 +67,16 @@ pub record CopiesShown {S B : Type 0} (g : Ghosts S) (u : GhostsBelow B) (shown 
   pub err : IfErr result (λ e. Cause (g.state old.0.tables.file.image).faults (g.state new.0.tables.file.image).faults e
       ⊎ RefusesPart u (shown_over g u shown old) part old.1 new.1 e)
 
--- The bytes of a host cluster for a part of a guest cluster: each is what the guest reads, unless it will be overwritten.
+-- The bytes of a host cluster for a part of a guest cluster: each is what the guest reads, unless it will be overwritten. Bytes past the end
+-- of the disk are 0.
 pub record Fills {S B : Type 0} (g : Ghosts S) (u : GhostsBelow B) (asked : Asked) (old : Qcow2 S g × B) (content : List ℕ)
     : Type 0 where
   pub long : length content ≡ cluster_size old.0.tables.file.header.fields
   pub shows : IsWellFormed g old.0 → u.coherent_below old.1 → let h = old.0.tables.file.header.fields in
       (p : ℕ) → IsInFirst h asked p → IsLeft asked p
       → IsCopied (at (u.layers_below old.1)) (layer_of g old.0) p (slice_index content (p % cluster_size h))
+  pub rest : let h = old.0.tables.file.header.fields in (p : ℕ) → h.size ≤ p → p / cluster_size h ≡ asked.offset / cluster_size h
+      → slice_index content (p % cluster_size h) ≡ 0
 
 -- The guest's byte at this offset is needed: the range doesn't overwrite the whole guest cluster.
 pub record IsNeededFor (h : Fields) (asked : Asked) (p : ℕ) : Type 0 where

@@ -20,3 +20,4 @@ pub mod Filling
 pub mod Preparing
 pub mod Clearing
 pub mod Resizing
+pub mod Growing

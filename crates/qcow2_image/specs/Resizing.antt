@@ -4,16 +4,14 @@ use Rattle.imago_storage.specs.Calls.{CountsNotFallen, IsFaultless}
 use Rattle.imago_storage.specs.Disk.{Value}
 use Rattle.imago_storage.specs.Passing.{UnrefusedCrashImages}
 use Rattle.imago_storage.specs.declared.fault.Fault.{Fault}
-use Rattle.imago_storage.specs.declared.fault.Fault.TheVariants.{Limit, ReadOnly, Unsupported}
+use Rattle.imago_storage.specs.declared.fault.Fault.TheVariants.{Limit}
 use Rattle.imago_storage.specs.declared.storage.Storage.{Ghosts}
 use Rattle.imago_access.specs.Chain.{at}
 use Rattle.imago_access.specs.Files.{HadNoResourceError, IsNotResourceError}
 use Rattle.imago_access.specs.Layer.{Layer, through}
 use Rattle.imago_access.specs.Stops.{GivesNone, Left}
-use Rattle.imago_access.specs.declared.format.PreallocateMode.{PreallocateMode}
-use Rattle.imago_access.specs.declared.format.PreallocateMode.TheVariants as ways
 use Rattle.qcow2_types.specs.Entries.{entry, l2_table}
-use Rattle.qcow2_types.specs.Header.{Fields, cluster_size, entries_of_cluster, Header}
+use Rattle.qcow2_types.specs.Header.{Fields, cluster_size, entries_of_cluster}
 use Rattle.qcow2_types.specs.Switched.{with_size}
 use Rattle.qcow2_metadata.specs.Tables.{padded}
 use Rattle.qcow2_types.specs.Words.{unmapped}
@@ -25,7 +23,7 @@ use Rattle.qcow2_clusters.specs.Lengthening.{l1_clusters}
 use Rattle.qcow2_image.specs.Allocating.{allocation_causes, failed_by_resource_error, reserving_causes, HasOwnTable}
 use Rattle.qcow2_image.specs.FreeSpace.{HasNoPlace, LacksPlaceForTable, LeavesFree, enough_for_entry}
 use Rattle.qcow2_image.specs.ImageLayer.{blank_of}
-use Rattle.qcow2_image.specs.KeepsDisk.{KeepsDisk}
+use Rattle.qcow2_image.specs.KeepsDisk.{HasSameFormat, KeepsDisk, value_in}
 use Rattle.qcow2_image.specs.Leaking.{KeepsLeaks}
 use Rattle.qcow2_image.specs.Preparing.{LeavesMarkedFailed}
 use Rattle.qcow2_image.specs.Rooms.{IsWellFormed, is_sound}
@@ -73,6 +71,7 @@ pub record SizesImage {S : Type 0} (g : Ghosts S) (n : ℕ) (old : Qcow2 S g) (r
       → OnOk result ((p : ℕ) → p < (layer_of g old).size → p < n → (layer_of g new).cell p ≡ (layer_of g old).cell p)
   pub raw_entries : IsWellFormed g old → n ≤ 2 ^ 63 - 1 → OnOk result ((guest : ℕ)
       → entry (file_of g new.tables) new.tables.file.header.fields guest ≡ entry (file_of g old.tables) old.tables.file.header.fields guest)
+  pub values : IsWellFormed g old → n ≤ 2 ^ 63 - 1 → OnOk result ((p : ℕ) → value_in g new.tables p ≡ value_in g old.tables p)
   pub leaks : IsWellFormed g old → n ≤ 2 ^ 63 - 1 → OnOk result (KeepsLeaks g old new)
   pub cause : IfErr result (HasCause (writing_causes ⊤ (g.state old.tables.file.image).faults (g.state new.tables.file.image).faults))
 
@@ -158,18 +157,6 @@ pub record LacksL1 {S : Type 0} (g : Ghosts S) (d : Qcow2 S g) (size number : �
   pub lacks : let h = now.tables.file.header.fields in let i = last_entry h size in
       HasNoPlace g (λ n. n ≡ l1_clusters h now.tables.l1 i) i (space h / 4) now.tables left.tables number
 
--- The driver's own reasons for not growing a disk. Growths with preallocation aren't supported. The size is above 2^63 - 1, or the L1 table
--- for it can't be allocated.
-abbrev pub WhyUngrown : {S : Type 0} (g : Ghosts S) → Qcow2 S g → List Layer → (size : ℕ) → PreallocateMode → Fault → Type 0
-WhyUngrown g d below size mode Unsupported = mode ≢ ways.None
-WhyUngrown g d below size mode (Limit number) = ((2 ^ 63 - 1 < size) × (number ≡ size)) ⊎ LacksL1 g d size number
-WhyUngrown g d below size mode fault = ⊥
-
--- A growth is refused before anything else is done: the image is read-only, or for the driver's own reasons.
-abbrev pub RefusesGrowth : {S : Type 0} (g : Ghosts S) → Qcow2 S g → (size : ℕ) → PreallocateMode → Fault → Type 0
-RefusesGrowth g d size mode fault = ((fault ≡ ReadOnly) × IsFalse d.mode.writable)
-    ⊎ (IsTrue d.mode.writable × ((below : List Layer) → WhyUngrown g d below size mode fault))
-
 -- The value of a byte of the disk in a guest cluster that is `cut`, once it is unmapped.
 abbrev pub GivesBlank : (cut : ℕ → Type 0) → Layer → List Layer → ℕ → Value → Type 0
 GivesBlank cut layer below p v = cut (p / layer.fixed.unit) × (v ≡ through layer.fixed.blank (at below p))
@@ -204,13 +191,6 @@ pub record ResizesDisk {S : Type 0} (g : Ghosts S) (cut : ℕ → Type 0) (n : �
 -- The disk becomes longer. `Limit` means that the L1 table for the new size can't be allocated.
 abbrev pub GrowsDisk : {S : Type 0} (g : Ghosts S) → (n : ℕ) → Qcow2 S g → Result Unit Fault → Qcow2 S g → Type 0
 GrowsDisk g n old result new = ResizesDisk g (λ guest. ⊥) n (LacksL1 g old n) old result new
-
--- Both headers have the same cluster size, refcount width, and backing file.
-pub record HasSameFormat (H K : Header) : Type 0 where
-  pub cluster_bits : K.fields.cluster_bits ≡ H.fields.cluster_bits
-  pub refcount_order : K.fields.refcount_order ≡ H.fields.refcount_order
-  pub backing_name : K.backing_name ≡ H.backing_name
-  pub backing_format : K.backing_format ≡ H.backing_format
 
 -- The header has the same cluster size, refcount width, and backing file as before. Each L2 entry means the same.
 pub record KeepsMappings {S : Type 0} (g : Ghosts S) (old new : Qcow2 S g) : Type 0 where

@@ -1,9 +1,10 @@
 // Allocates clusters for guest clusters that can't be written in place. Before that the L1 table is made long enough, and the L2 table is
 // made or copied, so that it isn't shared. Definitions: specs/Allocating.antt.
-ghost use Rattle.std.specs.Prelude.{◌≡◌, ◌<◌, ◌+◌, ◌*◌, ◌/◌, ◌^◌, ℕ, false, None, Some, length, IfSome, IsTrue};
+ghost use Rattle.std.specs.Prelude.{◌≡◌, ◌<◌, ◌+◌, ◌*◌, ◌/◌, ◌^◌, ℕ, false, None, Some, length, replicate, IfSome, IsTrue};
 ghost use Rattle.qcow2_types.specs.Header.{cluster_size};
 ghost use Rattle.qcow2_image.specs.Allocating.{Begins, EnsuresTable, EnsuresEntry, FillsContent, FlushesFreed, FreesPending, IsShownAddressable, LoadsSpace, PlacesContent, StoresContent, StoresMost, TellsKept, TellsShown, failed_by_resource_error, full_by, kept_by, placed_by, shown_of, waits_in};
 ghost use Rattle.qcow2_image.specs.FreeSpace.{enough_for_one, enough_for_table};
+ghost use Rattle.qcow2_image.specs.Growing.{StoresZeroes};
 ghost use Rattle.qcow2_metadata.specs.Places.{IsAddressable};
 ghost use Rattle.qcow2_types.specs.Entries.{l2_entries};
 ghost use Rattle.qcow2_metadata.specs.MappingView.{IsHostAddressable, mapping_seen};
@@ -15,10 +16,10 @@ ghost use Rattle.qcow2_clusters.specs.Storing.{Rests};
 use crate::lookup::{l2_cluster, look_up};
 use crate::qcow2::Qcow2;
 use crate::reloading::drop_cached;
-use imago_storage::{Fault, Storage};
+use imago_storage::{Fault, PreallocateMode as StorageMode, Storage};
 use qcow2_alloc::{ImageFile, MetadataCaches};
 use qcow2_clusters::{
-    Space, Stored, copy_table, fill, free_pending_clusters, make_table, store_run,
+    Space, Stored, copy_table, fill, free_pending_clusters, make_table, store_run, store_zeroes,
 };
 use qcow2_metadata::{L1Table, L2Mapping, Table};
 use qcow2_types::{ClusterCount, GuestCluster, HostCluster};
@@ -336,6 +337,60 @@ impl<S: Storage> Qcow2<S> {
         }
         if is_full(&stored) {
             let one = self.store_content(alloc, content, ClusterCount(1), begun);
+            return as_placed(one, ClusterCount(1));
+        }
+        as_placed(stored, count)
+    }
+
+    // Stores zeroes in `count` consecutive clusters, which are newly allocated. The storage mode says how.
+    fn store_zeroes(
+        &mut self,
+        alloc: Global,
+        count: ClusterCount,
+        mode: StorageMode,
+        begun: &mut bool,
+    ) -> Result<HostCluster, Fault>
+        requires any { 0 < count }
+        requires free { self.old.unspent ≡ None }
+        ensures stores { let n = count * cluster_size self.old.tables.file.header.fields in
+            StoresContent S.Storage count (replicate n 0) self.old result self.new }
+        ensures begins { Begins S.Storage begun.old self.old result begun.new self.new }
+    {
+        let Some(space) = &mut self.tables.space else {
+            return Err(Fault::DamagedTable);
+        };
+        let _dropped = drop_cached(&mut self.tables.caches);
+        let stored = store_zeroes(
+            alloc,
+            &mut self.tables.file,
+            &mut self.tables.caches,
+            space,
+            count,
+            mode,
+            begun,
+        );
+        host_of(self.mark_change_fault(stored, *begun))
+    }
+
+    // Stores zeroes in `count` new clusters, or in a single one if no such run is free.
+    pub(crate) fn store_most_zeroes(
+        &mut self,
+        alloc: Global,
+        count: ClusterCount,
+        mode: StorageMode,
+        begun: &mut bool,
+    ) -> Result<Placed, Fault>
+        requires any { 0 < count }
+        requires free { self.old.unspent ≡ None }
+        ensures stores { StoresZeroes S.Storage count self.old result self.new }
+        ensures begins { Begins S.Storage begun.old self.old result begun.new self.new }
+    {
+        let stored = self.store_zeroes(alloc, count, mode, begun);
+        if count.0 == 1 {
+            return as_placed(stored, count);
+        }
+        if is_full(&stored) {
+            let one = self.store_zeroes(alloc, ClusterCount(1), mode, begun);
             return as_placed(one, ClusterCount(1));
         }
         as_placed(stored, count)

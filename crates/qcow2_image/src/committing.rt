@@ -50,7 +50,7 @@ fn let_go(to_free: &mut ClustersToFreeList, is_kept: bool)
 }
 
 // Links consecutive guest clusters to their host clusters, in their L2 table. Then it releases the slot of the free list.
-fn link_host<S: Storage>(
+pub(crate) fn link_host<S: Storage>(
     tables: &mut Tables<S>,
     clusters: Reserved,
     guest: GuestCluster,

@@ -9,15 +9,13 @@ ghost use Rattle.imago_access.specs.declared.format.PreallocateMode.TheVariants 
 ghost use Rattle.qcow2_types.specs.Header.{Shaped, layout_of};
 ghost use Rattle.qcow2_metadata.specs.Blocks.{with_counter};
 ghost use Rattle.qcow2_metadata.specs.HeaderView.{seen_text};
-ghost use Rattle.qcow2_alloc.specs.Causes.{HasCause};
 ghost use Rattle.qcow2_steps.specs.SmallestImage.{AreFirstCounters, AreFirstEntries};
-ghost use Rattle.qcow2_image.specs.Allocating.{reserving_causes};
-ghost use Rattle.qcow2_image.specs.Resizing.{LacksL1};
-ghost use Rattle.qcow2_image.specs.Creating.{AreAllowed, GrowsSmallest, HasParts, HoldsSmallest, IsFirstHeader, IsNewQcow2, IsPowerWithin, Lengthens, WhyNoDisk, WhyNotCreated, WhyNotGrown, WhyNotPut, format_with, named, options_of};
+ghost use Rattle.qcow2_image.specs.Creating.{AreAllowed, GrowsSmallest, HasParts, HoldsSmallest, IsFirstHeader, IsNewQcow2, IsPowerWithin, Lengthens, WhyNoDisk, WhyNotCreated, WhyNotGrown, WhyNotLengthened, WhyNotPut, format_with, named, options_of};
 
 use crate::builder::Qcow2OpenBuilder;
 use crate::cache_entries::CacheEntries;
 use crate::opening::open_with;
+use crate::preallocating::new_clusters;
 use crate::qcow2::Qcow2;
 use imago_access::{
     DriverModel, Format, FormatCreateBuilder, FormatCreateBuilderBase, FormatDriverBuilder,
@@ -30,21 +28,25 @@ use std::alloc::Global;
 
 /// A builder that creates a qcow2 image of version 3, in the format's sections "Header" and "Refcounts".
 ///
-/// The disk reads as its backing file, or as 0 if it has none: no guest cluster is mapped. Only the preallocation mode `None` is
-/// supported. An external data file isn't supported. The defaults are a disk of 0 bytes, clusters of 65,536 bytes, refcounts of 16 bits,
-/// and no backing file.
+/// In the preallocation mode `None` no guest cluster is mapped, and the disk reads as its backing file, or as 0 if it has none. In the other
+/// modes it reads as 0. In mode `Zero` its clusters are zero clusters. In the modes that allocate, each guest cluster has a host cluster of
+/// zeroes: `FormatAllocate` lets the storage keep these unallocated, `FullAllocate` has the storage allocate them, and `WriteData` writes
+/// them. An external data file isn't supported. The defaults are a disk of 0 bytes, clusters of 65,536 bytes, refcounts of 16 bits, and no
+/// backing file.
 ///
 /// The storage is truncated to 0 bytes. A refcount block is written to cluster 2, the refcount table to cluster 1, and last the header to
-/// cluster 0. Then the disk gets its size: the L1 table is written to newly allocated clusters, and the size in the header changes last.
+/// cluster 0. Then the disk gets its size: the L1 table is written to newly allocated clusters, guest clusters are prepared by the mode, and
+/// the size in the header changes last.
 ///
 /// # Errors
 ///
 /// - `Fault::BadArgument` if the cluster size isn't a power of two from 512 to 2 MiB, or if the refcount width isn't a power of two from 1
 ///   to 64. There is no I/O.
-/// - `Fault::Unsupported` if the preallocation mode isn't `None`. There is no I/O. The error also comes if the storage can't be truncated.
+/// - `Fault::Unsupported` if the preallocation mode allocates clusters and there is a backing file. There is no I/O. The error also comes if
+///   the storage can't be truncated.
 /// - `Fault::Limit(size)` if the size is more than 2^63 - 1 bytes. There is no I/O.
 /// - `Fault::Limit(n)` if the header's `n` bytes don't fit the first cluster, or if the backing file's name has more than 1,023 bytes.
-/// - `Fault::Limit` if the L1 table would have more than 2^22 entries, or can't be allocated.
+/// - `Fault::Limit` if the L1 table would have more than 2^22 entries, or if it, an L2 table or a cluster can't be allocated.
 /// - `Fault::Memory`, `Fault::Storage`.
 /// - `create_open` also returns the errors of the closure that makes the builder, and those of `Qcow2OpenBuilder`.
 ///
@@ -105,17 +107,20 @@ fn exponents(cluster_size: usize, refcount_width: usize) -> Result<(u32, u32), F
     Ok((cluster_bits, refcount_order))
 }
 
-// Checks that a disk of this size, in bytes, can be created with this preallocation.
-fn check_disk(size: u64, preallocate: PreallocateMode) -> Result<(), Fault>
-    ensures ok { OnOk result ((preallocate ≡ mode.None) × (size ≤ 2 ^ 63 - 1)) }
-    ensures err { IfErr result (WhyNoDisk size preallocate) }
+// Checks that a disk of this size, in bytes, can be created with this preallocation. A disk with a backing file gets no allocated clusters.
+fn check_disk(size: u64, preallocate: PreallocateMode, has_backing: bool) -> Result<(), Fault>
+    ensures ok { OnOk result (size ≤ 2 ^ 63 - 1) }
+    ensures err { IfErr result (WhyNoDisk size preallocate has_backing) }
 {
     match preallocate {
-        PreallocateMode::None => {}
-        PreallocateMode::Zero
-        | PreallocateMode::FormatAllocate
+        PreallocateMode::None | PreallocateMode::Zero => {}
+        PreallocateMode::FormatAllocate
         | PreallocateMode::FullAllocate
-        | PreallocateMode::WriteData => return Err(Fault::Unsupported),
+        | PreallocateMode::WriteData => {
+            if has_backing {
+                return Err(Fault::Unsupported);
+            }
+        }
     }
     if size > (1 << 63) - 1 {
         return Err(Fault::Limit(size));
@@ -196,27 +201,45 @@ fn write_parts<S: Storage>(alloc: Global, image: &mut S, mut header: Header) -> 
     header.write(alloc, image)
 }
 
-// Makes the disk of a new image as long as this size, in bytes, if it is shorter.
-fn lengthen<S: Storage>(created: &mut Qcow2<S>, alloc: Global, size: u64) -> Result<(), Fault>
+// Makes the disk of a new image as long as this size, in bytes, if it is shorter. A preallocation needs version 3.
+fn lengthen<S: Storage>(
+    created: &mut Qcow2<S>,
+    alloc: Global,
+    size: u64,
+    preallocate: PreallocateMode,
+) -> Result<(), Fault>
     requires free { created.old.unspent ≡ None }
     requires fits { size ≤ 2 ^ 63 - 1 }
-    ensures ok { OnOk result (Lengthens S.Storage size created.old created.new) }
-    ensures err { IfErr result (HasCause (reserving_causes S.Storage (LacksL1 S.Storage created.old size) created.old created.new)) }
+    ensures ok { OnOk result (Lengthens S.Storage size preallocate created.old created.new) }
+    ensures err { IfErr result (WhyNotLengthened S.Storage size preallocate created.old created.new) }
 {
     if size <= created.tables.file.header.size() {
         return Ok(());
     }
-    created.grow(alloc, size)
+    match new_clusters(preallocate) {
+        None => created.grow(alloc, size),
+        Some(how) => {
+            if created.tables.file.header.version() != 3 {
+                return Err(Fault::DamagedHeader);
+            }
+            created.grow_zeroed(alloc, size, how)
+        }
+    }
 }
 
 // Opens the smallest image for writing, makes its disk longer, and flushes it.
-fn grow_smallest<S: Storage>(alloc: Global, image: S, size: u64) -> Result<S, Fault>
+fn grow_smallest<S: Storage>(
+    alloc: Global,
+    image: S,
+    size: u64,
+    preallocate: PreallocateMode,
+) -> Result<S, Fault>
     requires { size ≤ 2 ^ 63 - 1 }
-    ensures ok { IfOk result (λ made. GrowsSmallest size (S.state image) (S.state made)) }
-    ensures err { IfErr result (WhyNotGrown S.Storage size (HoldsSmallest (S.state image))) }
+    ensures ok { IfOk result (λ made. GrowsSmallest size preallocate (S.state image) (S.state made)) }
+    ensures err { IfErr result (WhyNotGrown S.Storage size preallocate (HoldsSmallest (S.state image))) }
 {
     let mut created = open_with(alloc, image, true, Some(false), 0, CacheEntries::usual())?;
-    lengthen(&mut created, alloc, size)?;
+    lengthen(&mut created, alloc, size, preallocate)?;
     created.flush_freed()?;
     Ok(created.into_image())
 }
@@ -271,18 +294,30 @@ impl<S: Storage> FormatCreateBuilder<S> for Qcow2CreateBuilder<S> {
     ghost opens_with = { λ b made opening. opening ≡ ⟦<Qcow2OpenBuilder<S> as FormatDriverBuilder<S>>⟧.with_writable made true };
 
     ghost refuses = { λ b fault. let keeps = IsTrue (S.state b.base.image).shape.keeps in
-        WhyNotCreated S.Storage keeps b.base.preallocate (options_of b) fault };
+        WhyNotCreated S.Storage keeps (options_of b) fault };
 
     fn new(image: S) -> Self {
         create_builder_for(image)
     }
 
-    fn size(mut self, size: u64) -> Self {
+    fn size(mut self, size: u64) -> Self
+        ensures storage { result.base.image ≡ self.base.image }
+        ensures size { result.base.size ≡ size }
+        ensures preallocate { result.base.preallocate ≡ self.base.preallocate }
+        // The other options stay.
+        ensures same { result ≡ record self { base = result.base } }
+    {
         self.base.set_size(size);
         self
     }
 
-    fn preallocate(mut self, preallocate: PreallocateMode) -> Self {
+    fn preallocate(mut self, preallocate: PreallocateMode) -> Self
+        ensures storage { result.base.image ≡ self.base.image }
+        ensures size { result.base.size ≡ self.base.size }
+        ensures preallocate { result.base.preallocate ≡ preallocate }
+        // The other options stay.
+        ensures same { result ≡ record self { base = result.base } }
+    {
         self.base.set_preallocate(preallocate);
         self
     }
@@ -305,13 +340,14 @@ impl<S: Storage> FormatCreateBuilder<S> for Qcow2CreateBuilder<S> {
         } = self;
         let (cluster_bits, refcount_order) = exponents(cluster_size, refcount_width)?;
         let size = base.get_size();
-        check_disk(size, base.get_preallocate())?;
+        let preallocate = base.get_preallocate();
         let (name, format) = backing_file(backing_name, backing_format);
+        check_disk(size, preallocate, name.is_some())?;
         let header = Header::new(alloc, cluster_bits, refcount_order, name, format, None)?;
         let mut image = base.get_image();
         image.resize(0, StorageMode::None)?;
         write_parts(alloc, &mut image, header)?;
-        grow_smallest(alloc, image, size)
+        grow_smallest(alloc, image, size, preallocate)
     }
 
     fn create_open<G: ImplicitOpenGate<S>, F: MakeOpenBuilder<S, Qcow2OpenBuilder<S>> + Drop>(

@@ -19,6 +19,7 @@ ghost use Rattle.qcow2_types.specs.Bytes.{bytes_of};
 ghost use Rattle.qcow2_types.specs.Header.{cluster_size};
 ghost use Rattle.qcow2_alloc.specs.Going.{IsNoShorter};
 ghost use Rattle.qcow2_image.specs.Allocating.{waits_in};
+ghost use Rattle.qcow2_image.specs.Growing.{IsUnsupported};
 ghost use Rattle.qcow2_image.specs.ImageLayer.{blanks};
 ghost use Rattle.qcow2_image.specs.Leaking.{KeepsLeaks};
 ghost use Rattle.qcow2_image.specs.Looking.{IsWholeRunIn, answer_at};
@@ -29,6 +30,7 @@ ghost use Rattle.qcow2_image.specs.Preparing.{IsPartOfRun, LacksPlace, ReachesHe
 ghost use Rattle.qcow2_image.specs.Rooms.{IsUntouched, not_both, covered, of_storages, was_well_formed};
 ghost use Rattle.qcow2_image.specs.Steps.{Reloads, failed_on_reload, failed_after, failed_by};
 
+use crate::preallocating::new_clusters;
 use crate::qcow2::{PreparedMappingState, Qcow2};
 use crate::reloading::reload;
 use imago_access::{
@@ -520,18 +522,23 @@ impl<S: Storage> FormatDriverInstance for Qcow2<S> {
     fn resize_grow<B: ReadBelow>(
         &mut self,
         alloc: Global,
-        _below: &mut B,
+        below: &mut B,
         size: u64,
         mode: PreallocateMode,
     ) -> Result<(), Fault>
         requires free { IsFree (⟦<Qcow2<S> as DriverModel>⟧.layer self.old) }
         ensures resizes { let d = ⟦<Qcow2<S> as DriverModel>⟧ in Resizes d size (d.layer self.old).size result self.old self.new }
-        ensures grows { Grows ⟦<Qcow2<S> as DriverModel>⟧ B.LayersBelowModel size mode result (self.old, _below.old) (self.new, _below.new) }
-        ensures unread { IsUngrown (⟦<Qcow2<S> as DriverModel>⟧.layer self.old) size → _below.new ≡ _below.old }
-        ensures below { LookupCallBelow B.LayersBelowModel (HadNoResourceError result) _below.old _below.new }
-        // `Fault::Unsupported` means that the mode isn't `None`. `Fault::Limit` is for a size above 2^63 - 1, or if the L1 table for it can't
-        // be allocated. After these the disk reads as before.
-        ensures refused { GrowthRefused ⟦<Qcow2<S> as DriverModel>⟧ B.LayersBelowModel size mode result (self.old, _below.old) (self.new, _below.new) }
+        ensures grows { Grows ⟦<Qcow2<S> as DriverModel>⟧ B.LayersBelowModel size mode result (self.old, below.old) (self.new, below.new) }
+        ensures unread { IsUngrown (⟦<Qcow2<S> as DriverModel>⟧.layer self.old) size → below.new ≡ below.old }
+        ensures below { LookupCallBelow B.LayersBelowModel (HadNoResourceError result) below.old below.new }
+        // `Fault::Unsupported` means that the mode allocates clusters, and the image has layers below. `Fault::VersionLimit` means that the
+        // image has version 2, which has no zero clusters. `Fault::Limit` is for a size above 2^63 - 1, or if the L1 table, an L2 table or a
+        // cluster can't be allocated. `Fault::Barred` and `Fault::DamagedTable` mean that the bytes before the old end are needed and can't
+        // be read. After these the disk reads as before.
+        ensures refused { GrowthRefused ⟦<Qcow2<S> as DriverModel>⟧ B.LayersBelowModel size mode result (self.old, below.old) (self.new, below.new) }
+        // `Fault::Unsupported` and `Fault::VersionLimit` come before anything is done.
+        ensures early { ⟦<Qcow2<S> as DriverModel>⟧.well_formed self.old → B.LayersBelowModel.coherent_below below.old
+            → IfErr result (λ e. IsUnsupported e → (self.new ≡ self.old) × (below.new ≡ below.old)) }
     {
         if self.failed {
             return Err(Fault::Failed);
@@ -540,7 +547,10 @@ impl<S: Storage> FormatDriverInstance for Qcow2<S> {
             return Ok(());
         }
         self.check_growth(size, mode)?;
-        self.grow(alloc, size)
+        match new_clusters(mode) {
+            None => self.grow(alloc, size),
+            Some(how) => self.grow_over(alloc, below, size, how),
+        }
     }
 
     fn resize_shrink(&mut self, alloc: Global, size: u64) -> Result<(), Fault>

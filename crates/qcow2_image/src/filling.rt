@@ -104,8 +104,9 @@ impl<S: Storage> Qcow2<S> {
         requires order { part.0 ≤ part.1 }
         requires fits { part.1 - start ≤ length content.old }
         requires zero { content.old ≡ replicate (length content.old) 0 }
-        ensures { CopiesShown S.Storage B.LayersBelowModel shown part (self.old, below.old) result (self.new, below.new)
+        ensures copies { CopiesShown S.Storage B.LayersBelowModel shown part (self.old, below.old) result (self.new, below.new)
             (λ p. slice_index content.new (p - start)) }
+        ensures rest { (i : ℕ) → part.1 - start ≤ i → slice_index content.new i ≡ 0 }
     {
         let (first, end) = part;
         if first == end {

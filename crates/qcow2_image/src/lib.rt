@@ -17,6 +17,7 @@ mod mappings;
 mod mode;
 mod noting;
 mod opening;
+mod preallocating;
 mod qcow2;
 mod reading;
 mod refusing;

@@ -13,7 +13,7 @@ ghost use Rattle.qcow2_alloc.specs.WellFormedness.{AreTablesClean, AreBlocksClea
 ghost use Rattle.imago_access.specs.Layer.{IsFree};
 ghost use Rattle.qcow2_image.specs.ImageLayer.{qcow2_text};
 ghost use Rattle.qcow2_image.specs.Leaking.{excess_refcount_of};
-ghost use Rattle.qcow2_image.specs.Resizing.{WhyUngrown};
+ghost use Rattle.qcow2_image.specs.Growing.{WhyUngrown};
 ghost use Rattle.qcow2_image.specs.Rooms.{IsUnallocated, HasRoom, IsZeroed, IsExplicitZero, IsWellFormed, IsCoherent, is_sound};
 ghost use Rattle.qcow2_image.specs.Writing.{HasBegun, WhyUnwritten};
 

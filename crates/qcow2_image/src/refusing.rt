@@ -5,7 +5,7 @@ ghost use Rattle.imago_access.specs.Files.{ImageCause};
 ghost use Rattle.imago_access.specs.Refusals.{own_refusal};
 ghost use Rattle.imago_access.specs.Spending.{commit_refusal, GivenBack};
 ghost use Rattle.imago_access.specs.declared.format.PreallocateMode.{PreallocateMode};
-ghost use Rattle.qcow2_image.specs.Resizing.{RefusesGrowth};
+ghost use Rattle.qcow2_image.specs.Growing.{RefusesGrowth};
 
 use crate::qcow2::{PreparedMappingState, Qcow2};
 use imago_access::{DriverModel, FormatDriverInstance, PreallocateMode, check_commit, check_range};
@@ -45,9 +45,11 @@ impl<S: Storage> Qcow2<S> {
     }
 
     // Checks a growth to this size, if the size is above that of the disk. The error is `Fault::ReadOnly` for a read-only image,
-    // `Fault::Unsupported` for a mode with preallocation, or `Fault::Limit` for a size above 2^63 - 1.
+    // `Fault::Unsupported` for a mode that allocates clusters in an image with layers below, `Fault::VersionLimit` for zero clusters in an
+    // image of version 2, or `Fault::Limit` for a size above 2^63 - 1.
     pub(crate) fn check_growth(&self, size: u64, mode: PreallocateMode) -> Result<(), Fault>
-        ensures ok { OnOk result (IsTrue self.now.mode.writable × (mode ≡ PreallocateMode.None) × (size ≤ 2 ^ 63 - 1)) }
+        ensures ok { OnOk result (IsTrue self.now.mode.writable × (size ≤ 2 ^ 63 - 1)) }
+        ensures possible { OnOk result (mode ≡ PreallocateMode.Zero → self.now.tables.file.header.fields.version ≡ 3) }
         ensures err { IfErr result (RefusesGrowth S.Storage self.now size mode) }
     {
         if !self.mode.writable {
@@ -55,10 +57,18 @@ impl<S: Storage> Qcow2<S> {
         }
         match mode {
             PreallocateMode::None => {}
-            PreallocateMode::Zero
-            | PreallocateMode::FormatAllocate
+            PreallocateMode::Zero => {
+                if self.tables.file.header.version() != 3 {
+                    return Err(Fault::VersionLimit);
+                }
+            }
+            PreallocateMode::FormatAllocate
             | PreallocateMode::FullAllocate
-            | PreallocateMode::WriteData => return Err(Fault::Unsupported),
+            | PreallocateMode::WriteData => {
+                if self.mode.backing {
+                    return Err(Fault::Unsupported);
+                }
+            }
         }
         if size > (1 << 63) - 1 {
             return Err(Fault::Limit(size));

@@ -17,7 +17,7 @@ use qcow2_types::{ClusterCount, GuestCluster, GuestOffset};
 use std::alloc::Global;
 
 // Returns the first guest cluster that doesn't start before this offset.
-fn first_from(offset: u64, cluster_bits: u32) -> GuestCluster
+pub(crate) fn first_from(offset: u64, cluster_bits: u32) -> GuestCluster
     requires bits { (9 ≤ cluster_bits) × (cluster_bits ≤ 21) }
     ensures value { result ≡ (offset + (2 ^ cluster_bits - 1)) / 2 ^ cluster_bits }
     ensures fits { result * 2 ^ cluster_bits < 2 ^ 64 + 2 ^ cluster_bits }
@@ -38,7 +38,7 @@ fn mapped_end<S: Storage>(tables: &Tables<S>, size: u64) -> GuestCluster
 }
 
 // Returns the number of guest clusters from `guest` on, up to `last`, whose entries are in the L2 table of `guest`.
-fn row_from(header: &Header, guest: GuestCluster, last: GuestCluster) -> ClusterCount
+pub(crate) fn row_from(header: &Header, guest: GuestCluster, last: GuestCluster) -> ClusterCount
     requires any { guest < last }
     ensures any { 0 < result }
     ensures end { guest + result ≤ last }
@@ -77,7 +77,7 @@ impl<S: Storage> Qcow2<S> {
     }
 
     // Sets the disk size in the header, in one request. A resource error sets the image to failed.
-    fn resize_to(&mut self, alloc: Global, size: u64) -> Result<(), Fault>
+    pub(crate) fn resize_to(&mut self, alloc: Global, size: u64) -> Result<(), Fault>
         requires free { self.old.unspent ≡ None }
         ensures { SizesImage S.Storage size self.old result self.new }
     {

@@ -69,7 +69,7 @@ zeroed-value : (file : Bytes) (h : Fields) (p : ℕ) (kept : Option (ℕ × Bool
 zeroed-value file h p None = refl
 zeroed-value file h p (Some kept) = refl
 
-cleared-value : (how : Clearing) (file : Bytes) (h : Fields) (p : ℕ) (old : Mapping) → own_value_by file h p (cleared how old) ≡ cleared_value how
+pub cleared-value : (how : Clearing) (file : Bytes) (h : Fields) (p : ℕ) (old : Mapping) → own_value_by file h p (cleared how old) ≡ cleared_value how
 cleared-value Keep file h p old = zeroed-value file h p (kept_where true old)
 cleared-value GiveUp file h p old = zeroed-value file h p (kept_where false old)
 cleared-value Unmap file h p old = refl
@@ -283,14 +283,14 @@ module _ {S : Type 0} (g : Ghosts S) (how : Clearing) (table guest n : ℕ) (old
       memory-then : in_memory before ≡ f
       memory-then = rest-memory g old.tables space
 
-      word-is : (x : ℕ) → IsOurs x ⊎ (entry f' h x ≡ entry f h x)
+      pub word-is : (x : ℕ) → IsOurs x ⊎ (entry f' h x ≡ entry f h x)
       word-is x = elim (advances.raw_entries x) [
         | inl same ↦ inr (ap (λ k. entry f' k x) (sym fields-same) ∙ ap (λ b. entry b h' x) (sym memory-now) ∙ same
             ∙ ap (λ b. entry b h x) memory-then)
         | inr set ↦ inl (set-at x set)
       ]
 
-      value-is : (p : ℕ) → IsOurs (p / cs) ⊎ (own_value f' f' h p ≡ own_value f f h p)
+      pub value-is : (p : ℕ) → IsOurs (p / cs) ⊎ (own_value f' f' h p ≡ own_value f f h p)
       value-is p = elim (advances.memory p) [
         | inl same ↦ inr (ap (λ k. own_value f' f' k p) (sym fields-same) ∙ ap (λ b. own_value b f' h' p) (sym memory-now) ∙ same
             ∙ ap (λ b. own_value b f h p) memory-then)

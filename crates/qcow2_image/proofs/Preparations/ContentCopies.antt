@@ -46,7 +46,7 @@ use Rattle.qcow2_image.proofs.Preparations.FreshRuns.{shown-says}
 use Rattle.qcow2_image.proofs.Preparations.RunPreparations.{never-damaged}
 use Rattle.qcow2_image.proofs.Steps.{keeps-as, keeps-both, keeps-same}
 
-same-row : (c row p : ℕ) → row * c ≤ p → p < row * c + c → p / c ≡ row
+pub same-row : (c row p : ℕ) → row * c ≤ p → p < row * c + c → p / c ≡ row
 same-row c row p low high =
     let split : p ≡ row * c + (p - row * c) = omega (arith, low) in
     ap (λ (n : ℕ). n / c) split ∙ div-mul-add row c (p - row * c) (omega (arith, low, high))
@@ -58,7 +58,7 @@ put-at a k i xs ys inside less =
     get_or-append_right (take a xs) (ys ++ post_of a k xs) a (a + i) 0 front (omega arith)
     ∙ ap (λ (n : ℕ). slice_index (ys ++ post_of a k xs) n) back ∙ get_or_append_left ys (post_of a k xs) 0 i less
 
-zero-at : (content : List ℕ) → content ≡ replicate (length content) 0 → (i : ℕ) → slice_index content i ≡ 0
+pub zero-at : (content : List ℕ) → content ≡ replicate (length content) 0 → (i : ℕ) → slice_index content i ≡ 0
 zero-at content zero i = ap (λ (l : List ℕ). slice_index l i) zero ∙ elim (cases_lt i (length content)) [
   | inl less ↦ get_or-replicate (length content) i 0 0 less
   | inr past ↦ get_or_past (replicate (length content) 0) i 0 (omega (arith, past, length-replicate {A = ℕ} (length content) 0))
@@ -196,6 +196,15 @@ module _ {S B : Type 0} (g : Ghosts S) (u : GhostsBelow B) where
         shows under p from to ∙ ap (λ (b : ℕ). byte b) (sym (put-at a k (p - part.0) content buf (omega (arith, low, order, fits)) less)
         ∙ ap (slice_index (put_mid a k content buf)) row)
 
+    -- The bytes after the part stay 0.
+    pub part-rest : length buf ≡ length (mid_of a k content) → content ≡ replicate (length content) 0 → (i : ℕ) → part.1 - start ≤ i
+        → slice_index (put_mid a k content buf) i ≡ 0
+    part-rest same zero i past =
+        let front : length (take a content) ≡ a = length-take-le a content (omega (arith, low, order, fits)) in
+        get_or-append_right (take a content) (buf ++ post_of a k content) a i 0 front (omega (arith, past, low, order))
+        ∙ get_or-append_right buf (post_of a k content) k (i - a) 0 (same ∙ long-mid) (omega (arith, past, low, order))
+        ∙ get_or-drop k (drop a content) (i - a - k) 0 ∙ get_or-drop a content (k + (i - a - k)) 0 ∙ zero-at content zero (a + (k + (i - a - k)))
+
     pub part-copied : (r : Result Unit Fault) → length buf ≡ length (mid_of a k content)
         → CopiesShown g u shown (part.0, part.0 + length (mid_of a k content)) old r new (λ p. slice_index buf (p - part.0))
         → CopiesShown g u shown part old r new (λ p. slice_index (put_mid a k content buf) (p - start))
@@ -289,8 +298,9 @@ module _ {S : Type 0} (g : Ghosts S) where
     module _ (part : ℕ × ℕ) (cut : CopiesPart places.0 places.1 asked part) where
       pub content-copied : (content : Vec ℕ Global) (bytes : List ℕ) → content.items ≡ bytes → length bytes ≡ c
           → CopiesShown g u shown part (mid, x) (Ok tt) (new, y) (λ p. slice_index bytes (p - places.0))
+          → ((i : ℕ) → part.1 - places.0 ≤ i → slice_index bytes i ≡ 0)
           → MakesContent g u asked (old, x) (Ok content) (new, y)
-      content-copied content bytes is long done = record {
+      content-copied content bytes is long done rest = record {
         below = done.below;
         keeps = keeps-as {T = Unit} {U = Vec ℕ Global} g old new (Ok tt) (Ok content) (λ w. tt) (λ f. refl)
             (keeps-both {T = Unit} g old mid new (Ok tt) told done.keeps);
@@ -301,6 +311,10 @@ module _ {S : Type 0} (g : Ghosts S) where
               let here = cut.all p on.0 on.1 left in
               over-is well_formed p first ∙ done.shows under p here.0 here.1
               ∙ ap (λ (b : ℕ). byte b) (ap (slice_index bytes) (place-row p first.0).1 ∙ ap (λ (l : List ℕ). slice_index l (p % c)) (sym is));
+          rest = λ p past same.
+              let on = place-row p same in
+              ap (λ (l : List ℕ). slice_index l (p % c)) is ∙ ap (slice_index bytes) (sym on.1)
+              ∙ rest (p - places.0) (omega (arith, cut.high, past, on.0));
         };
         err = tt;
       }

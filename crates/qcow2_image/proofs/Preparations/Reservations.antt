@@ -125,7 +125,7 @@ module _ {S : Type 0} (g : Ghosts S) where
       (lacks-as-words g guest old.tables mid.tables well_formed.seen.l1 safe'.seen.l1
       (ap (λ (H : Header). guest / entries_of_cluster H.fields) l.top.1) (λ k. ap (λ (t : TableValue). slice_index t.raw_entries k) l.top.0))
 
-  lacks-looked : {T : Type 0} (v : T) (guest : ℕ) (kept : Option ℕ) (number : ℕ) (old mid : Qcow2 S g) (new : Tables S g)
+  pub lacks-looked : {T : Type 0} (v : T) (guest : ℕ) (kept : Option ℕ) (number : ℕ) (old mid : Qcow2 S g) (new : Tables S g)
       → KeepsImage g old (Ok v) mid → IsWellFormed g mid → LacksPlaceBeside g guest kept mid.tables new number → LacksPlaceBeside g guest kept old.tables new number
   lacks-looked {T} v guest kept number old mid new k well_formed = lacks-since guest kept number old.tables mid.tables new k.tables.header
       (λ total some. run-same g old.tables mid.tables total (ap bytes_of k.tables.unchanged_but_faults.bytes) k.tables.header)
@@ -148,7 +148,7 @@ module _ {S : Type 0} (g : Ghosts S) where
     ),
   )
 
-  lacks-cluster : (guest table : ℕ) (kept : Option ℕ) (n number : ℕ) (first mid new : Qcow2 S g) → IsWellFormed g first → IsWellFormed g mid
+  pub lacks-cluster : (guest table : ℕ) (kept : Option ℕ) (n number : ℕ) (first mid new : Qcow2 S g) → IsWellFormed g first → IsWellFormed g mid
       → IsSome first.tables.space → n ≤ entries_of_cluster first.tables.file.header.fields
       → EnsuresTable g (enough_for_table first.tables guest) guest first (Ok table) mid → kept ≡ None
       → LacksFreeRun g 1 (enough_for_run mid.tables n) mid.tables new.tables number

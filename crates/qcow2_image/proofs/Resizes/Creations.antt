@@ -1,9 +1,9 @@
 -- Lemmas on the creation of an image: the smallest image is written, and its disk gets a size.
-use Rattle.std.proofs.Common.{◌≡◌, ◌≢◌, ℕ, ◌+◌, ◌-◌, ◌*◌, ◌/◌, ◌^◌, ◌<◌, ◌≤◌, refl, arith, ap, sym, subst, ◌∙◌, inl, inr, true, false, List, [], ◌∷◌, Option, Some, None, Result, Ok, Err, length}
-use Rattle.std.specs.Prelude.{IsTrue, IfErr, IsFalse, OnOk, String, replicate, slice_set, string_bytes}
+use Rattle.std.proofs.Common.{◌≡◌, ◌≢◌, ℕ, ◌+◌, ◌-◌, ◌*◌, ◌/◌, ◌^◌, ◌<◌, ◌≤◌, refl, arith, ap, sym, subst, ◌∙◌, inl, inr, Bool, true, false, List, [], ◌∷◌, Option, Some, None, Result, Ok, Err, length}
+use Rattle.std.specs.Prelude.{◌⊎◌, IsTrue, IfErr, IsFalse, OnOk, String, replicate, slice_set, string_bytes}
 use Rattle.std.specs.Borrow.{RattleType}
 use Rattle.std.specs.declared.alloc.Global.{Global}
-use Rattle.std.proofs.Math.Nat.{div_self, mod_self, pow-le-pow_right}
+use Rattle.std.proofs.Math.Nat.{div-eq_of_lt, div-lt_iff_lt-mul, div_self, lt-div-mul-add, mod_self, pow-le-pow_right}
 use Rattle.std.proofs.lemmas.Bool.{cases_Bool, lt-ltb}
 use Rattle.std.proofs.lemmas.Bool.Decides.{nat_tests}
 use Rattle.std.proofs.lemmas.List.{length-replicate}
@@ -11,12 +11,13 @@ use Rattle.std.proofs.lemmas.Nat.{mul-le, pow_pos}
 use Rattle.std.proofs.lemmas.Str.{IsUtf8-string_bytes, is_utf8-from_IsUtf8}
 use Rattle.imago_storage.specs.Calls.{Cause, ResizeRefused, Resized}
 use Rattle.imago_storage.specs.State.{Shape, StorageState}
+use Rattle.imago_storage.specs.Disk.{byte}
 use Rattle.imago_storage.specs.Through.{WriteOutcome, WriteSucceeded}
 use Rattle.imago_storage.specs.declared.fault.Fault.{Fault}
 use Rattle.imago_storage.specs.declared.fault.Fault.TheVariants.{BadArgument, Counter, DamagedHeader, DamagedTable, Limit, Memory, Storage, Unsupported}
 use Rattle.imago_storage.specs.declared.storage.Storage.{Ghosts}
 use Rattle.imago_access.specs.Building.{IsOpened}
-use Rattle.imago_access.specs.Layer.{unmapped}
+use Rattle.imago_access.specs.Layer.{Cell, own, unmapped}
 use Rattle.imago_access.specs.declared.format.Format.TheVariants as format
 use Rattle.imago_access.specs.declared.format.PreallocateMode.{PreallocateMode}
 use Rattle.imago_access.specs.declared.format.PreallocateMode.TheVariants as mode
@@ -38,15 +39,18 @@ use Rattle.qcow2_metadata.specs.Tables.{CanBeReferenced, IsEnough, IsGrownLength
 use Rattle.qcow2_metadata.specs.Writing.{IsTooLong, NotAsked}
 use Rattle.qcow2_alloc.specs.Causes.{HasCause}
 use Rattle.qcow2_alloc.proofs.Flushing.EntryFlushes.{spliced-bytes}
+use Rattle.qcow2_steps.specs.Values.{own_value_by}
 use Rattle.qcow2_steps.specs.SmallestImage.{AreFirstCounters, AreFirstEntries, IsSmallestImage, incremented, smallest_header, with_parts}
 use Rattle.qcow2_steps.proofs.NewImages.{first-clusters, first-counters, first-entries, first-length, smallest-reloadable, smallest-written}
 use Rattle.qcow2_steps.proofs.SmallestImages.{counters-least, smallest-consistent, smallest-leaks, smallest-unmapped}
 use Rattle.qcow2_image.specs.Allocating.{FlushesFreed, pending_causes, reserving_causes}
-use Rattle.qcow2_image.specs.Creating.{AreAllowed, GrowsSmallest, HasParts, HoldsSmallest, IsBlankImage, IsFirstHeader, IsHeaderTooLong, IsNewQcow2, Lengthens, Options, WhyNoDisk, WhyNotCreated, WhyNotGrown, WhyNotMade, WhyNotPut, named, with_first_table}
+use Rattle.qcow2_image.specs.Creating.{AreAllowed, GrowsSmallest, HasParts, HoldsSmallest, IsFirstHeader, IsHeaderTooLong, IsNewImage, IsNewQcow2, LacksNewRoom, Lengthens, Options, WhyNoDisk, WhyNotCreated, WhyNotGrown, WhyNotLengthened, WhyNotMade, WhyNotPut, named, new_cell, with_first_table}
+use Rattle.qcow2_image.specs.Growing.{GrowsZeroed, IsWithin, LacksRoom, clusters_over}
 use Rattle.qcow2_image.specs.ImageLayer.{cell_by, meaning_of, qcow2_meaning}
 use Rattle.qcow2_image.specs.Holding.{mapping_id_held}
 use Rattle.qcow2_image.specs.Opening.{IsOpenedAs, WhyNotOpened, header_for}
-use Rattle.qcow2_image.specs.Resizing.{GrowsDisk, HasSameFormat, KeepsMappings, LacksL1}
+use Rattle.qcow2_image.specs.KeepsDisk.{HasSameFormat}
+use Rattle.qcow2_image.specs.Resizing.{GrowsDisk, KeepsMappings, LacksL1}
 use Rattle.qcow2_image.specs.Rooms.{IsWellFormed}
 use Rattle.qcow2_image.specs.Seen.{file_of}
 use Rattle.qcow2_image.specs.Unspent.{holding_in}
@@ -256,36 +260,112 @@ smallest-opens f H is =
     let sound = (smallest-consistent f H is).readable.tables in
     none-refused true f H is.loads is.data_inside (l1-sound f H.fields sound) (λ w. counts-sound f H.fields sound)
 
--- The disk got its size, or had it already.
-pub lengthened-grown : {S : Type 0} (g : Ghosts S) (size : ℕ) (d e : Qcow2 S g) → GrowsDisk g size d (Ok tt) e → KeepsMappings g d e → Lengthens g size d e
-lengthened-grown g size d e grows keeps = record {
+-- The disk got its size without preallocation.
+pub lengthens : {S : Type 0} (g : Ghosts S) (size : ℕ) (way : PreallocateMode) → way ≡ mode.None → (d e : Qcow2 S g) (r : Result Unit Fault)
+    → GrowsDisk g size d r e → OnOk r (KeepsMappings g d e) → OnOk r (Lengthens g size way d e)
+lengthens g size way none d e (Err fault) grows keeps = tt
+lengthens g size way none d e (Ok done) grows keeps = record {
   shape = grows.shape;
   faults = (grows.faults tt).0;
   unspent = grows.unspent;
   well_formed = λ well_formed. grows.well_formed well_formed tt;
   leaks = λ well_formed. grows.leaks well_formed tt;
-  size_is = λ none. grows.size;
-  keeps = keeps;
+  size_is = λ empty. grows.size;
+  format = keeps.format;
+  raw_entries = λ same. keeps.raw_entries;
+  zeroed = λ other. absurd (other none);
 }
 
-pub lengthens : {S : Type 0} (g : Ghosts S) (size : ℕ) (d e : Qcow2 S g) (r : Result Unit Fault) → GrowsDisk g size d r e → OnOk r (KeepsMappings g d e)
-    → OnOk r (Lengthens g size d e)
-lengthens g size d e (Err fault) grows keeps = tt
-lengthens g size d e (Ok done) grows keeps = lengthened-grown g size d e grows keeps
+-- Each byte of a new disk is in its guest clusters.
+inside-disk : (c size p : ℕ) → 0 < c → p < size → IsWithin (clusters_over c 0) (clusters_over c size) (p / c)
+inside-disk c size p some less =
+    let none : (0 + (c - 1)) / c ≡ 0 = div-eq_of_lt (let low : 0 + (c - 1) < c = omega (arith, some) in low) in
+    let over : size + (c - 1) < (size + (c - 1)) / c * c + c = lt-div-mul-add some in
+    (omega (arith, none), (div-lt_iff_lt-mul some).1 (omega (arith, over, less, some)))
 
-pub lengthened-same : {S : Type 0} (g : Ghosts S) (size : ℕ) (d : Qcow2 S g) → size ≤ d.tables.file.header.fields.size → Lengthens g size d d
-lengthened-same g size d reached = record {
+-- The disk got its size with preallocation.
+pub lengthens-zeroed : {S : Type 0} (g : Ghosts S) (size : ℕ) (way : PreallocateMode) → (way ≡ mode.None → ⊥) → (d e : Qcow2 S g)
+    (r : Result Unit Fault) → GrowsZeroed g size d r e → OnOk r (Lengthens g size way d e)
+lengthens-zeroed g size way other d e (Err fault) grows = tt
+lengthens-zeroed g size way other d e (Ok done) grows = record {
+  shape = grows.resizes.shape;
+  faults = (grows.resizes.faults tt).0;
+  unspent = grows.resizes.unspent;
+  well_formed = λ well_formed. grows.resizes.well_formed well_formed tt;
+  leaks = λ well_formed. grows.resizes.leaks well_formed tt;
+  size_is = λ empty. grows.resizes.size;
+  format = grows.format;
+  raw_entries = λ none. absurd (other none);
+  zeroed = λ same well_formed empty p less.
+      let c = cluster_size d.tables.file.header.fields in
+      let within = inside-disk (cluster_size d.tables.file.header.fields) size p (pow_pos d.tables.file.header.fields.cluster_bits) less in
+      grows.zeroed well_formed p (subst (λ (b : ℕ). IsWithin (clusters_over c d.tables.file.header.fields.size) (clusters_over c size) (p / 2 ^ b))
+      (sym grows.resizes.bits)
+      (subst (λ (n : ℕ). IsWithin (clusters_over c n) (clusters_over c size) (p / c)) (sym empty) within));
+}
+
+-- The disk had its size already.
+pub lengthened-same : {S : Type 0} (g : Ghosts S) (size : ℕ) (way : PreallocateMode) (d : Qcow2 S g) → size ≤ d.tables.file.header.fields.size
+    → Lengthens g size way d d
+lengthened-same g size way d reached = record {
   shape = refl;
   faults = refl;
   unspent = refl;
   well_formed = λ well_formed. well_formed;
   leaks = λ well_formed c. refl;
   size_is = λ none. omega (arith, none, reached);
-  keeps = record {
-    format = record { cluster_bits = refl; refcount_order = refl; backing_name = refl; backing_format = refl };
-    raw_entries = λ well_formed guest. refl;
-  };
+  format = record { cluster_bits = refl; refcount_order = refl; backing_name = refl; backing_format = refl };
+  raw_entries = λ none well_formed guest. refl;
+  zeroed = λ other well_formed none p less. absurd (let low : p < 0 = omega (arith, less, reached, none) in omega (arith, low));
 }
+
+-- With preallocation, a guest cluster may be the one that can't be allocated.
+room-zeroed : {S : Type 0} (g : Ghosts S) (d : Qcow2 S g) (size : ℕ) (way : PreallocateMode) (number : ℕ) → (way ≡ mode.None → ⊥)
+    → LacksRoom g d size number → LacksNewRoom g d size way number
+room-zeroed g d size mode.None number other lacks = absurd (other refl)
+room-zeroed g d size mode.Zero number other lacks = lacks
+room-zeroed g d size mode.FormatAllocate number other lacks = lacks
+room-zeroed g d size mode.FullAllocate number other lacks = lacks
+room-zeroed g d size mode.WriteData number other lacks = lacks
+
+-- The disk didn't get its size.
+module _ {S : Type 0} (g : Ghosts S) (size : ℕ) (way : PreallocateMode) (d e : Qcow2 S g) where
+  why-lengthened : (full : ℕ → Type 0) → ((number : ℕ) → full number → LacksNewRoom g d size way number) → (fault : Fault)
+      → HasCause (reserving_causes g full d e) fault → WhyNotLengthened g size way d e fault
+  why-lengthened full lacks Memory why = tt
+  why-lengthened full lacks Storage why = why
+  why-lengthened full lacks DamagedTable why = why
+  why-lengthened full lacks Counter why = why
+  why-lengthened full lacks (Limit number) why = λ ready. lacks number (why ready)
+  why-lengthened full lacks fault why = absurd why
+
+  pub unlengthened : way ≡ mode.None → (r : Result Unit Fault) → IfErr r (HasCause (reserving_causes g (LacksL1 g d size) d e))
+      → IfErr r (WhyNotLengthened g size way d e)
+  unlengthened none (Ok done) why = tt
+  unlengthened none (Err fault) why = why-lengthened (LacksL1 g d size)
+      (λ number lacks. subst (λ (w : PreallocateMode). LacksNewRoom g d size w number) (sym none) lacks) fault why
+
+  pub unzeroed : (way ≡ mode.None → ⊥) → (r : Result Unit Fault) → IfErr r (HasCause (reserving_causes g (LacksRoom g d size) d e))
+      → IfErr r (WhyNotLengthened g size way d e)
+  unzeroed other (Ok done) why = tt
+  unzeroed other (Err fault) why = why-lengthened (LacksRoom g d size) (λ number lacks. room-zeroed g d size way number other lacks) fault why
+
+-- The cells of a new disk are unmapped or 0.
+new-cells : (way : PreallocateMode) → (way ≡ mode.None) ⊎ ((way ≡ mode.None → ⊥) × (new_cell way ≡ own (byte 0)))
+new-cells mode.None = inl refl
+new-cells mode.Zero = inr ((λ e. absurd (cc e)), refl)
+new-cells mode.FormatAllocate = inr ((λ e. absurd (cc e)), refl)
+new-cells mode.FullAllocate = inr ((λ e. absurd (cc e)), refl)
+new-cells mode.WriteData = inr ((λ e. absurd (cc e)), refl)
+
+-- A byte with the value 0 has that cell.
+cell-zero : (blank : Cell) (f : Bytes) (h : Fields) (p : ℕ) (m : mappings.Mapping) → own_value_by f h p m ≡ Some (byte 0)
+    → cell_by blank f h p m ≡ own (byte 0)
+cell-zero blank f h p (mappings.data_at cluster copied) is = cc is
+cell-zero blank f h p (mappings.zeroes cluster copied) is = refl
+cell-zero blank f h p (mappings.packed offset length) is = absurd (cc is)
+cell-zero blank f h p mappings.unmapped is = absurd (cc is)
+cell-zero blank f h p mappings.damaged is = absurd (cc is)
 
 module _ (R : RattleType) (st : Ghosts R.Denot) (sd : mir.Syntax.Dict) (dd : mir.Syntax.Dict) (before : StorageState)
     {tables blocks : ℕ} (d : Qcow2 R.Denot st) (opened : IsOpenedAs st before true (Some false) 0 tables blocks d)
@@ -311,7 +391,7 @@ module _ (R : RattleType) (st : Ghosts R.Denot) (sd : mir.Syntax.Dict) (dd : mir
         (d.tables.file.header, smallest-consistent (file_of st d.tables) d.tables.file.header opened-small)
 
   -- The disk got its size, and the image was flushed.
-  module _ (size : ℕ) (e n : Qcow2 R.Denot st) (l : Lengthens st size d e) (f : FlushesFreed st e (Ok tt) n) where
+  module _ (size : ℕ) (way : PreallocateMode) (e n : Qcow2 R.Denot st) (l : Lengthens st size way d e) (f : FlushesFreed st e (Ok tt) n) where
     pub free : n.unspent ≡ None
     free = f.keeps.unspent ∙ (l.unspent ∙ opened.free)
 
@@ -328,18 +408,31 @@ module _ (R : RattleType) (st : Ghosts R.Denot) (sd : mir.Syntax.Dict) (dd : mir
       first-small : IsSmallestImage (file_of st d.tables) d.tables.file.header
       first-small = opened-small keeps H small
 
-      none-mapped : (guest : ℕ) → entry (file_of st n.tables) n.tables.file.header.fields guest ≡ mappings.unmapped
-      none-mapped guest = f.keeps.raw_entries longer-safe tt guest ∙ (l.keeps.raw_entries first-safe guest
+      none-mapped : way ≡ mode.None → (guest : ℕ) → entry (file_of st n.tables) n.tables.file.header.fields guest ≡ mappings.unmapped
+      none-mapped none guest = f.keeps.raw_entries longer-safe tt guest ∙ (l.raw_entries none first-safe guest
           ∙ smallest-unmapped (file_of st d.tables) d.tables.file.header first-small guest)
 
       size-there : n.tables.file.header.fields.size ≡ size
       size-there = ap (λ (K : Header). K.fields.size) f.header ∙ l.size_is first-small.size
 
-      blank : (p : ℕ) → p < size → (qcow2_meaning unmapped (st.state n.tables.file.image).bytes).cell p ≡ unmapped
-      blank p lt =
+      abbrev cell : ℕ → Cell
+      cell = (qcow2_meaning unmapped (st.state n.tables.file.image).bytes).cell
+
+      cell-is : (p : ℕ) → p < size → cell p ≡ cell_by unmapped (file_of st n.tables) n.tables.file.header.fields p
+          (entry (file_of st n.tables) n.tables.file.header.fields (p / cluster_size n.tables.file.header.fields))
+      cell-is p less =
           let F = file_of st n.tables in let h = n.tables.file.header.fields in
           ap (λ (r : Result Header Fault). (meaning_of unmapped F r).cell p) last-safe.seen.loads
-          ∙ (rw (lt-ltb p h.size (omega (arith, lt, size-there))) (ap (cell_by unmapped F h p) (none-mapped (p / cluster_size h))))
+          ∙ (rw (lt-ltb p h.size (omega (arith, less, size-there))) refl)
+
+      shows : (p : ℕ) → p < size → cell p ≡ new_cell way
+      shows p less =
+          let F = file_of st n.tables in let h = n.tables.file.header.fields in
+          elim (new-cells way) [
+            | inl none ↦ cell-is p less ∙ (ap (cell_by unmapped F h p) (none-mapped none (p / cluster_size h)) ∙ sym (ap new_cell none))
+            | inr other ↦ cell-is p less ∙ (cell-zero unmapped F h p (entry F h (p / cluster_size h))
+                (f.keeps.values longer-safe tt p ∙ l.zeroed other.0 first-safe first-small.size p less) ∙ sym other.1)
+          ]
 
       last-leaks : leaks (file_of st n.tables) n.tables.file.header.fields ≡ []
       last-leaks = leaks-listed st d n first-safe last-safe (leaks-both st d e n (l.leaks first-safe) (f.leaks longer-safe tt))
@@ -347,76 +440,78 @@ module _ (R : RattleType) (st : Ghosts R.Denot) (sd : mir.Syntax.Dict) (dd : mir
           (none-pending st n f.emptied (ap (λ u. mapping_id_held (holding_in st u)) free))
           ∙ smallest-leaks (file_of st d.tables) d.tables.file.header first-small
 
-      is-blank : IsBlankImage size (st.state n.tables.file.image).bytes n.tables.file.header
-      is-blank = record { consistent = last-safe.consistent; no_leaks = last-leaks; size_is = size-there; blank = blank }
+      is-new : IsNewImage size way (st.state n.tables.file.image).bytes n.tables.file.header
+      is-new = record { consistent = last-safe.consistent; no_leaks = last-leaks; size_is = size-there; shows = shows }
 
       same-format : HasSameFormat H n.tables.file.header
       same-format = record {
-        cluster_bits = ap (λ (K : Header). K.fields.cluster_bits) f.header ∙ (l.keeps.format.cluster_bits
+        cluster_bits = ap (λ (K : Header). K.fields.cluster_bits) f.header ∙ (l.format.cluster_bits
             ∙ ap (λ (K : Header). K.fields.cluster_bits) (header-there keeps H small));
-        refcount_order = ap (λ (K : Header). K.fields.refcount_order) f.header ∙ (l.keeps.format.refcount_order
+        refcount_order = ap (λ (K : Header). K.fields.refcount_order) f.header ∙ (l.format.refcount_order
             ∙ ap (λ (K : Header). K.fields.refcount_order) (header-there keeps H small));
-        backing_name = ap (λ (K : Header). K.backing_name) f.header ∙ (l.keeps.format.backing_name
+        backing_name = ap (λ (K : Header). K.backing_name) f.header ∙ (l.format.backing_name
             ∙ ap (λ (K : Header). K.backing_name) (header-there keeps H small));
-        backing_format = ap (λ (K : Header). K.backing_format) f.header ∙ (l.keeps.format.backing_format
+        backing_format = ap (λ (K : Header). K.backing_format) f.header ∙ (l.format.backing_format
             ∙ ap (λ (K : Header). K.backing_format) (header-there keeps H small));
       }
 
-    pub grows-smallest : GrowsSmallest size before (st.state n.tables.file.image)
+    pub grows-smallest : GrowsSmallest size way before (st.state n.tables.file.image)
     grows-smallest = record {
       shape = f.keeps.shape ∙ (l.shape ∙ ap (λ (s : StorageState). s.shape) same);
       faults = (f.keeps.faults tt).0 ∙ (l.faults ∙ ap (λ (s : StorageState). s.faults) same);
-      image = λ keeps H small. (n.tables.file.header, is-blank keeps H small, same-format keeps H small);
+      image = λ keeps H small. (n.tables.file.header, is-new keeps H small, same-format keeps H small);
     }
 
   well-formed-there : HoldsSmallest before → IsWellFormed st d
   well-formed-there held = opened-well-formed held.0 held.1.0 held.1.1
 
   -- The disk didn't get its size.
-  pub not-grown : (size : ℕ) (e : Qcow2 R.Denot st) (fault : Fault) → HasCause (reserving_causes st (LacksL1 st d size) d e) fault
-      → WhyNotGrown st size (HoldsSmallest before) fault
-  not-grown size e Memory why = tt
-  not-grown size e Storage why = tt
-  not-grown size e (Limit number) why = λ held. (
+  pub not-grown : (size : ℕ) (way : PreallocateMode) (e : Qcow2 R.Denot st) (fault : Fault) → WhyNotLengthened st size way d e fault
+      → WhyNotGrown st size way (HoldsSmallest before) fault
+  not-grown size way e Memory why = tt
+  not-grown size way e Storage why = tt
+  not-grown size way e (Limit number) why = λ held. (
     d,
     well-formed-there held,
     opened-small held.0 held.1.0 held.1.1,
     why (well-formed-there held),
   )
-  not-grown size e DamagedTable why = λ held. why (well-formed-there held)
-  not-grown size e Counter why = λ held. why (well-formed-there held)
-  not-grown size e fault why = absurd why
+  not-grown size way e DamagedHeader why = λ held.
+      why (ap (λ (K : Header). K.fields.version) (header-there held.0 held.1.0 held.1.1) ∙ held.1.2)
+  not-grown size way e DamagedTable why = λ held. why (well-formed-there held)
+  not-grown size way e Counter why = λ held. why (well-formed-there held)
+  not-grown size way e fault why = absurd why
 
   -- The image wasn't flushed.
-  pub not-flushed : (size : ℕ) (e n : Qcow2 R.Denot st) → Lengthens st size d e → (fault : Fault) → HasCause (pending_causes st e n) fault
-      → WhyNotGrown st size (HoldsSmallest before) fault
-  not-flushed size e n l Memory why = tt
-  not-flushed size e n l Storage why = tt
-  not-flushed size e n l DamagedTable why = λ held. why (l.well_formed (well-formed-there held))
-  not-flushed size e n l Counter why = λ held. why (l.well_formed (well-formed-there held))
-  not-flushed size e n l fault why = absurd why
+  pub not-flushed : (size : ℕ) (way : PreallocateMode) (e n : Qcow2 R.Denot st) → Lengthens st size way d e → (fault : Fault)
+      → HasCause (pending_causes st e n) fault → WhyNotGrown st size way (HoldsSmallest before) fault
+  not-flushed size way e n l Memory why = tt
+  not-flushed size way e n l Storage why = tt
+  not-flushed size way e n l DamagedTable why = λ held. why (l.well_formed (well-formed-there held))
+  not-flushed size way e n l Counter why = λ held. why (l.well_formed (well-formed-there held))
+  not-flushed size way e n l fault why = absurd why
 
 -- The image isn't opened.
-pub not-opened : {S : Type 0} (g : Ghosts S) (size : ℕ) (before : StorageState) (state : S → StorageState) (fault : Fault)
-    → WhyNotOpened state true (bytes_of before.bytes) fault → WhyNotGrown g size (HoldsSmallest before) fault
-not-opened g size before state Memory why = tt
-not-opened g size before state Storage why = tt
-not-opened g size before state (Limit number) why = λ held. let is = smallest-opens _ _ held.1.1 in absurd (let e = sym is ∙ why in cc)
-not-opened g size before state DamagedHeader why = λ held. let is = smallest-opens _ _ held.1.1 in absurd (let e = sym is ∙ why in cc)
-not-opened g size before state DamagedTable why = λ held. let is = smallest-opens _ _ held.1.1 in absurd (let e = sym is ∙ why in cc)
-not-opened g size before state Unsupported why = λ held. let is = smallest-opens _ _ held.1.1 in absurd (let e = sym is ∙ why in cc)
-not-opened g size before state fault why = absurd (reading-refusal true (bytes_of before.bytes) fault why)
+pub not-opened : {S : Type 0} (g : Ghosts S) (size : ℕ) (way : PreallocateMode) (before : StorageState) (state : S → StorageState) (fault : Fault)
+    → WhyNotOpened state true (bytes_of before.bytes) fault → WhyNotGrown g size way (HoldsSmallest before) fault
+not-opened g size way before state Memory why = tt
+not-opened g size way before state Storage why = tt
+not-opened g size way before state (Limit number) why = λ held. let is = smallest-opens _ _ held.1.1 in absurd (let e = sym is ∙ why in cc)
+not-opened g size way before state DamagedHeader why = λ held. let is = smallest-opens _ _ held.1.1 in absurd (let e = sym is ∙ why in cc)
+not-opened g size way before state DamagedTable why = λ held. let is = smallest-opens _ _ held.1.1 in absurd (let e = sym is ∙ why in cc)
+not-opened g size way before state Unsupported why = λ held. let is = smallest-opens _ _ held.1.1 in absurd (let e = sym is ∙ why in cc)
+not-opened g size way before state fault why = absurd (reading-refusal true (bytes_of before.bytes) fault why)
 
 -- A backing file has a name.
 pub named-some : (name text : Option (List ℕ)) → text ≡ named name → text ≢ Some []
 named-some None text is none = absurd (let e = sym is ∙ none in cc)
 named-some (Some []) text is none = absurd (let e = sym is ∙ none in cc)
-named-some (Some (byte ∷ bytes)) text is none = absurd (let e = sym is ∙ none in cc)
+named-some (Some (first ∷ others)) text is none = absurd (let e = sym is ∙ none in cc)
 
 -- The image was created with a header of these options.
 module _ (o : Options) (bits order : ℕ) (H : Header) (clusters : o.cluster_size ≡ 2 ^ bits) (width : o.refcount_width ≡ 2 ^ order)
     (is : H ≡ new_header bits order o.backing_name o.backing_format None) where
-  pub is-made : (a b d e : StorageState) → Resized a b 0 → HasParts H b d → d.shape ≡ b.shape → GrowsSmallest o.size d e → IsNewQcow2 o a e
+  pub is-made : (a b d e : StorageState) → Resized a b 0 → HasParts H b d → d.shape ≡ b.shape → GrowsSmallest o.size o.preallocate d e → IsNewQcow2 o a e
   unfolding written_fields
   is-made a b d e cut parts shape grows = record {
     shape = grows.shape ∙ (shape ∙ cut.changed.shape);
@@ -443,51 +538,51 @@ module _ (o : Options) (bits order : ℕ) (H : Header) (clusters : o.cluster_siz
       let why' = subst (λ (K : Header). IsFalse (fits_first_cluster (with_first_table K)) × (number ≡ length (header_bytes (with_first_table K)))) is why in
       record { bits = bits; order = order; cluster_size = clusters; refcount_width = width; unfit = why'.0; number_is = why'.1 }
 
-  pub put-unmade : {S : Type 0} (g : Ghosts S) (keeps : Type 0) (way : PreallocateMode) → way ≡ mode.None → (fault : Fault) → WhyNotPut H fault
-      → WhyNotMade g keeps way o fault
-  put-unmade g keeps way none Memory why = none
-  put-unmade g keeps way none Storage why = none
-  put-unmade g keeps way none (Limit number) why = (none, inr (inl (too-long number why)))
-  put-unmade g keeps way none fault why = absurd why
+  pub put-unmade : {S : Type 0} (g : Ghosts S) (keeps : Type 0) (fault : Fault) → WhyNotPut H fault → WhyNotMade g keeps o fault
+  put-unmade g keeps Memory why = tt
+  put-unmade g keeps Storage why = tt
+  put-unmade g keeps (Limit number) why = inr (inl (too-long number why))
+  put-unmade g keeps fault why = absurd why
 
 -- The errors of the steps are errors of a creation.
-module _ {S : Type 0} (g : Ghosts S) (keeps : Type 0) (way : PreallocateMode) (o : Options) where
-  pub unmade : AreAllowed o.cluster_size o.refcount_width → (fault : Fault) → WhyNotMade g keeps way o fault → WhyNotCreated g keeps way o fault
+module _ {S : Type 0} (g : Ghosts S) (keeps : Type 0) (o : Options) where
+  pub unmade : AreAllowed o.cluster_size o.refcount_width → (fault : Fault) → WhyNotMade g keeps o fault → WhyNotCreated g keeps o fault
   unmade allowed BadArgument why = absurd why
   unmade allowed fault why = (allowed, why)
 
-  disk-refused : (fault : Fault) → WhyNoDisk o.size way fault → WhyNotMade g keeps way o fault
-  disk-refused Unsupported why = tt
-  disk-refused (Limit number) why = (why.0, inl (why.1, why.2))
-  disk-refused fault why = absurd why
+  disk-refused : (has_backing : Bool) (fault : Fault) → WhyNoDisk o.size o.preallocate has_backing fault → WhyNotMade g keeps o fault
+  disk-refused has_backing Unsupported why = tt
+  disk-refused has_backing (Limit number) why = inl why
+  disk-refused has_backing fault why = absurd why
 
-  pub disk-unmade : (size : ℕ) (asked : PreallocateMode) → size ≡ o.size → asked ≡ way → (fault : Fault) → WhyNoDisk size asked fault
-      → WhyNotMade g keeps way o fault
-  disk-unmade size asked same same' fault why =
-      disk-refused fault (subst (λ (n : ℕ). WhyNoDisk n way fault) same (subst (λ (m : PreallocateMode). WhyNoDisk size m fault) same' why))
+  pub disk-unmade : (size : ℕ) (asked : PreallocateMode) (has_backing : Bool) → size ≡ o.size → asked ≡ o.preallocate → (fault : Fault)
+      → WhyNoDisk size asked has_backing fault → WhyNotMade g keeps o fault
+  disk-unmade size asked has_backing same same' fault why = disk-refused has_backing fault
+      (subst (λ (n : ℕ). WhyNoDisk n o.preallocate has_backing fault) same (subst (λ (m : PreallocateMode). WhyNoDisk size m has_backing fault) same' why))
 
-  pub cut-unmade : way ≡ mode.None → (a b : StorageState) (fault : Fault) → ResizeRefused a b fault → WhyNotMade g keeps way o fault
-  cut-unmade none a b Unsupported why = tt
-  cut-unmade none a b Memory why = none
-  cut-unmade none a b Storage why = none
-  cut-unmade none a b fault why = absurd why.refused.cause
+  pub cut-unmade : (a b : StorageState) (fault : Fault) → ResizeRefused a b fault → WhyNotMade g keeps o fault
+  cut-unmade a b Unsupported why = tt
+  cut-unmade a b Memory why = tt
+  cut-unmade a b Storage why = tt
+  cut-unmade a b fault why = absurd why.refused.cause
 
-  pub grown-unmade : way ≡ mode.None → (held : Type 0) → (keeps → held) → (fault : Fault) → WhyNotGrown g o.size held fault
-      → WhyNotMade g keeps way o fault
-  grown-unmade none held from Memory why = none
-  grown-unmade none held from Storage why = none
-  grown-unmade none held from (Limit number) why = (none, inr (inr (λ is. why (from is))))
-  grown-unmade none held from DamagedHeader why = λ is. why (from is)
-  grown-unmade none held from DamagedTable why = λ is. why (from is)
-  grown-unmade none held from Counter why = λ is. why (from is)
-  grown-unmade none held from Unsupported why = tt
-  grown-unmade none held from fault why = absurd why
+  pub grown-unmade : (held : Type 0) → (keeps → held) → (fault : Fault) → WhyNotGrown g o.size o.preallocate held fault → WhyNotMade g keeps o fault
+  grown-unmade held from Memory why = tt
+  grown-unmade held from Storage why = tt
+  grown-unmade held from (Limit number) why = inr (inr (λ is. why (from is)))
+  grown-unmade held from DamagedHeader why = λ is. why (from is)
+  grown-unmade held from DamagedTable why = λ is. why (from is)
+  grown-unmade held from Counter why = λ is. why (from is)
+  grown-unmade held from Unsupported why = tt
+  grown-unmade held from fault why = absurd why
 
--- The storage has the smallest image, if it keeps what is written.
-pub holds-smallest : (H : Header) (a b d : StorageState) → Resized a b 0 → HasParts H b d → d.shape ≡ b.shape → IsTrue a.shape.keeps → HoldsSmallest d
-holds-smallest H a b d cut parts shape keeps =
+-- The storage has the smallest image, of version 3, if it keeps what is written.
+pub holds-smallest : (H : Header) (a b d : StorageState) → H.fields.version ≡ 3 → Resized a b 0 → HasParts H b d → d.shape ≡ b.shape
+    → IsTrue a.shape.keeps → HoldsSmallest d
+unfolding written_fields
+holds-smallest H a b d version cut parts shape keeps =
     let keeps' : IsTrue b.shape.keeps = subst (λ (s : Shape). IsTrue s.keeps) (sym cut.changed.shape) keeps in
-    (subst (λ (s : Shape). IsTrue s.keeps) (sym shape) keeps', (written (with_first_table H), parts.image keeps'))
+    (subst (λ (s : Shape). IsTrue s.keeps) (sym shape) keeps', (written (with_first_table H), parts.image keeps', version))
 
 -- The header of a new image, with its texts.
 pub first-header : {S : Type 0} (b : Qcow2CreateBuilder S) (bits order : ℕ) (name format : Option (String Global)) (H : Header) → 9 ≤ bits → bits ≤ 21

@@ -1,11 +1,11 @@
 -- Lemmas on growths: the L1 table moves, and then the size changes.
-use Rattle.std.proofs.Common.{◌≡◌, ℕ, ◌+◌, ◌-◌, ◌/◌, ◌^◌, ◌<◌, ◌≤◌, arith, ap, sym, subst, inl, inr, Bool, false, List, [], None, Result, Ok, Err, refl, ◌∙◌, true}
-use Rattle.std.specs.Prelude.{⊤, ◌++◌, IsFalse, is_some, not, max, min, ◌⊎◌, OnOk, IsTrue}
+use Rattle.std.proofs.Common.{◌≡◌, ℕ, ◌+◌, ◌-◌, ◌/◌, ◌^◌, ◌<◌, ◌≤◌, arith, ap, sym, subst, inl, inr, Bool, false, List, [], Result, Ok, Err, ◌∙◌}
+use Rattle.std.specs.Prelude.{⊤, ◌++◌, IsFalse, is_some, not, max, min, OnOk}
 use Rattle.std.specs.Borrow.{RattleType}
 use Rattle.imago_storage.specs.State.{HasRisen, StorageState}
 use Rattle.imago_storage.specs.Steps.{IsFilled}
 use Rattle.imago_storage.specs.declared.fault.Fault.{Fault}
-use Rattle.imago_storage.specs.declared.fault.Fault.TheVariants.{Counter, DamagedTable, Limit, Memory, ReadOnly, Storage, Unsupported}
+use Rattle.imago_storage.specs.declared.fault.Fault.TheVariants.{Barred, Counter, DamagedTable, Limit, Memory, ReadOnly, Storage, Unsupported, VersionLimit}
 use Rattle.imago_storage.specs.declared.storage.Storage.{Ghosts}
 use Rattle.imago_access.specs.Chain.{at}
 use Rattle.imago_access.specs.Files.{HadNoResourceError, ImageCause, IsNotResourceError, files}
@@ -22,37 +22,28 @@ use Rattle.imago_access.specs.declared.format.PreallocateMode.TheVariants as way
 use Rattle.imago_access.proofs.ImageCauses.{failed_left}
 use Rattle.imago_access.proofs.Marking.{over_plain}
 use Rattle.imago_access.proofs.Stopping.{left_weaker, passes_weaker}
-use Rattle.qcow2_types.specs.Header.{cluster_size, Fields, Header, entries_of_cluster}
+use Rattle.qcow2_types.specs.Header.{cluster_size, Header}
 use Rattle.qcow2_alloc.specs.Causes.{HasCause}
 use Rattle.qcow2_alloc.specs.Crowding.{space}
-use Rattle.qcow2_steps.specs.Advancing.{KeepsHeader}
 use Rattle.qcow2_clusters.specs.Lengthening.{l1_clusters}
 use Rattle.qcow2_image.specs.Allocating.{Begins, LoadsSpace, allocation_causes, reserving_causes}
 use Rattle.qcow2_image.specs.FreeSpace.{HasNoPlace, enough_for_entry}
+use Rattle.qcow2_image.specs.Growing.{RefusesGrowth, WhyUngrown}
 use Rattle.qcow2_image.specs.KeepsDisk.{KeepsDisk}
 use Rattle.qcow2_image.specs.Preparing.{LeavesMarkedFailed}
-use Rattle.qcow2_image.specs.Resizing.{GivesBlank, GrowsDisk, HasSameFormat, KeepsMappings, LacksL1, MovesL1, RefusesGrowth, SizesImage, WhyUngrown, last_entry}
+use Rattle.qcow2_image.specs.Resizing.{GivesBlank, GrowsDisk, KeepsMappings, LacksL1, MovesL1, SizesImage, last_entry}
 use Rattle.qcow2_image.specs.Rooms.{IsWellFormed, is_sound}
 use Rattle.qcow2_image.specs.Seen.{layer_of}
 use Rattle.qcow2_image.specs.contracts.qcow2.Qcow2DriverModel.TheImpl.{ghosts}
 use Rattle.qcow2_image.specs.declared.qcow2.PreparedMappingState.{PreparedMappingState}
 use Rattle.qcow2_image.specs.declared.qcow2.Qcow2.{Qcow2}
 use Rattle.qcow2_image.proofs.CallStarts.{begins-loaded, begins-marked, begins-then, quiet-marked}
-use Rattle.qcow2_image.proofs.DiskEffects.{keeps-disk-both}
+use Rattle.qcow2_image.proofs.DiskEffects.{format-moved, keeps-disk-both}
 use Rattle.qcow2_image.proofs.FreeRuns.{full-more, quarter-enough}
 use Rattle.qcow2_image.proofs.Leaks.{leaks-both}
 use Rattle.qcow2_image.proofs.Preparations.Reservations.{why-loaded}
 use Rattle.qcow2_image.proofs.Resizes.SizeChanges.{resize-sized, resize-stopped, unmapped-kept}
 use Rattle.qcow2_image.proofs.Resizes.SizeEffects.{err-map, ok-both, resized-failed, resized-fixed, resized-marks, resized-mutates, resized-state, resized-unspent}
-
--- A header that references other tables has the same format.
-format-moved : (H K : Header) → KeepsHeader H K → HasSameFormat H K
-format-moved H K (l1, entries, table, clusters, is) = record {
-  cluster_bits = ap (λ (L : Header). L.fields.cluster_bits) is;
-  refcount_order = ap (λ (L : Header). L.fields.refcount_order) is;
-  backing_name = ap (λ (L : Header). L.backing_name) is;
-  backing_format = ap (λ (L : Header). L.backing_format) is;
-}
 
 module _ {S : Type 0} (g : Ghosts S) (n : ℕ) where
   -- The free space isn't loaded.
@@ -166,7 +157,10 @@ module _ (R : RattleType) (st : Ghosts R.Denot) (sd : mir.Syntax.Dict) (dd : mir
     early-failed olds news e (inr own) = from e (own.1 []) where
       from : (f : Fault) → WhyUngrown st d [] n mode f → ImageCause olds news f
       from Unsupported why = tt
+      from VersionLimit why = tt
       from (Limit number) why = tt
+      from DamagedTable why = tt
+      from Barred why = tt
       from f why = absurd why
 
     early-marks : (e : Fault) → RefusesGrowth st d n mode e → MarksFailedOver driver d d e
@@ -174,7 +168,10 @@ module _ (R : RattleType) (st : Ghosts R.Denot) (sd : mir.Syntax.Dict) (dd : mir
     early-marks e (inr own) = from e (own.1 []) where
       from : (f : Fault) → WhyUngrown st d [] n mode f → MarksFailedOver driver d d f
       from Unsupported why = tt
+      from VersionLimit why = tt
       from (Limit number) why = tt
+      from DamagedTable why = tt
+      from Barred why = tt
       from f why = absurd why
 
     early-cause : (olds news : List StorageState) (e : Fault) → RefusesGrowth st d n mode e
@@ -184,7 +181,10 @@ module _ (R : RattleType) (st : Ghosts R.Denot) (sd : mir.Syntax.Dict) (dd : mir
     early-cause olds news e (inr own) = from e (own.1 below) where
       from : (f : Fault) → WhyUngrown st d below n mode f → GrowthCause below (layer_of st d) n (WhyUngrown st d below n mode) olds news f
       from Unsupported why = why
+      from VersionLimit why = why
       from (Limit number) why = why
+      from DamagedTable why = why
+      from Barred why = why
       from f why = absurd why
 
     pub growth-early : (e : Fault) → RefusesGrowth st d n mode e → GrowthRefused driver u n mode (Err e) (d, x) (d, x)
@@ -246,7 +246,7 @@ module _ (R : RattleType) (st : Ghosts R.Denot) (sd : mir.Syntax.Dict) (dd : mir
         (files driver new ++ u.files_of_layers_below x) e
     grow-cause well_formed Memory why = tt
     grow-cause well_formed Storage why = inl why
-    grow-cause well_formed (Limit number) why = inr (why well_formed)
+    grow-cause well_formed (Limit number) why = inr (inl (why well_formed))
     grow-cause well_formed DamagedTable why = absurd (why well_formed)
     grow-cause well_formed Counter why = absurd (why well_formed)
     grow-cause well_formed e why = absurd why
@@ -256,9 +256,9 @@ module _ (R : RattleType) (st : Ghosts R.Denot) (sd : mir.Syntax.Dict) (dd : mir
       failed = err-map result (HasCause (reserving_causes st full old new))
           (ImageCause (files driver old ++ u.files_of_layers_below x) (files driver new ++ u.files_of_layers_below x))
           (λ e why. failed_left (files driver old) (files driver new) (u.files_of_layers_below x) (u.files_of_layers_below x) e
-          (resized-failed R st sd dd cut n full old new result r e why)) r.cause;
+          (resized-failed R st sd dd full old new e why)) r.cause;
       marks_failed = err-map result (LeavesMarkedFailed st old new) (MarksFailedOver driver old new)
-          (λ e is. over_plain driver old new e (resized-marks R st sd dd cut n full old new result r e is)) r.marked;
+          (λ e is. over_plain driver old new e (resized-marks R st sd dd full old new e is)) r.marked;
       cause = λ well_formed under. err-map result (HasCause (reserving_causes st full old new))
           (GrowthCause below (layer_of st old) n (WhyUngrown st old below n mode) (files driver old ++ u.files_of_layers_below x)
           (files driver new ++ u.files_of_layers_below x)) (grow-cause well_formed) r.cause;

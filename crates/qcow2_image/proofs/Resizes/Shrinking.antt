@@ -282,9 +282,9 @@ module _ (R : RattleType) (st : Ghosts R.Denot) (sd : mir.Syntax.Dict) (dd : mir
   pub shrink-refused : old.unspent ≡ None → ShrinkRefused driver n result old new
   shrink-refused free = record {
     failed = err-map result (HasCause (reserving_causes st full old new)) (ImageCause (files driver old) (files driver new))
-        (resized-failed R st sd dd cut n full old new result s.resizes) s.resizes.cause;
+        (resized-failed R st sd dd full old new) s.resizes.cause;
     marks_failed = err-map result (LeavesMarkedFailed st old new) (MarksFailed driver old new)
-        (resized-marks R st sd dd cut n full old new result s.resizes) s.resizes.marked;
+        (resized-marks R st sd dd full old new) s.resizes.marked;
     cause = λ well_formed below. err-map result (HasCause (reserving_causes st full old new))
         (ShrinkCause below (layer_of st old) n (driver.own_cause old below (shrink n)) (files driver old) (files driver new))
         (shrink-cause free well_formed below) s.resizes.cause;

@@ -175,7 +175,7 @@ module _ {S : Type 0} (g : Ghosts S) where
   }
 
   -- A change of the size fails only with a resource error.
-  hard-sized : (from to : ℕ) (e : Fault) → HasCause (writing_causes ⊤ from to) e → IsNotResourceError e → ⊥
+  pub hard-sized : (from to : ℕ) (e : Fault) → HasCause (writing_causes ⊤ from to) e → IsNotResourceError e → ⊥
   hard-sized from to Memory why not = not
   hard-sized from to Storage why not = not
   hard-sized from to DamagedTable why not = why tt

@@ -36,6 +36,26 @@ pub err-map : (r : Result Unit Fault) (P Q : Fault → Type 0) → ((e : Fault) 
 err-map (Ok done) P Q each holds = tt
 err-map (Err e) P Q each holds = each e holds
 
+-- The errors of a resize, and the failed state after them.
+module _ (R : RattleType) (st : Ghosts R.Denot) (sd : mir.Syntax.Dict) (dd : mir.Syntax.Dict) (full : ℕ → Type 0)
+    (old new : Qcow2 R.Denot st) where
+  abbrev called : SeenGhosts (Qcow2 R.Denot st) PreparedMappingState
+  called = ghosts R st sd dd
+
+  pub resized-failed : (e : Fault) → HasCause (reserving_causes st full old new) e → ImageCause (files called old) (files called new) e
+  resized-failed Memory is = tt
+  resized-failed Storage is = inl is
+  resized-failed (Limit number) is = tt
+  resized-failed DamagedTable is = tt
+  resized-failed Counter is = tt
+  resized-failed e is = absurd is
+
+  pub resized-marks : (e : Fault) → LeavesMarkedFailed st old new e → MarksFailed called old new e
+  resized-marks Storage is = λ marks. is
+  resized-marks Memory (inl is) = λ marks. inl is
+  resized-marks Memory (inr kept) = marks-kept R st sd dd {T = Unit} old new (Err Memory) kept
+  resized-marks e is = tt
+
 module _ (R : RattleType) (st : Ghosts R.Denot) (sd : mir.Syntax.Dict) (dd : mir.Syntax.Dict) (cut : ℕ → Type 0) (n : ℕ)
     (full : ℕ → Type 0) (old new : Qcow2 R.Denot st) (result : Result Unit Fault) (r : ResizesDisk st cut n full old result new) where
   abbrev driver : SeenGhosts (Qcow2 R.Denot st) PreparedMappingState
@@ -82,17 +102,3 @@ module _ (R : RattleType) (st : Ghosts R.Denot) (sd : mir.Syntax.Dict) (dd : mir
     early_outcome = busy-early_outcome driver (unusable_fault (layer_of st old)) (first ≤ second) result old new runs (λ le. omega (arith, le, lt));
     read_only = λ _ _ closed. absurd (cc (closed, writable));
   }
-
-  pub resized-failed : (e : Fault) → HasCause (reserving_causes st full old new) e → ImageCause (files driver old) (files driver new) e
-  resized-failed Memory is = tt
-  resized-failed Storage is = inl is
-  resized-failed (Limit number) is = tt
-  resized-failed DamagedTable is = tt
-  resized-failed Counter is = tt
-  resized-failed e is = absurd is
-
-  pub resized-marks : (e : Fault) → LeavesMarkedFailed st old new e → MarksFailed driver old new e
-  resized-marks Storage is = λ marks. is
-  resized-marks Memory (inl is) = λ marks. inl is
-  resized-marks Memory (inr kept) = marks-kept R st sd dd {T = Unit} old new (Err Memory) kept
-  resized-marks e is = tt

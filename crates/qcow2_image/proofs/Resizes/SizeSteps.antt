@@ -94,7 +94,7 @@ module _ (f : Bytes) (H : Header) (consistent : IsConsistent f H) where
       (table-of-file f H.fields reftable-placed some-words)
 
 -- The cell of a byte inside the disk doesn't depend on the size.
-inside-cell : (blank : Cell) (f : Bytes) (h : Fields) (p : ℕ) → p < h.size → cells blank f f h p ≡ cell_of blank (own_value f f h p)
+pub inside-cell : (blank : Cell) (f : Bytes) (h : Fields) (p : ℕ) → p < h.size → cells blank f f h p ≡ cell_of blank (own_value f f h p)
 inside-cell blank f h p inside = rw (lt-ltb p h.size inside) (cell-shown blank f h p (entry f h (p / cluster_size h)))
 
 -- The free space of a well-formed image, or one that can be loaded from its file.
@@ -269,6 +269,7 @@ module _ {S : Type 0} (g : Ghosts S) (n : ℕ) (old : Qcow2 S g) (mid : Tables S
     well_formed = λ well_formed low. well-formed-now well_formed low sizes;
     cells = λ well_formed low. cells-same well_formed low sizes;
     raw_entries = λ well_formed low. words-same well_formed low sizes;
+    values = λ well_formed low. values-same well_formed low sizes;
     leaks = λ well_formed low. leaks-same well_formed low sizes;
     cause = tt;
   }
@@ -289,6 +290,7 @@ module _ {S : Type 0} (g : Ghosts S) (n : ℕ) (old : Qcow2 S g) (mid : Tables S
     well_formed = λ well_formed low. tt;
     cells = λ well_formed low. tt;
     raw_entries = λ well_formed low. tt;
+    values = λ well_formed low. tt;
     leaks = λ well_formed low. tt;
     cause = storage-cause s.faults (g.state mid.file.image).faults (writing_causes ⊤ s.faults (g.state mid.file.image).faults) (omega arith) (omega arith)
         fault sizes.put.put.answer.cause;

@@ -1,7 +1,9 @@
-use Rattle.std.proofs.Common.{sym, subst, ◌∙◌, None}
+use Rattle.std.proofs.Common.{ap, sym, subst, ◌∙◌, None}
 use Rattle.std.specs.Prelude.{IsTrue}
 use Rattle.std.proofs.lemmas.Result.{IfErr-weaker, IfOk-weaker}
 use Rattle.qcow2_alloc.proofs.Faults.{handed-on}
+use Rattle.imago_access.specs.declared.format.PreallocateMode.{PreallocateMode}
+use Rattle.qcow2_types.specs.Header.{Header}
 use Rattle.qcow2_types.specs.HeaderBytes.{new_header}
 use Rattle.qcow2_image.specs.Creating.{GrowsSmallest, HoldsSmallest, IsNewQcow2, WhyNotCreated, WhyNotGrown, options_of}
 use Rattle.qcow2_image.proofs.Resizes.Creations.{allowed-by, cut-unmade, disk-unmade, first-header, grown-unmade, holds-smallest, is-made, put-unmade, unmade}
@@ -12,7 +14,7 @@ returns-in_err-cluster_bits-clause-err g c =
     let b = c.args.self in
     let why = c.in_err-cluster_bits.ensures.err in
     rw (handed-on _ _ c.from_residual.ensures.1)
-    (subst (WhyNotCreated g.S.Storage (IsTrue (g.S.Storage.state b.base.image).shape.keeps) b.base.preallocate (options_of b)) (sym why.0) why.1)
+    (subst (WhyNotCreated g.S.Storage (IsTrue (g.S.Storage.state b.base.image).shape.keeps) (options_of b)) (sym why.0) why.1)
 
 pub returns-in_err-check_disk-clause-err : goal.returns-in_err-check_disk-clause-err
 returns-in_err-check_disk-clause-err g c =
@@ -22,10 +24,10 @@ returns-in_err-check_disk-clause-err g c =
     let one = c.in_ok-cluster_bits in
     let fault = c.in_err-check_disk.field-0.0 in
     rw (handed-on _ _ c.from_residual-in_err-check_disk.ensures.1)
-    (unmade g.S.Storage keeps b.base.preallocate o
+    (unmade g.S.Storage keeps o
     (allowed-by o.cluster_size o.refcount_width one.cluster_bits one.refcount_order one.ensures.cluster_bits one.ensures.refcount_order) fault
-    (disk-unmade g.S.Storage keeps b.base.preallocate o c.get_size-size.result c.get_preallocate.result c.get_size-size.ensures c.get_preallocate.ensures
-    fault c.in_err-check_disk.ensures.err))
+    (disk-unmade g.S.Storage keeps o c.get_size-size.result c.get_preallocate-preallocate.result _ c.get_size-size.ensures
+    c.get_preallocate-preallocate.ensures fault c.in_err-check_disk.ensures.err))
 
 pub returns-in_err-header-clause-err : goal.returns-in_err-header-clause-err
 returns-in_err-header-clause-err g c =
@@ -33,10 +35,9 @@ returns-in_err-header-clause-err g c =
     let o = options_of b in
     let keeps = IsTrue (g.S.Storage.state b.base.image).shape.keeps in
     let one = c.in_ok-cluster_bits in
-    let none = sym c.get_preallocate.ensures ∙ c.in_ok-check_disk.ensures.ok.0 in
     rw (handed-on _ _ c.from_residual-in_err-header.ensures.1)
-    (subst (WhyNotCreated g.S.Storage keeps b.base.preallocate o) (sym c.in_err-header.ensures.err)
-    (allowed-by o.cluster_size o.refcount_width one.cluster_bits one.refcount_order one.ensures.cluster_bits one.ensures.refcount_order, none))
+    (subst (WhyNotCreated g.S.Storage keeps o) (sym c.in_err-header.ensures.err)
+    (allowed-by o.cluster_size o.refcount_width one.cluster_bits one.refcount_order one.ensures.cluster_bits one.ensures.refcount_order, tt))
 
 pub returns-in_err-resize-clause-err : goal.returns-in_err-resize-clause-err
 returns-in_err-resize-clause-err g c =
@@ -44,12 +45,11 @@ returns-in_err-resize-clause-err g c =
     let o = options_of b in
     let keeps = IsTrue (g.S.Storage.state b.base.image).shape.keeps in
     let one = c.in_ok-cluster_bits in
-    let none = sym c.get_preallocate.ensures ∙ c.in_ok-check_disk.ensures.ok.0 in
     let fault = c.in_err-resize.field-0.0 in
     rw (handed-on _ _ c.from_residual-in_err-resize.ensures.1)
-    (unmade g.S.Storage keeps b.base.preallocate o
+    (unmade g.S.Storage keeps o
     (allowed-by o.cluster_size o.refcount_width one.cluster_bits one.refcount_order one.ensures.cluster_bits one.ensures.refcount_order) fault
-    (cut-unmade g.S.Storage keeps b.base.preallocate o none (g.S.Storage.state c.get_image-image.result) (g.S.Storage.state c.resize.new.self) fault
+    (cut-unmade g.S.Storage keeps o (g.S.Storage.state c.get_image-image.result) (g.S.Storage.state c.resize.new.self) fault
     c.in_err-resize.ensures.err))
 
 pub write_parts-requires : goal.write_parts-requires
@@ -64,16 +64,15 @@ returns-in_err-write_parts-clause-err g c =
     let o = options_of b in
     let keeps = IsTrue (g.S.Storage.state b.base.image).shape.keeps in
     let one = c.in_ok-cluster_bits in
-    let none = sym c.get_preallocate.ensures ∙ c.in_ok-check_disk.ensures.ok.0 in
     let name = c.backing_file-name.ensures.name in
     let format = c.backing_file-name.ensures.format in
     let fault = c.in_err-write_parts.field-0.0 in
     rw (handed-on _ _ c.from_residual-in_err-write_parts.ensures.1)
-    (unmade g.S.Storage keeps b.base.preallocate o
+    (unmade g.S.Storage keeps o
     (allowed-by o.cluster_size o.refcount_width one.cluster_bits one.refcount_order one.ensures.cluster_bits one.ensures.refcount_order) fault
     (put-unmade o one.cluster_bits one.refcount_order c.in_ok-header.header one.ensures.cluster_bits.2 one.ensures.refcount_order.1
     (c.in_ok-header.ensures.ok ∙ (λ i. new_header one.cluster_bits one.refcount_order (name i) (format i) None))
-    g.S.Storage keeps b.base.preallocate none fault c.in_err-write_parts.ensures.err))
+    g.S.Storage keeps fault c.in_err-write_parts.ensures.err))
 
 pub returns-clause-err : goal.returns-clause-err
 returns-clause-err g c =
@@ -82,14 +81,15 @@ returns-clause-err g c =
     let s = g.S.Storage.state in
     let keeps = IsTrue (s b.base.image).shape.keeps in
     let one = c.in_ok-cluster_bits in
-    let none = sym c.get_preallocate.ensures ∙ c.in_ok-check_disk.ensures.ok.0 in
     let allowed = allowed-by o.cluster_size o.refcount_width one.cluster_bits one.refcount_order one.ensures.cluster_bits one.ensures.refcount_order in
     IfErr-weaker c.grow_smallest.result _ _
-    (λ fault why. unmade g.S.Storage keeps b.base.preallocate o allowed fault (grown-unmade g.S.Storage keeps b.base.preallocate o none (HoldsSmallest (s c.write_parts.new.image))
-    (λ is. holds-smallest c.in_ok-header.header (s c.get_image-image.result) (s c.resize.new.self) (s c.write_parts.new.image) c.in_ok-resize.ensures.ok
-    c.in_ok-write_parts.ensures.ok c.in_ok-write_parts.ensures.shape
+    (λ fault why. unmade g.S.Storage keeps o allowed fault (grown-unmade g.S.Storage keeps o (HoldsSmallest (s c.write_parts.new.image))
+    (λ is. holds-smallest c.in_ok-header.header (s c.get_image-image.result) (s c.resize.new.self) (s c.write_parts.new.image)
+    (ap (λ (H : Header). H.fields.version) c.in_ok-header.ensures.ok) c.in_ok-resize.ensures.ok c.in_ok-write_parts.ensures.ok c.in_ok-write_parts.ensures.shape
     (subst (λ (x : g.row.S.Denot). IsTrue (s x).shape.keeps) (sym c.get_image-image.ensures) is)) fault
-    (subst (λ n. WhyNotGrown g.S.Storage n (HoldsSmallest (s c.write_parts.new.image)) fault) c.get_size-size.ensures why)))
+    (subst (λ n. WhyNotGrown g.S.Storage n b.base.preallocate (HoldsSmallest (s c.write_parts.new.image)) fault) c.get_size-size.ensures
+    (subst (λ (m : PreallocateMode). WhyNotGrown g.S.Storage c.get_size-size.result m (HoldsSmallest (s c.write_parts.new.image)) fault)
+    c.get_preallocate-preallocate.ensures why))))
     c.grow_smallest.ensures.err
 
 pub returns-clause-ok : goal.returns-clause-ok
@@ -106,5 +106,7 @@ returns-clause-ok g c =
     (c.in_ok-header.ensures.ok ∙ (λ i. new_header one.cluster_bits one.refcount_order (name i) (format i) None))
     (s c.get_image-image.result) (s c.resize.new.self) (s c.write_parts.new.image) (s made) c.in_ok-resize.ensures.ok
     c.in_ok-write_parts.ensures.ok c.in_ok-write_parts.ensures.shape
-    (subst (λ n. GrowsSmallest n (s c.write_parts.new.image) (s made)) c.get_size-size.ensures grows)))
+    (subst (λ n. GrowsSmallest n b.base.preallocate (s c.write_parts.new.image) (s made)) c.get_size-size.ensures
+    (subst (λ (m : PreallocateMode). GrowsSmallest c.get_size-size.result m (s c.write_parts.new.image) (s made))
+    c.get_preallocate-preallocate.ensures grows))))
     c.grow_smallest.ensures.ok

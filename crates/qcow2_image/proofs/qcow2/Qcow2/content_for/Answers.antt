@@ -1,4 +1,4 @@
-use Rattle.std.proofs.Common.{◌≡◌, ℕ, ◌-◌, ◌/◌, ◌%◌, ◌^◌, ap, subst, sym, ◌∙◌, length, Ok}
+use Rattle.std.proofs.Common.{◌≡◌, ◌≤◌, ℕ, ◌-◌, ◌/◌, ◌%◌, ◌^◌, ap, subst, sym, ◌∙◌, length, Ok}
 use Rattle.std.specs.Prelude.{replicate, slice_index}
 use Rattle.std.proofs.lemmas.List.{length-replicate}
 use Rattle.std.proofs.Math.Nat.{mul-mod_left}
@@ -54,7 +54,9 @@ returns g c =
     (subst (λ (r : ℕ × ℕ). CopiesShown g.S.Storage g.B.LayersBelowModel c.in_ok-shown.shown c.copied_part-part.result
     (c.shown_at.new.self, c.args.below.now) (Ok tt)
     (c.copy_shown.new.self, c.copy_shown.new.below) (λ p. slice_index c.copy_shown.new.content (p - r.0))) places
-    c.in_ok-copy_shown.ensures)
+    c.in_ok-copy_shown.ensures.copies)
+    (subst (λ (r : ℕ × ℕ). (i : ℕ) → c.copied_part-part.result.1 - r.0 ≤ i → slice_index c.copy_shown.new.content i ≡ 0) places
+    c.in_ok-copy_shown.ensures.rest)
 
 pub returns-in_err-copy_shown : goal.returns-in_err-copy_shown
 returns-in_err-copy_shown g c = rw (handed-on _ _ c.from_residual-in_err-copy_shown.ensures.1) (
@@ -67,4 +69,4 @@ returns-in_err-copy_shown g c = rw (handed-on _ _ c.from_residual-in_err-copy_sh
     let cut = subst (λ (r : ℕ × ℕ). CopiesPart r.0 r.1 asked c.copied_part-part.result) places c.copied_part-part.ensures in
     content-uncopied g.S.Storage g.B.LayersBelowModel asked c.args.self.now c.shown_at.new.self c.copy_shown.new.self c.args.below.now c.copy_shown.new.below
     c.in_ok-shown.shown told c.copied_part-part.result cut c.in_err-copy_shown.field-0.0
-    (λ p. slice_index c.copy_shown.new.content (p - c.first_places-start.result.0)) c.in_err-copy_shown.ensures)
+    (λ p. slice_index c.copy_shown.new.content (p - c.first_places-start.result.0)) c.in_err-copy_shown.ensures.copies)
