@@ -16,6 +16,12 @@ pub enum Failure {
     Opening(Fault),
     /// The arguments aren't valid.
     Arguments,
+    /// The arguments of `create` aren't valid.
+    Usage,
+    /// An image with these properties can't be created.
+    Creating(Fault),
+    /// The path of a new image is taken. Holds that path.
+    Taken(String),
     /// A file or a stream failed, memory ran out, or the script is too long.
     InputOutput,
     /// The path of the new file of a save is taken, for example because an earlier run was stopped. Holds that path.
@@ -25,8 +31,9 @@ pub enum Failure {
 impl fmt::Display for Failure {
     fn fmt<W: fmt::Write>(&self, f: &mut fmt::Formatter<W>) -> fmt::Result {
         match self {
-            Failure::Opening(fault) => write!(f, "{fault}"),
-            Failure::Arguments => write!(f, "bad arguments"),
+            Failure::Opening(fault) | Failure::Creating(fault) => write!(f, "{fault}"),
+            Failure::Arguments | Failure::Usage => write!(f, "bad arguments"),
+            Failure::Taken(path) => write!(f, "{path} exists"),
             Failure::InputOutput | Failure::LeftOver(_) => write!(f, "input or output failed"),
         }
     }
@@ -75,14 +82,37 @@ pub fn status(outcome: &Result<(), Failure>) -> u8
     ensures done { outcome.now ≡ Ok tt → result ≡ 0 }
     ensures opening { (fault : Fault) → outcome.now ≡ Err (Failure.Opening fault) → result ≡ 1 }
     ensures arguments { outcome.now ≡ Err Failure.Arguments → result ≡ 2 }
+    ensures usage { outcome.now ≡ Err Failure.Usage → result ≡ 2 }
+    ensures creating { (fault : Fault) → outcome.now ≡ Err (Failure.Creating fault) → result ≡ 1 }
+    ensures taken { (path : String Global) → outcome.now ≡ Err (Failure.Taken path) → result ≡ 1 }
     ensures io { outcome.now ≡ Err Failure.InputOutput → result ≡ 3 }
     ensures left_over { (path : String Global) → outcome.now ≡ Err (Failure.LeftOver path) → result ≡ 3 }
 {
     match outcome {
         Ok(()) => 0,
-        Err(Failure::Opening(_)) => 1,
-        Err(Failure::Arguments) => 2,
+        Err(Failure::Opening(_) | Failure::Creating(_) | Failure::Taken(_)) => 1,
+        Err(Failure::Arguments | Failure::Usage) => 2,
         Err(Failure::InputOutput) => 3,
         Err(Failure::LeftOver(_)) => 3,
+    }
+}
+
+/// Returns what the user can do about a failure of `create`, if that isn't in its first line.
+pub fn advice(failure: &Failure) -> Option<&'static str> {
+    match failure {
+        Failure::Usage => Some(
+            "usage: qimg create [-s CLUSTER_SIZE] [-w REFCOUNT_BITS] [-b BACKING_FILE -F raw|qcow2|vmdk] \
+            [-p none|zero|format|full|data] FILE SIZE",
+        ),
+        Failure::Creating(Fault::BadArgument) => Some(
+            "a cluster size is a power of two from 512 to 2M, and a refcount width one from 1 to 64",
+        ),
+        Failure::Creating(Fault::Unsupported) => {
+            Some("an image with a backing file can't allocate the clusters of its disk")
+        }
+        Failure::Creating(Fault::Limit(_)) => Some(
+            "the disk is too large for this cluster size, or the name of the backing file is too long",
+        ),
+        _ => None,
     }
 }

@@ -1,19 +1,18 @@
 // Reads the files of a chain (an image and its backing chain), or makes a new image in memory.
-ghost use Rattle.std.specs.Prelude.{◌≡◌, ℕ, ◌∷◌, [], IfOk};
-ghost use Rattle.imago_access.specs.declared.format.Format.TheVariants.{Qcow2};
-ghost use Rattle.imago_storage.specs.Disk.{byte};
+ghost use Rattle.std.specs.Prelude.{◌≡◌, ◌∷◌, [], None, IfOk};
+ghost use Rattle.imago_access.specs.declared.format.Format.TheVariants as format;
 ghost use Rattle.imago_storage.specs.MemStorage.{mem_state};
 ghost use Rattle.imago_storage.specs.declared.memory.MemStorage.{MemStorage};
-ghost use Rattle.qcow2_types.specs.Consistency.{IsConsistent};
-ghost use Rattle.qimg_core.specs.Created.{new_header};
-ghost use Rattle.qimg_core.specs.Plain.{file, value_at};
+ghost use Rattle.qcow2_types.specs.Header.{Header};
+ghost use Rattle.imago_access.specs.declared.format.PreallocateMode.TheVariants as mode;
+ghost use Rattle.qcow2_image.specs.Creating.{IsImageOf, Options};
 ghost use Rattle.qimg_core.specs.declared.plain.ChainFile.{ChainFile};
 
 use crate::failure::Failure;
-use imago_access::Format;
+use imago_access::{Format, FormatCreateBuilder};
 use imago_storage::MemStorage;
+use qcow2_image::Qcow2;
 use qimg_chain::arguments::LayerArgument;
-use qimg_core::creation::create;
 use qimg_core::plain::ChainFile;
 use std::alloc::Global;
 use std::fs::{self, Files};
@@ -59,13 +58,24 @@ pub fn read_files<R: Files + AllocGlobal>(
 /// The size of a new disk, in bytes.
 const NEW_SIZE: u64 = 65536;
 
-/// Returns a chain with one file: a new consistent qcow2 image in memory, of 65,536 bytes that read as zeroes.
+/// Returns a chain with one file: a new consistent qcow2 image in memory. Its disk has 65,536 bytes, and maps none of them.
 pub fn new_files(alloc: Global) -> Result<Vec<ChainFile<MemStorage>>, Failure>
-    ensures new { IfOk result (λ files. (top : ChainFile MemStorage) × (files.items ≡ top ∷ []) × (top.format ≡ Qcow2)
-        × IsConsistent (file (mem_state top.image)) (new_header 65536) × ((p : ℕ) → value_at (file (mem_state top.image)) p ≡ byte 0)) }
+    ensures new { let asked : Options = record {
+      size = 65536;
+      preallocate = mode.None;
+      cluster_size = 512;
+      refcount_width = 16;
+      backing_name = None;
+      backing_format = None;
+    } in
+        IfOk result (λ files. (top : ChainFile MemStorage) × (files.items ≡ top ∷ []) × (top.format ≡ format.Qcow2)
+        × ((H : Header) × IsImageOf asked (mem_state top.image).bytes H)) }
 {
+    let builder = Qcow2::create_builder(MemStorage::new(alloc))
+        .cluster_size(512)
+        .size(NEW_SIZE);
     // The image is in memory, so it can only fail because memory runs out.
-    let Ok(image) = create(alloc, MemStorage::new(alloc), NEW_SIZE) else {
+    let Ok(image) = builder.create(alloc) else {
         return Err(Failure::InputOutput);
     };
     let mut files = Vec::new(alloc);

@@ -4,6 +4,10 @@
 //! The arguments are `qimg [-r] LAYER ..`, the top image first. A LAYER is `raw PATH`, `qcow2 PATH` or `vmdk PATH`, followed by any number
 //! of `file NAME PATH`: the files that the image refers to for its data (VMDK extents). With `-r` the top is opened read-only.
 //!
+//! `qimg create [-s CLUSTER_SIZE] [-w REFCOUNT_BITS] [-b BACKING_FILE -F BACKING_FORMAT] [-p MODE] FILE SIZE` makes a qcow2 image instead. The
+//! file must not exist. Sizes are in bytes, or with `k`, `M`, `G` or `T` in units of 2^10 to 2^40 bytes. The header gets the name of the
+//! backing file and its format, and the backing file isn't opened. The modes of preallocation are those of the script's line `grow`.
+//!
 //! The script comes from standard input, and its answers go to standard output. The module `script` of `qimg_chain` lists the lines of a
 //! script. The files are read completely at the start. At the end, the bytes of the last successful `save`, if any, replace the top file.
 //! With `-r` no file is replaced, as nothing has changed. Without arguments the program makes a writable qcow2 image of 65,536 bytes, and
@@ -12,7 +16,8 @@
 //! | Status | Standard error | When |
 //! |---|---|---|
 //! | 0 | | the script ended; its lines may have been answered with errors |
-//! | 1 | `qimg: error N` | the chain doesn't open, with the fault of this number |
+//! | 1 | `qimg: error N` | the chain doesn't open, or the image can't be created, with the fault of this number |
+//! | 1 | `qimg: FILE exists` | the file of a new image exists |
 //! | 2 | `qimg: bad arguments` | the arguments aren't valid |
 //! | 3 | `qimg: input or output failed` | a file or a stream failed, memory ran out for it, or the script is too long |
 //!
@@ -23,12 +28,14 @@
 //! line on standard error has the path of that file and asks the user to remove it.
 #![tactic(auto)]
 
+mod creation;
 mod failure;
 mod files;
 mod streams;
 mod top_file;
 
-use failure::{Failure, status};
+use creation::create;
+use failure::{Failure, advice, status};
 use files::{new_files, read_files};
 use imago_storage::{Fault, MemStorage};
 use qimg_chain::arguments::{Arguments, parse};
@@ -58,11 +65,9 @@ fn words<R: Env + AllocGlobal>(rt: &R) -> Result<Vec<String>, Failure> {
     }
 }
 
-/// Parses the arguments of the program. Returns `None` without arguments.
-fn arguments<R: Env + AllocGlobal>(rt: &R) -> Result<Option<Arguments>, Failure> {
-    let words = words(rt)?;
-    let texts: Vec<&str> = words.iter().map(|word| word.as_str()).collect(rt.alloc())?;
-    match parse(rt.alloc(), &texts) {
+/// Parses the arguments of a script. Returns `None` without arguments.
+fn arguments<R: AllocGlobal>(rt: &R, words: &[&str]) -> Result<Option<Arguments>, Failure> {
+    match parse(rt.alloc(), words) {
         Ok(arguments) => Ok(arguments),
         Err(Fault::Memory) => Err(Failure::InputOutput),
         Err(_) => Err(Failure::Arguments),
@@ -117,7 +122,12 @@ fn serve_files<R: Files + Input + Print + AllocGlobal>(
 
 /// Runs the program with its arguments.
 fn serve<R: Env + Files + Input + Print + AllocGlobal>(rt: &R) -> Result<(), Failure> {
-    if let Some(arguments) = arguments(rt)? {
+    let words = words(rt)?;
+    let texts: Vec<&str> = words.iter().map(|word| word.as_str()).collect(rt.alloc())?;
+    if let ["create", asked @ ..] = texts.as_slice() {
+        return create(rt, creation::parse(rt.alloc(), asked)?);
+    }
+    if let Some(arguments) = arguments(rt, &texts)? {
         return serve_files(rt, &arguments);
     }
     let _saved = run_script(rt, new_files(rt.alloc())?, true)?;
@@ -128,6 +138,9 @@ fn main(rt: HostRuntime) -> ExitCode {
     let outcome = serve(&rt);
     if let Err(failure) = &outcome {
         let _ = eprintln!(rt; "qimg: {failure}");
+        if let Some(advice) = advice(failure) {
+            let _ = eprintln!(rt; "qimg: {advice}");
+        }
         if let Failure::LeftOver(path) = failure {
             let _ = eprintln!(rt; "qimg: {path} exists; remove it if no other run is saving");
         }
