@@ -89,7 +89,8 @@ impl<'a> Layer for Images<'a> {
             | "fixed" => self.change(alloc, name, behind),
             "check" | "plain" | "bytes" | "length" | "changes" | "change" | "calls" | "finding" =>
                 self.look(alloc, name, behind),
-            _ => self.make(alloc, words),
+            "worked" => self.work(alloc),
+            _ => Err(Trouble::NoCall),
         }
     }
 }

@@ -1,5 +1,5 @@
-//! Runs scripts that check the checker, the plain reader (which uses no driver) and the creation of images. The scripts describe the images
-//! byte by byte. Terms are explained in docs/GLOSSARY.md.
+//! Runs scripts that check the checker and the plain reader (which uses no driver). The scripts describe the images byte by byte. Terms are
+//! explained in docs/GLOSSARY.md.
 //!
 //! A case begins with an empty file. A VALUE is a number, `copied`, `compressed`, `zero` or `greatest` (the flags and the greatest offset
 //! of raw entries), `A<<B`, or a sum of these, such as `copied+0xa00`.
@@ -10,8 +10,8 @@
 //!   refcount table is in cluster 1 and the L1 table in cluster 3. The given fields replace these defaults. `small NAME=VALUE ..` also
 //!   writes the tables: a refcount block in cluster 2 in which clusters 0 to 6 have refcount 1, an L2 table in cluster 4, and data in
 //!   clusters 5 and 6. `field NAME=VALUE ..` sets fields.
-//! - `create BYTES`: replaces the file with a new image of a disk of BYTES bytes. `create` makes the image over the old file. `worked`: an
-//!   image of 65,536 bytes with the bytes 01 02 03 at guest offset 510, an L2 table in cluster 4, and data in clusters 5 and 6.
+//! - `worked`: replaces the file with an image of 65,536 bytes with the bytes 01 02 03 at guest offset 510, an L2 table in cluster 4, and
+//!   data in clusters 5 and 6.
 //! - `word PLACE VALUE ..`: raw entries from offset PLACE on. `row PLACE COUNT FIRST STEP`: COUNT raw entries, each greater by STEP than
 //!   the one before. `put PLACE BYTES`. `count WIDTH BLOCK INDEX COUNT [TIMES]`: sets TIMES refcounts of WIDTH bits, from INDEX on, to
 //!   COUNT, in the refcount block at offset BLOCK. `cut LENGTH`.
@@ -29,13 +29,13 @@
 #![tactic(auto)]
 
 mod changes;
-mod creation;
 mod files;
 mod findings;
 mod images;
 mod kept;
 mod looks;
 mod values;
+mod worked;
 
 use cases::{Notes, run};
 use images::Images;

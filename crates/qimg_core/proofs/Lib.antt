@@ -4,4 +4,3 @@ pub mod Tables
 pub mod Contents
 pub mod Counts
 pub mod PlainReads
-pub mod NewImages

@@ -1,4 +1,3 @@
-pub mod Created
 pub mod Plain
 pub mod Names
 pub mod Searches
