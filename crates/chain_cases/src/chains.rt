@@ -1,5 +1,6 @@
 // The values of a case (one test of a script), and its calls: `Chains` passes each line to the module that makes the call.
 use crate::arguments::asked_for;
+use crate::creations::{create, create_stops};
 use crate::files::{Base, NamedFiles, making_of};
 use crate::images::probe;
 use crate::layers::counts;
@@ -186,6 +187,10 @@ impl<'a> Layer for Chains<'a> {
         match words {
             [word, name, rest @ ..] if matches!(*word, "file" | "put" | "more" | "line" | "cut") =>
                 { done(alloc, change_file(alloc, &mut self.files, word, name, rest)) }
+            ["create", name, rest @ ..] => create(alloc, &mut self.files, name, rest),
+            ["create_stops", name, offset, n, rest @ ..] => {
+                create_stops(alloc, &mut self.files, name, (*offset, *n), rest)
+            }
             ["prefixes", format, name, first, last, rest @ ..] => {
                 self.prefixes(alloc, (*format, *name), [*first, *last], rest)
             }

@@ -165,6 +165,26 @@ impl<'a> NamedFiles<'a> {
         self.open_prefix(name, usize::MAX)
     }
 
+    /// Opens a storage over a file, with the file's alignments and a log.
+    ///
+    /// # Errors
+    ///
+    /// The errors of `open_prefix`.
+    pub fn open_logged_alone(&mut self, alloc: Global, name: &str) -> Result<Logged<'a>, Trouble> {
+        let alignments = self.named(name)?.making.alignments;
+        self.open_logged(alloc, name, alignments)
+    }
+
+    /// Replaces the bytes of a file. Storages that were opened before don't change.
+    ///
+    /// # Errors
+    ///
+    /// - `Trouble::NoCall` if the case has no such file.
+    pub fn replace(&mut self, name: &str, bytes: MemStorage) -> Result<(), Trouble> {
+        self.named(name)?.bytes = bytes;
+        Ok(())
+    }
+
     /// Opens a storage over a file, with these alignments and a log.
     ///
     /// The log reads the file when it is created. This call isn't noted, and it doesn't count for the fuse.

@@ -8,6 +8,9 @@
 //! - `file NAME [fuse N] [align N] BYTES`: adds a file. Its storages have this alignment, and their Nth call fails.
 //! - `put NAME OFFSET BYTES` writes bytes to a file. `more NAME BYTES` appends bytes, and `line NAME WORDS` a line of text.
 //!   `cut NAME LENGTH` sets its length. A storage that was opened before doesn't change.
+//! - `create NAME SIZE [clusters N] [width N] [mode MODE] [over NAME as FORMAT]`: replaces a file with a new qcow2 image, which is created over
+//!   the file by the builder. The disk has SIZE bytes. `over` gives the name of a backing file, and its format. If the creation fails, the
+//!   file stays. `create_stops NAME OFFSET N SIZE ..`: creates the image over a copy of the file, and reports the crash images like `stops`.
 //! - `prefixes qcow2 | vmdk NAME FIRST LAST [OFFSET N]`: opens the first bytes of a file as an image, for each length from FIRST to LAST.
 //!   It answers the size of the disk, or the bytes of the range, or the fault. If another length has another answer, `and at LENGTH ANSWER`
 //!   follows for the first such length.
@@ -91,6 +94,7 @@ mod arguments;
 mod builders;
 mod chains;
 mod copies;
+mod creations;
 mod files;
 mod images;
 mod layers;

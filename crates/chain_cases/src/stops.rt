@@ -132,6 +132,25 @@ fn first_file(
     }
 }
 
+/// Returns a copy of a file after all these requests.
+///
+/// # Errors
+///
+/// - `Trouble::NoCall` if the case has no such file.
+/// - `Trouble::Refused` if memory runs out.
+pub fn replayed(
+    alloc: Global,
+    requests: &[Request],
+    name: &str,
+    files: &NamedFiles<'_>,
+) -> Result<MemStorage, Trouble> {
+    let mut file = MemStorage::from_bytes(files.view(name)?.to_vec(alloc)?)?;
+    for request in requests {
+        apply(alloc, &mut file, request)?;
+    }
+    Ok(file)
+}
+
 /// Reports each crash image (the bytes after a crash between two requests) of the first layer's file, from the one after `forgotten`
 /// requests to the one after all requests.
 ///
