@@ -99,6 +99,7 @@ pub mapped_left : {S : Type 0} (below : List Layer) (state : StorageState) (d : 
     → ((p : ℕ) → (slice_index f p ≡ slice_index state.bytes p) ⊎ gives p (byte (slice_index f p))) → Left below (cluster_layer state d) state.bytes (λ kind file. ⊤) d.size d.size gives f
 mapped_left below state d gives f mapped fits long each = record {
   is_sound = tt;
+  backed = refl;
   size = omega arith;
   no_longer = λ exact. absurd (cc exact);
   shows = λ p inside on_disk.
@@ -135,6 +136,7 @@ pub settled_left : {S : Type 0} (below : List Layer) (state : StorageState) (d :
     → Left below (cluster_layer state d) state.bytes (λ kind file. ⊤) d.size d.size (GivesSettled below (cluster_layer state d)) f
 settled_left below state d run bytes f prepared empty is_run settled mixed = record {
   is_sound = tt;
+  backed = refl;
   size = omega arith;
   no_longer = λ exact. absurd (cc exact);
   shows = λ p inside on_disk.

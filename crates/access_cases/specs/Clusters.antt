@@ -51,7 +51,7 @@ cluster_fixed shape d = record {
   mem_align = shape.mem_align;
   granularity = None;
   kind = 0;
-  means = λ f. record { size = d.size; cell = meant_by d.content (blank_of d.backed) f };
+  means = λ f. record { size = d.size; cell = meant_by d.content (blank_of d.backed) f; backed = d.backed };
   leaks = λ f c. 0;
   exact = false;
   marks_failed = true;

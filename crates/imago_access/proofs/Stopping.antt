@@ -49,13 +49,14 @@ passes_on P a b c same passes = subst (UnrefusedCrashImages P a) (sym same) pass
 -- A file that a crash in a later call leaves, seen from the entry of the first call. The later call starts with a file that the first may
 -- leave. Each value of its disk at entry, and each that it gives, is one that the whole may show.
 module _ (below : List Layer) (sound : ℕ → List ℕ → Type 0) (entry mid : Layer) (file mid_file : List ℕ) (least most : ℕ) (gives later_gives : ℕ → Value → Type 0)
-    (fixed : mid.fixed ≡ entry.fixed) (size : mid.size ≡ entry.size)
+    (fixed : mid.fixed ≡ entry.fixed) (size : mid.size ≡ entry.size) (refers : (entry.fixed.means mid_file).backed ≡ (entry.fixed.means file).backed)
     (between : (p : ℕ) → p < entry.size → May below entry file gives p (shown below entry.fixed.means mid_file p))
     (disk : (p : ℕ) → p < entry.size → May below entry file gives p (at (mid ∷ below) p))
     (given : (p : ℕ) (v : Value) → p < entry.size → later_gives p v → May below entry file gives p v) where
   pub left_from : (f : List ℕ) → Left below mid mid_file sound least most later_gives f → Left below entry file sound least most gives f
   left_from f later = record {
     is_sound = subst (λ (x : Fixed). sound x.kind f) fixed later.is_sound;
+    backed = subst (λ (x : Fixed). (x.means f).backed ≡ (x.means mid_file).backed) fixed later.backed ∙ refers;
     size = subst (λ (x : Fixed). least ≤ (x.means f).size) fixed later.size;
     no_longer = subst (λ (x : Fixed). IsTrue x.exact → (x.means f).size ≤ most) fixed later.no_longer;
     shows = λ p inside in_disk.
@@ -84,10 +85,12 @@ then_left below sound entry mid least most gives later_gives a b c ab bc fixed s
       | inl same ↦ inl (ap (λ (f : List ℕ). shown below entry.fixed.means f p) same)
       | inr left ↦ left.shows p (omega (arith, left.size)) inside
     ] in
+    let refers : ((b.bytes ≡ a.bytes) ⊎ Left below entry a.bytes sound entry.size entry.size gives b.bytes) → (entry.fixed.means b.bytes).backed ≡ (entry.fixed.means a.bytes).backed = λ how.
+    elim how [ inl same ↦ ap (λ (f : List ℕ). (entry.fixed.means f).backed) same | inr left ↦ left.backed ] in
     passes_both (Left below entry a.bytes sound entry.size entry.size gives) (Left below mid b.bytes sound least most later_gives)
     (Left below entry a.bytes sound least most gives) a b c ab bc
-    (λ f left. record { is_sound = left.is_sound; size = omega (arith, left.size); no_longer = λ exact. omega (arith, left.no_longer exact, high); shows = left.shows })
-    (λ how. left_from below sound entry mid a.bytes b.bytes least most gives later_gives fixed size (between how) disk given)
+    (λ f left. record { is_sound = left.is_sound; backed = left.backed; size = omega (arith, left.size); no_longer = λ exact. omega (arith, left.no_longer exact, high); shows = left.shows })
+    (λ how. left_from below sound entry mid a.bytes b.bytes least most gives later_gives fixed size (refers how) (between how) disk given)
     first second
 
 -- The values that a call gives can be weakened.
@@ -95,6 +98,7 @@ pub left_weaker : (below : List Layer) (sound : ℕ → List ℕ → Type 0) (en
     → ((p : ℕ) (v : Value) → p < entry.size → gives p v → May below entry file more p v) → (f : List ℕ) → Left below entry file sound least most gives f → Left below entry file sound least most more f
 left_weaker below sound entry file least most gives more weaker f left = record {
   is_sound = left.is_sound;
+  backed = left.backed;
   size = left.size;
   no_longer = left.no_longer;
   shows = λ p inside in_disk. elim (left.shows p inside in_disk) [

@@ -25,10 +25,12 @@ hold_of loose = free
 hold_of (beside copied) = free
 hold_of (inside copied written announced) = held written announced
 
--- The meaning of a file by itself, as the image file of a layer: a size in bytes, and the byte at each offset.
+-- The meaning of a file by itself, as the image file of a layer: a size in bytes, the byte at each offset, and whether it refers to a layer
+-- below (a backing file).
 pub record Meaning : Type 0 where
   pub size : ℕ
   pub cell : ℕ → Cell
+  pub backed : Bool
 
 -- The properties of a layer that never change.
 pub record Fixed : Type 0 where

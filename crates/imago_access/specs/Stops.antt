@@ -17,11 +17,13 @@ shown below means f p = if ltb p (means f).size then through ((means f).cell p) 
 abbrev pub May : List Layer → Layer → List ℕ → (ℕ → Value → Type 0) → ℕ → Value → Type 0
 May below entry entry_file gives p v = (v ≡ shown below entry.fixed.means entry_file p) ⊎ ((v ≡ at (entry ∷ below) p) ⊎ gives p v)
 
--- A file `f` that a crash during a call may leave. It is consistent, and its disk has at least the size `least`. If the file states the
--- size, that is at most `most`. Each byte of the old disk reads as the call may leave it.
+-- A file `f` that a crash during a call may leave. It is consistent, and refers to a backing file exactly if the file at entry did. Its disk
+-- has at least the size `least`. If the file states the size, that is at most `most`. Each byte of the old disk reads as the call may leave
+-- it.
 pub record Left (below : List Layer) (entry : Layer) (entry_file : List ℕ) (sound : ℕ → List ℕ → Type 0) (least most : ℕ)
     (gives : ℕ → Value → Type 0) (f : List ℕ) : Type 0 where
   pub is_sound : sound entry.fixed.kind f
+  pub backed : (entry.fixed.means f).backed ≡ (entry.fixed.means entry_file).backed
   pub size : least ≤ (entry.fixed.means f).size
   pub no_longer : IsTrue entry.fixed.exact → (entry.fixed.means f).size ≤ most
   pub shows : (p : ℕ) → p < (entry.fixed.means f).size → p < entry.size

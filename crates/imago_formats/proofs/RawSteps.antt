@@ -38,6 +38,7 @@ pub raw_left : (below : List Layer) (old : StorageState) (size : ℕ) (w : Bool)
     → ((p : ℕ) → p < size → p < length f → (slice_index f p ≡ slice_index old.bytes p) ⊎ gives p (byte (slice_index f p))) → Left below (raw_layer old size w) old.bytes (λ kind file. ⊤) least most gives f
 raw_left below old size w least most gives f fits long each = record {
   is_sound = tt;
+  backed = refl;
   size = long;
   no_longer = never;
   shows = λ p inside in_disk.

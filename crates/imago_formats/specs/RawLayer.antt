@@ -10,7 +10,7 @@ use Rattle.imago_access.specs.declared.format.Format.TheVariants as format
 
 -- The disk that a file means as a raw image: its bytes.
 abbrev pub raw_meaning : List ℕ → Meaning
-raw_meaning f = record { size = length f; cell = λ p. own (byte (slice_index f p)) }
+raw_meaning f = record { size = length f; cell = λ p. own (byte (slice_index f p)); backed = false }
 
 -- The fixed properties of a raw image over a storage.
 abbrev pub raw_fixed : Shape → Bool → Fixed

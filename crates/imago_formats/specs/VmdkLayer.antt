@@ -69,8 +69,8 @@ AreInReach unit (x ∷ xs) = (round_up unit (end_in_file x.access x.source x.sec
 
 -- The disk that a descriptor over these files means.
 abbrev pub meaning_of : Result (List (Extent (List ℕ))) Fault → (ℕ → ℕ → ℕ) → Meaning
-meaning_of (Ok xs) files = record { size = size_of xs; cell = in_extents files xs 1 }
-meaning_of (Err e) files = record { size = 0; cell = λ p. own (byte 0) }
+meaning_of (Ok xs) files = record { size = size_of xs; cell = in_extents files xs 1; backed = false }
+meaning_of (Err e) files = record { size = 0; cell = λ p. own (byte 0); backed = false }
 
 -- The fixed properties of the image.
 abbrev pub vmdk_fixed : {N : Type 0} → List (Extent N) → StorageState → List StorageState → Fixed

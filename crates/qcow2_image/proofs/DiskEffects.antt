@@ -4,7 +4,7 @@ use Rattle.std.proofs.Math.Nat.{le_refl}
 use Rattle.std.proofs.Math.Path.{fun_ext}
 use Rattle.std.proofs.lemmas.Bool.{cases_Bool, cases_eq, cases_lt}
 use Rattle.std.proofs.lemmas.Nat.{div-mul-add, mod_below, pow_pos}
-use Rattle.std.specs.Prelude.{◌⊎◌, IsTrue, IsSome, IfSome, ltb, ◌&&◌, if◌then◌else◌}
+use Rattle.std.specs.Prelude.{◌⊎◌, IsTrue, IsSome, IfSome, is_some, ltb, ◌&&◌, if◌then◌else◌}
 use Rattle.std.specs.List.{AllByRecursion}
 use Rattle.imago_storage.specs.State.{HasRisen, Shape, StorageState}
 use Rattle.imago_storage.specs.Calls.{UnchangedButFaults, CountsNotFallen, IsFaultless}
@@ -165,6 +165,7 @@ module _ {S : Type 0} (g : Ghosts S) (d : Qcow2 S g) (space : Space) (well_forme
       → Left below (layer_of g d) first is_sound H.fields.size H.fields.size given f
   may-left gives given shows f left = record {
     is_sound = (left.0, left.1.consistent);
+    backed = ap (λ (m : Meaning). m.backed) means ∙ ap (λ (K : Header). is_some K.backing_name) left.1.header.4 ∙ sym (ap (λ (m : Meaning). m.backed) first-means);
     size = omega (arith, same-size, ap (λ (m : Meaning). m.size) means);
     no_longer = λ exact. omega (arith, same-size, ap (λ (m : Meaning). m.size) means);
     shows = λ p inside low. subst (May below (layer_of g d) first given p) (sym (value-shown f left.0 left.1.consistent same-size p)) (each p low);
@@ -174,6 +175,9 @@ module _ {S : Type 0} (g : Ghosts S) (d : Qcow2 S g) (space : Space) (well_forme
 
     means : (layer_of g d).fixed.means f ≡ meaning_of blank (bytes_of f) (Ok left.0)
     means = ap (meaning_of blank (bytes_of f)) (header-reading (bytes_of f) left.0 left.1.consistent.readable.loads)
+
+    first-means : (layer_of g d).fixed.means first ≡ meaning_of blank (bytes_of first) (Ok H)
+    first-means = ap (meaning_of blank (bytes_of first)) (header-reading (bytes_of first) H well_formed.consistent.readable.loads)
 
     as-was : (p : ℕ) (v : Option Value) → v ≡ own_value (bytes_of first) (bytes_of first) H.fields p
         → May below (layer_of g d) first given p (seen_as p v)

@@ -213,6 +213,7 @@ module _ (f : List ℕ) (H : Header) (was : IsConsistent (bytes_of f) H) (guest 
   pub stop-left : Left below entry f is_sound entry.size entry.size (GivesBytes guest bytes) y
   stop-left = record {
     is_sound = subst (λ k. is_sound k y) (sym kind) (H, rewritten-consistent (bytes_of f) H was guest place (length bytes) each (bytes_of y) out);
+    backed = ap (λ (m : Meaning). m.backed) means-y ∙ sym (ap (λ (m : Meaning). m.backed) means-f);
     size = omega (arith, size, ap (λ (m : Meaning). m.size) means-y);
     no_longer = λ exact. omega (arith, size, ap (λ (m : Meaning). m.size) means-y);
     shows = λ p inside low. elim (cases_lt p guest) [

@@ -1,6 +1,6 @@
 -- A qcow2 image as a layer of a chain (an image and its backing chain): what its entries and bytes say of each byte of the disk.
 use Rattle.std.proofs.Common.{inl, inr, refl}
-use Rattle.std.specs.Prelude.{◌≡◌, ◌⊎◌, ℕ, ◌+◌, ◌-◌, ◌*◌, ◌/◌, ◌%◌, ◌^◌, Bool, true, false, Option, Some, None, List, Result, Ok, Err, if◌then◌else◌, ltb, ◌&&◌, codes, ◌++◌}
+use Rattle.std.specs.Prelude.{◌≡◌, ◌⊎◌, ℕ, ◌+◌, ◌-◌, ◌*◌, ◌/◌, ◌%◌, ◌^◌, Bool, true, false, Option, Some, None, is_some, List, Result, Ok, Err, if◌then◌else◌, ltb, ◌&&◌, codes, ◌++◌}
 use Rattle.imago_storage.specs.State.{Shape, StorageState}
 use Rattle.imago_storage.specs.Disk.{byte, barred, damaged_place}
 use Rattle.imago_storage.specs.declared.fault.Fault.{Fault}
@@ -37,8 +37,8 @@ cells blank memory file h p = if ltb p h.size then cell_by blank file h p (entry
 
 -- The meaning of a file by itself, by its header.
 abbrev pub meaning_of : Cell → Bytes → Result Header Fault → Meaning
-meaning_of blank file (Ok H) = record { size = H.fields.size; cell = cells blank file file H.fields }
-meaning_of blank file (Err fault) = record { size = 0; cell = λ p. own damaged_place }
+meaning_of blank file (Ok H) = record { size = H.fields.size; cell = cells blank file file H.fields; backed = is_some H.backing_name }
+meaning_of blank file (Err fault) = record { size = 0; cell = λ p. own damaged_place; backed = false }
 
 abbrev pub qcow2_meaning : Cell → List ℕ → Meaning
 qcow2_meaning blank bytes = meaning_of blank (bytes_of bytes) (header_of false (bytes_of bytes))

@@ -204,6 +204,7 @@ module _ {S B : Type 0} (g : Ghosts S) (u : GhostsBelow B) (n : ℕ) (old : Qcow
   wider : (f : List ℕ) → Same f → Wide f
   wider f left = record {
     is_sound = left.is_sound;
+    backed = left.backed;
     size = omega (arith, left.size);
     no_longer = λ exact. omega (arith, left.no_longer exact);
     shows = left.shows;

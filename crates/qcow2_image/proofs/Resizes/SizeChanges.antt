@@ -162,6 +162,7 @@ module _ {S : Type 0} (g : Ghosts S) where
         (Left below layer s.bytes is_sound (min layer.size n) (max layer.size n) gives) s s'
         (λ f left. record {
           is_sound = left.is_sound;
+          backed = left.backed;
           size = omega (arith, left.size);
           no_longer = λ exact. omega (arith, left.no_longer exact);
           shows = left.shows;

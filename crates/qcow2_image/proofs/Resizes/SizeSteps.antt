@@ -2,7 +2,7 @@
 use Rattle.std.proofs.Common.{◌≡◌, ℕ, ◌+◌, ◌-◌, ◌*◌, ◌/◌, ◌^◌, ◌<◌, ◌≤◌, refl, arith, ap, sym, subst, ◌∙◌, inl, inr, true, List, [], Option, Some, None, Result, Ok, Err}
 use Rattle.std.proofs.Math.Nat.{div-add-mod}
 use Rattle.std.proofs.lemmas.Bool.{cases_eq, lt-ltb}
-use Rattle.std.specs.Prelude.{⊤, ◌⊎◌, IfSome, IsTrue, if◌then◌else◌, ltb, max, min}
+use Rattle.std.specs.Prelude.{⊤, ◌⊎◌, IfSome, IsTrue, is_some, if◌then◌else◌, ltb, max, min}
 use Rattle.std.specs.List.{AllByRecursion}
 use Rattle.imago_storage.specs.State.{Shape, StorageState}
 use Rattle.imago_storage.specs.Disk.{byte}
@@ -135,10 +135,12 @@ module _ {S : Type 0} (g : Ghosts S) (n : ℕ) (d : Qcow2 S g) (well_formed : Is
       (ap (λ (c : Cell). through c (at below p)) (cell-shown blank (bytes_of f) K.fields p (entry (bytes_of f) K.fields (p / cluster_size K.fields))))
 
   size-left : (f : List ℕ) (K : Header) → IsConsistent (bytes_of f) K → min H.fields.size n ≤ K.fields.size → K.fields.size ≤ max H.fields.size n
+      → is_some K.backing_name ≡ is_some H.backing_name
       → ((p : ℕ) → own_value (bytes_of f) (bytes_of f) K.fields p ≡ own_value (bytes_of first) (bytes_of first) H.fields p)
       → Left below (layer_of g d) first is_sound (min H.fields.size n) (max H.fields.size n) GivesNone f
-  size-left f K was low high values = record {
+  size-left f K was low high named values = record {
     is_sound = (K, was);
+    backed = ap (λ (m : Meaning). m.backed) (means-as f K was) ∙ named ∙ sym (ap (λ (m : Meaning). m.backed) (means-as first H well_formed.consistent));
     size = let same = size-is in omega (arith, same, low);
     no_longer = λ exact. let same = size-is in omega (arith, same, high);
     shows = λ p inside in_disk. inl (shown-inside f K was p (let same = size-is in omega (arith, same, inside))
@@ -184,8 +186,8 @@ module _ {S : Type 0} (g : Ghosts S) (n : ℕ) (old : Qcow2 S g) (mid : Tables S
           each : (x : List ℕ) → (x ≡ s.bytes) ⊎ Kept (bytes_of x)
               → Left below (layer_of g old) s.bytes is_sound (min before.fields.size n) (max before.fields.size n) GivesNone x
           each x (inl same) = subst (Left below (layer_of g old) s.bytes is_sound (min before.fields.size n) (max before.fields.size n) GivesNone) (sym same)
-              (size-left g n old well_formed below s.bytes before well_formed.consistent (omega arith) (omega arith) (λ p. refl))
-          each x (inr kept) = size-left g n old well_formed below x (with_size before n) kept.sound.well_formed.consistent (omega arith) (omega arith) kept.values
+              (size-left g n old well_formed below s.bytes before well_formed.consistent (omega arith) (omega arith) refl (λ p. refl))
+          each x (inr kept) = size-left g n old well_formed below x (with_size before n) kept.sound.well_formed.consistent (omega arith) (omega arith) refl kept.values
 
     module _ (sizes : SizesDisk g.state n old.tables.file (Ok tt) mid.file) where
       kept : Kept f'
