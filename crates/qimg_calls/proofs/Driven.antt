@@ -1,38 +1,53 @@
 -- The effect of a list of calls on a chain, with the cancel of a mapping that is left at the end.
-use Rattle.std.proofs.Common.{◌≡◌, ◌∙◌, ℕ, List, refl, sym, subst}
+use Rattle.std.proofs.Common.{◌≡◌, ℕ, List, refl, sym, subst, true, false}
 use Rattle.std.specs.Prelude.{Bool, Some, None, Option, map}
-use Rattle.imago_storage.specs.Disk.{Disk}
+use Rattle.imago_storage.specs.Disk.{Disk, Value}
+use Rattle.imago_storage.specs.State.{StorageState}
 use Rattle.imago_storage.specs.Calls.{IsFaultless}
-use Rattle.imago_storage.specs.Steps.{cancel}
+use Rattle.imago_storage.specs.Steps.{Step, SameValues, cancel, done}
 use Rattle.imago_access.specs.declared.driver_model.DriverModel.{Ghosts}
 use Rattle.imago_access.specs.declared.mapping.PreparedDataMapping.{PreparedDataMapping}
 use Rattle.imago_access.specs.Files.{IsLater}
 use Rattle.imago_access.specs.ChainCalls.{ChainCancels, ChainSteps}
-use Rattle.imago_access.specs.Layer.{IsFree, Layer}
-use Rattle.imago_access.specs.Running.{chain_disk}
+use Rattle.imago_access.specs.Layer.{Fixed, IsFree, Layer}
+use Rattle.imago_access.specs.Running.{below_of, chain_disk}
 use Rattle.imago_access.specs.Stops.{IsCovered}
 use Rattle.qimg_calls.specs.declared.call.Call.{Call}
 use Rattle.qimg_calls.specs.declared.call.Call.TheVariants as calls
 use Rattle.qimg_calls.specs.declared.call.Answer.{Answer}
 use Rattle.qimg_calls.specs.declared.call.Answer.TheVariants as told
-use Rattle.qimg_calls.specs.Since.{Since, begun, IsSince}
+use Rattle.qimg_calls.specs.Since.{Since, IsSince}
 use Rattle.qimg_calls.specs.Held.{chain_with_mapping, MappingIsPrepared, IsReady, disk_call}
 use Rattle.qimg_calls.specs.Making.{CallOutcome, AnswersAll, CancelsKept, MadeAll}
-use Rattle.qimg_calls.specs.Runs.{HoldsSince, Driven}
-use Rattle.qimg_calls.proofs.Lists.{WritesBackCached, going-all, going-both, going-made, going-same, ran-all, stands-next}
-use Rattle.qimg_calls.proofs.Stops.{none-given}
+use Rattle.qimg_calls.specs.Runs.{reading_of, IfTelling, HoldsSince, Driven}
+use Rattle.qimg_calls.proofs.Lists.{WritesBackCached, going-all, going-both, going-made, going-same, ran-all, same-made}
+use Rattle.qimg_calls.proofs.SameChains.{same-chain-both}
+use Rattle.qimg_calls.proofs.Stops.{reading, reading_as, same-disk}
 
 -- A cancel gives no byte a new value.
-fewer-since : (below : List Layer) (layer : Layer) (bytes : List ℕ) (since : Since) (disk : Disk) (state own : Bool) → IsSince below layer bytes (begun since disk (cancel state own)) → IsSince below layer bytes since
-fewer-since below layer bytes since disk state own is = record {
-  file = λ p lt known. none-given below since disk (cancel state own) p _ (λ none. none) (is.file p lt known);
-  disk = λ p lt known. none-given below since disk (cancel state own) p _ (λ none. none) (is.disk p lt known);
-}
+cancel-same : (under : ℕ → Value) (state own : Bool) (old new : Disk) → Step under old (cancel state own) done new → SameValues old new
+cancel-same under true own old new step = step.1.values
+cancel-same under false own old new step = record { size = step.size; value = step.value }
 
 module _ {D St : Type 0} (g : Ghosts D St) (well_formed_is_coherent : (d : D) → g.well_formed d → g.coherent d) (well_formed_is_sound : (d : D) → g.well_formed d → IsCovered (g.layer d) g.sound (g.image d).bytes) where
   -- The step of a cancel.
   cancelled : (d new : D × List D) (m : PreparedDataMapping St) → CallOutcome g calls.Cancel told.Done (chain_with_mapping d (Some m)) (chain_with_mapping new None) → IsReady g d → ChainCancels g m.state d new
   cancelled d new m makes ready = let moves = makes.moves ready.intact in subst (λ says. ChainSteps g (disk_call g (chain_with_mapping d (Some m)) calls.Cancel) says d new) (sym (cc moves.0.1)) moves.0.2
+
+  -- After a cancel the values are still those that were allowed before it.
+  stands-cancelled : (d new : D × List D) (m : PreparedDataMapping St) (since : Since) → CallOutcome g calls.Cancel told.Done (chain_with_mapping d (Some m)) (chain_with_mapping new None) → g.image new.0 ≡ g.image d.0 → IsReady g d
+      → HoldsSince g since d → HoldsSince g since new
+  stands-cancelled d new m since makes same ready stands =
+      let values : SameValues (chain_disk g.layer d) (chain_disk g.layer new) = cancel-same (below_of g.layer d) _ _ (chain_disk g.layer d) (chain_disk g.layer new) (cancelled d new m makes ready) in
+      let below = map g.layer d.1 in
+      let disk = chain_disk g.layer new in
+      subst (λ (s : StorageState). IfTelling s ((s.crash_image ≡ s.bytes) × IsSince (reading (map g.layer new.1) g.sound (g.layer new.0) s.bytes) s.bytes disk since)) (sym same)
+      (λ tells keeps room.
+      let stood = stands tells keeps room in
+      let bytes = (g.image d.0).bytes in
+      let one : IsSince (reading below g.sound (g.layer d.0) bytes) bytes disk since = same-disk (reading_of g d) bytes (chain_disk g.layer d) disk since values stood.1 in
+      let two : IsSince (reading below g.sound (g.layer new.0) bytes) bytes disk since = subst (λ (x : Fixed). IsSince (reading_as below g.sound x bytes) bytes disk since) (sym makes.leads.fixed) one in
+      (stood.0, subst (λ (ls : List Layer). IsSince (reading ls g.sound (g.layer new.0) bytes) bytes disk since) (sym (makes.leads.below tt ready)) two))
 
   pub driven-free : (list : List Call) (answers : List Answer) (old d : D × List D) (since : Since) → AnswersAll g list answers (chain_with_mapping old None) (chain_with_mapping d None) → MappingIsPrepared g (chain_with_mapping old None) → IsReady g old
       → HoldsSince g since old → Driven g since list answers old d
@@ -44,7 +59,7 @@ module _ {D St : Type 0} (g : Ghosts D St) (well_formed_is_coherent : (d : D) �
         ends = λ every. rw ((ran.ends every).0) refl;
         counts_not_fallen = ran.counts_not_fallen;
         faults = ran.no_change_refused;
-        excess_refcount = ran.excess_refcount;
+        same_chain = ran.same_chain;
         ready = λ every. (ran.ends every).1;
         stands = λ every. (ran.ends every).2;
       }
@@ -54,18 +69,15 @@ module _ {D St : Type 0} (g : Ghosts D St) (well_formed_is_coherent : (d : D) �
       → Driven g since list answers old new
   driven-kept list answers old d new m since all makes same is_kept ready stands =
       let ran = ran-all g well_formed_is_coherent well_formed_is_sound list answers (chain_with_mapping old None) (chain_with_mapping d (Some m)) since all is_kept ready stands in
-      let held = (going-all g list answers (chain_with_mapping old None) (chain_with_mapping d (Some m)) all).kept is_kept in
       record {
         last = ran.last;
         run = ran.run;
         ends = λ every. rw ((ran.ends every).0) (cancelled d new m makes (ran.ends every).1, same);
         counts_not_fallen = subst (IsLater (g.image ran.last.now.drivers.0)) (sym same) ran.counts_not_fallen;
         faults = λ every. subst (IsFaultless (g.image old.0)) (sym same) (ran.no_change_refused every);
-        excess_refcount = λ every n. makes.leads.excess_refcount tt (ran.ends every).1 n ∙ ran.excess_refcount every n;
+        same_chain = λ every. same-chain-both g old d new (ran.same_chain every) (same-made g calls.Cancel told.Done (chain_with_mapping d (Some m)) (chain_with_mapping new None) makes (ran.ends every).1 tt);
         ready = λ every. makes.leads.ready tt (ran.ends every).1;
-        stands = λ every exact tells keeps room.
-            let next = stands-next g well_formed_is_coherent well_formed_is_sound calls.Cancel told.Done (chain_with_mapping d (Some m)) (chain_with_mapping new None) ran.last.since makes held (ran.ends every).1 tt (ran.ends every).2 exact tells keeps room in
-            (next.0, fewer-since (map g.layer new.1) (g.layer new.0) (g.image new.0).bytes ran.last.since (chain_disk g.layer d) _ _ next.1);
+        stands = λ every. stands-cancelled d new m ran.last.since makes same (ran.ends every).1 (ran.ends every).2;
       }
 
   -- The list's effect, whether or not a mapping is kept at the end.

@@ -18,11 +18,11 @@ use Rattle.imago_access.specs.Files.{Pairs, HadNoResourceError}
 use Rattle.imago_access.specs.Going.{LookupCall, LookupCallBelow, MutatingCall, KeepsExcessRefcounts}
 use Rattle.imago_access.specs.Parts.{PlainCause}
 use Rattle.imago_access.specs.Refusals.{unusable_fault}
-use Rattle.imago_access.specs.Running.{ChainRangeChange, IsBetween, IsIntactChain, below_ghosts, chain_disk}
+use Rattle.imago_access.specs.Running.{ChainRangeChange, IsBetween, IsIntactChain, below_ghosts, below_of, chain_disk}
 use Rattle.imago_access.specs.Stops.{Left, KeepsCrashImagesTo, GivesNone}
 use Rattle.imago_access.proofs.Looking.{chain_same, chain_sees, chain_kept}
 use Rattle.imago_access.proofs.Stopping.{passes_weaker}
-use Rattle.qimg_calls.specs.Since.{Begun, most_size}
+use Rattle.qimg_calls.specs.Since.{Begun, least_size, most_size}
 use Rattle.qimg_calls.specs.Held.{MappingIsPrepared, IsReady, chain_with_mapping, state_of}
 use Rattle.qimg_calls.specs.Leading.{LeavesForNext, ShowsBetween}
 use Rattle.qimg_calls.specs.Moves.{RestsOn}
@@ -51,14 +51,15 @@ between gives below old new size values p inside =
     let was : p < old.size = subst (λ n. p < n) size inside in
     elim (values p was) [ inl same ↦ inl (was, same) | inr gave ↦ inr gave ]
 
--- Weakens the clause on crash images to more values and a larger size.
-pub fewer-stops : {D St : Type 0} (g : Ghosts D St) (below : List Layer) (least most most' : ℕ) (gives more : ℕ → Value → Type 0) (old new : D) → most ≤ most'
-    → ((p : ℕ) (v : Value) → gives p v → more p v) → KeepsCrashImagesTo g below least most gives old new → KeepsCrashImagesTo g below 0 most' more old new
-fewer-stops g below least most most' gives more old new high weaker stops =
-    passes_weaker (Left below (g.layer old) (g.image old).bytes g.sound least most gives) (Left below (g.layer old) (g.image old).bytes g.sound 0 most' more) (g.image old) (g.image new)
+-- Weakens the clause on crash images to more values and more sizes.
+pub fewer-stops : {D St : Type 0} (g : Ghosts D St) (below : List Layer) (least least' most most' : ℕ) (gives more : ℕ → Value → Type 0) (old new : D) → least' ≤ least → most ≤ most'
+    → ((p : ℕ) (v : Value) → gives p v → more p v) → KeepsCrashImagesTo g below least most gives old new → KeepsCrashImagesTo g below least' most' more old new
+fewer-stops g below least least' most most' gives more old new low high weaker stops =
+    passes_weaker (Left below (g.layer old) (g.image old).bytes g.sound least most gives) (Left below (g.layer old) (g.image old).bytes g.sound least' most' more) (g.image old) (g.image new)
     (λ f left. record {
       is_sound = left.is_sound;
-      size = omega arith;
+      backed = left.backed;
+      size = omega (arith, left.size, low);
       no_longer = λ exact. omega (arith, left.no_longer exact, high);
       shows = λ p inside in_disk. elim (left.shows p inside in_disk) [
         | inl meant ↦ inl meant
@@ -71,10 +72,10 @@ module _ {D St : Type 0} (g : Ghosts D St) (old new : D × List D) (whole ok : T
   -- A change of a range.
   pub ran-leads : (well_formed_is_usable : (d : D) → g.well_formed d → (g.layer d).failed ≡ false) (gives : ℕ → Value → Type 0) → ChainRangeChange g ok gives old new
       → (whole → IsReady g old → ok)
-      → ((p : ℕ) (v : Value) → gives p v → Begun (map g.layer old.1) (chain_disk g.layer old) call p v)
-      → (g.layer old.0).size ≤ most_size (chain_disk g.layer old) call
+      → ((p : ℕ) (v : Value) → gives p v → Begun (below_of g.layer old) (chain_disk g.layer old) call p v)
+      → least_size (chain_disk g.layer old) call ≤ (g.layer old.0).size → (g.layer old.0).size ≤ most_size (chain_disk g.layer old) call
       → LeavesForNext g whole call old new
-  ran-leads well_formed_is_usable gives ran done gave high =
+  ran-leads well_formed_is_usable gives ran done gave low high =
       let same : whole → IsReady g old → map g.layer new.1 ≡ map g.layer old.1 = λ w ready. (ran.lookup_call.stays (done w ready) ready.intact.is_coherent).0 in
       record {
         fixed = ran.mutating_call.fixed;
@@ -91,15 +92,15 @@ module _ {D St : Type 0} (g : Ghosts D St) (old new : D × List D) (whole ok : T
               has_no_dirty_data = (ran.lookup_call.unchanged_but_faults ready.has_no_dirty_data).1;
               layers_bounded = subst (λ ls. length ls + 1 < 2 ^ 64) (sym (same w ready)) ready.layers_bounded;
             };
-        shows = λ w ready. between (Begun (map g.layer old.1) (chain_disk g.layer old) call) (map g.layer old.1) (g.layer old.0) (g.layer new.0) ran.size
+        shows = λ w ready. between (Begun (below_of g.layer old) (chain_disk g.layer old) call) (map g.layer old.1) (g.layer old.0) (g.layer new.0) ran.size
             (λ p inside. elim (ran.values (done w ready) ready.intact p inside) [ inl is ↦ inl is | inr gives_it ↦ inr (gave p _ gives_it) ]);
-        crash_images = λ ready. fewer-stops g (map g.layer old.1) (g.layer old.0).size (g.layer old.0).size (most_size (chain_disk g.layer old) call) gives (Begun (map g.layer old.1) (chain_disk g.layer old) call) old.0 new.0 high gave (ran.crash_images ready.intact);
+        crash_images = λ ready. fewer-stops g (map g.layer old.1) (g.layer old.0).size (least_size (chain_disk g.layer old) call) (g.layer old.0).size (most_size (chain_disk g.layer old) call) gives (Begun (below_of g.layer old) (chain_disk g.layer old) call) old.0 new.0 low high gave (ran.crash_images ready.intact);
       }
 
   -- A read or lookup through the chain.
   pub look-leads : (well_formed_is_coherent : (d : D) → g.well_formed d → g.coherent d) → Pairs (LookupCall g ok) (chain old) (chain new) → (whole → ok)
-      → (g.layer old.0).size ≤ most_size (chain_disk g.layer old) call → LeavesForNext g whole call old new
-  look-leads well_formed_is_coherent looked done high =
+      → least_size (chain_disk g.layer old) call ≤ (g.layer old.0).size → (g.layer old.0).size ≤ most_size (chain_disk g.layer old) call → LeavesForNext g whole call old new
+  look-leads well_formed_is_coherent looked done low high =
       let top : whole → IsReady g old → g.layer new.0 ≡ g.layer old.0 = λ w ready. (looked.0.stays (done w) (well_formed_is_coherent old.0 ready.intact.is_well_formed)).0 in
       let same : whole → IsReady g old → map g.layer new.1 ≡ map g.layer old.1 = λ w ready. chain_same g ok old.1 new.1 (done w) ready.intact.is_coherent looked.1 in
       record {
@@ -121,7 +122,7 @@ module _ {D St : Type 0} (g : Ghosts D St) (old new : D × List D) (whole ok : T
           layers_bounded = rw (same w ready) ready.layers_bounded;
         };
         shows = λ w ready p inside. inl (subst (λ (l : Layer). p < l.size) (top w ready) inside, ap (λ l. at (l ∷ map g.layer old.1) p) (top w ready));
-        crash_images = λ ready. fewer-stops g (map g.layer old.1) (g.layer old.0).size (g.layer old.0).size (most_size (chain_disk g.layer old) call) GivesNone (Begun (map g.layer old.1) (chain_disk g.layer old) call) old.0 new.0 high (λ p v none. absurd none)
+        crash_images = λ ready. fewer-stops g (map g.layer old.1) (g.layer old.0).size (least_size (chain_disk g.layer old) call) (g.layer old.0).size (most_size (chain_disk g.layer old) call) GivesNone (Begun (below_of g.layer old) (chain_disk g.layer old) call) old.0 new.0 low high (λ p v none. absurd none)
             (looked.0.crash_images ready.intact.is_well_formed (map g.layer old.1));
       }
 
@@ -131,8 +132,8 @@ module _ {D St : Type 0} (g : Ghosts D St) (old new : D × List D) (whole ok : T
       → (whole → IsReady g old → ok)
       → (whole → IsReady g old → KeepsExcessRefcounts g old.0 new.0)
       → (whole → IsReady g old → IsIntactChain g new)
-      → (whole → IsReady g old → ValuesBetween (Begun (map g.layer old.1) (chain_disk g.layer old) call) (chain_disk g.layer old) (chain_disk g.layer new))
-      → (IsReady g old → KeepsCrashImagesTo g (map g.layer old.1) 0 (most_size (chain_disk g.layer old) call) (Begun (map g.layer old.1) (chain_disk g.layer old) call) old.0 new.0)
+      → (whole → IsReady g old → ValuesBetween (Begun (below_of g.layer old) (chain_disk g.layer old) call) (chain_disk g.layer old) (chain_disk g.layer new))
+      → (IsReady g old → KeepsCrashImagesTo g (map g.layer old.1) (least_size (chain_disk g.layer old) call) (most_size (chain_disk g.layer old) call) (Begun (below_of g.layer old) (chain_disk g.layer old) call) old.0 new.0)
       → LeavesForNext g whole call old new
   step-leads well_formed_is_usable mutating_call looked done excess_refcount intact values stops =
       let same : whole → IsReady g old → map g.layer new.1 ≡ map g.layer old.1 = λ w ready. (looked.stays (done w ready) ready.intact.is_coherent).0 in
@@ -152,7 +153,7 @@ module _ {D St : Type 0} (g : Ghosts D St) (old new : D × List D) (whole ok : T
               layers_bounded = subst (λ ls. length ls + 1 < 2 ^ 64) (sym (same w ready)) ready.layers_bounded;
             };
         shows = λ w ready p inside.
-            subst (λ ls. ((p < (g.layer old.0).size) × (at (g.layer new.0 ∷ ls) p ≡ at (g.layer old.0 ∷ map g.layer old.1) p)) ⊎ Begun (map g.layer old.1) (chain_disk g.layer old) call p (at (g.layer new.0 ∷ ls) p))
+            subst (λ ls. ((p < (g.layer old.0).size) × (at (g.layer new.0 ∷ ls) p ≡ at (g.layer old.0 ∷ map g.layer old.1) p)) ⊎ Begun (below_of g.layer old) (chain_disk g.layer old) call p (at (g.layer new.0 ∷ ls) p))
             (same w ready) (values w ready p inside);
         crash_images = stops;
       }

@@ -1,4 +1,5 @@
 -- Lemmas.
+mod EarlyEnds
 mod Leading
 mod Moving
 mod Resizing
@@ -6,7 +7,9 @@ mod Spending
 mod Committing
 mod Copying
 pub mod Alone
+pub mod SameChains
 mod Lists
+mod Failed
 mod Driven
 pub mod Stops
 mod Standing

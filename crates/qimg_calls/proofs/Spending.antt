@@ -1,5 +1,5 @@
 -- The kept mapping and the disk after a commit or a cancel.
-use Rattle.std.proofs.Common.{◌≡◌, ◌⊎◌, inl, inr, ℕ, ◌<◌, List, arith, refl}
+use Rattle.std.proofs.Common.{◌≡◌, ◌⊎◌, inl, inr, ℕ, ◌<◌, arith, refl}
 use Rattle.std.specs.Prelude.{Bool, true, false, not, Option, Some, None, is_some, is_none, IsSome}
 use Rattle.imago_storage.specs.Disk.{Value, Disk, Hold, free, held}
 use Rattle.imago_storage.specs.Steps.{Step, CommitsValue, commit, cancel, done}
@@ -34,7 +34,7 @@ settled (held None true) was is (inr byte) = inr byte
 settled (held None false) was is same = inl same
 
 -- A commit gives a held byte the value written to it, and leaves any other byte.
-pub committed-between : (below : List Layer) (under : ℕ → Value) (state own : Bool) (old new : Disk) → Step under old (commit state own) done new
+pub committed-between : (below under : ℕ → Value) (state own : Bool) (old new : Disk) → Step under old (commit state own) done new
     → ValuesBetween (Begun below old (commit state own)) old new
 committed-between below under false own old new step p below_end = let was : p < old.size = omega (arith, below_end, step.size) in inl (was, step.value p was)
 committed-between below under true own old new step p below_end =

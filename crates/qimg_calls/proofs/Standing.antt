@@ -13,7 +13,10 @@ use Rattle.imago_access.specs.Stops.{GivesBytes, IsCovered, Left}
 use Rattle.imago_access.proofs.Stopping.{left_weaker, passes_weaker}
 use Rattle.qimg_calls.specs.Flattening.{AreBytesOf, Chains, GivesRead, HoldsAfter}
 use Rattle.qimg_calls.proofs.Leading.{ran-leads}
-use Rattle.qimg_calls.proofs.Lists.{stands-behind}
+use Rattle.qimg_calls.specs.Runs.{reading_of}
+use Rattle.qimg_calls.specs.Since.{begun, IsSince}
+use Rattle.qimg_calls.proofs.Lists.{stands-behind, telling-before}
+use Rattle.qimg_calls.proofs.Stops.{as-large}
 
 -- A value that a copy gives is also given by a write of the source's bytes.
 gives_written : {D St : Type 0} (g : Ghosts D St) (source : D × List D) (bytes : List ℕ) → Each g.coherent (chain source) → AreBytesOf (chain_disk g.layer source) bytes
@@ -47,5 +50,13 @@ pub copy_stands : {S P T Q : Type 0} (g : Ghosts S P) (h : Ghosts T Q) (well_for
 copy_stands g h well_formed_is_coherent well_formed_is_sound well_formed_is_usable result old new as_long ran since bytes see are ready stands whole =
     let written = ran_inside h (HadNoResourceError result) (GivesRead g old.0) (GivesBytes 0 bytes) old.1 new
     (λ p v inside gave. gives_written g old.0 bytes see are p v (omega (arith, inside, as_long)) gave) ran in
-    let leads = ran-leads h old.1 new (HadNoResourceError result) (HadNoResourceError result) (write 0 bytes) well_formed_is_usable (GivesBytes 0 bytes) written (λ w i. w) (λ p v gave. gave) (omega arith) in
-    (leads.ready whole ready, stands-behind h well_formed_is_coherent well_formed_is_sound (HadNoResourceError result) (write 0 bytes) old.1 new since leads ready whole stands)
+    let leads = ran-leads h old.1 new (HadNoResourceError result) (HadNoResourceError result) (write 0 bytes) well_formed_is_usable (GivesBytes 0 bytes) written (λ w i. w) (λ p v gave. gave) (omega arith) (omega arith) in
+    let a = h.image old.1.0 in
+    let b = h.image new.0 in
+    let next = stands-behind h well_formed_is_coherent well_formed_is_sound (HadNoResourceError result) (write 0 bytes) old.1 new since leads ready whole stands in (
+      leads.ready whole ready,
+      λ tells keeps room.
+          let stood = telling-before a b ((a.crash_image ≡ a.bytes) × IsSince (reading_of h old.1) a.bytes (chain_disk h.layer old.1) since) leads.counts_not_fallen.0 (leads.faults whole ready).1 stands tells keeps room in
+          let now = next tells keeps room in
+          (now.0, as-large (reading_of h new) b.bytes (chain_disk h.layer new) (begun since (chain_disk h.layer old.1) (write 0 bytes)) (h.layer new.0).size (omega (arith, stood.1.smallest, ran.size)) now.1),
+    )

@@ -1,12 +1,11 @@
 -- A chain (an image and its backing files) with its kept mapping, and the conditions under which the effects of calls are specified.
-use Rattle.std.specs.Prelude.{◌≡◌, ◌+◌, ◌<◌, ◌^◌, List, length, map, Option, Some, None, is_some}
-use Rattle.imago_storage.specs.Steps.{Call as DiskCall, read, write, write_zeroes, discard_to_zero, discard_to_any, discard_to_backing, prepare, cancel, ensure, write_mapped, lookup, flush, sync, grow, shrink}
+use Rattle.std.specs.Prelude.{◌≡◌, ◌+◌, ◌<◌, ◌^◌, Bool, List, length, map, Option, Some, None, is_some}
+use Rattle.imago_storage.specs.Steps.{Call as DiskCall, read, write, write_zeroes, discard_to_zero, discard_to_any, discard_to_backing, prepare, commit, cancel, ensure, write_mapped, lookup, flush, sync, grow, shrink}
 use Rattle.imago_access.specs.declared.driver_model.DriverModel.{Ghosts}
 use Rattle.imago_access.specs.declared.mapping.PreparedDataMapping.{PreparedDataMapping}
 use Rattle.imago_access.specs.Layer.{IsFree}
 use Rattle.imago_access.specs.Layers.{chain}
 use Rattle.imago_access.specs.Chain.{Each}
-use Rattle.imago_access.specs.ChainCalls.{commit_of}
 use Rattle.imago_access.specs.Refusals.{unusable_fault}
 use Rattle.imago_access.specs.Resizes.{fill_of}
 use Rattle.imago_access.specs.Running.{IsIntactChain}
@@ -40,22 +39,26 @@ pub record IsReady {D St : Type 0} (g : Ghosts D St) (c : D × List D) : Type 0 
   pub has_no_dirty_data : Each g.has_no_dirty_data c.1
   pub layers_bounded : length (map g.layer c.1) + 1 < 2 ^ 64
 
--- The call as a call of the disk.
+-- The call as a call of the disk. `prepared` says if the kept mapping has something to commit, and `own` if it was prepared under this
+-- chain's number.
+abbrev pub call_as : (prepared own : Bool) → Call → DiskCall
+call_as prepared own (calls.Read offset n) = read offset n
+call_as prepared own (calls.Write offset bytes) = write offset bytes.items
+call_as prepared own (calls.WriteZeroes offset n) = write_zeroes offset n
+call_as prepared own (calls.DiscardToZero offset n) = discard_to_zero offset n
+call_as prepared own (calls.DiscardToAny offset n) = discard_to_any offset n
+call_as prepared own (calls.DiscardToBacking offset n) = discard_to_backing offset n
+call_as prepared own (calls.PrepareDataMapping offset n overwrite) = prepare offset n overwrite
+call_as prepared own calls.CommitDataMapping = commit prepared own
+call_as prepared own calls.Cancel = cancel prepared own
+call_as prepared own (calls.EnsureDataMapping offset n overwrite) = ensure offset n overwrite
+call_as prepared own (calls.WriteMapped guest place bytes) = write_mapped guest bytes.items
+call_as prepared own (calls.GetMapping offset n) = lookup offset n
+call_as prepared own (calls.GetShallowMapping offset n) = lookup offset n
+call_as prepared own calls.Flush = flush
+call_as prepared own calls.Sync = sync
+call_as prepared own (calls.ResizeGrow size mode) = grow size (fill_of mode)
+call_as prepared own (calls.ResizeShrink size) = shrink size
+
 abbrev pub disk_call : {D St : Type 0} → Ghosts D St → ChainWithMapping D St → Call → DiskCall
-disk_call g h (calls.Read offset n) = read offset n
-disk_call g h (calls.Write offset bytes) = write offset bytes.items
-disk_call g h (calls.WriteZeroes offset n) = write_zeroes offset n
-disk_call g h (calls.DiscardToZero offset n) = discard_to_zero offset n
-disk_call g h (calls.DiscardToAny offset n) = discard_to_any offset n
-disk_call g h (calls.DiscardToBacking offset n) = discard_to_backing offset n
-disk_call g h (calls.PrepareDataMapping offset n overwrite) = prepare offset n overwrite
-disk_call g h calls.CommitDataMapping = commit_of g (state_of h.kept_mapping) h.drivers
-disk_call g h calls.Cancel = cancel (is_some (state_of h.kept_mapping)) (is_own g.tag (state_of h.kept_mapping) (g.layer h.drivers.0))
-disk_call g h (calls.EnsureDataMapping offset n overwrite) = ensure offset n overwrite
-disk_call g h (calls.WriteMapped guest place bytes) = write_mapped guest bytes.items
-disk_call g h (calls.GetMapping offset n) = lookup offset n
-disk_call g h (calls.GetShallowMapping offset n) = lookup offset n
-disk_call g h calls.Flush = flush
-disk_call g h calls.Sync = sync
-disk_call g h (calls.ResizeGrow size mode) = grow size (fill_of mode)
-disk_call g h (calls.ResizeShrink size) = shrink size
+disk_call g h = call_as (is_some (state_of h.kept_mapping)) (is_own g.tag (state_of h.kept_mapping) (g.layer h.drivers.0))

@@ -7,10 +7,10 @@ use Rattle.imago_access.specs.declared.driver_model.DriverModel.{Ghosts}
 use Rattle.imago_access.specs.Layer.{Layer}
 use Rattle.imago_access.specs.Chain.{at, Each}
 use Rattle.imago_access.specs.Files.{Pairs, UnchangedButMoreFaults as IsKeptFile, IsLater, files_of}
-use Rattle.imago_access.specs.Running.{chain_disk}
+use Rattle.imago_access.specs.Running.{below_of, chain_disk}
 use Rattle.imago_access.specs.Stops.{KeepsCrashImagesTo}
 use Rattle.imago_access.specs.Going.{KeepsExcessRefcounts}
-use Rattle.qimg_calls.specs.Since.{Begun, most_size}
+use Rattle.qimg_calls.specs.Since.{Begun, least_size, most_size}
 use Rattle.qimg_calls.specs.Held.{IsReady}
 
 -- Each byte of the disk reads as before, or as the call gives it.
@@ -29,6 +29,6 @@ pub record LeavesForNext {D St : Type 0} (g : Ghosts D St) (whole : Type 0) (cal
   pub below : whole → IsReady g old → map g.layer new.1 ≡ map g.layer old.1
   pub ready : whole → IsReady g old → IsReady g new
   pub shows : whole → IsReady g old
-      → ShowsBetween (Begun (map g.layer old.1) (chain_disk g.layer old) call) (map g.layer old.1) (g.layer old.0) (g.layer new.0)
-  pub crash_images : IsReady g old → KeepsCrashImagesTo g (map g.layer old.1) 0 (most_size (chain_disk g.layer old) call)
-      (Begun (map g.layer old.1) (chain_disk g.layer old) call) old.0 new.0
+      → ShowsBetween (Begun (below_of g.layer old) (chain_disk g.layer old) call) (map g.layer old.1) (g.layer old.0) (g.layer new.0)
+  pub crash_images : IsReady g old → let disk = chain_disk g.layer old in
+      KeepsCrashImagesTo g (map g.layer old.1) (least_size disk call) (most_size disk call) (Begun (below_of g.layer old) disk call) old.0 new.0

@@ -1,10 +1,10 @@
 -- Specifies one call of a list: its effect on a chain (an image and its backing files), and its errors. Earlier flushes don't matter here.
-use Rattle.std.specs.Prelude.{◌≡◌, List, [], ◌∷◌, is_some, IsFalse, Option, Some, None, MatchOption, Result, Ok, Err}
+use Rattle.std.specs.Prelude.{◌≡◌, List, [], ◌∷◌, is_some, IsFalse, IsSome, Option, Some, None, MatchOption, Result, Ok, Err}
 use Rattle.imago_storage.specs.declared.fault.Fault.{Fault}
 use Rattle.imago_storage.specs.declared.fault.Fault.TheVariants.{BadArgument}
 use Rattle.imago_access.specs.declared.driver_model.DriverModel.{Ghosts}
 use Rattle.imago_access.specs.declared.mapping.PreparedDataMapping.{PreparedDataMapping}
-use Rattle.imago_access.specs.ChainCalls.{ChainFails, WontDecline}
+use Rattle.imago_access.specs.ChainCalls.{AllUnchanged, ChainFails, WontDecline}
 use Rattle.imago_access.specs.Refusals.{unusable_fault}
 use Rattle.imago_access.specs.Running.{IsIntactChain}
 use Rattle.qimg_calls.specs.declared.call.Call.{Call}
@@ -14,23 +14,26 @@ use Rattle.qimg_calls.specs.declared.call.Answer.TheVariants as told
 use Rattle.qimg_calls.specs.Calls.{Either, Fits, GoesOn, IfRefused, WasDone, is_of_mapping, is_out_of_place}
 use Rattle.qimg_calls.specs.Held.{ChainWithMapping, chain_with_mapping, MappingIsPrepared, disk_call}
 use Rattle.qimg_calls.specs.Leading.{LeavesForNext}
-use Rattle.qimg_calls.specs.Marking.{MarksRefusedFailed}
-use Rattle.qimg_calls.specs.Moves.{IsIdle, CallEffect, RestsOn, refusal_at_once}
+use Rattle.qimg_calls.specs.Marking.{MarksRefusedFailed, StaysFailed}
+use Rattle.qimg_calls.specs.Moves.{IsIdle, CallEffect, EndsEarly, RestsOn, refusal_at_once}
 use Rattle.qimg_calls.specs.RoomTaken.{LeavesRoomFor, SettlesUnits}
 
--- The outcome of one call. If a cause is known before anything is done, the answer is that error. A call with nothing to do succeeds. The
--- call has its specified effect on the disk, allocates and deallocates within its limits, marks failed images, and leaves what the next
--- call relies on. The kept mapping is still the prepared one. On any chain, consistent or not, the fault is one of an image's call, and
--- `Storage` only if a storage has failed. A cancel always succeeds.
+-- The outcome of one call. If a cause is known before anything is done, the answer is that error. A call with nothing to do succeeds. Such a
+-- call makes no request and changes nothing. The call has its specified effect on the disk, allocates and deallocates within its limits,
+-- marks failed images, which stay failed, and leaves what the next call relies on. The kept mapping is still the prepared one. On any chain,
+-- consistent or not, the fault is one of an image's call, and `Storage` only if a storage has failed. A cancel always succeeds.
 pub record CallOutcome {D St : Type 0} (g : Ghosts D St) (call : Call) (answer : Answer) (old new : ChainWithMapping D St) : Type 0 where
   pub fits : Fits call answer
   pub early_outcome : (f : Fault) → refusal_at_once g call old ≡ Some f → answer ≡ told.Refused f
   pub idle : IsIdle g call old → unusable_fault (g.layer old.drivers.0) ≡ None → WasDone answer
+  pub untouched : EndsEarly g call old → AllUnchanged g old.drivers new.drivers
+  pub stays_kept : IsSome (refusal_at_once g call old) → new.kept_mapping ≡ old.kept_mapping
   pub moves : RestsOn g call old.drivers → CallEffect g call answer old new
   pub room : IsIntactChain g old.drivers → GoesOn answer → LeavesRoomFor g call old.drivers.0 new.drivers.0
   pub units : IsIntactChain g old.drivers → WontDecline g (disk_call g old call) old.drivers → WasDone answer
       → SettlesUnits g call old.drivers.0 new.drivers.0
   pub marks_failed : IfRefused answer (MarksRefusedFailed g call old.drivers new.drivers)
+  pub stays_failed : StaysFailed g old.drivers new.drivers
   pub failed : IfRefused answer (ChainFails g old.drivers new.drivers)
   pub cancels : call ≡ calls.Cancel → WasDone answer × (new.kept_mapping ≡ None)
   pub leads : LeavesForNext g (GoesOn answer) (disk_call g old call) old.drivers new.drivers

@@ -1,5 +1,5 @@
 -- Specifies the effect of a call of a list on the disk and on the kept mapping, and the causes of its errors.
-use Rattle.std.specs.Prelude.{◌≡◌, true, ◌<◌, ◌≤◌, ◌^◌, ◌&&◌, ⊤, ℕ, Bool, List, Some, None, if◌then◌else◌, is_some, length, ltb, map, not, Option}
+use Rattle.std.specs.Prelude.{◌≡◌, ◌⊎◌, true, ◌<◌, ◌≤◌, ◌^◌, ◌&&◌, ⊤, ℕ, Bool, List, Some, None, if◌then◌else◌, is_some, length, ltb, map, not, IsSome, Option}
 use Rattle.imago_storage.specs.Steps.{Answer as DiskAnswer, shrink}
 use Rattle.imago_storage.specs.declared.fault.Fault.{Fault}
 use Rattle.imago_storage.specs.declared.fault.Fault.TheVariants.{ReadOnly, MissingData, Failed}
@@ -185,3 +185,7 @@ refusal_at_once g calls.Cancel h = None
 refusal_at_once g (calls.ResizeGrow size mode) h = let top = g.layer h.drivers.0 in resize_refusal top (ltb top.size size)
 refusal_at_once g (calls.ResizeShrink size) h = let top = g.layer h.drivers.0 in resize_refusal top (ltb size top.size)
 refusal_at_once g call h = unusable_fault (g.layer h.drivers.0)
+
+-- The call has nothing to do, or fails before anything is done.
+abbrev pub EndsEarly : {D St : Type 0} → Ghosts D St → Call → ChainWithMapping D St → Type 0
+EndsEarly g call h = IsIdle g call h ⊎ IsSome (refusal_at_once g call h)

@@ -1,25 +1,26 @@
 -- Specifies `drive`, a list of calls on a chain (an image and its backing files). Each call reads or changes the guest disk. A crash image
 -- (the top's file after a crash between two requests) reads as flushed data, or as data of calls begun since the flush.
-use Rattle.std.specs.Prelude.{◌≡◌, ⊤, ℕ, ◌+◌, ◌<◌, ◌^◌, List, [], ◌∷◌, length, map, take, Some, None, MatchOption, is_some, is_none, IsTrue, if◌then◌else◌}
+use Rattle.std.specs.Prelude.{◌≡◌, ⊤, ℕ, ◌+◌, ◌<◌, ◌^◌, List, [], ◌∷◌, length, map, take, Some, None, MatchOption, is_some, IsSome, IsTrue}
 use Rattle.imago_storage.specs.Calls.{IsFaultless}
 use Rattle.imago_storage.specs.Passing.{UnrefusedCrashImages}
+use Rattle.imago_storage.specs.State.{StorageState}
 use Rattle.imago_storage.specs.declared.fault.Fault.{Fault}
 use Rattle.imago_storage.specs.declared.fault.Fault.TheVariants.{BadArgument}
 use Rattle.imago_access.specs.declared.driver_model.DriverModel.{Ghosts}
 use Rattle.imago_access.specs.Files.{Pairs, UnchangedButMoreFaults as IsKeptFile, IsLater, files_of}
-use Rattle.imago_access.specs.ChainCalls.{ChainCancels, WontDecline}
-use Rattle.imago_access.specs.Running.{chain_disk}
+use Rattle.imago_access.specs.ChainCalls.{AllUnchanged, ChainCancels, WontDecline}
+use Rattle.imago_access.specs.Running.{below_of, chain_disk}
 use Rattle.imago_access.specs.Going.{KeepsExcessRefcounts}
 use Rattle.qimg_calls.specs.declared.call.Call.{Call}
 use Rattle.qimg_calls.specs.declared.call.Call.TheVariants as calls
 use Rattle.qimg_calls.specs.declared.call.Answer.{Answer}
 use Rattle.qimg_calls.specs.declared.call.Answer.TheVariants as told
 use Rattle.qimg_calls.specs.Calls.{Either, Fits, is_out_of_place, GoesOn, IfRefused, WasDone}
-use Rattle.qimg_calls.specs.Since.{Since, flushed, begun, LeftSince, IsSince}
+use Rattle.qimg_calls.specs.Since.{Since, Reading, begun, since_next, LeftSince, IsSince}
 use Rattle.qimg_calls.specs.Held.{ChainWithMapping, chain_with_mapping, MappingIsPrepared, IsReady, disk_call, state_of}
 use Rattle.qimg_calls.specs.Making.{MadeAll}
-use Rattle.qimg_calls.specs.Marking.{MarksRefusedFailed}
-use Rattle.qimg_calls.specs.Moves.{IsIdle, CallEffect, refusal_at_once}
+use Rattle.qimg_calls.specs.Marking.{MarksRefusedFailed, StaysFailed}
+use Rattle.qimg_calls.specs.Moves.{IsIdle, CallEffect, EndsEarly, refusal_at_once}
 use Rattle.qimg_calls.specs.RoomTaken.{LeavesRoomFor, SettlesUnits}
 
 -- The state between two calls of a list: the chain with its kept mapping, and the values that its bytes may have since the last flush.
@@ -30,21 +31,35 @@ pub record Moment (D St : Type 0) : Type 0 where
 abbrev pub moment : {D St : Type 0} → ChainWithMapping D St → Since → Moment D St
 moment now since = record { now = now; since = since }
 
--- The values that the chain may show after one more call. A successful flush with no mapping prepared starts again from the disk.
+-- The values that the chain may show after one more call. A successful flush starts again from the disk, unless a mapping with something to
+-- commit is prepared.
 abbrev pub since_after : {D St : Type 0} → Ghosts D St → Call → Answer → Moment D St → ChainWithMapping D St → Since
-since_after g calls.Flush told.Done old new =
-    if is_none (state_of old.now.kept_mapping) then flushed (chain_disk g.layer new.drivers)
-    else begun old.since (chain_disk g.layer old.now.drivers) (disk_call g old.now calls.Flush)
-since_after g call answer old new = begun old.since (chain_disk g.layer old.now.drivers) (disk_call g old.now call)
+since_after g call answer old new = since_next call answer (is_some (state_of old.now.kept_mapping)) old.since
+    (chain_disk g.layer old.now.drivers) (disk_call g old.now call) (chain_disk g.layer new.drivers)
+
+-- A file read as the top's file, over the layers below.
+abbrev pub reading_of : {D St : Type 0} → Ghosts D St → D × List D → Reading
+reading_of g c = let fixed = (g.layer c.0).fixed in record {
+  below = below_of g.layer c;
+  means = fixed.means;
+  sound = g.sound fixed.kind;
+  exact = fixed.exact;
+  backed = (fixed.means (g.image c.0).bytes).backed;
+}
 
 -- `f` is a valid crash image of the call.
 abbrev pub IsLeftBy : {D St : Type 0} → Ghosts D St → Call → Moment D St → List ℕ → Type 0
-IsLeftBy g call old = LeftSince (map g.layer old.now.drivers.1) (g.layer old.now.drivers.0).fixed g.sound
+IsLeftBy g call old = LeftSince (reading_of g old.now.drivers)
     (begun old.since (chain_disk g.layer old.now.drivers) (disk_call g old.now call))
 
--- The top's file stores the size of its disk, as a qcow2 image does.
-abbrev pub StatesSize : {D St : Type 0} → Ghosts D St → D × List D → Type 0
-StatesSize g c = IsTrue (g.layer c.0).fixed.exact
+-- `P` holds if the storage exposes its crash images and keeps what is written, and its count of refused changes is below the maximum.
+abbrev pub IfTelling : StorageState → Type 0 → Type 0
+IfTelling s P = IsTrue s.shape.tells → IsTrue s.shape.keeps → s.refusals + 1 < 2 ^ 64 → P
+
+-- A crash now leaves the bytes of the top's file, which are a valid crash image, as a file of the chain `c`.
+abbrev pub IsLeftNow : {D St : Type 0} → Ghosts D St → D × List D → Moment D St → Type 0
+IsLeftNow g c m = let top = g.image m.now.drivers.0 in
+    IfTelling top ((top.crash_image ≡ top.bytes) × LeftSince (reading_of g c) m.since top.bytes)
 
 -- One call that is made, from one moment to the next.
 pub record Made {D St : Type 0} (g : Ghosts D St) (call : Call) (answer : Answer) (old new : Moment D St) : Type 0 where
@@ -52,17 +67,22 @@ pub record Made {D St : Type 0} (g : Ghosts D St) (call : Call) (answer : Answer
   pub fits : Fits call answer
   pub early_outcome : (f : Fault) → refusal_at_once g call old.now ≡ Some f → answer ≡ told.Refused f
   pub idle : IsIdle g call old.now → WasDone answer
+  -- A call that fails early or has nothing to do makes no request, and changes no layer. If it fails early, the kept mapping stays kept.
+  pub untouched : EndsEarly g call old.now → AllUnchanged g old.now.drivers new.now.drivers
+  pub stays_kept : IsSome (refusal_at_once g call old.now) → new.now.kept_mapping ≡ old.now.kept_mapping
   pub moves : CallEffect g call answer old.now new.now
   -- The allocation that the call changes. `units` says nothing about a raw or VMDK top, where each byte counts as unallocated and zeroed.
   -- A qcow2 top of version 3 declines no zeroing and no discard, and one of version 2 all but a discard to the backing file.
   pub room : GoesOn answer → LeavesRoomFor g call old.now.drivers.0 new.now.drivers.0
   pub units : WontDecline g (disk_call g old.now call) old.now.drivers → WasDone answer
       → SettlesUnits g call old.now.drivers.0 new.now.drivers.0
-  -- The image that is marked failed after an error.
+  -- The image that is marked failed after an error. A layer that had failed still has.
   pub marks_failed : IfRefused answer (MarksRefusedFailed g call old.now.drivers new.now.drivers)
-  -- The crash images of the call, and what later ones may show. `crash_images` only applies if the top's file stores the size of its disk,
-  -- in a storage that exposes its crash images and keeps what is written. So it says nothing about a raw top, or a top in a `MemStorage`.
-  pub crash_images : StatesSize g old.now.drivers → UnrefusedCrashImages (IsLeftBy g call old) (g.image old.now.drivers.0) (g.image new.now.drivers.0)
+  pub stays_failed : StaysFailed g old.now.drivers new.now.drivers
+  -- The crash images of the call, and the one right after it. They only have a meaning if the storage of the top's file exposes its crash
+  -- images and keeps what is written, and not for a `MemStorage`.
+  pub crash_images : UnrefusedCrashImages (IsLeftBy g call old) (g.image old.now.drivers.0) (g.image new.now.drivers.0)
+  pub file_now : GoesOn answer → IsLeftNow g old.now.drivers new
   pub counts_not_fallen : IsLater (g.image old.now.drivers.0) (g.image new.now.drivers.0)
   pub since : new.since ≡ since_after g call answer old new.now
   -- No file below the top changes, and the layers below read as before.
@@ -99,12 +119,18 @@ abbrev pub Ends : {D St : Type 0} → Ghosts D St → Moment D St → D × List 
 Ends g last new = MatchOption last.now.kept_mapping (new ≡ last.now.drivers)
     (λ m. ChainCancels g m.state last.now.drivers new × (g.image new.0 ≡ g.image last.now.drivers.0))
 
--- Each byte of the file and the disk has a value that `since` allows, and a crash now leaves the file's bytes. The top's file must store
--- the size of its disk. Its storage must expose crash images, keep what is written, and have a count of refused changes below the maximum.
+-- Each byte of the file and the disk has a value that `since` allows, and a crash now leaves the file's bytes.
 abbrev pub HoldsSince : {D St : Type 0} → Ghosts D St → Since → D × List D → Type 0
-HoldsSince g since c = StatesSize g c
-    → IsTrue (g.image c.0).shape.tells → IsTrue (g.image c.0).shape.keeps → (g.image c.0).refusals + 1 < 2 ^ 64
-    → ((g.image c.0).crash_image ≡ (g.image c.0).bytes) × IsSince (map g.layer c.1) (g.layer c.0) (g.image c.0).bytes since
+HoldsSince g since c = IfTelling (g.image c.0) (((g.image c.0).crash_image ≡ (g.image c.0).bytes)
+    × IsSince (reading_of g c) (g.image c.0).bytes (chain_disk g.layer c) since)
+
+-- The chain after calls without a resource error. They keep the fixed properties of the top, the layers below and their files, and the
+-- excess refcount of each cluster.
+pub record IsSameChain {D St : Type 0} (g : Ghosts D St) (old new : D × List D) : Type 0 where
+  pub fixed : (g.layer new.0).fixed ≡ (g.layer old.0).fixed
+  pub files : Pairs IsKeptFile (files_of g old.1) (files_of g new.1)
+  pub below : map g.layer new.1 ≡ map g.layer old.1
+  pub excess_refcount : KeepsExcessRefcounts g old.0 new.0
 
 -- The effect of a list of calls, from a disk that was flushed and calls begun since. `Run` states each call and its crash images, in order.
 pub record Driven {D St : Type 0} (g : Ghosts D St) (since : Since) (list : List Call) (answers : List Answer)
@@ -115,7 +141,7 @@ pub record Driven {D St : Type 0} (g : Ghosts D St) (since : Since) (list : List
   pub counts_not_fallen : IsLater (g.image last.now.drivers.0) (g.image new.0)
   -- The conditions for the next list.
   pub faults : AllGoOn answers → IsFaultless (g.image old.0) (g.image new.0)
-  pub excess_refcount : AllGoOn answers → KeepsExcessRefcounts g old.0 new.0
+  pub same_chain : AllGoOn answers → IsSameChain g old new
   pub ready : AllGoOn answers → IsReady g new
   pub stands : AllGoOn answers → HoldsSince g last.since new
 

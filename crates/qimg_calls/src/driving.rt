@@ -1,10 +1,11 @@
 // `drive`: makes a list of calls on a chain, one after another. Definitions: specs/Runs.antt and specs/Since.antt.
-ghost use Rattle.std.specs.Prelude.{◌≡◌, ◌≤◌, ◌<◌, [], None, length, IfOk, IfErr, OnOk, OnErr, IsOkUnless, take, vec_capacity};
+ghost use Rattle.std.specs.Prelude.{◌≡◌, ◌≤◌, ◌<◌, [], None, length, map, IsTrue, IfOk, IfErr, OnOk, OnErr, IsOkUnless, take, vec_capacity};
 ghost use Rattle.imago_access.specs.Layer.{IsFree};
 ghost use Rattle.imago_access.specs.Chain.{Each};
 ghost use Rattle.imago_access.specs.Files.{Pairs, UnchangedButMoreFaults as IsKeptFile, files_of};
 ghost use Rattle.qimg_calls.specs.Since.{Since};
 ghost use Rattle.qimg_calls.specs.Held.{chain_with_mapping, MappingIsPrepared, IsReady};
+ghost use Rattle.qimg_calls.specs.Marking.{StaysFailed, answer_of_failed};
 ghost use Rattle.qimg_calls.specs.Making.{Answers, AnswersAll, CancelsKept, MadeAll};
 ghost use Rattle.qimg_calls.specs.Runs.{CutShort, Driven, HoldsSince};
 
@@ -30,7 +31,9 @@ use std::alloc::{AllocError, Global};
 ///   zeroes each unit that its range covers completely.
 /// - No file below the top changes.
 ///
-/// On any chain, ready or not, each answer fits its call, and is one that the call can have, given what lookups report of the disk.
+/// On any chain, ready or not, each answer fits its call, and is one that the call can have, given what lookups report of the disk. A call
+/// that fails before anything is done, or has nothing to do, makes no request and changes nothing. An image that has failed stays failed. If
+/// the top had failed before the list, each call fails.
 ///
 /// # Preconditions
 ///
@@ -47,9 +50,10 @@ use std::alloc::{AllocError, Global};
 ///
 /// # Crash safety
 ///
-/// On a ready chain with a top file that stores the size of its disk, each crash image (the top's file after a crash between two requests)
-/// of a call is consistent. At each offset the crash image reads as at the last flush before the call, or as a call that has begun since
-/// then writes it.
+/// On a ready chain each crash image (the top's file after a crash between two requests) is consistent. At each offset below the size of the
+/// disk at the last flush, it reads as at that flush, or as a call that has begun since then writes it. Right after a flush the file reads as
+/// the disk. A flush counts if no mapping with something to commit was prepared. A raw file doesn't store the size of its disk, so after a
+/// crash its disk has the size of the file, and only bytes below the smallest size since the flush are specified.
 pub fn drive<D: FormatDriverInstance>(
     alloc: Global,
     chain: &mut FormatAccess<D>,
@@ -63,6 +67,8 @@ pub fn drive<D: FormatDriverInstance>(
     ensures each { IfOk result (λ answers. length answers.items ≡ length calls.now) }
     ensures refused { IsOkUnless result Fault.Memory }
     ensures free { IsFree (D.layer chain.new.0) }
+    ensures stays_failed { StaysFailed D.DriverModel chain.old chain.new }
+    ensures all_fail { IsTrue (D.layer chain.old.0).failed → IfOk result (λ answers. answers.items ≡ map answer_of_failed calls.now) }
     ensures fixed { (D.layer chain.new.0).fixed ≡ (D.layer chain.old.0).fixed }
     ensures below { Each D.has_no_dirty_data chain.old.1
         → Pairs IsKeptFile (files_of D.DriverModel chain.old.1) (files_of D.DriverModel chain.new.1) × Each D.has_no_dirty_data chain.new.1 }

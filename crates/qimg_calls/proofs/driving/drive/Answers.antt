@@ -6,6 +6,7 @@ use Rattle.imago_access.proofs.FilePairs.{kept_all_same}
 use Rattle.qimg_calls.specs.Held.{chain_with_mapping}
 use Rattle.qimg_calls.specs.Making.{MadeAll}
 use Rattle.qimg_calls.proofs.Driven.{driven-made, going-made-all, none-kept}
+use Rattle.qimg_calls.proofs.Failed.{fails-made, stays-none, stays-made}
 use Rattle.qimg_calls.proofs.Lists.{as-many}
 use Rattle.qimg_calls.proofs.driving.drive.Goals as goal
 
@@ -48,6 +49,15 @@ pub returns-clause-below : goal.returns-clause-below
 returns-clause-below g c =
     (going-made-all g.D.DriverModel c.args.calls.now c.make_all-outcome.new.answers.items c.args.chain.now c.give_up.new.chain (returns-clause-made g c)).layers_below
 
+pub returns-in-Err-clause-stays_failed : goal.returns-in-Err-clause-stays_failed
+returns-in-Err-clause-stays_failed g c = stays-none g.D.DriverModel c.args.chain.now
+
+pub returns-clause-stays_failed : goal.returns-clause-stays_failed
+returns-clause-stays_failed g c = stays-made g.D.DriverModel c.args.calls.now c.make_all-outcome.new.answers.items c.args.chain.now c.give_up.new.chain (returns-clause-made g c)
+
+pub returns-clause-all_fail : goal.returns-clause-all_fail
+returns-clause-all_fail g c failed = fails-made g.D.DriverModel c.args.calls.now c.make_all-outcome.new.answers.items c.args.chain.now c.give_up.new.chain (returns-clause-made g c) failed
+
 pub returns-clause-each : goal.returns-clause-each
 returns-clause-each g c = let r = c.make_all-outcome in
     as-many g.D.DriverModel c.args.calls.now r.new.answers.items (chain_with_mapping c.args.chain.now None) (chain_with_mapping r.new.chain r.result.1) (rw (c.in_ok-outcome.was) at r.ensures.ok)
@@ -82,3 +92,8 @@ pub returns-in_err-outcome-clause-below : goal.returns-in_err-outcome-clause-bel
 returns-in_err-outcome-clause-below g c = let r = c.make_all-outcome in
     (going-made-all g.D.DriverModel (take (length r.new.answers.items) c.args.calls.now) r.new.answers.items c.args.chain.now c.give_up.new.chain
     (chain_with_mapping r.new.chain r.result.1, rw (c.in_err-outcome.was) at r.ensures.err, c.give_up.ensures)).layers_below
+
+pub returns-in_err-outcome-clause-stays_failed : goal.returns-in_err-outcome-clause-stays_failed
+returns-in_err-outcome-clause-stays_failed g c = let r = c.make_all-outcome in
+    stays-made g.D.DriverModel (take (length r.new.answers.items) c.args.calls.now) r.new.answers.items c.args.chain.now c.give_up.new.chain
+    (chain_with_mapping r.new.chain r.result.1, rw (c.in_err-outcome.was) at r.ensures.err, c.give_up.ensures)

@@ -10,6 +10,7 @@ use Rattle.qimg_calls.specs.Calls.{GoesOn}
 use Rattle.qimg_calls.specs.Held.{chain_with_mapping}
 use Rattle.qimg_calls.specs.Making.{done_or_refused}
 use Rattle.qimg_calls.specs.declared.call.Call.TheVariants as calls
+use Rattle.qimg_calls.proofs.EarlyEnds.{all-unchanged, stays-failed}
 use Rattle.qimg_calls.proofs.Leading.{ran-leads}
 use Rattle.qimg_calls.proofs.Moving.{not-cut, nothing-named, told-fits, told-idle, told-marks, told-moves, told-refused}
 use Rattle.qimg_calls.proofs.making.changing.write.Goals as goal
@@ -26,14 +27,17 @@ returns g c =
       fits = told-fits call r refl;
       early_outcome = λ f is. told-refused r f ((rw (c.deref.ensures.value) at e.early_outcome) f is);
       idle = λ nothing usable. told-idle r ((rw (c.deref.ensures.value) at e.idle) nothing usable);
+      untouched = λ early. all-unchanged d old new ((rw (c.deref.ensures.value) at e.untouched) early);
+      stays_kept = λ some. refl;
       room = λ intact on. (rw (c.deref.ensures.value) at e.room) intact (not-cut r on);
       units = λ intact may was. tt;
       marks_failed = told-marks (MarksTopFailed d (below_ghosts d) old new) r e.marks_failed;
+      stays_failed = stays-failed d old new e.range_change.mutating_call.failed e.range_change.lookup_call.keeps_layer_state;
       failed = told-marks (ChainFails d old new) r e.failed;
       cancels = λ is. absurd (cc is);
       moves = λ intact. told-moves d call r (chain_with_mapping old None) (chain_with_mapping new None) refl (rw (c.deref.ensures.value) at e.ok intact) (nothing-named r) (rw (c.deref.ensures.value) at e.cause intact) (rw (c.deref.ensures.value) at e.err intact);
       leads = ran-leads d old new (GoesOn (done_or_refused r)) (HadNoResourceError r) (write c.args.offset c.args.bytes.now.items) g.met.D.FormatDriverInstance.well_formed_is_usable (GivesBytes c.args.offset c.args.bytes.now.items) (rw (c.deref.ensures.value) at e.range_change)
-          (λ on ready. not-cut r on) (λ p v gave. gave) (omega arith);
+          (λ on ready. not-cut r on) (λ p v gave. gave) (omega arith) (omega arith);
       mapping_prepared = λ kept. record { mine = tt; free = λ none. rw (e.keeps_layer_state.unspent) (kept.free refl) };
       same = λ _. refl;
     })

@@ -3,6 +3,7 @@ use Rattle.imago_storage.specs.Steps.{lookup, found}
 use Rattle.imago_access.specs.Kinds.{deep_kind_of}
 use Rattle.qimg_calls.specs.Calls.{GoesOn}
 use Rattle.qimg_calls.specs.declared.call.Answer.TheVariants as told
+use Rattle.qimg_calls.proofs.EarlyEnds.{look-stays-failed}
 use Rattle.qimg_calls.proofs.Leading.{look-leads, like-kept, looked-stays}
 use Rattle.qimg_calls.proofs.making.looking.get_mapping.Goals as goal
 
@@ -17,9 +18,12 @@ returns-in-Ok g c kept is =
       fits = tt;
       early_outcome = λ f is. absurd (cc (e.unusable f is));
       idle = λ nothing usable. tt;
+      untouched = λ early. e.unchanged early;
+      stays_kept = λ some. refl;
       room = λ intact on. tt;
       units = λ intact may was. tt;
       marks_failed = tt;
+      stays_failed = look-stays-failed d old new _ e.lookup_call;
       failed = tt;
       cancels = λ is. absurd (cc is);
       moves = λ rests. (
@@ -31,7 +35,7 @@ returns-in-Ok g c kept is =
         ),
         refl,
       );
-      leads = look-leads d old new (GoesOn (told.Mapped c.in-Ok.mapping c.in-Ok.count)) _ (lookup c.args.offset c.args.length) m.well_formed_is_coherent e.lookup_call (λ on. tt) (omega arith);
+      leads = look-leads d old new (GoesOn (told.Mapped c.in-Ok.mapping c.in-Ok.count)) _ (lookup c.args.offset c.args.length) m.well_formed_is_coherent e.lookup_call (λ on. tt) (omega arith) (omega arith);
       mapping_prepared = like-kept d old new kept e.lookup_call.0.keeps_layer_state;
       same = λ _. refl;
     }
@@ -47,13 +51,16 @@ returns-in-Err g c kept is =
       fits = tt;
       early_outcome = λ f is. ap told.Refused (cc (e.unusable f is));
       idle = λ nothing usable. absurd (cc (e.idle nothing usable));
+      untouched = λ early. e.unchanged early;
+      stays_kept = λ some. refl;
       room = λ intact on. tt;
       units = λ intact may was. tt;
       marks_failed = e.marks_failed;
+      stays_failed = look-stays-failed d old new _ e.lookup_call;
       failed = e.failed;
       cancels = λ is. absurd (cc is);
       moves = λ rests. (e.cause rests.0, λ not_resource_error. (((e.lookup_call.0.stays not_resource_error rests.0.0).0, looked-stays d old new _ not_resource_error e.lookup_call rests.0), refl));
-      leads = look-leads d old new (GoesOn (told.Refused c.in-Err.fault)) _ (lookup c.args.offset c.args.length) m.well_formed_is_coherent e.lookup_call (λ on. on) (omega arith);
+      leads = look-leads d old new (GoesOn (told.Refused c.in-Err.fault)) _ (lookup c.args.offset c.args.length) m.well_formed_is_coherent e.lookup_call (λ on. on) (omega arith) (omega arith);
       mapping_prepared = like-kept d old new kept e.lookup_call.0.keeps_layer_state;
       same = λ _. refl;
     }

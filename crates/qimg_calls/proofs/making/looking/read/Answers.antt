@@ -4,6 +4,7 @@ use Rattle.std.proofs.Math.Seq.{take-append_seam}
 use Rattle.imago_storage.specs.Steps.{read, bytes_read}
 use Rattle.imago_access.specs.ChainLooks.{ChainReads}
 use Rattle.qimg_calls.specs.declared.call.Answer.TheVariants as told
+use Rattle.qimg_calls.proofs.EarlyEnds.{all-unchanged, look-stays-failed}
 use Rattle.qimg_calls.proofs.Leading.{like-kept, look-leads, looked-stays}
 use Rattle.qimg_calls.proofs.making.looking.read.Goals as goal
 
@@ -22,9 +23,12 @@ returns-in-Ok-clause-made g c kept is =
       fits = tt;
       early_outcome = λ f is. absurd (cc ((rw (c.deref_mut.ensures.len ∙ c.in_ok-buf.ensures.len) at e.early_outcome) f is));
       idle = λ nothing usable. tt;
+      untouched = λ early. all-unchanged d old new ((rw (c.deref_mut.ensures.len ∙ c.in_ok-buf.ensures.len) at e.untouched) early);
+      stays_kept = λ some. refl;
       room = λ intact on. tt;
       units = λ intact may was. tt;
       marks_failed = tt;
+      stays_failed = look-stays-failed d old new _ e.lookup_call;
       failed = tt;
       cancels = λ is. absurd (cc is);
       moves = λ coherent. (
@@ -39,7 +43,7 @@ returns-in-Ok-clause-made g c kept is =
             ),
         refl,
       );
-      leads = look-leads d old new _ _ (read c.args.offset c.args.length) m.well_formed_is_coherent e.lookup_call (λ on. tt) (omega arith);
+      leads = look-leads d old new _ _ (read c.args.offset c.args.length) m.well_formed_is_coherent e.lookup_call (λ on. tt) (omega arith) (omega arith);
       mapping_prepared = like-kept d old new kept e.lookup_call.0.keeps_layer_state;
       same = λ _. refl;
     }
@@ -55,13 +59,16 @@ returns-in-Err-clause-made g c kept is =
       fits = tt;
       early_outcome = λ f is. ap told.Refused (cc ((rw (c.deref_mut.ensures.len ∙ c.in_ok-buf.ensures.len) at e.early_outcome) f is));
       idle = λ nothing usable. absurd (cc ((rw (c.deref_mut.ensures.len ∙ c.in_ok-buf.ensures.len) at e.idle) nothing usable));
+      untouched = λ early. all-unchanged d old new ((rw (c.deref_mut.ensures.len ∙ c.in_ok-buf.ensures.len) at e.untouched) early);
+      stays_kept = λ some. refl;
       room = λ intact on. tt;
       units = λ intact may was. tt;
       marks_failed = e.marks_failed;
+      stays_failed = look-stays-failed d old new _ e.lookup_call;
       failed = e.failed;
       cancels = λ is. absurd (cc is);
       moves = λ coherent. (rw (c.deref_mut.ensures.len ∙ c.in_ok-buf.ensures.len) at e.cause coherent, λ not_resource_error. (((e.lookup_call.0.stays not_resource_error coherent.0).0, looked-stays d old new _ not_resource_error e.lookup_call coherent), refl));
-      leads = look-leads d old new _ _ (read c.args.offset c.args.length) m.well_formed_is_coherent e.lookup_call (λ on. on) (omega arith);
+      leads = look-leads d old new _ _ (read c.args.offset c.args.length) m.well_formed_is_coherent e.lookup_call (λ on. on) (omega arith) (omega arith);
       mapping_prepared = like-kept d old new kept e.lookup_call.0.keeps_layer_state;
       same = λ _. refl;
     }

@@ -1,6 +1,8 @@
 use Rattle.std.proofs.Common.{inl, refl}
 use Rattle.imago_storage.specs.Steps.{done}
+use Rattle.imago_access.specs.Spending.{commit_refusal}
 use Rattle.qimg_calls.proofs.Committing.{commit-leads, refused-makes}
+use Rattle.qimg_calls.proofs.EarlyEnds.{top-stays-failed, value-of}
 use Rattle.qimg_calls.proofs.Spending.{free-then}
 use Rattle.qimg_calls.proofs.making.mapping.commit.Goals as goal
 
@@ -16,9 +18,12 @@ returns-in-Ok g c =
       fits = refl;
       early_outcome = λ f is. absurd (e.refused.early_outcome f is);
       idle = λ nothing usable. tt;
+      untouched = λ early. (e.refused.unchanged early, e.below);
+      stays_kept = λ some. let f = value-of (commit_refusal d m.state (d.layer old.0)) some in absurd (e.refused.early_outcome f.0 f.1);
       room = λ intact on. tt;
       units = λ intact may was. tt;
       marks_failed = tt;
+      stays_failed = top-stays-failed d old new e.commits.mutating_call.failed e.below;
       failed = tt;
       cancels = λ is. absurd (cc is);
       moves = λ intact. ((done, refl, e.ok intact kept.mine, e.writable_location intact kept.mine), refl);
