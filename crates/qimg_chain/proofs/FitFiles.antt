@@ -25,7 +25,7 @@ loads : (writable : Bool) (f : Bytes) (h : Header) → IsConsistent f h → head
 loads true f h sound = sound.readable.loads
 loads false f h sound = header-reading f h sound.readable.loads
 
-opens : (writable : Bool) (f : Bytes) (h : Header) → IsConsistent f h → header_for writable f ≡ Ok h
+pub opens : (writable : Bool) (f : Bytes) (h : Header) → IsConsistent f h → header_for writable f ≡ Ok h
 unfolding tables_sound
 opens writable f h sound =
     let tables = and_parts (l1_table_sound f h.fields && refcount_table_sound f h.fields) _ sound.readable.tables in

@@ -6,20 +6,18 @@ use Rattle.imago_storage.specs.Disk.{Value, byte}
 use Rattle.imago_storage.specs.State.{StorageState}
 use Rattle.imago_storage.specs.declared.fault.Fault.TheVariants.{BadArgument}
 use Rattle.imago_access.specs.Chain.{Each, at, disk_of}
-use Rattle.imago_access.specs.Files.{UnchangedButMoreFaults, Pairs, files_of}
-use Rattle.imago_access.specs.Going.{KeepsExcessRefcounts}
 use Rattle.imago_access.specs.Layer.{Fixed, Layer, IsFree, through, unmapped}
 use Rattle.imago_access.specs.Stops.{IsCounted, IsMeant, IsWritten}
 use Rattle.imago_access.specs.declared.driver_model.DriverModel.{Ghosts}
-use Rattle.imago_access.proofs.FilePairs.{kept_all_both, kept_all_same}
 use Rattle.qimg_calls.specs.Calls.{Either, GoesOn, is_out_of_place}
 use Rattle.qimg_calls.specs.Held.{chain_with_mapping, state_of}
-use Rattle.qimg_calls.specs.Runs.{AllGoOn, ListStep, Made, Moment, Run, moment}
+use Rattle.qimg_calls.specs.Runs.{AllGoOn, IsSameChain, ListStep, Made, Moment, Run, moment}
 use Rattle.qimg_calls.specs.Since.{Since}
 use Rattle.qimg_calls.specs.declared.call.Answer.{Answer}
 use Rattle.qimg_calls.specs.declared.call.Answer.TheVariants as told
 use Rattle.qimg_calls.specs.declared.call.Call.{Call}
 use Rattle.qimg_calls.specs.declared.call.Call.TheVariants as calls
+use Rattle.qimg_calls.proofs.SameChains.{same-chain-both}
 use Rattle.qimg_core.specs.declared.plain.ChainFile.{ChainFile}
 use Rattle.qimg_chain.specs.Chains.{AreInPlace, AreLayers, IsInPlace}
 use Rattle.qimg_chain.specs.FileMeanings.{FileBytes, FindsByNames, MeansFile, driver_bytes, file_meaning, value_of}
@@ -73,21 +71,14 @@ module _ {D St : Type 0} (g : Ghosts D St) (names : D → ℕ → List ℕ) wher
 
   -- ---- What a list of calls preserves.
 
-  -- These are unchanged: the fixed properties of the top, the excess refcounts in its file, the layers below, and their files.
-  record Keeps (opened : D × List D) (m : Moment D St) : Type 0 where
-    fixed : (g.layer m.now.drivers.0).fixed ≡ (g.layer opened.0).fixed
-    excess_refcount : KeepsExcessRefcounts g opened.0 m.now.drivers.0
-    below : map g.layer m.now.drivers.1 ≡ map g.layer opened.1
-    files : Pairs UnchangedButMoreFaults (files_of g opened.1) (files_of g m.now.drivers.1)
+  -- The chain is the one that was opened.
+  abbrev Keeps : D × List D → Moment D St → Type 0
+  Keeps opened m = IsSameChain g opened m.now.drivers
 
   keeps-made : (opened : D × List D) (call : Call) (answer : Answer) (old new : Moment D St) → GoesOn answer → Made g call answer old new
       → Keeps opened old → Keeps opened new
-  keeps-made opened call answer old new on made keeps = record {
-    fixed = made.fixed ∙ keeps.fixed;
-    excess_refcount = λ c. made.excess_refcount on c ∙ keeps.excess_refcount c;
-    below = made.below on ∙ keeps.below;
-    files = kept_all_both (files_of g opened.1) (files_of g old.now.drivers.1) (files_of g new.now.drivers.1) keeps.files made.files;
-  }
+  keeps-made opened call answer old new on made keeps = same-chain-both g opened old.now.drivers new.now.drivers keeps
+      (record { fixed = made.fixed; files = made.files; below = made.below on; excess_refcount = made.excess_refcount on })
 
   keeps-one : (opened : D × List D) (call : Call) (answer : Answer) (old new : Moment D St) → GoesOn answer → ListStep g call answer old new
       → Keeps opened old → Keeps opened new
@@ -163,14 +154,13 @@ module _ {D St : Type 0} (g : Ghosts D St) (names : D → ℕ → List ℕ) wher
   opened-counted state writable number [] c is = absurd is.layers
   opened-counted state writable number (file ∷ files) c is = is.layers.0.opened.counted
 
-  -- Each flush in a list of calls over a chain that was opened over these files.
+  -- Each flush in a list of calls over a chain that was opened over these files, also if earlier lists have driven it.
   pub each-flush : {S : Type 0} (state : S → StorageState) (writable : Bool) (number : ℕ) (files : List (ChainFile S)) (since : Since)
-      (list : List Call) (answers : List Answer) (opened : D × List D) (last : Moment D St) → ((d : D) → g.well_formed d → FindsByNames g names d)
-      → IsChainOf g names state writable number files opened → Run g list answers (moment (chain_with_mapping opened None) since) last
-      → EachFlushMeans g names opened list answers (moment (chain_with_mapping opened None) since) last
-  each-flush state writable number files since list answers opened last finds is run place is_flush is_done on =
-      let start = moment (chain_with_mapping opened None) since in
-      let keeps : Keeps opened start = record { fixed = refl; excess_refcount = λ c. refl; below = refl; files = kept_all_same (files_of g opened.1) } in
+      (list : List Call) (answers : List Answer) (opened old : D × List D) (last : Moment D St) → ((d : D) → g.well_formed d → FindsByNames g names d)
+      → IsChainOf g names state writable number files opened → IsSameChain g opened old
+      → Run g list answers (moment (chain_with_mapping old None) since) last
+      → EachFlushMeans g names opened list answers (moment (chain_with_mapping old None) since) last
+  each-flush state writable number files since list answers opened old last finds is same run place is_flush is_done on =
       flushes finds opened is.places (below-shown state writable number files opened is)
-      (opened-counted state writable number files opened is) list answers start last place keeps run is_flush
+      (opened-counted state writable number files opened is) list answers (moment (chain_with_mapping old None) since) last place same run is_flush
       is_done on

@@ -61,7 +61,7 @@ first-as states disk file other files same shows =
     }
 
 -- The meaning of an image other than VMDK doesn't depend on further files.
-by-itself : (f : Format) → f ≢ format.Vmdk → (bytes : List ℕ) (extras others : List (List ℕ × List ℕ))
+pub by-itself : (f : Format) → f ≢ format.Vmdk → (bytes : List ℕ) (extras others : List (List ℕ × List ℕ))
     → meaning_as f bytes extras ≡ meaning_as f bytes others
 by-itself format.Raw differs bytes extras others = refl
 by-itself format.Qcow2 differs bytes extras others = refl
@@ -133,7 +133,7 @@ module _ (R : RattleType) (st : Ghosts R.Denot) (sd : mir.Syntax.Dict) (dd : mir
   image-shown format.Vmdk writable number before handed (variant.Qcow2 d) opened has = absurd (cc opened.format_is)
 
   -- Like `image-shown`, for all images of a chain.
-  images-shown : (writable : Bool) (number : ℕ) (files : List (ChainFile R.Denot)) (ds : List (ImageDriver R.Denot st))
+  pub images-shown : (writable : Bool) (number : ℕ) (files : List (ChainFile R.Denot)) (ds : List (ImageDriver R.Denot st))
       → AreLayers (image_seen.ghosts R st sd dd) st.state writable number files ds
       → AreInPlace (map (image_seen.ghosts R st sd dd).layer ds)
       → (p : ℕ) → at (map (image_seen.ghosts R st sd dd).layer ds) p ≡ value_of (files_bytes st.state files) p

@@ -1,6 +1,6 @@
 -- The formats of the layers in a chain of image files.
 use Rattle.std.proofs.Common.{◌≡◌, ℕ, List, refl, sym}
-use Rattle.std.specs.Prelude.{Bool, IsTrue, None, Ok, false, map}
+use Rattle.std.specs.Prelude.{Bool, None, Ok, false, map}
 use Rattle.std.specs.Borrow.{RattleType}
 use Rattle.imago_storage.specs.State.{StorageState}
 use Rattle.imago_storage.specs.Steps.{Call}
@@ -76,13 +76,6 @@ module _ (R : RattleType) (st : Ghosts R.Denot) (sd : mir.Syntax.Dict) (dd : mir
   sound_so (variant.Raw d) f sound = sound
   sound_so (variant.Vmdk d) f sound = sound
   sound_so (variant.Qcow2 d) f sound = sound
-
-  -- A qcow2 image states the size of its disk.
-  pub exact_so : (d : ImageDriver R.Denot st) → ((image_seen.ghosts R st sd dd).layer d).fixed.format ≡ format.Qcow2
-      → IsTrue ((image_seen.ghosts R st sd dd).layer d).fixed.exact
-  exact_so (variant.Raw d) is = absurd (cc is)
-  exact_so (variant.Vmdk d) is = refl
-  exact_so (variant.Qcow2 d) is = refl
 
   pub consistent_so : (d : ImageDriver R.Denot st) (f : List ℕ) → ((image_seen.ghosts R st sd dd).layer d).fixed.format ≡ format.Qcow2
       → (image_seen.ghosts R st sd dd).sound ((image_seen.ghosts R st sd dd).layer d).fixed.kind f → Consistent (bytes_of f)

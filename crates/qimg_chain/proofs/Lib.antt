@@ -28,6 +28,7 @@ mod ScriptReading
 mod ScriptRunLemmas
 mod ScriptSpelling
 mod SeenThrough
+mod Sessions
 mod Snapshots
 mod StatelessDrivers
 mod TakingFiles

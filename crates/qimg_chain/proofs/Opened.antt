@@ -171,9 +171,9 @@ module _ {S D St : Type 0} (g : Ghosts D St) (state : S → StorageState) where
   pub stands : (writable : Bool) (number : ℕ) (file : ChainFile S) (files : List (ChainFile S)) (c : D × List D)
       → AreLayers g state writable number (file ∷ files) (chain c) → OfTop (λ f. CrashImageIsBytes (state f.image)) (file ∷ files)
       → HoldsSince g (flushed (chain_disk g.layer c)) c
-  stands writable number file files c are step exact tells keeps room =
+  stands writable number file files c are step tells keeps room =
       let kept = are.0.opened.unchanged_but_faults.0 in
       let same = step (subst (λ (s : Shape). IsTrue s.tells) kept.shape tells) (subst (λ (s : Shape). IsTrue s.keeps) kept.shape keeps) in (
         kept.crash_image ∙ same ∙ sym kept.bytes,
-        since-flushed (map g.layer c.1) (g.layer c.0) (g.image c.0).bytes are.0.opened.meant,
+        since-flushed (map g.layer c.1) g.sound (g.layer c.0) (g.image c.0).bytes are.0.opened.meant,
       )

@@ -67,7 +67,7 @@ module _ {D E St Su : Type 0} {f : D → E} {h : Ghosts E Su} {g : Ghosts D St} 
   pub stops : (below : List Layer) (least most : ℕ) (gives : ℕ → Value → Type 0) → KeepsCrashImagesTo (through f h g) below least most gives a b → KeepsCrashImagesTo h below least most gives (f a) (f b)
   stops below least most gives keeps =
       passes_weaker (Left below (h.layer (f a)) (h.image (f a)).bytes g.sound least most gives) (Left below (h.layer (f a)) (h.image (f a)).bytes h.sound least most gives) (h.image (f a)) (h.image (f b))
-      (λ file left. record { is_sound = kind.sound a file left.is_sound; size = left.size; no_longer = left.no_longer; shows = left.shows })
+      (λ file left. record { is_sound = kind.sound a file left.is_sound; backed = left.backed; size = left.size; no_longer = left.no_longer; shows = left.shows })
       keeps
 
   pub leaves : (left spared : ℕ → Type 0) → LeavesAllocation (through f h g) left spared a b → LeavesAllocation h left spared (f a) (f b)

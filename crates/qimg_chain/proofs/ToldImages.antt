@@ -19,20 +19,17 @@ use Rattle.qimg_chain.proofs.ToldStops.{stops-in, stops-told}
 
 module _ {S D St : Type 0} (g : Ghosts D St) (state : S → StorageState) (free_loose : (d : D) → IsFree (g.layer d) → (p : ℕ) → (g.layer d).held p ≡ loose)
     (keeps_so : (d : D) → (g.layer d).fixed.keeps ≡ keep_all (g.image d) (g.extras d))
-    (sound_so : (d : D) (f : List ℕ) → IsSoundAs (g.layer d).fixed.format f → g.sound (g.layer d).fixed.kind f)
-    (exact_so : (d : D) → (g.layer d).fixed.format ≡ Qcow2 → IsTrue (g.layer d).fixed.exact) where
+    (sound_so : (d : D) (f : List ℕ) → IsSoundAs (g.layer d).fixed.format f → g.sound (g.layer d).fixed.kind f) where
   pub opens-telling : (writable : Bool) (number : ℕ) (files : List (ChainFile S)) → AreLoggedFiles state writable files → OpensTelling g state writable number files
   opens-telling writable number [] are c opened = absurd are.1
   opens-telling writable number (file ∷ below) are c opened =
       let is = are.1 in
-      let top = opened.layers.0.opened in
-      let kept = top.unchanged_but_faults.0 in
+      let kept = opened.layers.0.opened.unchanged_but_faults.0 in
       let shape = kept.shape ∙ ap (λ (s : StorageState). s.shape) is.logged in
       let refusals = kept.refusals ∙ ap (λ (s : StorageState). s.refusals) is.logged in
       record {
         ready = ready g state free_loose keeps_so sound_so writable number file below are.0.1 c opened.layers opened.places (logged-fits state file is);
         stands = stands g state writable number file below c opened.layers (logged-step state file is);
-        sized = exact_so c.0 (top.format_is ∙ is.format);
         tells = subst (λ (s : Shape). IsTrue s.tells) (sym shape) refl;
         keeps = subst (λ (s : Shape). IsTrue s.keeps) (sym shape) refl;
         room = omega (arith, refusals);

@@ -15,7 +15,7 @@ use Rattle.imago_access.proofs.FilePairs.{is_later_both, is_later_same}
 use Rattle.imago_access.proofs.Stopping.{passes_both}
 use Rattle.qimg_calls.specs.Calls.{Either, GoesOn, is_out_of_place}
 use Rattle.qimg_calls.specs.Held.{chain_with_mapping}
-use Rattle.qimg_calls.specs.Runs.{AllGoOn, ListStep, IsLeftBy, Made, Moment, Run, StatesSize, moment}
+use Rattle.qimg_calls.specs.Runs.{AllGoOn, ListStep, IsLeftBy, Made, Moment, Run, moment}
 use Rattle.qimg_calls.specs.Since.{Since}
 use Rattle.qimg_calls.specs.declared.call.Call.{Call}
 use Rattle.qimg_calls.specs.declared.call.Answer.{Answer}
@@ -53,11 +53,11 @@ module _ {D St : Type 0} (g : Ghosts D St) where
   none-passes : (P : List ℕ → Type 0) (a : StorageState) → UnrefusedCrashImages P a a
   none-passes P a no_change_refused = (λ step. step, no_stops P a a refl refl)
 
-  passes-one : (call : Call) (answer : Answer) (old new : Moment D St) → StatesSize g old.now.drivers → ListStep g call answer old new
+  passes-one : (call : Call) (answer : Answer) (old new : Moment D St) → ListStep g call answer old new
       → UnrefusedCrashImages (IsLeftBy g call old) (image old) (image new)
-  passes-one call answer old new sized goes =
+  passes-one call answer old new goes =
       by-case (λ m. UnrefusedCrashImages (IsLeftBy g call old) (image old) (image m)) call answer old new goes
-      (none-passes (IsLeftBy g call old) (image old)) (λ made. made.crash_images sized)
+      (none-passes (IsLeftBy g call old) (image old)) (λ made. made.crash_images)
 
   -- ---- A list of calls.
 
@@ -96,18 +96,17 @@ module _ {D St : Type 0} (g : Ghosts D St) where
     subst (λ (x : Fixed). g.sound x.kind f) (fixed-one call answer old mid goes) left.1,
   )
 
-  passes-run : (list : List Call) (answers : List Answer) (old new : Moment D St) → StatesSize g old.now.drivers → AllGoOn answers → Run g list answers old new
+  passes-run : (list : List Call) (answers : List Answer) (old new : Moment D St) → AllGoOn answers → Run g list answers old new
       → UnrefusedCrashImages (Leaves list answers old) (image old) (image new)
-  passes-run [] [] old new sized on same =
+  passes-run [] [] old new on same =
       subst (λ (m : Moment D St). UnrefusedCrashImages (Leaves [] [] old) (image old) (image m)) (sym same) (none-passes (Leaves [] [] old) (image old))
-  passes-run (call ∷ list) (answer ∷ answers) old new sized on run =
+  passes-run (call ∷ list) (answer ∷ answers) old new on run =
       let mid = run.0 in
-      let sized_then = subst (λ (x : Fixed). IsTrue x.exact) (sym (fixed-one call answer old mid run.1)) sized in
       passes_both (IsLeftBy g call old) (Leaves list answers mid) (Leaves (call ∷ list) (answer ∷ answers) old) (image old) (image mid) (image new)
       (later-one call answer old mid run.1) run.3 (left-first call list answer answers old) (λ _. left-later call list answer answers old mid run.1)
-      (passes-one call answer old mid sized run.1) (passes-run list answers mid new sized_then on.1 (run.2 on.0))
-  passes-run [] (answer ∷ answers) old new sized on run = absurd run
-  passes-run (call ∷ list) [] old new sized on run = absurd run
+      (passes-one call answer old mid run.1) (passes-run list answers mid new on.1 (run.2 on.0))
+  passes-run [] (answer ∷ answers) old new on run = absurd run
+  passes-run (call ∷ list) [] old new on run = absurd run
 
   -- The mapping that is kept at the end is abandoned without a request.
   ended : (kept : Option (PreparedDataMapping St)) (drivers new : D × List D)
@@ -126,10 +125,10 @@ module _ {D St : Type 0} (g : Ghosts D St) where
       let last = goes.driven.last in
       let same : b ≡ image last = ended last.now.kept_mapping last.now.drivers new (goes.driven.ends goes.on) in
       let passes : UnrefusedCrashImages (Leaves list answers start) a b =
-      subst (λ (s : StorageState). UnrefusedCrashImages (Leaves list answers start) a s) (sym same) (passes-run list answers start last t.sized goes.on goes.driven.run) in
+      subst (λ (s : StorageState). UnrefusedCrashImages (Leaves list answers start) a s) (sym same) (passes-run list answers start last goes.on goes.driven.run) in
       let refusals = (goes.driven.faults goes.on).1 in
       let no_change_refused : HasRisen a.refusals b.refusals → ⊥ = λ r. omega (arith, refusals, r.rose (omega (arith, refusals, t.room))) in
-      (passes no_change_refused).1 (λ _ _. (t.stands t.sized t.tells t.keeps t.room).0) t.tells t.keeps
+      (passes no_change_refused).1 (λ _ _. (t.stands t.tells t.keeps t.room).0) t.tells t.keeps
 
   -- ---- The crash images in their order.
 
@@ -137,32 +136,31 @@ module _ {D St : Type 0} (g : Ghosts D St) where
   abbrev Tells : Call → Moment D St → Moment D St → Type 0
   Tells call old m = EachCrashImageIn (IsLeftBy g call old) (image old) (image m) × (CrashImageIsBytes (image old) → CrashImageIsBytes (image m)) × ((image m).refusals ≡ (image old).refusals)
 
-  tells-one : (call : Call) (answer : Answer) (old new : Moment D St) → StatesSize g old.now.drivers → GoesOn answer → CrashImageIsBytes (image old)
+  tells-one : (call : Call) (answer : Answer) (old new : Moment D St) → GoesOn answer → CrashImageIsBytes (image old)
       → IsTrue (image old).shape.tells → IsTrue (image old).shape.keeps → (image old).refusals + 1 < 2 ^ 64 → ListStep g call answer old new → Tells call old new
-  tells-one call answer old new sized on step tells keeps room goes =
+  tells-one call answer old new on step tells keeps room goes =
       by-case (Tells call old) call answer old new goes
       (no_stops (IsLeftBy g call old) (image old) (image old) refl refl step tells keeps, (λ has_no_dirty_data. has_no_dirty_data), refl)
       (λ made.
       let no_change_refused = made.faults on in
-      let passes = made.crash_images sized (λ r. omega (arith, no_change_refused.1, r.rose (omega (arith, no_change_refused.1, room)))) in
+      let passes = made.crash_images (λ r. omega (arith, no_change_refused.1, r.rose (omega (arith, no_change_refused.1, room)))) in
       (passes.1 step tells keeps, passes.0, no_change_refused.1))
 
-  tells-run : (list : List Call) (answers : List Answer) (old new : Moment D St) → StatesSize g old.now.drivers → AllGoOn answers → CrashImageIsBytes (image old)
+  tells-run : (list : List Call) (answers : List Answer) (old new : Moment D St) → AllGoOn answers → CrashImageIsBytes (image old)
       → IsTrue (image old).shape.tells → IsTrue (image old).shape.keeps → (image old).refusals + 1 < 2 ^ 64 → Run g list answers old new → TellsRun g list answers old new
-  tells-run [] [] old new sized on step tells keeps room same = same
-  tells-run (call ∷ list) (answer ∷ answers) old new sized on step tells keeps room run =
+  tells-run [] [] old new on step tells keeps room same = same
+  tells-run (call ∷ list) (answer ∷ answers) old new on step tells keeps room run =
       let mid = run.0 in
-      let sized_then = subst (λ (x : Fixed). IsTrue x.exact) (sym (fixed-one call answer old mid run.1)) sized in
-      let one = tells-one call answer old mid sized on.0 step tells keeps room run.1 in
+      let one = tells-one call answer old mid on.0 step tells keeps room run.1 in
       let shape = (later-one call answer old mid run.1).0 in (
         mid,
         run.1,
         one.0,
-        tells-run list answers mid new sized_then on.1 (one.1 step) (subst (λ (s : Shape). IsTrue s.tells) (sym shape) tells)
+        tells-run list answers mid new on.1 (one.1 step) (subst (λ (s : Shape). IsTrue s.tells) (sym shape) tells)
             (subst (λ (s : Shape). IsTrue s.keeps) (sym shape) keeps) (omega (arith, one.2, room)) (run.2 on.0),
       )
-  tells-run [] (answer ∷ answers) old new sized on step tells keeps room run = absurd run
-  tells-run (call ∷ list) [] old new sized on step tells keeps room run = absurd run
+  tells-run [] (answer ∷ answers) old new on step tells keeps room run = absurd run
+  tells-run (call ∷ list) [] old new on step tells keeps room run = absurd run
 
   pub in-order : (since : Since) (list : List Call) (answers : List Answer) (old new : D × List D) → GoesOnTelling g since list answers old new
       → TellsAll g list answers (moment (chain_with_mapping old None) since) new
@@ -170,7 +168,7 @@ module _ {D St : Type 0} (g : Ghosts D St) where
       let t = goes.telling in
       let last = goes.driven.last in (
         last,
-        tells-run list answers (moment (chain_with_mapping old None) since) last t.sized goes.on (λ _ _. (t.stands t.sized t.tells t.keeps t.room).0) t.tells t.keeps t.room
+        tells-run list answers (moment (chain_with_mapping old None) since) last goes.on (λ _ _. (t.stands t.tells t.keeps t.room).0) t.tells t.keeps t.room
             goes.driven.run,
         ended last.now.kept_mapping last.now.drivers new (goes.driven.ends goes.on),
       )

@@ -54,3 +54,8 @@ pub record IsFit {S : Type 0} (state : S → StorageState) (file : ChainFile S) 
 abbrev pub OfTop : {S : Type 0} → (ChainFile S → Type 0) → List (ChainFile S) → Type 0
 OfTop P [] = ⊥
 OfTop P (file ∷ below) = P file
+
+-- `P` holds for the top, or the list of files is empty.
+abbrev pub AllOfTop : {S : Type 0} → (ChainFile S → Type 0) → List (ChainFile S) → Type 0
+AllOfTop P [] = ⊤
+AllOfTop P (file ∷ below) = P file

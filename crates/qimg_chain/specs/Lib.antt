@@ -10,6 +10,8 @@ pub mod FlushedFiles
 pub mod FurtherFiles
 pub mod Headline
 pub mod ImageDrivers
+pub mod OneDisk
+pub mod OpenedAgain
 pub mod PlainReads
 pub mod Refusals
 pub mod RunAnswers
@@ -21,5 +23,7 @@ pub mod ScriptParts
 pub mod ScriptReads
 pub mod ScriptRuns
 pub mod ScriptWords
+pub mod Sessions
 pub mod Snapshots
 pub mod ToldStops
+pub mod TopChecks

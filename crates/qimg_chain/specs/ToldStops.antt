@@ -12,7 +12,7 @@ use Rattle.qcow2_types.specs.Bytes.{bytes_of}
 use Rattle.qcow2_types.specs.Consistency.{Consistent, IsConsistent}
 use Rattle.qcow2_types.specs.Header.{Header}
 use Rattle.qimg_calls.specs.Held.{IsReady}
-use Rattle.qimg_calls.specs.Runs.{AllGoOn, Driven, ListStep, IsLeftBy, Moment, Run, HoldsSince, StatesSize}
+use Rattle.qimg_calls.specs.Runs.{AllGoOn, Driven, ListStep, IsLeftBy, Moment, Run, HoldsSince}
 use Rattle.qimg_calls.specs.Since.{Since, flushed}
 use Rattle.qimg_calls.specs.declared.call.Call.{Call}
 use Rattle.qimg_calls.specs.declared.call.Answer.{Answer}
@@ -21,12 +21,10 @@ use Rattle.qimg_chain.specs.Chains.{AreInPlace, AreLayers, OfTop}
 use Rattle.qimg_chain.specs.Refusals.{FormChain}
 
 -- The preconditions for the crash images of a list of calls. Calls can be made, and the disk is one that may follow the last flush. The
--- top's file states the size of its disk. Its storage exposes its crash images, keeps what is written, and can count one more refused
--- change.
+-- storage of the top's file exposes its crash images, keeps what is written, and can count one more refused change.
 pub record TellsStops {D St : Type 0} (g : Ghosts D St) (since : Since) (c : D × List D) : Type 0 where
   pub ready : IsReady g c
   pub stands : HoldsSince g since c
-  pub sized : StatesSize g c
   pub tells : IsTrue (g.image c.0).shape.tells
   pub keeps : IsTrue (g.image c.0).shape.keeps
   pub room : (g.image c.0).refusals + 1 < 2 ^ 64

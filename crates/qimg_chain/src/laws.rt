@@ -5,6 +5,7 @@ ghost use Rattle.imago_access.specs.ChainCalls.{WontDecline};
 ghost use Rattle.imago_access.specs.ChainLooks.{ChainReads};
 ghost use Rattle.imago_access.specs.Running.{chain_disk};
 ghost use Rattle.imago_access.specs.declared.format.Format.TheVariants.{Qcow2, Raw};
+ghost use Rattle.imago_storage.specs.Disk.{Disk};
 ghost use Rattle.imago_storage.specs.Log.{log_state};
 ghost use Rattle.imago_storage.specs.MemStorage.{mem_state};
 ghost use Rattle.imago_storage.specs.State.{CrashImageIsBytes};
@@ -18,7 +19,7 @@ ghost use Rattle.qcow2_types.specs.Consistency.{IsConsistent};
 ghost use Rattle.qcow2_types.specs.Header.{Header};
 ghost use Rattle.qcow2_image.specs.Writing.{IsClearing, NeedsZeroFlag};
 ghost use Rattle.qimg_calls.specs.Held.{chain_with_mapping};
-ghost use Rattle.qimg_calls.specs.Runs.{Driven, moment};
+ghost use Rattle.qimg_calls.specs.Runs.{Driven, IsSameChain, moment};
 ghost use Rattle.qimg_calls.specs.Since.{Since, flushed};
 ghost use Rattle.qimg_calls.specs.declared.call.Answer.{Answer};
 ghost use Rattle.qimg_calls.specs.declared.call.Call.{Call};
@@ -29,8 +30,10 @@ ghost use Rattle.qimg_chain.specs.FileMeanings.{IsDiskOf, files_bytes};
 ghost use Rattle.qimg_chain.specs.FlushedFiles.{EachFlushMeans, HandedMeanToo, IsChainOf, LeaksWhatItDid};
 ghost use Rattle.qimg_chain.specs.Headline.{RunFrom, ToOpen};
 ghost use Rattle.qimg_chain.specs.PlainReads.{IsPlainlyRead};
-ghost use Rattle.qimg_chain.specs.Refusals.{FirstCause, FormChain};
+ghost use Rattle.qimg_chain.specs.Refusals.{ArePlaced, FirstCause, FormChain};
 ghost use Rattle.qimg_chain.specs.Script.{IsLine};
+ghost use Rattle.qimg_chain.specs.OpenedAgain.{IsDiskSince, IsLeftOf, ReadsAsFiles};
+ghost use Rattle.qimg_chain.specs.TopChecks.{IsAccepted};
 ghost use Rattle.qimg_chain.specs.ScriptRuns.{answers_of, calls_of};
 ghost use Rattle.qimg_chain.specs.ToldStops.{AreLoggedFiles, GoesOnTelling, IsLeftIn, IsLoggedAlone, OpensTelling, CrashImagesConsistent, TellsAll};
 ghost use Rattle.qimg_chain.specs.declared.chain.image_driver.ImageDriver.TheVariants as variant;
@@ -109,17 +112,24 @@ pub fn a_plain_read_and_a_read_agree<S: Storage, T: Storage, D: FormatDriverInst
 ///
 /// No mapping may be prepared before the flush (no run may wait for its commit), and no earlier call may have ended with a resource error
 /// (`Fault::Memory`, `Fault::Storage`). Each cluster of the top's file has the excess refcount that it had when the chain was opened: what
-/// it leaks. The law applies to a chain that `open_chain` opens and `qimg_calls::drive` drives, and to each flush in a script, as
-/// `run_files` runs it.
+/// it leaks. The law applies to a chain that `open_chain` opens and `qimg_calls::drive` drives, also if earlier lists have driven it
+/// (`IsSameChain`), and to each flush in a script, as `run_files` runs it.
 pub fn files_mean_the_disk_after_a_flush<S: Storage, D: NamesFiles>()
     ensures list { (writable : Bool) (number : ℕ) (files : List (ChainFile S)) (since : Since) (list : List Call) (answers : List Answer)
-        (opened new : D × List D) (driven : Driven D.DriverModel since list answers opened new)
-        → IsChainOf D.DriverModel D.names S.state writable number files opened
-        → EachFlushMeans D.DriverModel D.names opened list answers (moment (chain_with_mapping opened None) since) driven.last }
+        (opened old new : D × List D) (driven : Driven D.DriverModel since list answers old new)
+        → IsChainOf D.DriverModel D.names S.state writable number files opened → IsSameChain D.DriverModel opened old
+        → EachFlushMeans D.DriverModel D.names opened list answers (moment (chain_with_mapping old None) since) driven.last }
     ensures script { (what : ToOpen) (input before after : Option (List ℕ)) (result : Result (Option (List ℕ)) RunFault)
         (ran : RunFrom D.DriverModel D.names what input before after result) (fit : OfTop (IsFit mem_state) what.files)
         → let replies = ran.scripted.replies in let start = moment (chain_with_mapping ran.opened None) (flushed (chain_disk D.layer ran.opened)) in
         EachFlushMeans D.DriverModel D.names ran.opened (calls_of replies) (answers_of replies) start (ran.headline fit).last }
+{}
+
+/// Law: a chain is the same chain as itself, and stays the same through a second list of calls if it does through a first one. So it does
+/// through all lists of calls that end without a resource error, as `qimg_calls::drive` says of each (`Driven`: `same_chain`).
+pub fn a_chain_stays_the_same<D: FormatDriverInstance>()
+    ensures same { (c : D × List D) → IsSameChain D.DriverModel c c }
+    ensures again { (a b c : D × List D) → IsSameChain D.DriverModel a b → IsSameChain D.DriverModel b c → IsSameChain D.DriverModel a c }
 {}
 
 /// Law: if the files of a chain of images mean its disk, so do the files that were supplied at opening, with the current bytes of the top's
@@ -180,3 +190,23 @@ pub fn an_image_on_a_log_opens_reporting_crash_images()
 {
     an_image_opens_reporting_crash_images::<LogStorage<MemStorage>>()
 }
+
+/// Law: a crash image of a raw or qcow2 top, opened again over files with the bytes of those below, is a chain whose disk the crash clause
+/// describes.
+///
+/// A crash image is the top's file after a crash between two requests, as `session::drive_files` describes it (`LeftSince`). `since` has the
+/// values at the last flush, and the calls begun since. By `formed`, `chain::open_chain` opens the files, resource errors aside, if those
+/// below are layers by themselves (`ArePlaced`). Its disk is the one that the files mean. By `reads`, each byte of it reads as at that flush,
+/// or as such a call gives it. By `accepted`, the checker accepts the crash image. By `read_so`, all this holds of the crash images that
+/// `qimg_calls::drive` describes, also in later lists of calls.
+pub fn a_crash_image_opens_again<S: Storage, T: Storage>()
+    ensures formed { (writable : Bool) (top : ChainFile S) (below : List (ChainFile S)) (since : Since) (again : ChainFile T)
+        (others : List (ChainFile T)) → FormChain S.state writable (top ∷ below) → ArePlaced T.state false others
+        → IsLeftOf S.state T.state top below since again others → FormChain T.state writable (again ∷ others) }
+    ensures accepted { (top : ChainFile S) (below : List (ChainFile S)) (since : Since) (again : ChainFile T) (others : List (ChainFile T))
+        → IsLeftOf S.state T.state top below since again others → IsAccepted T.state again }
+    ensures read_so { ReadsAsFiles ⟦<ImageDriver<S> as DriverModel>⟧ ⟦<ImageDriver<S> as NamesFiles>⟧.names S.state }
+    ensures reads { (top : ChainFile S) (below : List (ChainFile S)) (since : Since) (again : ChainFile T) (others : List (ChainFile T))
+        (disk : Disk) → IsLeftOf S.state T.state top below since again others → IsDiskOf disk (files_bytes T.state (again ∷ others))
+        → IsDiskSince S.state top below since disk }
+{}

@@ -7,3 +7,4 @@ pub mod chain;
 pub mod laws;
 pub mod run;
 pub mod script;
+pub mod session;

@@ -1,5 +1,5 @@
 use Rattle.qimg_chain.proofs.FitFiles.{logged-alone, logged-fits, logged-step}
-use Rattle.qimg_chain.proofs.ImageKinds.{consistent_so, exact_so, keeps_so, none_held, sound_so}
+use Rattle.qimg_chain.proofs.ImageKinds.{consistent_so, keeps_so, none_held, sound_so}
 use Rattle.qimg_chain.proofs.ToldImages.{opens-telling, stops-consistent}
 use Rattle.qimg_chain.proofs.laws.an_image_opens_reporting_crash_images.Goals as goal
 
@@ -11,10 +11,9 @@ pub returns-clause-telling : goal.returns-clause-telling
 returns-clause-telling g c =
     opens-telling _ g.S.Storage.state (none_held g.row.S g.S.Storage g.S.Storage-dict g.S.Destruct-dict)
     (keeps_so g.row.S g.S.Storage g.S.Storage-dict g.S.Destruct-dict) (sound_so g.row.S g.S.Storage g.S.Storage-dict g.S.Destruct-dict)
-    (exact_so g.row.S g.S.Storage g.S.Storage-dict g.S.Destruct-dict)
 
 pub returns-clause-crash_images : goal.returns-clause-crash_images
 returns-clause-crash_images g c =
     stops-consistent _ g.S.Storage.state (none_held g.row.S g.S.Storage g.S.Storage-dict g.S.Destruct-dict)
     (keeps_so g.row.S g.S.Storage g.S.Storage-dict g.S.Destruct-dict) (sound_so g.row.S g.S.Storage g.S.Storage-dict g.S.Destruct-dict)
-    (exact_so g.row.S g.S.Storage g.S.Storage-dict g.S.Destruct-dict) (consistent_so g.row.S g.S.Storage g.S.Storage-dict g.S.Destruct-dict)
+    (consistent_so g.row.S g.S.Storage g.S.Storage-dict g.S.Destruct-dict)
