@@ -13,5 +13,6 @@ mod words;
 
 pub use calls::{buffer, cancel, commit, done, flatten, prepare, read, stacked, top};
 pub use driving::nothing_below;
+pub use lists::{calls_of, told_all};
 pub use texts::prepared;
 pub use words::{called, mode_of, run_of};

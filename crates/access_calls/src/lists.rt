@@ -92,8 +92,13 @@ fn call_of(alloc: Global, words: &[&str]) -> Result<Call, Trouble> {
     }
 }
 
-// Parses calls with the word `;` between them.
-fn calls_of(alloc: Global, words: &[&str]) -> Result<Vec<Call>, Trouble> {
+/// Parses calls with `;` between them.
+///
+/// # Errors
+///
+/// - [`Trouble::NoCall`] if one of them isn't a call.
+/// - [`Trouble::Refused`] if memory runs out.
+pub fn calls_of(alloc: Global, words: &[&str]) -> Result<Vec<Call>, Trouble> {
     let mut calls = Vec::new(alloc);
     if words.is_empty() {
         return Ok(calls);
@@ -122,8 +127,12 @@ fn told(alloc: Global, answer: &Answer) -> Result<String, Trouble> {
     }
 }
 
-// Returns the texts of answers, with `/` between them, or `none` if the list is empty.
-fn told_all(alloc: Global, answers: &[Answer]) -> Result<String, Trouble> {
+/// Returns the texts of answers, with `/` between them, or `none` if the list is empty.
+///
+/// # Errors
+///
+/// - [`Trouble::Refused`] if memory runs out, here or in a call.
+pub fn told_all(alloc: Global, answers: &[Answer]) -> Result<String, Trouble> {
     if answers.is_empty() {
         return Ok("none".to_string(alloc)?);
     }

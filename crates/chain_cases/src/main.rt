@@ -30,6 +30,8 @@
 //! - `close`: drops the disk.
 //! - `chain [writing] [number N] [LAYER [over LAYER] ..]`: opens files as a chain by one call, the top first. The chain replaces the disk.
 //!   A LAYER is `FORMAT FILE [with NAME FILE] ..`, where NAME is the name by which the image opens the extra file.
+//! - `checked_chain [writing] [number N] LAYER [over LAYER] .. [; CALL] ..`: like `chain`, but the checker must accept the top file, and a list
+//!   of calls is made by the same call. It answers like `list`, or with the finding.
 //!
 //! # Calls
 //!

@@ -6,7 +6,7 @@ use crate::layers::{add, image_of, open_extents};
 use crate::lending::{given_back, lent};
 use crate::openings;
 use crate::qcow2_calls::said;
-use access_calls::{called, cancel, commit, done, prepare, prepared, run_of};
+use access_calls::{called, calls_of, cancel, commit, done, prepare, prepared, run_of, told_all};
 use cases::{Trouble, number, ok, size};
 use imago_access::{FormatAccess, FormatDriverInstance, ImplicitOpenGate, PreparedDataMapping};
 use imago_storage::Storage;
@@ -113,6 +113,29 @@ impl<S: Storage + Drop> Opened<S> {
         let disk = openings::open(alloc, words, files)?;
         put(&mut self.disk, Some(disk));
         Ok(ok(alloc)?)
+    }
+
+    // Checks the top file, opens files as a chain, which replaces the open disk, and makes a list of calls on it. Returns the answers, or
+    // the finding of the checker. The first `;` ends the layers.
+    fn open_and_drive<F: NamedStorages<S>>(
+        &mut self,
+        alloc: Global,
+        words: &[&str],
+        files: &mut F,
+    ) -> Result<String, Trouble> {
+        put(&mut self.disk, None);
+        let (layers, list) = match words.iter().position(|word| *word == ";") {
+            Some(end) => (&words[..end], &words[end + 1..]),
+            None => (words, &words[..0]),
+        };
+        let calls = calls_of(alloc, list)?;
+        match openings::open_and_drive(alloc, layers, &calls, files)? {
+            Ok((disk, answers)) => {
+                put(&mut self.disk, Some(disk));
+                told_all(alloc, &answers?)
+            }
+            Err(finding) => Ok(finding.to_string(alloc)?),
+        }
     }
 
     // Returns the open disk, or `Trouble::NoCall` if the case has none.
@@ -239,6 +262,7 @@ impl<S: Storage + Drop> Opened<S> {
         match words {
             ["layer", rest @ ..] => self.add(alloc, rest, files),
             ["chain", rest @ ..] => self.open_chain(alloc, rest, files),
+            ["checked_chain", rest @ ..] => self.open_and_drive(alloc, rest, files),
             ["close"] => {
                 put(&mut self.disk, None);
                 Ok(ok(alloc)?)

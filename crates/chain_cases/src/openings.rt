@@ -3,8 +3,11 @@ use crate::files::NamedStorages;
 use crate::images::{Split, access_of};
 use cases::{Trouble, number};
 use imago_access::{Format, FormatAccess};
-use imago_storage::Storage;
+use imago_storage::{Fault, Storage};
+use qimg_calls::{Answer, Call};
 use qimg_chain::chain::{ImageDriver, open_chain};
+use qimg_chain::session::{NotDriven, drive_files};
+use qimg_core::check::CheckFault;
 use qimg_core::plain::ChainFile;
 use std::alloc::Global;
 
@@ -101,4 +104,32 @@ pub fn open<S: Storage, F: NamedStorages<S>>(
     let (number, rest) = number_of(rest)?;
     let layers = layers_of(alloc, rest, files)?;
     Ok(open_chain(alloc, layers, is_writing, number)?)
+}
+
+/// A chain that a list of calls was made on, and the answers to the calls.
+pub type Driven<S> = (FormatAccess<ImageDriver<S>>, Result<Vec<Answer>, Fault>);
+
+/// Checks the top file, opens files of the case as a chain like [`open`], and makes a list of calls on it. If the checker doesn't accept the
+/// top file, its finding is returned.
+///
+/// # Errors
+///
+/// - `Trouble::NoCall` if the layers don't have this form, or the case has no such file.
+/// - `Trouble::Refused` if the opening fails, or the top file can't be checked.
+pub fn open_and_drive<S: Storage, F: NamedStorages<S>>(
+    alloc: Global,
+    words: &[&str],
+    calls: &[Call],
+    files: &mut F,
+) -> Result<Result<Driven<S>, CheckFault>, Trouble> {
+    let (is_writing, rest) = access_of(words);
+    let (number, rest) = number_of(rest)?;
+    let layers = layers_of(alloc, rest, files)?;
+    match drive_files(alloc, layers, is_writing, number, calls) {
+        Ok(driven) => Ok(Ok(driven)),
+        Err(NotDriven::Opening(fault)) => Err(Trouble::Refused(fault)),
+        Err(NotDriven::Finding(CheckFault::Memory)) => Err(Trouble::Refused(Fault::Memory)),
+        Err(NotDriven::Finding(CheckFault::Storage)) => Err(Trouble::Refused(Fault::Storage)),
+        Err(NotDriven::Finding(finding)) => Ok(Err(finding)),
+    }
 }
