@@ -108,6 +108,17 @@ fn decrement(block: &mut RefBlock, index: usize) -> Result<Answer, Trouble> {
     }
 }
 
+fn lower(block: &mut RefBlock, index: usize, by: u64) -> Result<Answer, Trouble> {
+    if index >= block.entries() {
+        return Err(Trouble::NoCall);
+    }
+    let mut guard = block.lock_write();
+    match guard.lower(index, by) {
+        Ok(count) => Ok(Answer::Number(count)),
+        Err(fault) => Err(Trouble::Refused(fault)),
+    }
+}
+
 // Returns a property of the block.
 fn ask(block: &RefBlock, word: &str) -> Result<Answer, Trouble> {
     match word {
@@ -144,6 +155,7 @@ pub fn block_call(block: &mut RefBlock, words: &[&str]) -> Result<Answer, Troubl
         ["guard", "is_zero", index] => guarded_is_zero(block, size(index)?),
         ["increment", index] => increment(block, size(index)?),
         ["decrement", index] => decrement(block, size(index)?),
+        ["lower", index, by] => lower(block, size(index)?, number(by)?),
         _ => Err(Trouble::NoCall),
     }
 }

@@ -34,7 +34,8 @@
 //!   `clusters`, `cluster_bits`, `modified`, `set_cluster CLUSTER`, `unset_cluster`, `set_modified`, `clear_modified`, `write`,
 //!   `write INDEX`.
 //! - `block`: `load CLUSTER`, `new`, `write`, `write_if_modified`; `entries`, `cluster_bits`, `cluster`, `offset`, `modified`,
-//!   `set_cluster CLUSTER`, `set_modified`, `clear_modified`; `get INDEX`, `[guard] is_zero INDEX`, `increment INDEX`, `decrement INDEX`.
+//!   `set_cluster CLUSTER`, `set_modified`, `clear_modified`; `get INDEX`, `[guard] is_zero INDEX`, `increment INDEX`, `decrement INDEX`,
+//!   `lower INDEX BY`.
 //!
 //! # Entries and mappings
 //!

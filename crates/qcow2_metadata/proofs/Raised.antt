@@ -1,4 +1,4 @@
--- A cell in which one refcount is incremented or decremented.
+-- A cell in which one refcount is raised or lowered.
 use Rattle.std.proofs.Common.{◌≡◌, ◌≢◌, ℕ, ◌+◌, ◌-◌, ◌*◌, ◌/◌, ◌%◌, ◌<◌, ◌≤◌, ◌^◌, List, ◌++◌, length, take, drop, sym, arith}
 use Rattle.std.proofs.Math.Nat.{pow-le-pow_right}
 use Rattle.std.proofs.lemmas.Nat.{mod_below, one_shl, pow_pos}
@@ -30,8 +30,8 @@ fits_raised bytes x s order h len inside small room =
       shifted = one_shl s 64 (omega (arith, few, inside, pow_pos order));
     }
 
-pub raised_in_place : (order i a k b : ℕ) (bytes ys : List ℕ) → a ≡ cell_start order i → k ≡ cell_bytes order → b ≡ bit_start order i → a + k ≤ length bytes → length ys ≡ k → big_endian ys ≡ big_endian (take k (drop a bytes)) + 2 ^ b → IsRaised order bytes i (put_mid a k bytes ys)
-raised_in_place order i a k b bytes ys ea ek eb inside len number =
+pub raised_in_place : (order by i a k b : ℕ) (bytes ys : List ℕ) → a ≡ cell_start order i → k ≡ cell_bytes order → b ≡ bit_start order i → a + k ≤ length bytes → length ys ≡ k → big_endian ys ≡ big_endian (take k (drop a bytes)) + by * 2 ^ b → IsRaised order by bytes i (put_mid a k bytes ys)
+raised_in_place order by i a k b bytes ys ea ek eb inside len number =
     let start : length (take a bytes) ≡ a = length-take-le a bytes (omega arith) in
     let own : take k (drop a (put_mid a k bytes ys)) ≡ ys =
     rw (drop_at (take a bytes) (ys ++ drop k (drop a bytes)) a start) (take_at ys (drop k (drop a bytes)) k len) in
@@ -49,8 +49,8 @@ raised_in_place order i a k b bytes ys ea ek eb inside len number =
       );
     }
 
-pub lowered_in_place : (order i a k b : ℕ) (bytes ys : List ℕ) → a ≡ cell_start order i → k ≡ cell_bytes order → b ≡ bit_start order i → a + k ≤ length bytes → length ys ≡ k → big_endian (take k (drop a bytes)) ≡ big_endian ys + 2 ^ b → IsRaised order (put_mid a k bytes ys) i bytes
-lowered_in_place order i a k b bytes ys ea ek eb inside len number =
+pub lowered_in_place : (order by i a k b : ℕ) (bytes ys : List ℕ) → a ≡ cell_start order i → k ≡ cell_bytes order → b ≡ bit_start order i → a + k ≤ length bytes → length ys ≡ k → big_endian (take k (drop a bytes)) ≡ big_endian ys + by * 2 ^ b → IsRaised order by (put_mid a k bytes ys) i bytes
+lowered_in_place order by i a k b bytes ys ea ek eb inside len number =
     let start : length (take a bytes) ≡ a = length-take-le a bytes (omega arith) in
     let own : take k (drop a (put_mid a k bytes ys)) ≡ ys =
     rw (drop_at (take a bytes) (ys ++ drop k (drop a bytes)) a start) (take_at ys (drop k (drop a bytes)) k len) in

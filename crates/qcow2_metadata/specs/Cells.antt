@@ -33,10 +33,10 @@ counter order bytes i = big_endian (cell order bytes i) / 2 ^ bit_start order i 
 abbrev pub HasCounter : ℕ → List ℕ → ℕ → Type 0
 HasCounter order bytes i = cell_start order i + cell_bytes order ≤ length bytes
 
--- `high` is `low` with refcount `i` incremented, and no other cell differs.
-pub record IsRaised (order : ℕ) (low : List ℕ) (i : ℕ) (high : List ℕ) : Type 0 where
+-- `high` is `low` with refcount `i` raised by `by`, and no other cell differs.
+pub record IsRaised (order by : ℕ) (low : List ℕ) (i : ℕ) (high : List ℕ) : Type 0 where
   pub before : take (cell_start order i) high ≡ take (cell_start order i) low
-  pub cell_number : big_endian (cell order high i) ≡ big_endian (cell order low i) + 2 ^ bit_start order i
+  pub cell_number : big_endian (cell order high i) ≡ big_endian (cell order low i) + by * 2 ^ bit_start order i
   pub after : drop (cell_start order i + cell_bytes order) high ≡ drop (cell_start order i + cell_bytes order) low
   pub same_length : length high ≡ length low
 

@@ -96,22 +96,22 @@ fn raise(cell: &mut [u8], bit: u32, order: u32) -> Result<(), Fault>
     Ok(())
 }
 
-/// Decrements the refcount that starts at a bit of its cell, unless it is 0.
+/// Lowers the refcount that starts at a bit of its cell by `by`, unless it is less.
 #[tactic(auto, using(crate::proofs::Widths::width_facts))]
-fn lower(cell: &mut [u8], bit: u32, order: u32) -> Result<(), Fault>
+fn lower(cell: &mut [u8], bit: u32, order: u32, by: u64) -> Result<(), Fault>
     requires order { order ≤ 6 }
     requires len { length cell.old ≡ cell_bytes order }
     requires inside { bit + 2 ^ order ≤ 8 * cell_bytes order }
-    ensures possible { IsOk result ↔ (0 < big_endian cell.old / 2 ^ bit % 2 ^ (2 ^ order)) }
-    ensures lowered { OnOk result (big_endian cell.old ≡ big_endian cell.new + 2 ^ bit) }
+    ensures possible { IsOk result ↔ (by ≤ big_endian cell.old / 2 ^ bit % 2 ^ (2 ^ order)) }
+    ensures lowered { OnOk result (big_endian cell.old ≡ big_endian cell.new + by * 2 ^ bit) }
     ensures refused { IfErr result (λ e. e ≡ Fault.Counter) }
     ensures same { OnErr result (cell.new ≡ cell.old) }
 {
     let number = read_be(cell);
-    if digit(number, bit, order) == 0 {
+    if digit(number, bit, order) < by {
         return Err(Fault::Counter);
     }
-    write_be(cell, number - (1 << bit));
+    write_be(cell, number - (by << bit));
     Ok(())
 }
 
@@ -124,7 +124,7 @@ pub fn increment(bytes: &mut [u8], order: u32, index: usize) -> Result<(), Fault
     requires order { order ≤ 6 }
     requires inside { HasCounter order bytes.old index }
     ensures possible { IsOk result ↔ (counter order bytes.old index + 1 < 2 ^ (2 ^ order)) }
-    ensures raised { OnOk result (IsRaised order bytes.old index bytes.new) }
+    ensures raised { OnOk result (IsRaised order 1 bytes.old index bytes.new) }
     ensures step { OnOk result (counter order bytes.new index ≡ counter order bytes.old index + 1) }
     ensures others { OnOk result ((j : ℕ) → j ≢ index → counter order bytes.new j ≡ counter order bytes.old j) }
     ensures refused { IfErr result (λ e. e ≡ Fault.Counter) }
@@ -135,22 +135,22 @@ pub fn increment(bytes: &mut [u8], order: u32, index: usize) -> Result<(), Fault
     raise(&mut bytes[start..end], first_bit(order, index), order)
 }
 
-/// Decrements the refcount at `index`, unless it is 0.
+/// Lowers the refcount at `index` by `by`, unless it is less.
 ///
 /// # Errors
 ///
-/// - `Fault::Counter` exactly if the refcount is 0. The bytes are unchanged.
-pub fn decrement(bytes: &mut [u8], order: u32, index: usize) -> Result<(), Fault>
+/// - `Fault::Counter` exactly if the refcount is less than `by`. The bytes are unchanged.
+pub fn decrement_by(bytes: &mut [u8], order: u32, index: usize, by: u64) -> Result<(), Fault>
     requires order { order ≤ 6 }
     requires inside { HasCounter order bytes.old index }
-    ensures possible { IsOk result ↔ (0 < counter order bytes.old index) }
-    ensures lowered { OnOk result (IsRaised order bytes.new index bytes.old) }
-    ensures step { OnOk result (counter order bytes.new index + 1 ≡ counter order bytes.old index) }
+    ensures possible { IsOk result ↔ (by ≤ counter order bytes.old index) }
+    ensures lowered { OnOk result (IsRaised order by bytes.new index bytes.old) }
+    ensures step { OnOk result (counter order bytes.new index + by ≡ counter order bytes.old index) }
     ensures others { OnOk result ((j : ℕ) → j ≢ index → counter order bytes.new j ≡ counter order bytes.old j) }
     ensures refused { IfErr result (λ e. e ≡ Fault.Counter) }
     ensures same { OnErr result (bytes.new ≡ bytes.old) }
 {
     let start = first_byte(order, index);
     let end = start + cell_len(order);
-    lower(&mut bytes[start..end], first_bit(order, index), order)
+    lower(&mut bytes[start..end], first_bit(order, index), order, by)
 }

@@ -10,7 +10,7 @@ ghost use Rattle.qcow2_metadata.specs.Places.{IsAddressable, IsPlaced, place_of}
 
 use crate::Header;
 use crate::clusters::{first_byte_of, read_cluster, write_cluster, zeroes};
-use crate::counter::{decrement, get, increment};
+use crate::counter::{decrement_by, get, increment};
 use imago_storage::{Fault, Storage};
 use qcow2_types::{HostCluster, HostOffset};
 use std::alloc::{AllocError, Global};
@@ -283,16 +283,16 @@ impl RefBlock {
         Ok(self.get(index))
     }
 
-    // Decrements the refcount, and returns the new one.
-    fn lower(&mut self, index: usize) -> Result<u64, Fault>
+    // Lowers the refcount by `by`, and returns the new one.
+    fn lower(&mut self, index: usize, by: u64) -> Result<u64, Fault>
         requires { index < length self.old.counters }
-        ensures possible { IsOk result ↔ (0 < slice_index self.old.counters index) }
-        ensures lowered { IfOk result (λ count. (count ≡ slice_index self.old.counters index - 1)
-            × (self.new ≡ with_counter self.old index (slice_index self.old.counters index - 1))) }
+        ensures possible { IsOk result ↔ (by ≤ slice_index self.old.counters index) }
+        ensures lowered { IfOk result (λ count. (count ≡ slice_index self.old.counters index - by)
+            × (self.new ≡ with_counter self.old index (slice_index self.old.counters index - by))) }
         ensures refused { IfErr result (λ fault. fault ≡ Fault.Counter) }
         ensures stays { OnErr result (self.new ≡ self.old) }
     {
-        decrement(&mut self.bytes, self.refcount_order, index)?;
+        decrement_by(&mut self.bytes, self.refcount_order, index, by)?;
         self.modified = true;
         Ok(self.get(index))
     }
@@ -346,7 +346,28 @@ impl RefBlockWriteGuard<'_> {
         ensures stays { OnErr result (self.new.block.now ≡ self.old.block.now) }
         ensures same { self.new.block.ghost_name ≡ self.old.block.ghost_name }
     {
-        self.block.lower(index)
+        self.block.lower(index, 1)
+    }
+
+    /// Lowers the refcount at an index by `by`, and returns the new refcount. The block is now dirty, even if `by` is 0.
+    ///
+    /// # Preconditions
+    ///
+    /// `index` is less than the number of refcounts.
+    ///
+    /// # Errors
+    ///
+    /// - `Fault::Counter` exactly if the refcount is less than `by`. Nothing changes.
+    pub fn lower(&mut self, index: usize, by: u64) -> Result<u64, Fault>
+        requires { index < length self.old.block.now.counters }
+        ensures possible { IsOk result ↔ (by ≤ slice_index self.old.block.now.counters index) }
+        ensures lowered { IfOk result (λ count. (count ≡ slice_index self.old.block.now.counters index - by)
+            × (self.new.block.now ≡ with_counter self.old.block.now index (slice_index self.old.block.now.counters index - by))) }
+        ensures refused { IfErr result (λ fault. fault ≡ Fault.Counter) }
+        ensures stays { OnErr result (self.new.block.now ≡ self.old.block.now) }
+        ensures same { self.new.block.ghost_name ≡ self.old.block.ghost_name }
+    {
+        self.block.lower(index, by)
     }
 
     /// Returns true if the refcount at an index is 0.

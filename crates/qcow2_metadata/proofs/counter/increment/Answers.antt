@@ -17,7 +17,7 @@ returns-clause-raised c =
     let same : length c.raise.new.cell ≡ k =
     c.raise.auto.cell ∙ length-take-le k (drop a c.args.bytes.now) (omega (arith, length-drop a c.args.bytes.now, inside)) in
     on_ok_weaker c.raise.result
-    (λ number. raised_in_place c.args.order c.args.index a k c.first_bit.result c.args.bytes.now c.raise.new.cell c.first_byte-start.ensures len c.first_bit.ensures.bit inside same number)
+    (λ number. raised_in_place c.args.order 1 c.args.index a k c.first_bit.result c.args.bytes.now c.raise.new.cell c.first_byte-start.ensures len c.first_bit.ensures.bit inside same (omega (arith, number)))
     c.raise.ensures.raised
 
 pub returns-clause-possible : goal.returns-clause-possible
@@ -25,8 +25,8 @@ returns-clause-possible c = grind (arith, common_steps)
 
 pub returns-clause-step : goal.returns-clause-step
 returns-clause-step c =
-    on_ok_where c.raise.result (returns-clause-possible c) (returns-clause-raised c) (λ room r. raised_counter _ _ _ _ r room)
+    on_ok_where c.raise.result (returns-clause-possible c) (returns-clause-raised c) (λ room r. raised_counter _ _ _ _ _ r room)
 
 pub returns-clause-others : goal.returns-clause-others
 returns-clause-others c =
-    on_ok_where c.raise.result (returns-clause-possible c) (returns-clause-raised c) (λ room r. raised_others _ _ _ _ r room)
+    on_ok_where c.raise.result (returns-clause-possible c) (returns-clause-raised c) (λ room r. raised_others _ _ _ _ _ r room)

@@ -1,4 +1,4 @@
--- The cell is decremented in place, and the other bytes are unchanged.
+-- The cell is lowered in place, and the other bytes are unchanged.
 use Rattle.std.proofs.Common.{sym, ◌≡◌, ◌+◌, ◌-◌, ◌≤◌, ◌∙◌, length, drop, arith}
 use Rattle.std.proofs.lemmas.List.{length-take-le, length-drop}
 use Rattle.std.proofs.lemmas.Grind.{common_steps}
@@ -6,7 +6,7 @@ use Rattle.std.proofs.lemmas.Result.{on_ok_weaker}
 use Rattle.qcow2_metadata.specs.Cells.{cell_bytes}
 use Rattle.qcow2_metadata.proofs.CellLaws.{lowered_counter, on_ok_where, raised_counter, raised_others}
 use Rattle.qcow2_metadata.proofs.Raised.{lowered_in_place}
-use Rattle.qcow2_metadata.proofs.counter.decrement.Goals as goal
+use Rattle.qcow2_metadata.proofs.counter.decrement_by.Goals as goal
 
 pub returns-clause-lowered : goal.returns-clause-lowered
 returns-clause-lowered c =
@@ -17,7 +17,7 @@ returns-clause-lowered c =
     let same : length c.lower.new.cell ≡ k =
     c.lower.auto.cell ∙ length-take-le k (drop a c.args.bytes.now) (omega (arith, length-drop a c.args.bytes.now, inside)) in
     on_ok_weaker c.lower.result
-    (λ number. lowered_in_place c.args.order c.args.index a k c.first_bit.result c.args.bytes.now c.lower.new.cell c.first_byte-start.ensures len c.first_bit.ensures.bit inside same number)
+    (λ number. lowered_in_place c.args.order c.args.by c.args.index a k c.first_bit.result c.args.bytes.now c.lower.new.cell c.first_byte-start.ensures len c.first_bit.ensures.bit inside same number)
     c.lower.ensures.lowered
 
 pub returns-clause-possible : goal.returns-clause-possible
@@ -26,9 +26,9 @@ returns-clause-possible c = grind (arith, common_steps)
 pub returns-clause-step : goal.returns-clause-step
 returns-clause-step c =
     on_ok_where c.lower.result (returns-clause-possible c) (returns-clause-lowered c)
-    (λ some r. sym (raised_counter _ _ _ _ r (lowered_counter _ _ _ _ r some)))
+    (λ some r. sym (raised_counter _ _ _ _ _ r (lowered_counter _ _ _ _ _ r some)))
 
 pub returns-clause-others : goal.returns-clause-others
 returns-clause-others c =
     on_ok_where c.lower.result (returns-clause-possible c) (returns-clause-lowered c)
-    (λ some r j ne. sym (raised_others _ _ _ _ r (lowered_counter _ _ _ _ r some) j ne))
+    (λ some r j ne. sym (raised_others _ _ _ _ _ r (lowered_counter _ _ _ _ _ r some) j ne))
