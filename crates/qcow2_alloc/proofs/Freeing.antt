@@ -4,5 +4,7 @@ pub mod ClusterOccurrences
 pub mod ClusterFrees
 pub mod ShorterLists
 pub mod EntryFrees
+pub mod LoweredCounters
+pub mod Lowerings
 pub mod FreesInTurn
 pub mod ListRemainders

@@ -17,6 +17,7 @@ pub mod GuestView
 pub mod Allocators
 pub mod State
 pub mod Freeing
+pub mod Lowering
 pub mod MakingRoom
 pub mod SearchingClusters
 pub mod Scanning

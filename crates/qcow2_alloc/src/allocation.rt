@@ -16,6 +16,7 @@ use std::alloc::Global;
 mod counting;
 mod growing;
 mod handing_out;
+mod lowering;
 mod making_blocks;
 mod moving_table;
 mod readying_runs;

@@ -4,6 +4,8 @@ pub mod EarlyRefusals
 pub mod StartsAtRest
 pub mod EndsAtRest
 pub mod FreesAtRest
+pub mod LoweredPairs
+pub mod LeaksAtRest
 pub mod RoomAfterAllocations
 pub mod AllocationsAtRest
 pub mod RunStores

@@ -9,6 +9,7 @@ pub mod Linking
 pub mod Setting
 pub mod Clearing
 pub mod Freeing
+pub mod Lowering
 pub mod MakingTables
 pub mod Lengthening
 pub mod Sizing

@@ -151,7 +151,7 @@ module _ {S : Type 0} (state : S → StorageState) where
   ]
 
   -- A block is used, if the refcount table references one.
-  module _ (does : Block → Result Unit Fault → Block → Type 0) (old : MetadataCaches S) (before : ImageFile S) (result : Result Unit Fault)
+  module _ {T : Type 0} (does : Block → Result T Fault → Block → Type 0) (old : MetadataCaches S) (before : ImageFile S) (result : Result T Fault)
       (new : MetadataCaches S) (after : ImageFile S) where
     pub named-long : (o : Option ℕ) (Refused : Type 0)
         → MatchOption o (Refused × (new ≡ old) × (after ≡ before)) (λ key. UsesBlock state key does (cached_file old before) result (cached_file new after))

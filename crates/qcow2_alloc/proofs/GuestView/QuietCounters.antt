@@ -152,10 +152,10 @@ hand-out-quiet m key c cached' sound order sets none =
     let guest_unchanged = raise-quiet m c cached' sound (subst (λ o. CounterChanged m.file m.header o m.cached c 1 cached') (sym order) raised.0) none in
     (guest_unchanged.0, guest_unchanged.1, raised.1)
 
-here-many : (c by : ℕ) → many_at c by c ≡ by
+pub here-many : (c by : ℕ) → many_at c by c ≡ by
 here-many c by = grind (arith, nat_tests)
 
-away-many : (c by d : ℕ) → d ≢ c → many_at c by d ≡ 0
+pub away-many : (c by d : ℕ) → d ≢ c → many_at c by d ≡ 0
 away-many c by d apart = grind (arith, nat_tests)
 
 -- A refcount falls by any number, as long as it covers the references and the free list.
