@@ -414,6 +414,14 @@ impl<S: Storage> FormatDriverInstance for OneCluster<S> {
         matches!(self.content, Content::Prepared(_))
     }
 
+    fn failed(&self) -> bool {
+        self.failed
+    }
+
+    fn mark_failed(&mut self) {
+        self.failed = true;
+    }
+
     fn get_mapping(
         &mut self,
         _alloc: Global,

@@ -229,6 +229,20 @@ impl<S: Storage> FormatDriverInstance for Driver<S> {
         }
     }
 
+    fn failed(&self) -> bool {
+        match self {
+            Driver::Raw(raw) => raw.failed(),
+            Driver::Words(words) => words.failed(),
+        }
+    }
+
+    fn mark_failed(&mut self) {
+        match self {
+            Driver::Raw(raw) => raw.mark_failed(),
+            Driver::Words(words) => words.mark_failed(),
+        }
+    }
+
     fn get_mapping(
         &mut self,
         alloc: Global,

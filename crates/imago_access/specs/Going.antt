@@ -1,6 +1,6 @@
 -- Specifies what every call of a driver preserves: its bytes, its invariant and its refcounts. A parameter `whole` states that the call had
 -- no resource error (`Fault::Memory`, `Fault::Storage`).
-use Rattle.std.specs.Prelude.{◌≡◌, ◌∷◌, ◌⊎◌, ⊤, ℕ, List, Option, Some, None, Result, IsTrue, IsOk, OnOk, IsErrOf, IsSome}
+use Rattle.std.specs.Prelude.{◌≡◌, ◌∷◌, ◌⊎◌, ◌||◌, ⊤, ℕ, List, Option, Some, None, Result, IsTrue, IsOk, OnOk, IsErrOf, IsSome}
 use Rattle.imago_storage.specs.Calls.{IsFaultless}
 use Rattle.imago_storage.specs.Steps.{Call}
 use Rattle.imago_storage.specs.declared.fault.Fault.{Fault}
@@ -67,6 +67,14 @@ abbrev pub MarksFailed : {D St : Type 0} → Ghosts D St → D → D → Fault �
 MarksFailed g old new Storage = IsTrue (g.layer old).fixed.marks_failed → IsTrue (g.layer new).failed
 MarksFailed g old new Memory = IsTrue (g.layer old).fixed.marks_failed → IsTrue (g.layer new).failed ⊎ IsLeftUntouched g old new
 MarksFailed g old new fault = ⊤
+
+-- The image has failed, if its format marks failures. Nothing else has changed.
+pub record IsMarkedFailed {D St : Type 0} (g : Ghosts D St) (old new : D) : Type 0 where
+  pub layer : g.layer new ≡ record (g.layer old) { failed = (g.layer old).failed || (g.layer old).fixed.marks_failed }
+  pub unasked : Unasked g old new
+  pub seen : g.coherent old → g.coherent new
+  pub stilled : g.has_no_dirty_data old → g.has_no_dirty_data new
+  pub stays_stable : g.stable old → g.stable new
 
 -- Like `MarksFailed`, for a call that also reads the layers below. After `Storage` from a storage of its own the image has failed. After
 -- `Storage` from a layer below, the image has failed, or nothing has changed except for fault counts.

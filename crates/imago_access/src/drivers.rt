@@ -9,7 +9,7 @@ ghost use Rattle.imago_access.specs.Chain.{at};
 ghost use Rattle.imago_access.specs.Room.{AllocationOfPlace};
 ghost use Rattle.imago_access.specs.Files.{AreRead, OverflowsIn, Pairs, UnchangedButMoreFaults, IsStorageAt, HadNoResourceError, IsStale, files};
 ghost use Rattle.imago_access.specs.PartCalls.{IsPart, DoesPart, PartRefused, ensures_zero, discards_to_zero, discards_to_any, discards_to_backing};
-ghost use Rattle.imago_access.specs.Going.{EarlyOutcome, RangeEarlyOutcome, KeepsWhatIsFlushed, IsUnchanged, MarksFailed, LookupCall, LookupCallBelow, MutatingCall, ReloadingCall};
+ghost use Rattle.imago_access.specs.Going.{EarlyOutcome, RangeEarlyOutcome, KeepsWhatIsFlushed, IsMarkedFailed, IsUnchanged, MarksFailed, LookupCall, LookupCallBelow, MutatingCall, ReloadingCall};
 ghost use Rattle.imago_access.specs.Mappings.{IsRun, IsOneOf, IsMappedRun, LooksIn, ReportsAllocationIn, ReportsExplicitZero};
 ghost use Rattle.imago_access.specs.Refusals.{unusable_fault, own_refusal, IsOfStorages};
 ghost use Rattle.imago_access.specs.Changes.{asking};
@@ -110,6 +110,15 @@ pub trait FormatDriverInstance: DriverModel {
     /// Returns true if a mapping with something to commit is prepared, and neither committed nor cancelled.
     fn prepared(&self) -> bool
         ensures { result ≡ is_some (Self.layer self.now).unspent };
+
+    /// Returns true if the image has failed, so that it must be opened again.
+    fn failed(&self) -> bool
+        ensures { result ≡ (Self.layer self.now).failed };
+
+    /// Sets the image to failed, if its format marks failures. It must be opened again then. A caller does this after an error in a file of
+    /// the image that the driver can't know of. No request is made.
+    fn mark_failed(&mut self)
+        ensures { IsMarkedFailed Self.DriverModel self.old self.new };
 
     /// Looks up a run of at most `max_length` bytes at `offset`. Returns where the run is stored, and its length in bytes.
     ///

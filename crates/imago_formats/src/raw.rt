@@ -377,6 +377,12 @@ impl<S: Storage> FormatDriverInstance for Raw<S> {
         false
     }
 
+    fn failed(&self) -> bool {
+        false
+    }
+
+    fn mark_failed(&mut self) {}
+
     fn get_mapping(
         &mut self,
         _alloc: Global,

@@ -122,6 +122,14 @@ impl<S: Storage> FormatDriverInstance for Qcow2<S> {
         self.unspent.is_some()
     }
 
+    fn failed(&self) -> bool {
+        self.failed
+    }
+
+    fn mark_failed(&mut self) {
+        self.failed = true;
+    }
+
     fn get_mapping(
         &mut self,
         _alloc: Global,

@@ -382,6 +382,12 @@ impl<S: Storage> FormatDriverInstance for Vmdk<S> {
         false
     }
 
+    fn failed(&self) -> bool {
+        false
+    }
+
+    fn mark_failed(&mut self) {}
+
     fn get_mapping(
         &mut self,
         _alloc: Global,

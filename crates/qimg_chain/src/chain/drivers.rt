@@ -201,6 +201,22 @@ impl<S: Storage> FormatDriverInstance for ImageDriver<S> {
         }
     }
 
+    fn failed(&self) -> bool {
+        match self {
+            ImageDriver::Raw(raw) => raw.failed(),
+            ImageDriver::Vmdk(vmdk) => vmdk.failed(),
+            ImageDriver::Qcow2(qcow2) => qcow2.failed(),
+        }
+    }
+
+    fn mark_failed(&mut self) {
+        match self {
+            ImageDriver::Raw(raw) => raw.mark_failed(),
+            ImageDriver::Vmdk(vmdk) => vmdk.mark_failed(),
+            ImageDriver::Qcow2(qcow2) => qcow2.mark_failed(),
+        }
+    }
+
     fn get_mapping(
         &mut self,
         alloc: Global,

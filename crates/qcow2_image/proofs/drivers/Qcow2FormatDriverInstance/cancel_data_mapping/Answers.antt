@@ -1,6 +1,6 @@
 use Rattle.std.proofs.Common.{sym, ◌∙◌, arith}
 use Rattle.qcow2_image.proofs.CommitsAndCancels.{cancels-by}
-use Rattle.qcow2_image.proofs.CommitLeaks.{cancel-leaks}
+use Rattle.qcow2_image.proofs.LeakChanges.CommitLeaks.{cancel-leaks}
 use Rattle.qcow2_image.proofs.drivers.Qcow2FormatDriverInstance.cancel_data_mapping.Goals as goal
 
 pub returns-else-state-self : goal.returns-else-state-self

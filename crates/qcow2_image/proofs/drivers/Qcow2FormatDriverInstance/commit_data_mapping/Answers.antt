@@ -4,7 +4,7 @@ use Rattle.qcow2_image.specs.declared.qcow2.PreparedMappingState.{PreparedMappin
 use Rattle.qcow2_image.specs.contracts.qcow2.Qcow2DriverModel.TheImpl.{ghosts}
 use Rattle.qcow2_image.proofs.Lengths.{committed-long}
 use Rattle.qcow2_image.proofs.CommitsAndCancels.{commits-by, refused-by}
-use Rattle.qcow2_image.proofs.CommitLeaks.{commit-leaks}
+use Rattle.qcow2_image.proofs.LeakChanges.CommitLeaks.{commit-leaks}
 use Rattle.qcow2_image.proofs.drivers.Qcow2FormatDriverInstance.commit_data_mapping.Goals as goal
 
 pub returns-in-Ok-clause-commits : goal.returns-in-Ok-clause-commits
