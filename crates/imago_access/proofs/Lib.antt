@@ -29,3 +29,10 @@ pub mod Discarding
 pub mod Zeroing
 pub mod Refusing
 pub mod FileReads
+pub mod OwnRuns
+pub mod Committing
+pub mod Emptying
+pub mod CommitValues
+pub mod CommitSteps
+pub mod CommitMarks
+pub mod CommitEnds

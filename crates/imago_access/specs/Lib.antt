@@ -23,3 +23,4 @@ pub mod ChainLooks
 pub mod RunCalls
 pub mod Building
 pub mod FileReads
+pub mod Committing

@@ -14,6 +14,7 @@ use std::alloc::Global;
 use std::fmt::{self, Display, Formatter, Write};
 use std::marker::Model;
 
+mod committing;
 mod discarding;
 mod ensuring;
 mod files;

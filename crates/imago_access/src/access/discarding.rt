@@ -22,7 +22,7 @@ use std::alloc::Global;
 
 // The bytes that a discarded range may read as.
 #[derive(Clone, Copy, Debug, Drop, PartialEq, Eq)]
-enum Discarding {
+pub(crate) enum Discarding {
     // Any byte.
     ToAny,
     // The old byte, or the byte of the layer below.
@@ -63,7 +63,7 @@ fn discard_part<D: FormatDriverInstance>(
 }
 
 // Discards each part of a range that the driver can deallocate.
-fn discard_all<D: FormatDriverInstance>(
+pub(crate) fn discard_all<D: FormatDriverInstance>(
     alloc: Global,
     driver: &mut D,
     discarding: Discarding,
