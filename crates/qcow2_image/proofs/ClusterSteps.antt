@@ -134,6 +134,7 @@ module _ {S : Type 0} (g : Ghosts S) (old new : Qcow2 S g) (fault : Fault) (mid 
         (space-refused unloaded_from unloaded_to old.tables.file.header.fields fault loads));
     known_cause = why-safe;
     faults = tt;
+    idle = λ untouched. (keeps-unloaded.unspent ∙ untouched.0, subst (λ (o : Option Space). IfSome o (λ x. x.to_free.entries ≡ [])) (sym keeps-unloaded.tables.space) untouched.1);
   }
 
 -- The free space was loaded.
@@ -157,6 +158,7 @@ loaded g old new space none there mode number unspent failed l1 caches header lo
   cause = tt;
   known_cause = λ well_formed. tt;
   faults = failed;
+  idle = λ untouched. (unspent ∙ untouched.0, subst (λ (o : Option Space). IfSome o (λ x. x.to_free.entries ≡ [])) (sym there) empty);
 }
 
 progresses-as : (ok ok' : Type 0) (kind : Kind) (s s' : StorageState) (m m' : Metadata) → (ok' → ok) → Progresses ok kind s m s' m' → Progresses ok' kind s m s' m'
@@ -261,7 +263,7 @@ module _ {S T : Type 0} (g : Ghosts S) (old : Qcow2 S g) (begun : Bool) (mid : T
   leaks-by kind reserved given progress well_formed whole =
       advanced-leaks g old now space space' there there' (going.HadNoResourceError result) kind reserved refl given progress well_formed (whole-below result whole)
 
-none-spared : {S : Type 0} (g : Ghosts S) (old : Qcow2 S g) (P : PreparedMappingRun → Type 0) → old.unspent ≡ None → IfSome (holding_in g old.unspent) P
+pub none-spared : {S : Type 0} (g : Ghosts S) (old : Qcow2 S g) (P : PreparedMappingRun → Type 0) → old.unspent ≡ None → IfSome (holding_in g old.unspent) P
 none-spared g old P free = subst (λ u. IfSome (holding_in g u) P) (sym free) tt
 
 storing-allocates : {S : Type 0} (g : Ghosts S) (old new : Qcow2 S g) {is-ready : Type 0} {full full' : ℕ → Type 0} → (IsWellFormed g old → is-ready)

@@ -50,7 +50,7 @@ use Rattle.qcow2_image.proofs.DiskEffects.{rest-memory, whole-below}
 use Rattle.qcow2_image.proofs.CallNeeds.{settles-byte, since-as}
 use Rattle.qcow2_image.proofs.Steps.{memory-is}
 use Rattle.qcow2_image.proofs.SearchStart.{counted-same}
-use Rattle.qcow2_image.proofs.CommitLeaks.{dropped-leaks, spent-leaks}
+use Rattle.qcow2_image.proofs.LeakChanges.CommitLeaks.{dropped-leaks, spent-leaks}
 use Rattle.qcow2_image.proofs.LeaksByFile.{surplus-kept}
 
 abbrev Answer : Type 0

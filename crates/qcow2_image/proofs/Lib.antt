@@ -31,7 +31,7 @@ pub mod Preparations
 pub mod ClusterSteps
 pub mod Commits
 pub mod CommitsAndCancels
-pub mod CommitLeaks
+pub mod LeakChanges
 pub mod LeaksWithNothingPending
 pub mod SameLeaks
 pub mod FileReads

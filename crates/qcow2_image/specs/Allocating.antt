@@ -137,6 +137,7 @@ pub record LoadsSpace {S : Type 0} (g : Ghosts S) (old : Qcow2 S g) (result : Re
   pub cause : IfErr result (HasCause (allocation_causes g (λ number. ⊥) old new))
   pub known_cause : IsWellFormed g old → IfErr result (Cause (g.state old.tables.file.image).faults (g.state new.tables.file.image).faults)
   pub faults : OnOk result (new.failed ≡ old.failed)
+  pub idle : IsUntouched g old → IsUntouched g new
 
 -- The L1 entry of the guest cluster has the COPIED flag: nothing else references its L2 table.
 abbrev pub HasOwnTable : {S : Type 0} (g : Ghosts S) → ℕ → Tables S g → Type 0

@@ -21,3 +21,4 @@ pub mod Preparing
 pub mod Clearing
 pub mod Resizing
 pub mod Growing
+pub mod Repairing

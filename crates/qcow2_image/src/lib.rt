@@ -22,6 +22,7 @@ mod qcow2;
 mod reading;
 mod refusing;
 mod reloading;
+mod repairing;
 mod resizing;
 mod tables;
 mod unspent;

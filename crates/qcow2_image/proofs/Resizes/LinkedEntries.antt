@@ -59,7 +59,7 @@ use Rattle.qcow2_image.specs.Unspent.{holding_in}
 use Rattle.qcow2_image.specs.declared.mappings.Reserved.{Reserved}
 use Rattle.qcow2_image.specs.declared.qcow2.Qcow2.{Qcow2}
 use Rattle.qcow2_image.proofs.CallStarts.{still-cut, whole-cut}
-use Rattle.qcow2_image.proofs.CommitLeaks.{covers-more, covers-none, newly-reserved}
+use Rattle.qcow2_image.proofs.LeakChanges.CommitLeaks.{covers-more, covers-none, newly-reserved}
 use Rattle.qcow2_image.proofs.Commits.{same-parts}
 use Rattle.qcow2_image.proofs.DiskEffects.{format-same, may-left, rest-memory, safe-sound, seen_as, whole-below}
 use Rattle.qcow2_image.proofs.FileWords.{tables-same}
