@@ -50,7 +50,7 @@ module _ {D St : Type 0} (g : Ghosts D St) (well_formed_is_usable : (d : D) → 
         (omega arith) (omega arith) (λ p v gave. held-gives ((g.layer old.0).held p) v gave) (stops ready)
 
     -- The commit succeeded.
-    pub commit-leads : Commits g mapping.state (Ok tt) old.0 new.0 → (IsReady g old → IsIntactChain g new) → (IsReady g old → ChainCommits g mapping.state old new) → LeavesForNext g ⊤ call old new
+    pub commit-leads : Commits g mapping.state (Ok tt) old.0 new.0 → (IsReady g old → IsIntactChain g new) → (IsReady g old → ChainCommits g mapping.state old new) → LeavesForNext g ⊤ call false old new
     commit-leads does intact step = step-leads g old new ⊤ ⊤ call well_formed_is_usable does.mutating_call (looked ⊤) (λ w ready. tt) (λ w ready. does.mutating_call.excess_refcount (refl, kept.mine) ready.intact.is_well_formed) (λ w ready. intact ready)
         (λ w ready. committed-between (below_of g.layer old) (below_of g.layer old) _ _ (chain_disk g.layer old) (chain_disk g.layer new) (step ready)) commit-stops
 
@@ -104,7 +104,7 @@ module _ {D St : Type 0} (g : Ghosts D St) (well_formed_is_usable : (d : D) → 
   pub cancel-leads : (call : Call) (result : Result Unit (Fault × PreparedDataMapping St)) → Cancels g mapping result old.0 new.0 → ((g.layer old.0).size ≤ most_size (chain_disk g.layer old) call)
       → (IsReady g old → IsIntactChain g new)
       → (IsReady g old → ValuesBetween (Begun (below_of g.layer old) (chain_disk g.layer old) call) (chain_disk g.layer old) (chain_disk g.layer new))
-      → LeavesForNext g ⊤ call old new
+      → LeavesForNext g ⊤ call false old new
   cancel-leads call result cancels high intact values =
       let same = cancels.none.0 in
       record {

@@ -16,12 +16,13 @@ use Rattle.qimg_calls.specs.declared.call.Call.{Call}
 use Rattle.qimg_calls.specs.declared.call.Call.TheVariants as calls
 use Rattle.qimg_calls.specs.declared.call.Answer.{Answer}
 use Rattle.qimg_calls.specs.declared.call.Answer.TheVariants as told
+use Rattle.qimg_calls.specs.Calls.{any_repair}
 use Rattle.qimg_calls.specs.Since.{Since, IsSince}
 use Rattle.qimg_calls.specs.Held.{chain_with_mapping, MappingIsPrepared, IsReady, disk_call}
 use Rattle.qimg_calls.specs.Making.{CallOutcome, AnswersAll, CancelsKept, MadeAll}
 use Rattle.qimg_calls.specs.Runs.{reading_of, IfTelling, HoldsSince, Driven}
 use Rattle.qimg_calls.proofs.Lists.{WritesBackCached, going-all, going-both, going-made, going-same, ran-all, same-made}
-use Rattle.qimg_calls.proofs.SameChains.{same-chain-both}
+use Rattle.qimg_calls.proofs.SameChains.{same-chain-then}
 use Rattle.qimg_calls.proofs.Stops.{reading, reading_as, same-disk}
 
 -- A cancel gives no byte a new value.
@@ -75,7 +76,7 @@ module _ {D St : Type 0} (g : Ghosts D St) (well_formed_is_coherent : (d : D) 鈫
         ends = 位 every. rw ((ran.ends every).0) (cancelled d new m makes (ran.ends every).1, same);
         counts_not_fallen = subst (IsLater (g.image ran.last.now.drivers.0)) (sym same) ran.counts_not_fallen;
         faults = 位 every. subst (IsFaultless (g.image old.0)) (sym same) (ran.no_change_refused every);
-        same_chain = 位 every. same-chain-both g old d new (ran.same_chain every) (same-made g calls.Cancel told.Done (chain_with_mapping d (Some m)) (chain_with_mapping new None) makes (ran.ends every).1 tt);
+        same_chain = 位 every. same-chain-then g (any_repair list answers) old d new (ran.same_chain every) (same-made g calls.Cancel told.Done (chain_with_mapping d (Some m)) (chain_with_mapping new None) makes (ran.ends every).1 tt);
         ready = 位 every. makes.leads.ready tt (ran.ends every).1;
         stands = 位 every. stands-cancelled d new m ran.last.since makes same (ran.ends every).1 (ran.ends every).2;
       }

@@ -77,6 +77,7 @@ module _ {D St : Type 0} (g : Ghosts D St) where
   failed-first calls.Sync old failed placed none = rw failed refl
   failed-first (calls.ResizeGrow size mode) old failed placed none = rw failed refl
   failed-first (calls.ResizeShrink size) old failed placed none = rw failed refl
+  failed-first calls.RepairLeaks old failed placed none = rw failed refl
 
   -- One call on a top that has failed: the answer, and that no mapping is kept.
   fails-one : (call : Call) (answer : Answer) (old new : ChainWithMapping D St) → Answers g call answer old new → old.kept_mapping ≡ None → IsTrue (g.layer old.drivers.0).failed

@@ -74,7 +74,7 @@ module _ {D St : Type 0} (g : Ghosts D St) (old new : D × List D) (whole ok : T
       → (whole → IsReady g old → ok)
       → ((p : ℕ) (v : Value) → gives p v → Begun (below_of g.layer old) (chain_disk g.layer old) call p v)
       → least_size (chain_disk g.layer old) call ≤ (g.layer old.0).size → (g.layer old.0).size ≤ most_size (chain_disk g.layer old) call
-      → LeavesForNext g whole call old new
+      → LeavesForNext g whole call false old new
   ran-leads well_formed_is_usable gives ran done gave low high =
       let same : whole → IsReady g old → map g.layer new.1 ≡ map g.layer old.1 = λ w ready. (ran.lookup_call.stays (done w ready) ready.intact.is_coherent).0 in
       record {
@@ -99,7 +99,7 @@ module _ {D St : Type 0} (g : Ghosts D St) (old new : D × List D) (whole ok : T
 
   -- A read or lookup through the chain.
   pub look-leads : (well_formed_is_coherent : (d : D) → g.well_formed d → g.coherent d) → Pairs (LookupCall g ok) (chain old) (chain new) → (whole → ok)
-      → least_size (chain_disk g.layer old) call ≤ (g.layer old.0).size → (g.layer old.0).size ≤ most_size (chain_disk g.layer old) call → LeavesForNext g whole call old new
+      → least_size (chain_disk g.layer old) call ≤ (g.layer old.0).size → (g.layer old.0).size ≤ most_size (chain_disk g.layer old) call → LeavesForNext g whole call false old new
   look-leads well_formed_is_coherent looked done low high =
       let top : whole → IsReady g old → g.layer new.0 ≡ g.layer old.0 = λ w ready. (looked.0.stays (done w) (well_formed_is_coherent old.0 ready.intact.is_well_formed)).0 in
       let same : whole → IsReady g old → map g.layer new.1 ≡ map g.layer old.1 = λ w ready. chain_same g ok old.1 new.1 (done w) ready.intact.is_coherent looked.1 in
@@ -134,7 +134,7 @@ module _ {D St : Type 0} (g : Ghosts D St) (old new : D × List D) (whole ok : T
       → (whole → IsReady g old → IsIntactChain g new)
       → (whole → IsReady g old → ValuesBetween (Begun (below_of g.layer old) (chain_disk g.layer old) call) (chain_disk g.layer old) (chain_disk g.layer new))
       → (IsReady g old → KeepsCrashImagesTo g (map g.layer old.1) (least_size (chain_disk g.layer old) call) (most_size (chain_disk g.layer old) call) (Begun (below_of g.layer old) (chain_disk g.layer old) call) old.0 new.0)
-      → LeavesForNext g whole call old new
+      → LeavesForNext g whole call false old new
   step-leads well_formed_is_usable mutating_call looked done excess_refcount intact values stops =
       let same : whole → IsReady g old → map g.layer new.1 ≡ map g.layer old.1 = λ w ready. (looked.stays (done w ready) ready.intact.is_coherent).0 in
       record {

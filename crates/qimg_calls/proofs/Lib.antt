@@ -2,6 +2,7 @@
 mod EarlyEnds
 mod Leading
 mod Moving
+mod Repaired
 mod Resizing
 mod Spending
 mod Committing

@@ -2,12 +2,13 @@
 use Rattle.std.proofs.lemmas.Bool.{cases_lt}
 use Rattle.std.proofs.lemmas.List.Elements.{All-weaker}
 use Rattle.std.proofs.Common.{◌≡◌, ◌⊎◌, inl, inr, ℕ, ◌+◌, ◌<◌, ◌≤◌, ◌^◌, ◌∷◌, ◌++◌, [], List, length, arith, refl, sym, subst, ap, ◌∙◌, true, false, suc}
-use Rattle.std.specs.Prelude.{Bool, Option, Some, None, is_some, IsTrue, map}
+use Rattle.std.specs.Prelude.{⊤, Bool, ◌||◌, Option, Some, None, is_some, IsTrue, map}
 use Rattle.imago_storage.specs.State.{StorageState, CrashImageIsBytes, HasRisen}
 use Rattle.imago_storage.specs.Passing.{UnrefusedCrashImages}
 use Rattle.imago_storage.specs.Through.{EachCrashImageIn}
 use Rattle.imago_storage.specs.Calls.{IsFaultless}
 use Rattle.imago_storage.specs.Steps.{Call as DiskCall}
+use Rattle.imago_storage.specs.declared.fault.Fault.{Fault}
 use Rattle.imago_storage.specs.declared.fault.Fault.TheVariants.{Memory, Storage, BadArgument}
 use Rattle.imago_access.specs.declared.driver_model.DriverModel.{Ghosts}
 use Rattle.imago_access.specs.Layer.{Fixed, IsFree}
@@ -21,7 +22,7 @@ use Rattle.qimg_calls.specs.declared.call.Call.{Call}
 use Rattle.qimg_calls.specs.declared.call.Call.TheVariants as calls
 use Rattle.qimg_calls.specs.declared.call.Answer.{Answer}
 use Rattle.qimg_calls.specs.declared.call.Answer.TheVariants as told
-use Rattle.qimg_calls.specs.Calls.{Either, GoesOn, is_out_of_place}
+use Rattle.qimg_calls.specs.Calls.{Either, GoesOn, any_repair, is_out_of_place, repairs}
 use Rattle.qimg_calls.specs.Since.{Since, Begun, least_size, most_size, begun, at_size, flushed, LeftSince, IsSince}
 use Rattle.qimg_calls.specs.Held.{ChainWithMapping, MappingIsPrepared, IsReady, disk_call, state_of}
 use Rattle.qimg_calls.specs.Leading.{LeavesForNext}
@@ -75,21 +76,38 @@ none-or (Some n) = inr refl
 calm-both : (a b c : StorageState) → IsFaultless a b → IsFaultless b c → IsFaultless a c
 calm-both a b c first second = (second.0 ∙ first.0, second.1 ∙ first.1)
 
+-- The call is a flush or a repair of leaks that succeeded.
+abbrev Flushes : Call → Answer → Type 0
+Flushes calls.Flush told.Done = ⊤
+Flushes calls.RepairLeaks (told.Leaks pairs) = ⊤
+Flushes call answer = ⊥
+
+-- A call that failed repaired no leaks.
+not-repaired : (call : Call) (fault : Fault) → repairs call (told.Refused fault) ≡ false
+not-repaired calls.RepairLeaks fault = refl
+not-repaired call fault = refl
+
 module _ {D St : Type 0} (g : Ghosts D St) where
   -- The two cases of `since_after`.
   behind-or : (call : Call) (answer : Answer) (m : Moment D St) (new : ChainWithMapping D St)
       → (since_after g call answer m new ≡ at_size (begun m.since (chain_disk g.layer m.now.drivers) (disk_call g m.now call)) (g.layer new.drivers.0).size)
-      ⊎ ((call ≡ calls.Flush) × (answer ≡ told.Done) × (state_of m.now.kept_mapping ≡ None) × (since_after g call answer m new ≡ flushed (chain_disk g.layer new.drivers)))
+      ⊎ (Flushes call answer × (state_of m.now.kept_mapping ≡ None) × (since_after g call answer m new ≡ flushed (chain_disk g.layer new.drivers)))
   behind-or calls.Flush told.Done m new = elim (none-or (state_of m.now.kept_mapping)) [
-    | inl none ↦ inr (refl, refl, none, rw (none) refl)
+    | inl none ↦ inr (tt, none, rw (none) refl)
+    | inr some ↦ inl (rw (some) refl)
+  ]
+  behind-or calls.RepairLeaks (told.Leaks pairs) m new = elim (none-or (state_of m.now.kept_mapping)) [
+    | inl none ↦ inr (tt, none, rw (none) refl)
     | inr some ↦ inl (rw (some) refl)
   ]
   behind-or call answer m new = inl refl
 
-  -- After a flush with no mapping prepared, the file means the disk.
-  made-flush : (call : Call) (answer : Answer) (old new : ChainWithMapping D St) → CallOutcome g call answer old new → IsIntactChain g old.drivers → call ≡ calls.Flush → answer ≡ told.Done → IsFree (g.layer old.drivers.0)
+  -- After a flush or a repair of leaks with no mapping prepared, the file means the disk.
+  made-flush : (call : Call) (answer : Answer) (old new : ChainWithMapping D St) → CallOutcome g call answer old new → IsIntactChain g old.drivers → Flushes call answer → IsFree (g.layer old.drivers.0)
       → IsWritten g new.drivers.0
-  made-flush call answer old new makes intact is_flush is_done none = (((rw (is_flush, is_done) at makes).moves intact).0.3.1 none).0
+  made-flush calls.Flush told.Done old new makes intact flushes none = ((makes.moves intact).0.3.1 none).0
+  made-flush calls.RepairLeaks (told.Leaks pairs) old new makes intact flushes none = (makes.moves intact).0.3.1
+  made-flush call answer old new makes intact flushes none = absurd flushes
 
   -- The properties that every call preserves, with any answer.
   pub record WritesBackCached (old new : ChainWithMapping D St) : Type 0 where
@@ -139,7 +157,7 @@ module _ {D St : Type 0} (g : Ghosts D St) where
   all-then (c ∷ cs) [] call answer old mid new all one = absurd all
 
   -- The call keeps the chain the same.
-  pub same-made : (call : Call) (answer : Answer) (old new : ChainWithMapping D St) → CallOutcome g call answer old new → IsReady g old.drivers → GoesOn answer → IsSameChain g old.drivers new.drivers
+  pub same-made : (call : Call) (answer : Answer) (old new : ChainWithMapping D St) → CallOutcome g call answer old new → IsReady g old.drivers → GoesOn answer → IsSameChain g (repairs call answer) old.drivers new.drivers
   same-made call answer old new makes ready on = record {
     fixed = makes.leads.fixed;
     files = (makes.leads.layers_below ready.has_no_dirty_data).0;
@@ -149,9 +167,9 @@ module _ {D St : Type 0} (g : Ghosts D St) where
 
   module _ (well_formed_is_coherent : (d : D) → g.well_formed d → g.coherent d) (well_formed_is_sound : (d : D) → g.well_formed d → IsCovered (g.layer d) g.sound (g.image d).bytes) where
     -- The crash images of a call of the disk.
-    stops-behind : (whole : Type 0) (does : DiskCall) (old new : D × List D) (since : Since) → LeavesForNext g whole does old new → IsReady g old → HoldsSince g since old
+    stops-behind : (whole : Type 0) (does : DiskCall) (repaired : Bool) (old new : D × List D) (since : Since) → LeavesForNext g whole does repaired old new → IsReady g old → HoldsSince g since old
         → UnrefusedCrashImages (LeftSince (reading_of g old) (begun since (chain_disk g.layer old) does)) (g.image old.0) (g.image new.0)
-    stops-behind whole does old new since leads ready stands no_change_refused =
+    stops-behind whole does repaired old new since leads ready stands no_change_refused =
         let one = leads.crash_images ready no_change_refused in
         let below = map g.layer old.1 in
         let entry = g.layer old.0 in
@@ -167,11 +185,11 @@ module _ {D St : Type 0} (g : Ghosts D St) where
         )
 
     -- The file after a call without a resource error: a crash now leaves it, and it is the old file or a crash image of the call.
-    file-behind : (whole : Type 0) (does : DiskCall) (old new : D × List D) (since : Since) → LeavesForNext g whole does old new → IsReady g old → whole → HoldsSince g since old
+    file-behind : (whole : Type 0) (does : DiskCall) (repaired : Bool) (old new : D × List D) (since : Since) → LeavesForNext g whole does repaired old new → IsReady g old → whole → HoldsSince g since old
         → IfTelling (g.image new.0) (((g.image new.0).crash_image ≡ (g.image new.0).bytes)
         × (((g.image new.0).bytes ≡ (g.image old.0).bytes) ⊎ LeftSince (reading_of g old) (begun since (chain_disk g.layer old) does) (g.image new.0).bytes)
         × IsSince (reading_of g old) (g.image old.0).bytes (chain_disk g.layer old) since)
-    file-behind whole does old new since leads ready on stands tells keeps room =
+    file-behind whole does repaired old new since leads ready on stands tells keeps room =
         let a = g.image old.0 in
         let b = g.image new.0 in
         let left = LeftSince (reading_of g old) (begun since (chain_disk g.layer old) does) in
@@ -181,19 +199,19 @@ module _ {D St : Type 0} (g : Ghosts D St) where
         let no_change_refused : HasRisen a.refusals b.refusals → ⊥ = calm-then a.refusals b.refusals same room in
         let stood = stands told_before kept_before (omega (arith, same, room)) in
         let step : CrashImageIsBytes a = λ _ _. stood.0 in
-        let passes = stops-behind whole does old new since leads ready stands no_change_refused in
+        let passes = stops-behind whole does repaired old new since leads ready stands no_change_refused in
         let now : CrashImageIsBytes b = passes.0 step in
         (now tells keeps, here left a b leads.counts_not_fallen step now told_before kept_before (passes.1 step told_before kept_before), stood.1)
 
     -- The state after a call without a resource error.
-    pub stands-behind : (whole : Type 0) (does : DiskCall) (old new : D × List D) (since : Since) → LeavesForNext g whole does old new → IsReady g old → whole → HoldsSince g since old
+    pub stands-behind : (whole : Type 0) (does : DiskCall) (repaired : Bool) (old new : D × List D) (since : Since) → LeavesForNext g whole does repaired old new → IsReady g old → whole → HoldsSince g since old
         → HoldsSince g (at_size (begun since (chain_disk g.layer old) does) (g.layer new.0).size) new
-    stands-behind whole does old new since leads ready on stands tells keeps room =
+    stands-behind whole does repaired old new since leads ready on stands tells keeps room =
         let b = g.image new.0 in
         let below = map g.layer old.1 in
         let layer = g.layer new.0 in
         let next = begun since (chain_disk g.layer old) does in
-        let file = file-behind whole does old new since leads ready on stands tells keeps room in (
+        let file = file-behind whole does repaired old new since leads ready on stands tells keeps room in (
           file.0,
           subst (λ ls. IsSince (reading ls g.sound layer b.bytes) b.bytes (disk_of ls layer) (at_size next layer.size)) (sym (leads.below on ready))
               (since-on below g.sound (g.layer old.0) (g.image old.0).bytes since does file.2 (well_formed_is_sound old.0 ready.intact.is_well_formed).size layer b.bytes leads.fixed (leads.shows on ready) file.1),
@@ -202,13 +220,13 @@ module _ {D St : Type 0} (g : Ghosts D St) where
     -- The crash images of a call of a list.
     stops-of : (call : Call) (answer : Answer) (old new : ChainWithMapping D St) (since : Since) → CallOutcome g call answer old new → IsReady g old.drivers → HoldsSince g since old.drivers
         → UnrefusedCrashImages (IsLeftBy g call (moment old since)) (g.image old.drivers.0) (g.image new.drivers.0)
-    stops-of call answer old new since makes = stops-behind (GoesOn answer) (disk_call g old call) old.drivers new.drivers since makes.leads
+    stops-of call answer old new since makes = stops-behind (GoesOn answer) (disk_call g old call) (repairs call answer) old.drivers new.drivers since makes.leads
 
     -- The state after that call.
     stands-next : (call : Call) (answer : Answer) (old new : ChainWithMapping D St) (since : Since) → CallOutcome g call answer old new → MappingIsPrepared g old → IsReady g old.drivers → GoesOn answer → HoldsSince g since old.drivers
         → HoldsSince g (since_after g call answer (moment old since) new) new.drivers
     stands-next call answer old new since makes is_kept ready on stands tells keeps room =
-        let next = stands-behind (GoesOn answer) (disk_call g old call) old.drivers new.drivers since makes.leads ready on stands tells keeps room in
+        let next = stands-behind (GoesOn answer) (disk_call g old call) (repairs call answer) old.drivers new.drivers since makes.leads ready on stands tells keeps room in
         let below = map g.layer new.drivers.1 in
         let layer = g.layer new.drivers.0 in
         let bytes = (g.image new.drivers.0).bytes in
@@ -217,8 +235,7 @@ module _ {D St : Type 0} (g : Ghosts D St) where
           next.0,
           elim (behind-or call answer (moment old since) new) [
             | inl is ↦ subst (IsSince top bytes disk) (sym is) next.1
-            | inr is ↦ subst (IsSince top bytes disk) (sym is.3)
-                (since-flushed below g.sound layer bytes (made-flush call answer old new makes ready.intact is.0 is.1 (is_kept.free is.2)))
+            | inr is ↦ subst (IsSince top bytes disk) (sym is.2) (since-flushed below g.sound layer bytes (made-flush call answer old new makes ready.intact is.0 (is_kept.free is.1)))
           ],
         )
 
@@ -228,7 +245,7 @@ module _ {D St : Type 0} (g : Ghosts D St) where
     left-now call answer old new since makes is_kept ready on stands tells keeps room =
         let leads = makes.leads in
         let means = (g.layer old.drivers.0).fixed.means in
-        let file = file-behind (GoesOn answer) (disk_call g old call) old.drivers new.drivers since leads ready on stands tells keeps room in
+        let file = file-behind (GoesOn answer) (disk_call g old call) (repairs call answer) old.drivers new.drivers since leads ready on stands tells keeps room in
         let next = stands-next call answer old new since makes is_kept ready on stands tells keeps room in
         let backed : (means (g.image new.drivers.0).bytes).backed ≡ (means (g.image old.drivers.0).bytes).backed =
         elim file.1 [ inl same ↦ ap (λ f. (means f).backed) same | inr left ↦ left.reads.backed ] in (
@@ -272,7 +289,7 @@ module _ {D St : Type 0} (g : Ghosts D St) where
       pub from : IsLater (g.image old.drivers.0) (g.image last.now.drivers.0)
       pub counts_not_fallen : IsLater (g.image last.now.drivers.0) (g.image new.drivers.0)
       pub no_change_refused : AllGoOn answers → IsFaultless (g.image old.drivers.0) (g.image new.drivers.0)
-      pub same_chain : AllGoOn answers → IsSameChain g old.drivers new.drivers
+      pub same_chain : AllGoOn answers → IsSameChain g (any_repair list answers) old.drivers new.drivers
       pub ends : AllGoOn answers → (last.now ≡ new) × IsReady g new.drivers × HoldsSince g last.since new.drivers
 
     ran-none : (old : ChainWithMapping D St) (since : Since) → IsReady g old.drivers → HoldsSince g since old.drivers → RangeChange [] [] old old since
@@ -298,13 +315,15 @@ module _ {D St : Type 0} (g : Ghosts D St) where
           | inl is ↦
               let rest = ran-all list answers mid new since all.2 (subst (MappingIsPrepared g) (sym is.1.1) is_kept) (subst (λ (h : ChainWithMapping D St). IsReady g h.drivers) (sym is.1.1) ready) (subst (λ (h : ChainWithMapping D St). HoldsSince g since h.drivers) (sym is.1.1) stands) in
               let goes : ListStep g call answer (moment old since) (moment mid since) = either-true out ((answer ≡ told.Refused BadArgument) × (moment mid since ≡ moment old since)) (Made g call answer (moment old since) (moment mid since)) is.0 (is.1.0, ap (λ h. moment h since) is.1.1) in
+              let unrepaired : repairs call answer ≡ false = subst (λ a. repairs call a ≡ false) (sym is.1.0) (not-repaired call BadArgument) in
               record {
                 last = rest.last;
                 run = (moment mid since, goes, (λ _. rest.run), rest.from);
                 from = subst (λ (h : ChainWithMapping D St). IsLater (g.image h.drivers.0) (g.image rest.last.now.drivers.0)) (is.1.1) rest.from;
                 counts_not_fallen = rest.counts_not_fallen;
                 no_change_refused = λ every. subst (λ (h : ChainWithMapping D St). IsFaultless (g.image h.drivers.0) (g.image new.drivers.0)) (is.1.1) (rest.no_change_refused every.1);
-                same_chain = λ every. subst (λ (h : ChainWithMapping D St). IsSameChain g h.drivers new.drivers) (is.1.1) (rest.same_chain every.1);
+                same_chain = λ every. subst (λ (b : Bool). IsSameChain g (b || any_repair list answers) old.drivers new.drivers) (sym unrepaired)
+                    (subst (λ (h : ChainWithMapping D St). IsSameChain g (any_repair list answers) h.drivers new.drivers) (is.1.1) (rest.same_chain every.1));
                 ends = λ every. rest.ends every.1;
               }
           | inr is ↦
@@ -320,7 +339,7 @@ module _ {D St : Type 0} (g : Ghosts D St) where
                       from = is_later_both (g.image old.drivers.0) (g.image mid.drivers.0) (g.image rest.last.now.drivers.0) makes.leads.counts_not_fallen rest.from;
                       counts_not_fallen = rest.counts_not_fallen;
                       no_change_refused = λ every. calm-both (g.image old.drivers.0) (g.image mid.drivers.0) (g.image new.drivers.0) (makes.leads.faults every.0 ready) (rest.no_change_refused every.1);
-                      same_chain = λ every. same-chain-both g old.drivers mid.drivers new.drivers (same-made call answer old mid makes ready every.0) (rest.same_chain every.1);
+                      same_chain = λ every. same-chain-both g (repairs call answer) (any_repair list answers) old.drivers mid.drivers new.drivers (same-made call answer old mid makes ready every.0) (rest.same_chain every.1);
                       ends = λ every. rest.ends every.1;
                     }
                 | inr off ↦ record {

@@ -53,7 +53,7 @@ copy_stands g h well_formed_is_coherent well_formed_is_sound well_formed_is_usab
     let leads = ran-leads h old.1 new (HadNoResourceError result) (HadNoResourceError result) (write 0 bytes) well_formed_is_usable (GivesBytes 0 bytes) written (λ w i. w) (λ p v gave. gave) (omega arith) (omega arith) in
     let a = h.image old.1.0 in
     let b = h.image new.0 in
-    let next = stands-behind h well_formed_is_coherent well_formed_is_sound (HadNoResourceError result) (write 0 bytes) old.1 new since leads ready whole stands in (
+    let next = stands-behind h well_formed_is_coherent well_formed_is_sound (HadNoResourceError result) (write 0 bytes) false old.1 new since leads ready whole stands in (
       leads.ready whole ready,
       λ tells keeps room.
           let stood = telling-before a b ((a.crash_image ≡ a.bytes) × IsSince (reading_of h old.1) a.bytes (chain_disk h.layer old.1) since) leads.counts_not_fallen.0 (leads.faults whole ready).1 stands tells keeps room in

@@ -1,6 +1,6 @@
 -- Specifies which answers a call of a list can have, and when it is allowed. A mapping is kept from its preparation to its commit or
 -- cancel.
-use Rattle.std.specs.Prelude.{⊤, Bool, false, true, not, ◌&&◌, IsFalse, Option, Some, None}
+use Rattle.std.specs.Prelude.{⊤, Bool, false, true, not, ◌&&◌, ◌||◌, List, ◌∷◌, IsFalse, Option, Some, None}
 use Rattle.imago_storage.specs.declared.fault.Fault.{Fault}
 use Rattle.imago_storage.specs.Steps.{Answer as DiskAnswer, done, bytes_read, run, found, prepared}
 use Rattle.imago_access.specs.Files.{IsNotResourceError}
@@ -45,6 +45,7 @@ tells_something (calls.PrepareDataMapping offset n overwrite) = true
 tells_something (calls.EnsureDataMapping offset n overwrite) = true
 tells_something (calls.GetMapping offset n) = true
 tells_something (calls.GetShallowMapping offset n) = true
+tells_something calls.RepairLeaks = true
 tells_something call = false
 
 -- The answer is of a kind that the call can have.
@@ -56,6 +57,7 @@ Fits (calls.PrepareDataMapping offset n overwrite) (told.Prepared storage place 
 Fits (calls.EnsureDataMapping offset n overwrite) (told.Mapped mapping count) = ⊤
 Fits (calls.GetMapping offset n) (told.Mapped mapping count) = ⊤
 Fits (calls.GetShallowMapping offset n) (told.Shallow mapping count) = ⊤
+Fits calls.RepairLeaks (told.Leaks pairs) = ⊤
 Fits call answer = ⊥
 
 -- The answer as one of the disk, if it fits the call and isn't an error.
@@ -65,6 +67,7 @@ said call (told.Bytes bytes) = Some (bytes_read bytes.items)
 said (calls.EnsureDataMapping offset asked overwrite) (told.Mapped mapping n) = Some (run n)
 said (calls.GetMapping offset asked) (told.Mapped mapping n) = Some (found (deep_kind_of mapping) n)
 said (calls.GetShallowMapping offset asked) (told.Shallow mapping n) = Some (found (kind_of mapping) n)
+said calls.RepairLeaks (told.Leaks pairs) = Some done
 said (calls.PrepareDataMapping offset asked overwrite) (told.Prepared storage place n state) = Some (prepared n state)
 said call answer = None
 
@@ -77,6 +80,15 @@ GoesOn answer = ⊤
 abbrev pub WasDone : Answer → Type 0
 WasDone (told.Refused fault) = ⊥
 WasDone answer = ⊤
+
+-- The call is a repair of leaks that succeeded. `any_repair` says that one of a list of calls is.
+abbrev pub repairs : Call → Answer → Bool
+repairs calls.RepairLeaks (told.Leaks pairs) = true
+repairs call answer = false
+
+abbrev pub any_repair : List Call → List Answer → Bool
+any_repair (call ∷ calls) (answer ∷ answers) = repairs call answer || any_repair calls answers
+any_repair _ _ = false
 
 -- If the call failed, `P` holds for its fault.
 abbrev pub IfRefused : Answer → (Fault → Type 0) → Type 0

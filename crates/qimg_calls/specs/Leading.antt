@@ -1,5 +1,5 @@
 -- Specifies the state that a call leaves for the next call, and the crash images (the file after a crash between two requests) of the call.
-use Rattle.std.specs.Prelude.{◌≡◌, ◌⊎◌, ℕ, ◌<◌, List, ◌∷◌, map}
+use Rattle.std.specs.Prelude.{◌≡◌, ◌⊎◌, ℕ, ◌<◌, Bool, List, ◌∷◌, map}
 use Rattle.imago_storage.specs.Calls.{IsFaultless}
 use Rattle.imago_storage.specs.Disk.{Value}
 use Rattle.imago_storage.specs.Steps.{Call}
@@ -10,6 +10,8 @@ use Rattle.imago_access.specs.Files.{Pairs, UnchangedButMoreFaults as IsKeptFile
 use Rattle.imago_access.specs.Running.{below_of, chain_disk}
 use Rattle.imago_access.specs.Stops.{KeepsCrashImagesTo}
 use Rattle.imago_access.specs.Going.{KeepsExcessRefcounts}
+use Rattle.qimg_calls.specs.Calls.{Either}
+use Rattle.qimg_calls.specs.Repairing.{HasNoExcess}
 use Rattle.qimg_calls.specs.Since.{Begun, least_size, most_size}
 use Rattle.qimg_calls.specs.Held.{IsReady}
 
@@ -18,12 +20,18 @@ abbrev pub ShowsBetween : (ℕ → Value → Type 0) → List Layer → Layer �
 ShowsBetween gives below old new = (p : ℕ) → p < new.size
     → ((p < old.size) × (at (new ∷ below) p ≡ at (old ∷ below) p)) ⊎ gives p (at (new ∷ below) p)
 
--- The state after a call of a chain. `whole` says that the call had no resource error (`Memory` or `Storage`).
-pub record LeavesForNext {D St : Type 0} (g : Ghosts D St) (whole : Type 0) (call : Call) (old new : D × List D) : Type 0 where
+-- The excess refcount of each cluster after a call or a list of calls. It is unchanged, or 0 with a repair of leaks.
+abbrev pub LeavesExcess : {D St : Type 0} → Ghosts D St → (repaired : Bool) → D → D → Type 0
+LeavesExcess g repaired old new = Either repaired (HasNoExcess g new) (KeepsExcessRefcounts g old new)
+
+-- The state after a call of a chain. `whole` says that the call had no resource error (`Memory` or `Storage`), and `repaired` that it was a
+-- repair of leaks.
+pub record LeavesForNext {D St : Type 0} (g : Ghosts D St) (whole : Type 0) (call : Call) (repaired : Bool) (old new : D × List D)
+    : Type 0 where
   pub fixed : (g.layer new.0).fixed ≡ (g.layer old.0).fixed
   pub counts_not_fallen : IsLater (g.image old.0) (g.image new.0)
   pub faults : whole → IsReady g old → IsFaultless (g.image old.0) (g.image new.0)
-  pub excess_refcount : whole → IsReady g old → KeepsExcessRefcounts g old.0 new.0
+  pub excess_refcount : whole → IsReady g old → LeavesExcess g repaired old.0 new.0
   -- No file below the top changes.
   pub layers_below : Each g.has_no_dirty_data old.1 → Pairs IsKeptFile (files_of g old.1) (files_of g new.1) × Each g.has_no_dirty_data new.1
   pub below : whole → IsReady g old → map g.layer new.1 ≡ map g.layer old.1

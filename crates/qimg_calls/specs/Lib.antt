@@ -2,6 +2,7 @@
 pub mod Since
 pub mod Calls
 pub mod Held
+pub mod Repairing
 pub mod Leading
 pub mod Moves
 pub mod RoomTaken

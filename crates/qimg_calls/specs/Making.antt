@@ -11,7 +11,7 @@ use Rattle.qimg_calls.specs.declared.call.Call.{Call}
 use Rattle.qimg_calls.specs.declared.call.Call.TheVariants as calls
 use Rattle.qimg_calls.specs.declared.call.Answer.{Answer}
 use Rattle.qimg_calls.specs.declared.call.Answer.TheVariants as told
-use Rattle.qimg_calls.specs.Calls.{Either, Fits, GoesOn, IfRefused, WasDone, is_of_mapping, is_out_of_place}
+use Rattle.qimg_calls.specs.Calls.{Either, Fits, GoesOn, IfRefused, WasDone, is_of_mapping, is_out_of_place, repairs}
 use Rattle.qimg_calls.specs.Held.{ChainWithMapping, chain_with_mapping, MappingIsPrepared, disk_call}
 use Rattle.qimg_calls.specs.Leading.{LeavesForNext}
 use Rattle.qimg_calls.specs.Marking.{MarksRefusedFailed, StaysFailed}
@@ -36,7 +36,7 @@ pub record CallOutcome {D St : Type 0} (g : Ghosts D St) (call : Call) (answer :
   pub stays_failed : StaysFailed g old.drivers new.drivers
   pub failed : IfRefused answer (ChainFails g old.drivers new.drivers)
   pub cancels : call ≡ calls.Cancel → WasDone answer × (new.kept_mapping ≡ None)
-  pub leads : LeavesForNext g (GoesOn answer) (disk_call g old call) old.drivers new.drivers
+  pub leads : LeavesForNext g (GoesOn answer) (disk_call g old call) (repairs call answer) old.drivers new.drivers
   pub mapping_prepared : MappingIsPrepared g old → MappingIsPrepared g new
   pub same : IsFalse (is_of_mapping call) → new.kept_mapping ≡ old.kept_mapping
 

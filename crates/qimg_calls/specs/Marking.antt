@@ -26,6 +26,7 @@ MarksRefusedFailed g (calls.DiscardToZero offset n) old new fault = MarksTopFail
 MarksRefusedFailed g (calls.EnsureDataMapping offset n overwrite) old new fault = MarksTopFailed g (below_ghosts g) old new fault
 MarksRefusedFailed g (calls.DiscardToAny offset n) old new fault = DriverMarksFailed g old.0 new.0 fault
 MarksRefusedFailed g (calls.DiscardToBacking offset n) old new fault = DriverMarksFailed g old.0 new.0 fault
+MarksRefusedFailed g calls.RepairLeaks old new fault = DriverMarksFailed g old.0 new.0 fault
 MarksRefusedFailed g (calls.PrepareDataMapping offset n overwrite) old new fault = MarksFailedOver g old.0 new.0 fault
 MarksRefusedFailed g (calls.ResizeGrow size mode) old new fault = MarksFailedOver g old.0 new.0 fault
 MarksRefusedFailed g calls.CommitDataMapping old new fault = IsSpending fault → IsTrue (g.layer new.0).failed

@@ -26,6 +26,7 @@ use Rattle.qimg_calls.specs.declared.call.Answer.{Answer}
 use Rattle.qimg_calls.specs.declared.call.Answer.TheVariants as told
 use Rattle.qimg_calls.specs.Calls.{said}
 use Rattle.qimg_calls.specs.Held.{ChainWithMapping, disk_call, state_of}
+use Rattle.qimg_calls.specs.Repairing.{ListsExcess, RepairCause, repair_refusal}
 
 -- The top image is unchanged: the values of its bytes, which of them a prepared mapping holds, and its mappings.
 abbrev pub TopStays : {D St : Type 0} → Ghosts D St → D × List D → D × List D → Type 0
@@ -62,6 +63,8 @@ Names g (calls.WriteMapped guest place bytes) told.Done old new =
     IsMappedFor (g.layer old.0) guest place (length bytes.items) × ((g.layer new.0).writable_location ≡ (g.layer old.0).writable_location)
 Names g calls.CommitDataMapping told.Done old new = KeepsWritableLocations (g.layer old.0) (g.layer new.0)
 Names g calls.Flush told.Done old new = TopStays g old new × (IsFree (g.layer old.0) → IsWritten g new.0 × IsCounted g new.0)
+Names g calls.RepairLeaks (told.Leaks pairs) old new =
+    TopStays g old new × IsWritten g new.0 × IsCounted g new.0 × ListsExcess (g.excess_refcount old.0) pairs.items
 Names g calls.Sync told.Done old new = TopStays g old new × Pairs UnchangedButMoreFaults (files g old.0) (files g new.0)
 Names g call answer old new = ⊤
 
@@ -101,6 +104,8 @@ Refuses g calls.Flush fault old new = RefusesFlush g old.drivers.0 new.drivers.0
 Refuses g calls.Sync fault old new = RefusesFlush g old.drivers.0 new.drivers.0 fault
 Refuses g calls.CommitDataMapping fault old new =
     ChainCause g (disk_call g old calls.CommitDataMapping) (λ _. ⊥) old.drivers new.drivers fault
+Refuses g calls.RepairLeaks fault old new =
+    RepairCause (g.layer old.drivers.0) (files g old.drivers.0) (files g new.drivers.0) fault
 Refuses g calls.Cancel fault old new = ⊥
 Refuses g (calls.WriteMapped guest place bytes) fault old new = ChainMappedCause g guest place bytes.items old.drivers new.drivers fault
 Refuses g (calls.ResizeGrow size mode) fault old new = let below = map g.layer old.drivers.1 in
@@ -181,6 +186,7 @@ refusal_at_once g (calls.PrepareDataMapping offset n overwrite) h = chain_refusa
 refusal_at_once g (calls.EnsureDataMapping offset n overwrite) h = chain_refusal g h.drivers offset n
 refusal_at_once g (calls.WriteMapped guest place bytes) h = chain_refusal g h.drivers guest (length bytes.items)
 refusal_at_once g calls.CommitDataMapping h = commit_refusal g (state_of h.kept_mapping) (g.layer h.drivers.0)
+refusal_at_once g calls.RepairLeaks h = repair_refusal (g.layer h.drivers.0)
 refusal_at_once g calls.Cancel h = None
 refusal_at_once g (calls.ResizeGrow size mode) h = let top = g.layer h.drivers.0 in resize_refusal top (ltb top.size size)
 refusal_at_once g (calls.ResizeShrink size) h = let top = g.layer h.drivers.0 in resize_refusal top (ltb size top.size)

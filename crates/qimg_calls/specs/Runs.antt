@@ -1,6 +1,6 @@
 -- Specifies `drive`, a list of calls on a chain (an image and its backing files). Each call reads or changes the guest disk. A crash image
 -- (the top's file after a crash between two requests) reads as flushed data, or as data of calls begun since the flush.
-use Rattle.std.specs.Prelude.{◌≡◌, ⊤, ℕ, ◌+◌, ◌<◌, ◌^◌, List, [], ◌∷◌, length, map, take, Some, None, MatchOption, is_some, IsSome, IsTrue}
+use Rattle.std.specs.Prelude.{◌≡◌, ⊤, ℕ, ◌+◌, ◌<◌, ◌^◌, Bool, List, [], ◌∷◌, length, map, take, Some, None, MatchOption, is_some, IsSome, IsTrue}
 use Rattle.imago_storage.specs.Calls.{IsFaultless}
 use Rattle.imago_storage.specs.Passing.{UnrefusedCrashImages}
 use Rattle.imago_storage.specs.State.{StorageState}
@@ -10,14 +10,14 @@ use Rattle.imago_access.specs.declared.driver_model.DriverModel.{Ghosts}
 use Rattle.imago_access.specs.Files.{Pairs, UnchangedButMoreFaults as IsKeptFile, IsLater, files_of}
 use Rattle.imago_access.specs.ChainCalls.{AllUnchanged, ChainCancels, WontDecline}
 use Rattle.imago_access.specs.Running.{below_of, chain_disk}
-use Rattle.imago_access.specs.Going.{KeepsExcessRefcounts}
 use Rattle.qimg_calls.specs.declared.call.Call.{Call}
 use Rattle.qimg_calls.specs.declared.call.Call.TheVariants as calls
 use Rattle.qimg_calls.specs.declared.call.Answer.{Answer}
 use Rattle.qimg_calls.specs.declared.call.Answer.TheVariants as told
-use Rattle.qimg_calls.specs.Calls.{Either, Fits, is_out_of_place, GoesOn, IfRefused, WasDone}
+use Rattle.qimg_calls.specs.Calls.{Either, Fits, any_repair, is_out_of_place, GoesOn, IfRefused, repairs, WasDone}
 use Rattle.qimg_calls.specs.Since.{Since, Reading, begun, since_next, LeftSince, IsSince}
 use Rattle.qimg_calls.specs.Held.{ChainWithMapping, chain_with_mapping, MappingIsPrepared, IsReady, disk_call, state_of}
+use Rattle.qimg_calls.specs.Leading.{LeavesExcess}
 use Rattle.qimg_calls.specs.Making.{MadeAll}
 use Rattle.qimg_calls.specs.Marking.{MarksRefusedFailed, StaysFailed}
 use Rattle.qimg_calls.specs.Moves.{IsIdle, CallEffect, EndsEarly, refusal_at_once}
@@ -31,8 +31,8 @@ pub record Moment (D St : Type 0) : Type 0 where
 abbrev pub moment : {D St : Type 0} → ChainWithMapping D St → Since → Moment D St
 moment now since = record { now = now; since = since }
 
--- The values that the chain may show after one more call. A successful flush starts again from the disk, unless a mapping with something to
--- commit is prepared.
+-- The values that the chain may show after one more call. A successful flush or repair of leaks starts again from the disk, unless a
+-- mapping with something to commit is prepared.
 abbrev pub since_after : {D St : Type 0} → Ghosts D St → Call → Answer → Moment D St → ChainWithMapping D St → Since
 since_after g call answer old new = since_next call answer (is_some (state_of old.now.kept_mapping)) old.since
     (chain_disk g.layer old.now.drivers) (disk_call g old.now call) (chain_disk g.layer new.drivers)
@@ -92,8 +92,8 @@ pub record Made {D St : Type 0} (g : Ghosts D St) (call : Call) (answer : Answer
   pub fixed : (g.layer new.now.drivers.0).fixed ≡ (g.layer old.now.drivers.0).fixed
   pub mapping_prepared : MappingIsPrepared g new.now
   pub faults : GoesOn answer → IsFaultless (g.image old.now.drivers.0) (g.image new.now.drivers.0)
-  -- No new cluster leaks.
-  pub excess_refcount : GoesOn answer → KeepsExcessRefcounts g old.now.drivers.0 new.now.drivers.0
+  -- No new cluster leaks. After a repair of leaks none does.
+  pub excess_refcount : GoesOn answer → LeavesExcess g (repairs call answer) old.now.drivers.0 new.now.drivers.0
   pub ready : GoesOn answer → IsReady g new.now.drivers
 
 -- One call of a list. A call with `is_out_of_place` isn't made, and nothing changes.
@@ -124,13 +124,13 @@ abbrev pub HoldsSince : {D St : Type 0} → Ghosts D St → Since → D × List 
 HoldsSince g since c = IfTelling (g.image c.0) (((g.image c.0).crash_image ≡ (g.image c.0).bytes)
     × IsSince (reading_of g c) (g.image c.0).bytes (chain_disk g.layer c) since)
 
--- The chain after calls without a resource error. They keep the fixed properties of the top, the layers below and their files, and the
--- excess refcount of each cluster.
-pub record IsSameChain {D St : Type 0} (g : Ghosts D St) (old new : D × List D) : Type 0 where
+-- The chain after calls without a resource error. They keep the fixed properties of the top, and the layers below and their files.
+-- `repaired` says that one of them was a repair of leaks: then no cluster has an excess refcount. Otherwise the excess refcounts are kept.
+pub record IsSameChain {D St : Type 0} (g : Ghosts D St) (repaired : Bool) (old new : D × List D) : Type 0 where
   pub fixed : (g.layer new.0).fixed ≡ (g.layer old.0).fixed
   pub files : Pairs IsKeptFile (files_of g old.1) (files_of g new.1)
   pub below : map g.layer new.1 ≡ map g.layer old.1
-  pub excess_refcount : KeepsExcessRefcounts g old.0 new.0
+  pub excess_refcount : LeavesExcess g repaired old.0 new.0
 
 -- The effect of a list of calls, from a disk that was flushed and calls begun since. `Run` states each call and its crash images, in order.
 pub record Driven {D St : Type 0} (g : Ghosts D St) (since : Since) (list : List Call) (answers : List Answer)
@@ -141,7 +141,7 @@ pub record Driven {D St : Type 0} (g : Ghosts D St) (since : Since) (list : List
   pub counts_not_fallen : IsLater (g.image last.now.drivers.0) (g.image new.0)
   -- The conditions for the next list.
   pub faults : AllGoOn answers → IsFaultless (g.image old.0) (g.image new.0)
-  pub same_chain : AllGoOn answers → IsSameChain g old new
+  pub same_chain : AllGoOn answers → IsSameChain g (any_repair list answers) old new
   pub ready : AllGoOn answers → IsReady g new
   pub stands : AllGoOn answers → HoldsSince g last.since new
 

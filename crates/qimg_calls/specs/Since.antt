@@ -94,9 +94,10 @@ abbrev pub at_size : Since → ℕ → Since
 at_size since n = record since { smallest = min since.smallest n }
 
 -- The state after a call, from the disk before it to the one after it. A successful flush starts again from the disk, unless a mapping with
--- something to commit is prepared.
+-- something to commit is prepared. So does a repair of leaks, which ends with a flush.
 abbrev pub since_next : CallMade → Answer → (prepared : Bool) → Since → Disk → Call → Disk → Since
 since_next calls.Flush told.Done false since old does new = flushed new
+since_next calls.RepairLeaks (told.Leaks pairs) false since old does new = flushed new
 since_next call answer prepared since old does new = at_size (begun since old does) new.size
 
 -- A crash image is known below this offset, the size at the last flush. If a file doesn't state the size of its disk, its bytes past the end of

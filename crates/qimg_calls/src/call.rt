@@ -87,6 +87,8 @@ pub enum Call {
     ResizeShrink {
         size: u64,
     },
+    /// Repairs the leaks of the top image: lowers each refcount by its excess over the references.
+    RepairLeaks,
 }
 
 impl Call {
@@ -137,6 +139,8 @@ pub enum Answer {
         /// True if the mapping has something to commit.
         state: bool,
     },
+    /// The leaks that were repaired, by rising cluster, each with its excess refcount.
+    Leaks(Vec<(u64, u64)>),
     /// The call failed.
     Refused(Fault),
 }

@@ -11,6 +11,7 @@ ghost use Rattle.qimg_calls.specs.Runs.{CutShort, Driven, HoldsSince};
 
 use crate::call::{Answer, Call};
 use crate::making::{Kept, cancel, make};
+use crate::repairing::RepairsLeaks;
 use imago_access::{FormatAccess, FormatDriverInstance};
 use imago_storage::Fault;
 use std::alloc::{AllocError, Global};
@@ -29,6 +30,7 @@ use std::alloc::{AllocError, Global};
 ///   the first such cause is the answer. A call that has nothing to do succeeds.
 /// - A discard deallocates each unit (cluster of qcow2) that its range covers completely and that the format can deallocate. A zeroing
 ///   zeroes each unit that its range covers completely.
+/// - A repair of leaks changes no byte of the disk. After it no cluster of the top's file leaks. Other calls keep what leaks.
 /// - No file below the top changes.
 ///
 /// On any chain, ready or not, each answer fits its call, and is one that the call can have, given what lookups report of the disk. A call
@@ -52,9 +54,10 @@ use std::alloc::{AllocError, Global};
 ///
 /// On a ready chain each crash image (the top's file after a crash between two requests) is consistent. At each offset below the size of the
 /// disk at the last flush, it reads as at that flush, or as a call that has begun since then writes it. Right after a flush the file reads as
-/// the disk. A flush counts if no mapping with something to commit was prepared. A raw file doesn't store the size of its disk, so after a
-/// crash its disk has the size of the file, and only bytes below the smallest size since the flush are specified.
-pub fn drive<D: FormatDriverInstance>(
+/// the disk. A flush counts if no mapping with something to commit was prepared, and so does a repair of leaks. A raw file doesn't store
+/// the size of its disk, so after a crash its disk has the size of the file, and only bytes below the smallest size since the flush are
+/// specified.
+pub fn drive<D: RepairsLeaks>(
     alloc: Global,
     chain: &mut FormatAccess<D>,
     calls: &[Call],
@@ -95,7 +98,7 @@ fn give_up<D: FormatDriverInstance>(chain: &mut FormatAccess<D>, kept: Kept<D::S
 }
 
 /// Makes one call, or answers `Fault::BadArgument` if the call isn't allowed with, or without, a kept mapping.
-fn answer<D: FormatDriverInstance>(
+fn answer<D: RepairsLeaks>(
     alloc: Global,
     chain: &mut FormatAccess<D>,
     kept: Kept<D::State>,
@@ -112,7 +115,7 @@ fn answer<D: FormatDriverInstance>(
 }
 
 /// Makes calls and appends the answer to each, until memory for an answer runs out. `answers` has the capacity for all of them.
-fn make_all<D: FormatDriverInstance>(
+fn make_all<D: RepairsLeaks>(
     alloc: Global,
     chain: &mut FormatAccess<D>,
     calls: &[Call],

@@ -6,7 +6,9 @@ mod call;
 mod driving;
 mod flattening;
 mod making;
+mod repairing;
 
 pub use call::{Answer, Call};
 pub use driving::drive;
 pub use flattening::flatten;
+pub use repairing::{RepairsLeaks, repair_leaks};

@@ -7,6 +7,7 @@ ghost use Rattle.qimg_calls.specs.Making.{MakesAlone};
 
 use super::looking::told;
 use crate::call::{Answer, Call};
+use crate::repairing::{self, RepairsLeaks};
 use imago_access::{FormatAccess, FormatDriverInstance, PreallocateMode};
 use std::alloc::Global;
 
@@ -149,16 +150,27 @@ pub fn resize_shrink<D: FormatDriverInstance>(
     told(chain.resize_shrink(alloc, size))
 }
 
-/// Makes a call that changes the disk and keeps no mapping.
+/// Repairs the leaks of the top image.
 ///
 /// # Preconditions
 ///
-/// No mapping is prepared in the top image. The call changes the disk, and neither prepares nor uses a mapping.
-pub fn change<D: FormatDriverInstance>(
-    alloc: Global,
-    chain: &mut FormatAccess<D>,
-    call: &Call,
-) -> Answer
+/// No mapping is prepared in the top image.
+pub fn repair_leaks<D: RepairsLeaks>(alloc: Global, chain: &mut FormatAccess<D>) -> Answer
+    requires free { IsFree (D.layer chain.old.0) }
+    ensures { MakesAlone D.DriverModel calls.RepairLeaks result chain.old chain.new }
+{
+    match repairing::repair_leaks(alloc, chain) {
+        Ok(leaks) => Answer::Leaks(leaks),
+        Err(fault) => Answer::Refused(fault),
+    }
+}
+
+/// Makes a call that changes the disk or repairs leaks, and keeps no mapping.
+///
+/// # Preconditions
+///
+/// No mapping is prepared in the top image. The call changes the disk or repairs leaks, and neither prepares nor uses a mapping.
+pub fn change<D: RepairsLeaks>(alloc: Global, chain: &mut FormatAccess<D>, call: &Call) -> Answer
     requires free { IsFree (D.layer chain.old.0) }
     requires changes { IsTrue (is_lone_change call.now) }
     ensures { MakesAlone D.DriverModel call.now result chain.old chain.new }
@@ -178,6 +190,7 @@ pub fn change<D: FormatDriverInstance>(
         } => ensure_data_mapping(alloc, chain, *offset, *length, *overwrite),
         Call::ResizeGrow { size, mode } => resize_grow(alloc, chain, *size, *mode),
         Call::ResizeShrink { size } => resize_shrink(alloc, chain, *size),
+        Call::RepairLeaks => repair_leaks(alloc, chain),
         _ => unreachable!(),
     }
 }

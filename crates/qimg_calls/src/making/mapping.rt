@@ -11,6 +11,7 @@ ghost use Rattle.qimg_calls.specs.declared.call.Call.TheVariants as calls;
 use super::changing;
 use super::looking::{self, told};
 use crate::call::{Answer, Call};
+use crate::repairing::RepairsLeaks;
 use imago_access::{FormatAccess, FormatDriverInstance, PreparedDataMapping};
 use imago_storage::Fault;
 use std::alloc::{AllocError, Global};
@@ -144,7 +145,7 @@ fn spend<D: FormatDriverInstance>(
 }
 
 /// Makes a call that changes the disk while no mapping is kept.
-fn change<D: FormatDriverInstance>(
+fn change<D: RepairsLeaks>(
     alloc: Global,
     chain: &mut FormatAccess<D>,
     call: &Call,
@@ -165,7 +166,7 @@ fn change<D: FormatDriverInstance>(
 }
 
 /// Makes a call that is allowed (not `is_out_of_place`). If memory for the bytes of a read runs out, the call fails before it is made.
-pub(crate) fn make<D: FormatDriverInstance>(
+pub(crate) fn make<D: RepairsLeaks>(
     alloc: Global,
     chain: &mut FormatAccess<D>,
     kept: Kept<D::State>,
