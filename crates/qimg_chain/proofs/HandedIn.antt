@@ -155,10 +155,11 @@ module _ (R : RattleType) (st : Ghosts R.Denot) (sd : mir.Syntax.Dict) (dd : mir
       let disk = chain_disk d.layer now in
       let top = driver_bytes d names now.0 in
       let handed = with_image (file_bytes st.state file) (d.image now.0).bytes in
-      let same : (p : ℕ) → value_of (map (driver_bytes d names) opened.1) p ≡ value_of (files_bytes st.state below) p =
-      λ p. sym (below-shown d names st.state writable number (file ∷ below) opened is p) ∙ images-shown false 0 below opened.1 is.layers.1
+      let drivers = opened.drivers in
+      let same : (p : ℕ) → value_of (map (driver_bytes d names) drivers.1) p ≡ value_of (files_bytes st.state below) p =
+      λ p. sym (below-shown d names st.state writable number (file ∷ below) drivers is p) ∙ images-shown false 0 below drivers.1 is.layers.1
       is.places.1 p in
-      let over_handed = below-as exact disk top (map (driver_bytes d names) opened.1) (files_bytes st.state below) same means.means in
+      let over_handed = below-as exact disk top (map (driver_bytes d names) drivers.1) (files_bytes st.state below) same means.means in
       let format_is : top.format ≡ file.format = ap (λ (x : Fixed). x.format) means.fixed ∙ is.layers.0.opened.format_is in record {
         named = over_handed;
         alone = λ differs. first-as exact disk top handed (files_bytes st.state below)

@@ -17,6 +17,7 @@ mod Opened
 mod PartsRead
 mod PlainlyRead
 mod Refusing
+mod Repairing
 mod RunAnswerLemmas
 mod RunCallLemmas
 mod ScriptBytes

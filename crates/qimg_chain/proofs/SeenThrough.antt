@@ -11,7 +11,7 @@ use Rattle.imago_access.specs.declared.format.Format.{Format}
 use Rattle.imago_access.specs.Building.{IsOpened}
 use Rattle.imago_access.specs.Layer.{Layer}
 use Rattle.imago_access.specs.FileReads.{FilesRead}
-use Rattle.imago_access.specs.Going.{EarlyOutcome, IsKnown, IsLeftUntouched, IsUnchanged, LookupCall, MarksFailed, MarksFailedOver, MutatingCall, ReloadingCall}
+use Rattle.imago_access.specs.Going.{EarlyOutcome, IsKnown, IsLeftUntouched, IsMarkedFailed, IsUnchanged, LookupCall, MarksFailed, MarksFailedOver, MutatingCall, ReloadingCall}
 use Rattle.imago_access.specs.Room.{LeavesAllocation}
 use Rattle.imago_access.specs.Stops.{KeepsCrashImagesTo, Left, GivesNone}
 use Rattle.imago_access.proofs.Stopping.{passes_weaker}
@@ -130,6 +130,9 @@ module _ {D E St Su : Type 0} {f : D → E} {h : Ghosts E Su} {g : Ghosts D St} 
     one Memory m = λ marked. spared_or (IsTrue (h.layer (f b)).failed) (m marked)
     one Storage m = λ marked. let both = m marked in (both.0, spared_or (IsTrue (h.layer (f b)).failed) both.1)
     one e m = tt
+
+  pub marked_failed : IsMarkedFailed (through f h g) a b → IsMarkedFailed h (f a) (f b)
+  marked_failed m = record { layer = m.layer; unasked = m.unasked; seen = m.seen; stilled = m.stilled; stays_stable = m.stays_stable }
 
   pub looked : (whole : Type 0) → LookupCall (through f h g) whole a b → LookupCall h whole (f a) (f b)
   looked whole l = record {

@@ -1,5 +1,5 @@
 -- Specifies what the files of a chain mean after a flush. Without the open chain, they mean its disk.
-use Rattle.std.specs.Prelude.{◌≡◌, ◌≢◌, ◌<◌, ◌≤◌, ℕ, suc, Bool, IsTrue, List, ◌∷◌, None, Some, drop, map, slice_get, take}
+use Rattle.std.specs.Prelude.{◌≡◌, ◌≢◌, ◌<◌, ◌≤◌, ◌||◌, ℕ, suc, Bool, IsTrue, List, [], ◌∷◌, None, Some, drop, if◌then◌else◌, map, slice_get, take}
 use Rattle.imago_storage.specs.Disk.{Disk}
 use Rattle.imago_storage.specs.State.{StorageState}
 use Rattle.imago_access.specs.Chain.{Each}
@@ -11,6 +11,7 @@ use Rattle.imago_access.specs.declared.driver_model.DriverModel.{Ghosts}
 use Rattle.qcow2_types.specs.Bytes.{bytes_of}
 use Rattle.qcow2_types.specs.Consistency.{IsConsistent, leaks}
 use Rattle.qcow2_types.specs.Header.{Header}
+use Rattle.qimg_calls.specs.Calls.{any_repair}
 use Rattle.qimg_calls.specs.Held.{state_of}
 use Rattle.qimg_calls.specs.Runs.{AllGoOn, Made, Moment, Run}
 use Rattle.qimg_calls.specs.declared.call.Answer.{Answer}
@@ -40,13 +41,30 @@ pub record ShowDisk (states_size : Bool) (disk : Disk) (files : List FileBytes) 
   pub value : (p : ℕ) → p < disk.size → disk.value p ≡ value_of files p
   pub exactly : IsTrue states_size → IsDiskOf disk files
 
--- The files of a chain mean its disk by themselves. Since opening these are unchanged: the files below, the fixed properties of the top,
--- and the excess refcount of each cluster in the top's file.
-pub record FilesMeanDisk {D St : Type 0} (g : Ghosts D St) (names : D → ℕ → List ℕ) (opened now : D × List D) : Type 0 where
-  pub means : ShowDisk (g.layer now.0).fixed.exact (chain_disk g.layer now) (files_now g names opened now)
-  pub below : Pairs UnchangedButMoreFaults (files_of g opened.1) (files_of g now.1)
-  pub fixed : (g.layer now.0).fixed ≡ (g.layer opened.0).fixed
-  pub leaks : (c : ℕ) → (g.layer now.0).fixed.leaks (g.image now.0).bytes c ≡ (g.layer opened.0).fixed.leaks (g.image opened.0).bytes c
+-- The drivers of a chain right after it was opened. `repaired` says that its leaks have been repaired since.
+pub record Opened (D : Type 0) : Type 0 where
+  pub drivers : D × List D
+  pub repaired : Bool
+
+abbrev pub opened_as : {D : Type 0} → D × List D → Bool → Opened D
+opened_as drivers repaired = record { drivers = drivers; repaired = repaired }
+
+-- The same opened chain after these further calls.
+abbrev pub after_calls : {D : Type 0} → Opened D → List Call → List Answer → Opened D
+after_calls opened list answers = record opened { repaired = opened.repaired || any_repair list answers }
+
+-- The excess refcount of each cluster in a file: 0 after a repair of leaks, and otherwise the same as in the file at opening.
+abbrev pub LeaksSince : (repaired : Bool) → (at_opening now : ℕ → ℕ) → Type 0
+LeaksSince repaired at_opening now = (c : ℕ) → now c ≡ if repaired then 0 else at_opening c
+
+-- The files of a chain mean its disk by themselves. Since opening, the files below and the fixed properties of the top are unchanged. So
+-- is the excess refcount of each cluster in the top's file, or it is 0 after a repair of leaks.
+pub record FilesMeanDisk {D St : Type 0} (g : Ghosts D St) (names : D → ℕ → List ℕ) (opened : Opened D) (now : D × List D) : Type 0 where
+  pub means : ShowDisk (g.layer now.0).fixed.exact (chain_disk g.layer now) (files_now g names opened.drivers now)
+  pub below : Pairs UnchangedButMoreFaults (files_of g opened.drivers.1) (files_of g now.1)
+  pub fixed : (g.layer now.0).fixed ≡ (g.layer opened.drivers.0).fixed
+  pub leaks : let top = opened.drivers.0 in
+      LeaksSince opened.repaired ((g.layer top).fixed.leaks (g.image top).bytes) ((g.layer now.0).fixed.leaks (g.image now.0).bytes)
 
 -- The file of a layer with other bytes.
 abbrev pub with_image : FileBytes → List ℕ → FileBytes
@@ -63,29 +81,30 @@ pub record HandedMeanDisk {S D St : Type 0} (g : Ghosts D St) (names : D → ℕ
 -- If the chain's files mean its disk, so do the supplied files.
 abbrev pub HandedMeanToo : {S D St : Type 0} → Ghosts D St → (D → ℕ → List ℕ) → (S → StorageState) → Type 0
 HandedMeanToo {S = S} {D = D} g names state = (writable : Bool) (number : ℕ) (file : ChainFile S) (below : List (ChainFile S))
-    (opened now : D × List D) → IsChainOf g names state writable number (file ∷ below) opened → FilesMeanDisk g names opened now
-    → HandedMeanDisk g names state file below now
+    (opened : Opened D) (now : D × List D) → IsChainOf g names state writable number (file ∷ below) opened.drivers
+    → FilesMeanDisk g names opened now → HandedMeanDisk g names state file below now
 
--- If the files mean the disk, a consistent qcow2 top has the same leaks as when the chain was opened.
+-- If the files mean the disk, a consistent qcow2 top has the leaks that it had when the chain was opened, or none after a repair of leaks.
 abbrev pub LeaksWhatItDid : {D St : Type 0} → Ghosts D St → (D → ℕ → List ℕ) → Type 0
-LeaksWhatItDid {D} g names = (opened now : D × List D) (H K : Header) → FilesMeanDisk g names opened now
-    → (g.layer opened.0).fixed.format ≡ Qcow2 → IsConsistent (bytes_of (g.image opened.0).bytes) H
+LeaksWhatItDid {D} g names = (opened : Opened D) (now : D × List D) (H K : Header) → let top = opened.drivers.0 in
+    FilesMeanDisk g names opened now → (g.layer top).fixed.format ≡ Qcow2 → IsConsistent (bytes_of (g.image top).bytes) H
     → IsConsistent (bytes_of (g.image now.0).bytes) K
-    → leaks (bytes_of (g.image now.0).bytes) K.fields ≡ leaks (bytes_of (g.image opened.0).bytes) H.fields
+    → leaks (bytes_of (g.image now.0).bytes) K.fields ≡ if opened.repaired then [] else leaks (bytes_of (g.image top).bytes) H.fields
 
 -- The call at index `place` of a list is a flush that succeeded between two moments. If no mapping was prepared, the files mean the disk
 -- after it.
-pub record FlushesAt {D St : Type 0} (g : Ghosts D St) (names : D → ℕ → List ℕ) (opened : D × List D) (list : List Call)
+pub record FlushesAt {D St : Type 0} (g : Ghosts D St) (names : D → ℕ → List ℕ) (opened : Opened D) (list : List Call)
     (answers : List Answer) (start last : Moment D St) (place : ℕ) : Type 0 where
   pub before : Moment D St
   pub moment_after : Moment D St
   pub run : Run g (take place list) (take place answers) start before
   pub made : Made g calls.Flush told.Done before moment_after
   pub run_after : Run g (drop (suc place) list) (drop (suc place) answers) moment_after last
-  pub means : state_of before.now.kept_mapping ≡ None → FilesMeanDisk g names opened moment_after.now.drivers
+  pub means : state_of before.now.kept_mapping ≡ None
+      → FilesMeanDisk g names (after_calls opened (take place list) (take place answers)) moment_after.now.drivers
 
 -- Each flush of a list that succeeded, if no earlier call ended with a resource error.
-abbrev pub EachFlushMeans : {D St : Type 0} → Ghosts D St → (D → ℕ → List ℕ) → D × List D → List Call → List Answer → Moment D St
+abbrev pub EachFlushMeans : {D St : Type 0} → Ghosts D St → (D → ℕ → List ℕ) → Opened D → List Call → List Answer → Moment D St
     → Moment D St → Type 0
 EachFlushMeans g names opened list answers start last =
     (place : ℕ) → slice_get list place ≡ Some calls.Flush → slice_get answers place ≡ Some told.Done → AllGoOn (take place answers)

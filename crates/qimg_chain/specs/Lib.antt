@@ -14,6 +14,7 @@ pub mod OneDisk
 pub mod OpenedAgain
 pub mod PlainReads
 pub mod Refusals
+pub mod Repairing
 pub mod RunAnswers
 pub mod RunCalls
 pub mod Script

@@ -79,8 +79,8 @@ KeepsOrEnds call (told.Refused fault) old new = IsNotResourceError fault → new
 KeepsOrEnds call answer old new = new ≡ old
 
 -- One call that is made. Each crash image in it is consistent, and reads as at the last flush or as a call gives that has begun since, this
--- one among them. So does the file right after the call, before the next request. After a successful flush, with nothing prepared to commit,
--- that is the disk as it is.
+-- one among them. So does the file right after the call, before the next request. After a successful flush or repair of leaks, with nothing
+-- prepared to commit, that is the disk as it is.
 pub record OneCall (top : Reading) (call : Call) (answer : Answer) (old new : DiskMoment) : Type 0 where
   pub fits : Fits call answer
   pub effect : HasEffect top.below (is_prepared old.kept) call answer old.disk new.disk

@@ -31,7 +31,8 @@ pub record IsLeftOf {S T : Type 0} (state : S → StorageState) (other_state : T
 -- driven without a resource error, and its top refers to a backing file exactly if it did.
 abbrev pub ReadsAsFiles : {S D St : Type 0} → Ghosts D St → (D → ℕ → List ℕ) → (S → StorageState) → Type 0
 ReadsAsFiles {S = S} {D = D} g names state = (writable : Bool) (number : ℕ) (top : ChainFile S) (below : List (ChainFile S))
-    (opened now : D × List D) → top.format ≢ Vmdk → IsChainOf g names state writable number (top ∷ below) opened → IsSameChain g opened now
+    (opened now : D × List D) (repaired : Bool) → top.format ≢ Vmdk → IsChainOf g names state writable number (top ∷ below) opened
+    → IsSameChain g repaired opened now
     → (let means = (g.layer opened.0).fixed.means in (means (g.image now.0).bytes).backed ≡ (means (g.image opened.0).bytes).backed)
     → (since : Since) (f : List ℕ) → LeftSince (reading_of g now) since f
     → LeftSince (reading_over (file_bytes state top) (files_bytes state below)) since f

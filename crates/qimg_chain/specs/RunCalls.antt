@@ -1,6 +1,6 @@
 -- Specifies which call of a chain (an image and its backing chain) a line of a script makes, and how the result of the call becomes the
 -- line's answer.
-use Rattle.std.specs.Prelude.{◌≡◌, ◌⊎◌, ℕ, Bool, true, false, List, [], ◌∷◌, Option, Some, None, Vec, Result, MatchResult}
+use Rattle.std.specs.Prelude.{◌≡◌, ◌⊎◌, ℕ, Bool, true, false, List, [], ◌∷◌, Option, Some, None, Vec, Result, MatchResult, length}
 use Rattle.std.specs.Global.{Global}
 use Rattle.imago_storage.specs.declared.fault.Fault.{Fault}
 use Rattle.imago_storage.specs.declared.fault.Fault.TheVariants.{Memory}
@@ -14,7 +14,7 @@ use Rattle.qimg_calls.specs.declared.call.Answer.TheVariants as answers
 use Rattle.qimg_chain.specs.declared.script.answer.Answer.{Answer}
 use Rattle.qimg_chain.specs.declared.script.answer.Answer.TheVariants as told
 use Rattle.qimg_chain.specs.declared.script.line.Line.{Line}
-use Rattle.qimg_chain.specs.declared.script.line.Line.TheVariants.{Size, Read, Write, Zero, Discard, DiscardAny, DiscardBacking, Grow, Shrink, Flush, Check, Plain, Save}
+use Rattle.qimg_chain.specs.declared.script.line.Line.TheVariants.{Size, Read, Write, Zero, Discard, DiscardAny, DiscardBacking, Grow, Shrink, Flush, Check, Plain, Save, Repair}
 
 -- The line makes a call of the chain.
 abbrev pub asks_for_call : Line → Bool
@@ -35,6 +35,7 @@ IsCallOf (Grow size mode) call = call ≡ calls.ResizeGrow size mode
 IsCallOf (Shrink size) call = call ≡ calls.ResizeShrink size
 IsCallOf Flush call = call ≡ calls.Flush
 IsCallOf Save call = call ≡ calls.Flush
+IsCallOf Repair call = call ≡ calls.RepairLeaks
 IsCallOf line call = ⊥
 
 abbrev pub IsNoCall : Line → Type 0
@@ -44,6 +45,7 @@ IsNoCall line = asks_for_call line ≡ false
 abbrev pub told_of : CallAnswer → Option Answer
 told_of answers.Done = Some told.Done
 told_of (answers.Bytes bytes) = Some (told.Bytes bytes.items)
+told_of (answers.Leaks pairs) = Some (told.Number (length pairs.items))
 told_of (answers.Refused fault) = Some (told.Refused fault)
 told_of answer = None
 

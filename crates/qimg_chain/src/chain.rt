@@ -7,6 +7,7 @@ mod lending;
 mod naming;
 mod opening;
 mod plain_reads;
+mod repairing;
 mod snapshots;
 mod stateless;
 

@@ -1,6 +1,6 @@
 //! Laws about scripts, arguments, chains of files, plain reads, flushes and crash images. A law is a function without code. Its `ensures`
 //! clauses are a theorem for users of the definitions.
-ghost use Rattle.std.specs.Prelude.{◌≡◌, ◌∷◌, [], ℕ, Bool, IsSome, List, None, Option, Result, length, true, false};
+ghost use Rattle.std.specs.Prelude.{◌≡◌, ◌||◌, ◌∷◌, [], ℕ, Bool, IsSome, List, None, Option, Result, length, true, false};
 ghost use Rattle.imago_access.specs.ChainCalls.{WontDecline};
 ghost use Rattle.imago_access.specs.ChainLooks.{ChainReads};
 ghost use Rattle.imago_access.specs.Running.{chain_disk};
@@ -27,7 +27,7 @@ ghost use Rattle.qimg_core.specs.declared.plain.ChainFile.{ChainFile};
 ghost use Rattle.qimg_chain.specs.Arguments.{Asked, AskFor};
 ghost use Rattle.qimg_chain.specs.Chains.{IsFit, OfTop};
 ghost use Rattle.qimg_chain.specs.FileMeanings.{IsDiskOf, files_bytes};
-ghost use Rattle.qimg_chain.specs.FlushedFiles.{EachFlushMeans, HandedMeanToo, IsChainOf, LeaksWhatItDid};
+ghost use Rattle.qimg_chain.specs.FlushedFiles.{EachFlushMeans, HandedMeanToo, IsChainOf, LeaksWhatItDid, opened_as};
 ghost use Rattle.qimg_chain.specs.Headline.{RunFrom, ToOpen};
 ghost use Rattle.qimg_chain.specs.PlainReads.{IsPlainlyRead};
 ghost use Rattle.qimg_chain.specs.Refusals.{ArePlaced, FirstCause, FormChain};
@@ -111,25 +111,28 @@ pub fn a_plain_read_and_a_read_agree<S: Storage, T: Storage, D: FormatDriverInst
 /// of the top, and the files below, which haven't changed since opening.
 ///
 /// No mapping may be prepared before the flush (no run may wait for its commit), and no earlier call may have ended with a resource error
-/// (`Fault::Memory`, `Fault::Storage`). Each cluster of the top's file has the excess refcount that it had when the chain was opened: what
-/// it leaks. The law applies to a chain that `open_chain` opens and `qimg_calls::drive` drives, also if earlier lists have driven it
-/// (`IsSameChain`), and to each flush in a script, as `run_files` runs it.
+/// (`Fault::Memory`, `Fault::Storage`). Each cluster of the top's file leaks what it leaked when the chain was opened, or nothing if a
+/// repair of leaks has succeeded since. The law applies to a chain that `open_chain` opens and `qimg_calls::drive` drives, also if earlier
+/// lists have driven it (`IsSameChain`), and to each flush in a script, as `run_files` runs it.
 pub fn files_mean_the_disk_after_a_flush<S: Storage, D: NamesFiles>()
     ensures list { (writable : Bool) (number : ℕ) (files : List (ChainFile S)) (since : Since) (list : List Call) (answers : List Answer)
-        (opened old new : D × List D) (driven : Driven D.DriverModel since list answers old new)
-        → IsChainOf D.DriverModel D.names S.state writable number files opened → IsSameChain D.DriverModel opened old
-        → EachFlushMeans D.DriverModel D.names opened list answers (moment (chain_with_mapping old None) since) driven.last }
+        (opened old new : D × List D) (repaired : Bool) (driven : Driven D.DriverModel since list answers old new)
+        → IsChainOf D.DriverModel D.names S.state writable number files opened → IsSameChain D.DriverModel repaired opened old
+        → EachFlushMeans D.DriverModel D.names (opened_as opened repaired) list answers (moment (chain_with_mapping old None) since) driven.last }
     ensures script { (what : ToOpen) (input before after : Option (List ℕ)) (result : Result (Option (List ℕ)) RunFault)
         (ran : RunFrom D.DriverModel D.names what input before after result) (fit : OfTop (IsFit mem_state) what.files)
         → let replies = ran.scripted.replies in let start = moment (chain_with_mapping ran.opened None) (flushed (chain_disk D.layer ran.opened)) in
-        EachFlushMeans D.DriverModel D.names ran.opened (calls_of replies) (answers_of replies) start (ran.headline fit).last }
+        let opened = opened_as ran.opened false in
+        EachFlushMeans D.DriverModel D.names opened (calls_of replies) (answers_of replies) start (ran.headline fit).last }
 {}
 
 /// Law: a chain is the same chain as itself, and stays the same through a second list of calls if it does through a first one. So it does
-/// through all lists of calls that end without a resource error, as `qimg_calls::drive` says of each (`Driven`: `same_chain`).
+/// through all lists of calls that end without a resource error, as `qimg_calls::drive` says of each (`Driven`: `same_chain`). Its leaks have
+/// been repaired if one of the lists has done so.
 pub fn a_chain_stays_the_same<D: FormatDriverInstance>()
-    ensures same { (c : D × List D) → IsSameChain D.DriverModel c c }
-    ensures again { (a b c : D × List D) → IsSameChain D.DriverModel a b → IsSameChain D.DriverModel b c → IsSameChain D.DriverModel a c }
+    ensures same { (c : D × List D) → IsSameChain D.DriverModel false c c }
+    ensures again { (a b c : D × List D) (first second : Bool) → IsSameChain D.DriverModel first a b → IsSameChain D.DriverModel second b c
+        → IsSameChain D.DriverModel (first || second) a c }
 {}
 
 /// Law: if the files of a chain of images mean its disk, so do the files that were supplied at opening, with the current bytes of the top's
@@ -139,7 +142,7 @@ pub fn files_handed_in_mean_the_disk_too<S: Storage>()
 {}
 
 /// Law: if the files of a chain of images mean its disk, a consistent qcow2 top has the leaks (refcounts beyond the references) that it had
-/// when the chain was opened.
+/// when the chain was opened, or none after a repair of leaks.
 pub fn a_qcow2_top_leaks_what_it_did<S: Storage>()
     ensures { LeaksWhatItDid ⟦<ImageDriver<S> as DriverModel>⟧ ⟦<ImageDriver<S> as NamesFiles>⟧.names }
 {}

@@ -22,6 +22,7 @@ pub use fault::RunFault;
 use imago_access::{FormatAccess, FormatDriverInstance};
 use imago_storage::{Fault, MemStorage};
 pub use opened::{ScriptFault, run_files};
+use qimg_calls::RepairsLeaks;
 use reading::next_line;
 pub use saved::Saved;
 use std::alloc::Global;
@@ -34,7 +35,7 @@ const MOST_LINES: u32 = 1_048_576;
 const MOST_BYTES: u64 = 137_438_953_472;
 
 /// Answers a text that was parsed as a line or rejected.
-fn answer_to<D: FormatDriverInstance<Storage = MemStorage> + NamesFiles>(
+fn answer_to<D: FormatDriverInstance<Storage = MemStorage> + NamesFiles + RepairsLeaks>(
     alloc: Global,
     chain: &mut FormatAccess<D>,
     taken: Result<Line, Fault>,
@@ -70,7 +71,7 @@ fn tell<W: Write>(alloc: Global, writer: &mut W, answer: &Answer) -> Result<(), 
 fn run_lines<
     R: BufRead + Drop,
     W: Write,
-    D: FormatDriverInstance<Storage = MemStorage> + NamesFiles,
+    D: FormatDriverInstance<Storage = MemStorage> + NamesFiles + RepairsLeaks,
 >(alloc: Global, reader: R, writer: &mut W, chain: &mut FormatAccess<D>) -> Result<Saved, RunFault>
     requires free { IsFree (D.layer chain.old.0) }
     ensures free { IsFree (D.layer chain.new.0) }
@@ -113,7 +114,11 @@ fn run_lines<
 ///
 /// The lines before the error were run, and their answers were written. If memory ran out, the last answer may be missing. If the writer
 /// failed, the written text is unspecified.
-pub fn run<R: BufRead + Drop, W: Write, D: FormatDriverInstance<Storage = MemStorage> + NamesFiles>(
+pub fn run<
+    R: BufRead + Drop,
+    W: Write,
+    D: FormatDriverInstance<Storage = MemStorage> + NamesFiles + RepairsLeaks,
+>(
     alloc: Global,
     reader: R,
     writer: &mut W,

@@ -11,7 +11,7 @@
 //! | `discard OFFSET LENGTH`, `discard-any OFFSET LENGTH`, `discard-backing OFFSET LENGTH` | `ok` |
 //! | `grow SIZE MODE`, `shrink SIZE` | `ok` |
 //! | `flush`, `save` | `ok` |
-//! | `check` | a number |
+//! | `check`, `repair` | a number |
 //!
 //! If a line fails, the answer is `error N`, with the number of its fault.
 

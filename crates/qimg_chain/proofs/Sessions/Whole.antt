@@ -120,7 +120,7 @@ module _ (R : RattleType) (st : Ghosts R.Denot) (sd : mir.Syntax.Dict) (dd : mir
 
   -- A crash image as the drivers read it is one as the files say.
   pub reads-as-files : (names : ImageDriver R.Denot st → ℕ → List ℕ) → ReadsAsFiles (image_seen.ghosts R st sd dd) names st.state
-  reads-as-files names writable number top below opened now differs is same backed since f left =
+  reads-as-files names writable number top below opened now repaired differs is same backed since f left =
       let g = image_seen.ghosts R st sd dd in
       let x = (g.layer now.0).fixed in
       let bytes = (g.image now.0).bytes in

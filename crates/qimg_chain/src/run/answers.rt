@@ -12,6 +12,7 @@ use crate::chain::NamesFiles;
 use crate::script::{Answer, Bytes, Line};
 use imago_access::{FormatAccess, FormatDriverInstance};
 use imago_storage::{Fault, MemStorage};
+use qimg_calls::RepairsLeaks;
 use std::alloc::Global;
 
 /// Returns the answer to a plain read.
@@ -25,7 +26,7 @@ fn told_bytes(outcome: Result<Bytes, Fault>) -> Answer
 }
 
 /// Makes the call of a line, and returns its answer. A `read` line isn't longer than a line may read.
-fn answer_call<D: FormatDriverInstance<Storage = MemStorage> + NamesFiles>(
+fn answer_call<D: FormatDriverInstance<Storage = MemStorage> + NamesFiles + RepairsLeaks>(
     alloc: Global,
     chain: &mut FormatAccess<D>,
     line: Line,
@@ -47,7 +48,7 @@ fn answer_call<D: FormatDriverInstance<Storage = MemStorage> + NamesFiles>(
 
 /// Makes the call of a line, and returns its answer. Bytes that a `save` kept in the file are copied first. If the line is a `save` that
 /// succeeds, the bytes of the top file are kept.
-fn answer_apart<D: FormatDriverInstance<Storage = MemStorage> + NamesFiles>(
+fn answer_apart<D: FormatDriverInstance<Storage = MemStorage> + NamesFiles + RepairsLeaks>(
     alloc: Global,
     chain: &mut FormatAccess<D>,
     line: Line,
@@ -76,7 +77,7 @@ fn answer_apart<D: FormatDriverInstance<Storage = MemStorage> + NamesFiles>(
 ///
 /// The bytes that a `save` keeps replace what was kept before. They are copied before the next line that makes a call. If memory runs
 /// out for the copy, that line is answered with `Fault::Memory`.
-pub fn answer_line<D: FormatDriverInstance<Storage = MemStorage> + NamesFiles>(
+pub fn answer_line<D: FormatDriverInstance<Storage = MemStorage> + NamesFiles + RepairsLeaks>(
     alloc: Global,
     chain: &mut FormatAccess<D>,
     line: Line,

@@ -5,9 +5,9 @@ ghost use Rattle.qimg_calls.specs.Calls.{is_of_mapping};
 ghost use Rattle.qimg_chain.specs.RunCalls.{IsCallOf, IsNoCall, MadeOne, told_of};
 
 use crate::script::{Answer, Bytes, Line};
-use imago_access::{FormatAccess, FormatDriverInstance};
+use imago_access::FormatAccess;
 use imago_storage::Fault;
-use qimg_calls::{Answer as CallAnswer, Call, drive};
+use qimg_calls::{Answer as CallAnswer, Call, RepairsLeaks, drive};
 use std::alloc::Global;
 
 /// The largest number of bytes that a line reads.
@@ -34,6 +34,7 @@ pub fn call_of(line: Line) -> Option<Call>
         Line::Shrink { size } => Call::ResizeShrink { size },
         Line::Flush => Call::Flush,
         Line::Save => Call::Flush,
+        Line::Repair => Call::RepairLeaks,
         Line::Size | Line::Check | Line::Plain { .. } => return None,
     };
     Some(call)
@@ -44,7 +45,7 @@ pub fn call_of(line: Line) -> Option<Call>
 /// # Errors
 ///
 /// - `Fault::Memory` if memory runs out for the answer. The call isn't made then.
-pub fn make<D: FormatDriverInstance>(
+pub fn make<D: RepairsLeaks>(
     alloc: Global,
     chain: &mut FormatAccess<D>,
     call: Call,
@@ -70,6 +71,7 @@ pub fn told(answer: CallAnswer) -> Answer
     match answer {
         CallAnswer::Done => Answer::Done,
         CallAnswer::Bytes(bytes) => Answer::Bytes(Bytes::from(bytes)),
+        CallAnswer::Leaks(leaks) => Answer::Number(leaks.len() as u64),
         CallAnswer::Refused(fault) => Answer::Refused(fault),
         CallAnswer::Mapped(..) | CallAnswer::Shallow(..) | CallAnswer::Prepared { .. } =>
             unreachable!(),

@@ -43,6 +43,8 @@ pub enum Line {
     Plain { offset: u64, length: u64 },
     /// `save`: flushes, and keeps the bytes of the top file.
     Save,
+    /// `repair`: repairs the leaks of the top image, and returns how many clusters leaked.
+    Repair,
 }
 
 /// Parses a line, without its end.
@@ -137,6 +139,9 @@ fn lone_line(name: &[u8]) -> Option<Line>
     }
     if name == b"save".as_slice() {
         return Some(Line::Save);
+    }
+    if name == b"repair".as_slice() {
+        return Some(Line::Repair);
     }
     None
 }

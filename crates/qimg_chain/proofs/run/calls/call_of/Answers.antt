@@ -1,6 +1,6 @@
 use Rattle.std.proofs.Common.{refl}
 use Rattle.qimg_chain.proofs.run.calls.call_of.Goals as goal
-use Rattle.qimg_chain.proofs.run.calls.call_of.Goals.{in-Read, in-Write, in-Zero, in-Discard, in-DiscardAny, in-DiscardBacking, in-Grow, in-Shrink, in-Flush, in-Save}
+use Rattle.qimg_chain.proofs.run.calls.call_of.Goals.{in-Read, in-Write, in-Zero, in-Discard, in-DiscardAny, in-DiscardBacking, in-Grow, in-Shrink, in-Flush, in-Save, in-Repair}
 
 pub returns : goal.returns
 returns c = elim c.match-line.branch [
@@ -14,4 +14,5 @@ returns c = elim c.match-line.branch [
   | in-Shrink w ↦ rw (w.in-Shrink.is, w.call-is) refl
   | in-Flush w ↦ rw (w.in-Flush.is, w.call-is) refl
   | in-Save w ↦ rw (w.in-Save.is, w.call-is) refl
+  | in-Repair w ↦ rw (w.in-Repair.is, w.call-is) refl
 ]
