@@ -18,7 +18,7 @@ use std::alloc::Global;
 use std::fs::{self, Files};
 
 /// Reads a file as a storage in memory.
-fn read_storage<R: Files + AllocGlobal>(rt: &R, path: &str) -> Result<MemStorage, Failure> {
+pub fn read_storage<R: Files + AllocGlobal>(rt: &R, path: &str) -> Result<MemStorage, Failure> {
     let bytes = fs::read(rt, path)?;
     match MemStorage::from_bytes(bytes) {
         Ok(storage) => Ok(storage),

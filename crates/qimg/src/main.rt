@@ -8,6 +8,10 @@
 //! file must not exist. Sizes are in bytes, or with `k`, `M`, `G` or `T` in units of 2^10 to 2^40 bytes. The header gets the name of the
 //! backing file and its format, and the backing file isn't opened. The modes of preallocation are those of the script's line `grow`.
 //!
+//! `qimg check [--repair leaks] FILE` checks a qcow2 file by itself. With `--repair leaks` (or `-r leaks`) it lowers the refcounts of leaked
+//! clusters, and replaces the file as a save does. Its status is like that of `qemu-img check`: 0 if the image has no errors (any more), 1 if it
+//! couldn't be checked or repaired, also for bad arguments, 2 if it is damaged, and 3 if clusters leak.
+//!
 //! The script comes from standard input, and its answers go to standard output. The module `script` of `qimg_chain` lists the lines of a
 //! script. The files are read completely at the start. At the end, the bytes of the last successful `save`, if any, replace the top file.
 //! With `-r` no file is replaced, as nothing has changed. Without arguments the program makes a writable qcow2 image of 65,536 bytes, and
@@ -28,14 +32,16 @@
 //! line on standard error has the path of that file and asks the user to remove it.
 #![tactic(auto)]
 
+mod checking;
 mod creation;
 mod failure;
 mod files;
 mod streams;
 mod top_file;
 
+use checking::check_file;
 use creation::create;
-use failure::{Failure, advice, status};
+use failure::{Failure, Finding, advice, status};
 use files::{new_files, read_files};
 use imago_storage::{Fault, MemStorage};
 use qimg_chain::arguments::{Arguments, parse};
@@ -120,12 +126,21 @@ fn serve_files<R: Files + Input + Print + AllocGlobal>(
     }
 }
 
+/// Checks a file, as the arguments that follow `check` say.
+fn check<R: Files + Print + AllocGlobal>(rt: &R, words: &[&str]) -> Result<(), Failure> {
+    check_file(rt, checking::parse(words)?)?;
+    Ok(())
+}
+
 /// Runs the program with its arguments.
 fn serve<R: Env + Files + Input + Print + AllocGlobal>(rt: &R) -> Result<(), Failure> {
     let words = words(rt)?;
     let texts: Vec<&str> = words.iter().map(|word| word.as_str()).collect(rt.alloc())?;
     if let ["create", asked @ ..] = texts.as_slice() {
         return create(rt, creation::parse(rt.alloc(), asked)?);
+    }
+    if let ["check", asked @ ..] = texts.as_slice() {
+        return check(rt, asked);
     }
     if let Some(arguments) = arguments(rt, &texts)? {
         return serve_files(rt, &arguments);
@@ -141,7 +156,7 @@ fn main(rt: HostRuntime) -> ExitCode {
         if let Some(advice) = advice(failure) {
             let _ = eprintln!(rt; "qimg: {advice}");
         }
-        if let Failure::LeftOver(path) = failure {
+        if let Failure::LeftOver(path) | Failure::Check(Finding::LeftOver(path)) = failure {
             let _ = eprintln!(rt; "qimg: {path} exists; remove it if no other run is saving");
         }
     }
