@@ -3,13 +3,14 @@
 ghost use Rattle.std.specs.Prelude.{◌≡◌, IsTrue};
 ghost use Rattle.imago_access.specs.Layer.{IsFree, unmapped};
 ghost use Rattle.imago_access.specs.Chain.{Each};
+ghost use Rattle.imago_access.specs.Committing.{OfNext};
 ghost use Rattle.imago_access.specs.Layers.{chain};
 
 use crate::texts::{deep, shallow};
-use cases::{Trouble, joined, ok, runs};
+use cases::{Trouble, joined, leaks, ok, runs};
 use imago_access::{FormatAccess, FormatDriverInstance, PreallocateMode, PreparedDataMapping};
 use imago_storage::Fault;
-use qimg_calls::{Answer, Call};
+use qimg_calls::{Answer, Call, RepairsLeaks};
 use std::alloc::Global;
 
 /// The greatest number of bytes that one call of a script can read: 16 MiB.
@@ -254,6 +255,32 @@ fn is_all_free<D: FormatDriverInstance>(access: &FormatAccess<D>) -> bool
     }
 }
 
+// Returns true if no mapping is prepared in the layer below the top. Without such a layer the result is true.
+fn is_next_free<D: FormatDriverInstance>(access: &FormatAccess<D>) -> bool
+    ensures { IsTrue result → OfNext (λ n. IsFree (D.layer n.0)) access.now.1 }
+{
+    match access.below() {
+        None => true,
+        Some(below) => is_free(below),
+    }
+}
+
+/// Commits the data of the top image to the layer below it, and empties the top image.
+///
+/// # Errors
+///
+/// - [`Trouble::NoCall`] if a mapping is prepared in one of the two.
+/// - [`Trouble::Refused`] if the call fails.
+pub fn commit_down<D: FormatDriverInstance>(
+    alloc: Global,
+    access: &mut FormatAccess<D>,
+) -> Result<(), Trouble> {
+    if !is_free(access) || !is_next_free(access) {
+        return Err(Trouble::NoCall);
+    }
+    Ok(access.commit_down(alloc)?)
+}
+
 /// Drops what the images of the chain keep in memory, and reloads what they need.
 ///
 /// # Errors
@@ -349,13 +376,30 @@ pub fn flatten<S: FormatDriverInstance, T: FormatDriverInstance>(
     Ok(qimg_calls::flatten(alloc, source, target)?)
 }
 
+/// Repairs the leaks of the top image (refcounts that exceed the references), and returns them.
+///
+/// # Errors
+///
+/// - [`Trouble::NoCall`] if a mapping is prepared.
+/// - [`Trouble::Refused`] if the call fails.
+pub fn repair<D: RepairsLeaks>(
+    alloc: Global,
+    access: &mut FormatAccess<D>,
+) -> Result<String, Trouble> {
+    if !is_free(access) {
+        return Err(Trouble::NoCall);
+    }
+    let found = qimg_calls::repair_leaks(alloc, access)?;
+    Ok(leaks(alloc, &found)?)
+}
+
 /// Makes calls one after another, and returns an answer for each.
 ///
 /// # Errors
 ///
 /// - [`Trouble::NoCall`] if a mapping is prepared.
 /// - [`Trouble::Refused`] if memory for the answers runs out.
-pub fn drive_all<D: FormatDriverInstance>(
+pub fn drive_all<D: RepairsLeaks>(
     alloc: Global,
     access: &mut FormatAccess<D>,
     calls: &[Call],

@@ -4,7 +4,7 @@ ghost use Rattle.imago_access.specs.Layer.{IsFree};
 
 use crate::calls::buffer;
 use crate::texts::{format as format_word, shallow};
-use cases::{Trouble, bytes, number, runs, size};
+use cases::{Trouble, bytes, number, ok, runs, size};
 use imago_access::{FormatDriverInstance, NoBelow, ReadBelow};
 use imago_storage::Storage;
 use std::alloc::Global;
@@ -113,6 +113,12 @@ fn ready<D: FormatDriverInstance>(alloc: Global, driver: &D) -> Result<String, T
     Ok("ok".to_string(alloc)?)
 }
 
+// Sets the image to failed, if its format marks failures.
+fn mark_failed<D: FormatDriverInstance>(alloc: Global, driver: &mut D) -> Result<String, Trouble> {
+    driver.mark_failed();
+    Ok(ok(alloc)?)
+}
+
 // Returns the length of the driver's image file, in bytes.
 fn file<D: FormatDriverInstance>(alloc: Global, driver: &D) -> Result<String, Trouble> {
     Ok(driver.image_file().size().to_string(alloc)?)
@@ -161,6 +167,7 @@ fn told<D: FormatDriverInstance>(alloc: Global, driver: &D, word: &str) -> Resul
         "granularity" => granularity(alloc, driver),
         "ready" => ready(alloc, driver),
         "file" => file(alloc, driver),
+        "failed" => Ok(driver.failed().to_string(alloc)?),
         _ => Err(Trouble::NoCall),
     }
 }
@@ -213,6 +220,7 @@ pub fn drive<D: FormatDriverInstance>(
     words: &[&str],
 ) -> Result<String, Trouble> {
     match words {
+        ["mark_failed"] => mark_failed(alloc, driver),
         [word] => told(alloc, driver, word),
         ["extra", index] => extra(alloc, driver, size(index)?),
         ["read", rest @ ..] => read_by(alloc, driver, rest),

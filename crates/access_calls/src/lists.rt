@@ -2,10 +2,10 @@
 use crate::calls::{MOST, drive_all};
 use crate::texts::{deep, prepared_at, shallow};
 use crate::words::{mode_of, only, run_of};
-use cases::{Trouble, bytes, joined, number, ok, runs};
-use imago_access::{FormatAccess, FormatDriverInstance};
+use cases::{Trouble, bytes, joined, leaks, number, ok, runs};
+use imago_access::FormatAccess;
 use imago_storage::Fault;
-use qimg_calls::{Answer, Call};
+use qimg_calls::{Answer, Call, RepairsLeaks};
 use std::alloc::Global;
 
 // Returns a read of at most `MOST` bytes.
@@ -87,6 +87,7 @@ fn call_of(alloc: Global, words: &[&str]) -> Result<Call, Trouble> {
         ["cancel"] => Ok(Call::Cancel),
         ["flush"] => Ok(Call::Flush),
         ["sync"] => Ok(Call::Sync),
+        ["repair"] => Ok(Call::RepairLeaks),
         [word, first, rest @ ..] => call_at(alloc, word, number(first)?, rest),
         _ => Err(Trouble::NoCall),
     }
@@ -122,6 +123,7 @@ fn told(alloc: Global, answer: &Answer) -> Result<String, Trouble> {
             length,
             state,
         } => Ok(prepared_at(alloc, (*storage, *offset, *length), *state)?),
+        Answer::Leaks(found) => Ok(leaks(alloc, found)?),
         Answer::Refused(Fault::Memory) => Err(Trouble::Refused(Fault::Memory)),
         Answer::Refused(fault) => Ok(fault.to_string(alloc)?),
     }
@@ -148,7 +150,7 @@ pub fn told_all(alloc: Global, answers: &[Answer]) -> Result<String, Trouble> {
 }
 
 /// Makes a list of calls, with the word `;` between them. Returns their answers, with `/` between them.
-pub fn list<D: FormatDriverInstance>(
+pub fn list<D: RepairsLeaks>(
     alloc: Global,
     disk: &mut FormatAccess<D>,
     words: &[&str],

@@ -1,13 +1,14 @@
 // Parses the calls that a script makes on a disk, and makes them. `called` lists the calls.
 use crate::calls::{
-    Change, aligns, change_range, done, ensure, flush, grow, invalidate, is_free, map, map_shallow,
-    read, ready, resize, shrink, sizes, sync, top, write, write_mapped,
+    Change, aligns, change_range, commit_down, done, ensure, flush, grow, invalidate, is_free, map,
+    map_shallow, read, ready, repair, resize, shrink, sizes, sync, top, write, write_mapped,
 };
 use crate::driving::drive;
 use crate::file_reads::{file_size, read_by};
 use crate::lists::list;
 use cases::{Trouble, bytes, number, size};
 use imago_access::{FormatAccess, FormatDriverInstance, PreallocateMode, ReadFiles};
+use qimg_calls::RepairsLeaks;
 use std::alloc::Global;
 use std::fmt::Display;
 
@@ -61,7 +62,7 @@ fn written_mapped<D: FormatDriverInstance>(
     write_mapped(alloc, disk, guest, place, &given)
 }
 
-// Makes a `flush`, `sync` or `invalidate`.
+// Makes a `flush`, `sync`, `invalidate` or `commit_down`.
 fn kept<D: FormatDriverInstance>(
     alloc: Global,
     disk: &mut FormatAccess<D>,
@@ -71,6 +72,7 @@ fn kept<D: FormatDriverInstance>(
         "flush" => flush(alloc, disk),
         "sync" => sync(disk),
         "invalidate" => invalidate(alloc, disk),
+        "commit_down" => commit_down(alloc, disk),
         _ => Err(Trouble::NoCall),
     }
 }
@@ -128,7 +130,7 @@ fn done_at<D: FormatDriverInstance>(
 }
 
 // Makes a call without arguments.
-fn said<D: FormatDriverInstance>(
+fn said<D: RepairsLeaks>(
     alloc: Global,
     disk: &mut FormatAccess<D>,
     word: &str,
@@ -137,6 +139,7 @@ fn said<D: FormatDriverInstance>(
         "sizes" => sizes(alloc, disk),
         "aligns" => aligns(alloc, disk),
         "ready" => ready(alloc, disk),
+        "repair" => repair(alloc, disk),
         "prepared" => Ok((!is_free(disk)).to_string(alloc)?),
         _ => done(alloc, kept(alloc, disk, word)),
     }
@@ -190,17 +193,18 @@ fn named<D: FormatDriverInstance + Display>(
 /// - `read`, `map`, `shallow`, `zeroes`, `to_zero`, `to_any`, `to_backing OFFSET N`; `write OFFSET BYTES`; `ensure OFFSET N [overwrite]`;
 ///   `write_mapped GUEST PLACE BYTES`.
 /// - `grow` and `resize SIZE MODE`, `shrink SIZE`, with `none`, `zero`, `format`, `full` or `data` as a mode; `flush`, `sync`,
-///   `invalidate`.
+///   `invalidate`, `commit_down`; `repair`, which answers the leaks that it repaired as `leaks CLUSTER:EXCESS ..`, or `no leaks`.
 /// - `list CALL ; CALL ; ..`: several calls by one call of `drive`, which keeps a prepared mapping between them. A list can have the calls
-///   of the two items above except `resize` and `invalidate`, and also `prepare OFFSET N [overwrite]`, `commit` and `cancel`. The answers
-///   have `/` between them. An empty list answers `none`.
+///   of the two items above except `resize`, `invalidate` and `commit_down`, and also `prepare OFFSET N [overwrite]`, `commit` and
+///   `cancel`. The answers have `/` between them. An empty list answers `none`.
 /// - `sizes`: the sizes of the layers, the top first; `ready`: whether each layer can be used; `aligns`: the alignments of requests and of
 ///   memory; `named`: the disk's `Display` text; `prepared`: whether a mapping is prepared in the top layer.
 /// - `file_size LAYER FILE` and `read_file LAYER FILE OFFSET N`: the current length and bytes of a layer's file. The top is layer 0, and
 ///   the image file is file 0.
-/// - `driver CALL`: a call of the top image's driver. `is` describes it. `granularity` and `ready` have no arguments, either. `file` and
-///   `extra INDEX` answer the lengths of its files. `map` and `read_special OFFSET N` look at a range. `zero`, `to_zero`, `to_any` and
-///   `to_backing OFFSET N` answer the part that was changed. `read STORAGE PLACE N` and `write GUEST PLACE BYTES` use a mapped run.
+/// - `driver CALL`: a call of the top image's driver. `is` describes it. `granularity` and `ready` have no arguments, either. `failed`
+///   answers whether the image has failed, and `mark_failed` sets it to failed. `file` and `extra INDEX` answer the lengths of its files.
+///   `map` and `read_special OFFSET N` look at a range. `zero`, `to_zero`, `to_any` and `to_backing OFFSET N` answer the part that was
+///   changed. `read STORAGE PLACE N` and `write GUEST PLACE BYTES` use a mapped run.
 ///
 /// `PLACE` is an offset in a storage, and `GUEST` an offset of the disk.
 ///
@@ -208,7 +212,7 @@ fn named<D: FormatDriverInstance + Display>(
 ///
 /// - [`Trouble::NoCall`] if the words aren't a call, or the call isn't allowed while a mapping is prepared.
 /// - [`Trouble::Refused`] if the call fails.
-pub fn called<D: ReadFiles + Display>(
+pub fn called<D: ReadFiles + RepairsLeaks + Display>(
     alloc: Global,
     disk: &mut FormatAccess<D>,
     words: &[&str],

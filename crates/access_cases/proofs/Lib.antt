@@ -3,3 +3,4 @@ pub mod OwnCauses
 pub mod Declining
 pub mod FileWrites
 pub mod SeenAs
+pub mod Repairs

@@ -1,6 +1,7 @@
 -- Lemmas that carry the contracts of one kind of driver over to the enum of several kinds.
 use Rattle.std.proofs.Common.{◌≡◌, ℕ, List, ◌++◌, subst, sym, inl, inr}
-use Rattle.std.specs.Prelude.{⊤, Result, Ok, Err, Option, OnOk, IfErr, IfOk}
+use Rattle.std.specs.Prelude.{⊤, Result, Ok, Err, Option, OnOk, IfErr, IfOk, Vec}
+use Rattle.std.specs.Global.{Global}
 use Rattle.imago_storage.specs.Steps.{Call, IsIn, shrink}
 use Rattle.imago_storage.specs.declared.fault.Fault.{Fault}
 use Rattle.imago_storage.specs.declared.fault.Fault.TheVariants.{Memory, Storage}
@@ -17,6 +18,7 @@ use Rattle.imago_access.specs.declared.format.PreallocateMode.{PreallocateMode}
 use Rattle.imago_access.specs.Room.{Takes}
 use Rattle.imago_access.specs.PreparingCalls.{RunRefused, WritesMapped, WritingRefused}
 use Rattle.imago_formats.proofs.RawSteps.{on_ok_always}
+use Rattle.qimg_calls.specs.Repairing.{RepairsLeaksOf}
 use Rattle.imago_access.specs.PartCalls.{PartCall, ensures_zero, discards_to_zero, discards_to_any, discards_to_backing, LeavesPart, IsDone, DoesPart, PartRefused}
 
 -- The ghosts of one kind of driver, taken from those of the enum.
@@ -244,4 +246,37 @@ module _ {D E St Su : Type 0} (f : D → E) (h : Ghosts E Su) (g : Ghosts D St) 
     marks_failed = marks_over_as result refused.marks_failed;
     cause = λ well_formed coherent. subst (λ c. IfErr result (GrowthCause (u.layers_below x) (h.layer (f a)) size c (files h (f a) ++ u.files_of_layers_below x) (files h (f b) ++ u.files_of_layers_below y))) (causes (u.layers_below x))
         (k.cause well_formed coherent);
+  }
+
+  -- A repair of leaks.
+  pub repairs_as : (result : Result (Vec (ℕ × ℕ) Global) Fault) → RepairsLeaksOf g a result b → RepairsLeaksOf h (f a) result (f b)
+  repairs_as result repairs = let k = subst (λ x. RepairsLeaksOf x a result b) (sym same) repairs in record {
+    listed = k.listed;
+    repaired = k.repaired;
+    written = k.written;
+    counted = k.counted;
+    same = k.same;
+    crash_images = k.crash_images;
+    flushes_first = λ well_formed ok. let first = k.flushes_first well_formed ok in record {
+      mid = f first.mid;
+      layer = first.layer;
+      written = first.written;
+      counted = first.counted;
+      excess_refcount = first.excess_refcount;
+      flush = first.flush;
+      crash_images = first.crash_images;
+    };
+    early_outcome = at_once_in _ _ result k.early_outcome;
+    keeps_layer_state = k.keeps_layer_state;
+    reloading_call = record {
+      fixed = k.reloading_call.fixed;
+      failed = k.reloading_call.failed;
+      counts_not_fallen = k.reloading_call.counts_not_fallen;
+      faults = k.reloading_call.faults;
+      safely = k.reloading_call.safely;
+      stays_stable = k.reloading_call.stays_stable;
+    };
+    failed = k.failed;
+    marks_failed = k.marks_failed;
+    cause = k.cause;
   }

@@ -35,6 +35,7 @@ mod disks;
 mod drivers;
 mod file_reads;
 mod layers;
+mod repairing;
 mod storages;
 mod texts;
 

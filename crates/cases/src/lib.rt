@@ -14,5 +14,5 @@ mod words;
 pub use layer::{Layer, Trouble};
 pub use running::run;
 pub use shaped::{Alignments, Asked, Notes, Shaped, is_alignment, told};
-pub use texts::{joined, ok, runs};
+pub use texts::{joined, leaks, ok, runs};
 pub use words::{bytes, hex, mode, mode_word, number, size};

@@ -35,6 +35,23 @@ pub fn joined(text: &mut String, word: &str) -> Result<(), AllocError> {
     text.push_str(word)
 }
 
+/// Returns the text of leaks: `leaks`, and each cluster with its excess refcount, as `9:1`. Without leaks the text is `no leaks`.
+///
+/// # Errors
+///
+/// - `AllocError` if memory runs out.
+pub fn leaks(alloc: Global, found: &[(u64, u64)]) -> Result<String, AllocError> {
+    if found.is_empty() {
+        return "no leaks".to_string(alloc);
+    }
+    let mut text = "leaks".to_string(alloc)?;
+    for (cluster, excess_refcount) in found.iter() {
+        let one = format!(in alloc; "{cluster}:{excess_refcount}")?;
+        joined(&mut text, one.as_str())?;
+    }
+    Ok(text)
+}
+
 /// Returns bytes as text, in runs: `aa*3 00` for `aa aa aa 00`, and `-` for no bytes.
 ///
 /// # Errors

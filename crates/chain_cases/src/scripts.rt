@@ -8,6 +8,7 @@ use crate::streams::{Failing, FailingReader, FailingWriter};
 use cases::{Trouble, bytes, joined, number, ok, runs, size};
 use imago_access::{FormatAccess, FormatDriverInstance};
 use imago_storage::{Fault, MemStorage};
+use qimg_calls::RepairsLeaks;
 use qimg_chain::chain::{ImageDriver, NamesFiles};
 use qimg_chain::run::{RunFault, run};
 use qimg_chain::script::{Answer, Bytes};
@@ -42,7 +43,7 @@ fn ended<R, W, D>(
 where
     R: BufRead + Drop,
     W: Write,
-    D: FormatDriverInstance<Storage = MemStorage> + NamesFiles,
+    D: FormatDriverInstance<Storage = MemStorage> + NamesFiles + RepairsLeaks,
 {
     if !is_free(chain) {
         return Err(Trouble::NoCall);

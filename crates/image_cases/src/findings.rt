@@ -1,21 +1,8 @@
 // The texts of the checker's answers.
-use cases::{Trouble, joined};
+use cases::{Trouble, leaks};
 use imago_storage::Fault;
 use qimg_core::check::CheckFault;
 use std::alloc::{AllocError, Global};
-
-// Returns the text of the leaks: each cluster with its excess refcount.
-fn leaks(alloc: Global, found: &[(u64, u64)]) -> Result<String, AllocError> {
-    if found.is_empty() {
-        return "no leaks".to_string(alloc);
-    }
-    let mut text = "leaks".to_string(alloc)?;
-    for (cluster, excess_refcount) in found.iter() {
-        let one = format!(in alloc; "{cluster}:{excess_refcount}")?;
-        joined(&mut text, one.as_str())?;
-    }
-    Ok(text)
-}
 
 // Returns the text of a finding: its text as an error, its name, and its cluster, if it has one.
 fn finding(alloc: Global, fault: CheckFault) -> Result<String, AllocError> {
