@@ -6,14 +6,14 @@ use Rattle.imago_storage.specs.declared.fault.Fault.{Fault}
 use Rattle.imago_storage.specs.declared.fault.Fault.TheVariants.{ReadOnly, BadArgument, MissingBelow, Failed, Storage}
 use Rattle.imago_access.specs.declared.driver_model.DriverModel.{Ghosts}
 use Rattle.imago_access.specs.Layer.{Layer, KeepsLayerState}
-use Rattle.imago_access.specs.Committing.{CommitsDown, GivesOwn, IsFailedOrSound, IsPairAbove, IsPairBelow, MarksCommitFailed, NextPair, commit_down_refusal, first_fault, next_refusal, pair_refusal, some_failed}
+use Rattle.imago_access.specs.Committing.{CommitMoments, CommitsDown, GivesOwn, IsFailedOrSound, IsPairAbove, IsPairBelow, MarksCommitFailed, NextPair, commit_down_refusal, first_fault, next_refusal, pair_refusal, some_failed}
 use Rattle.imago_access.specs.Files.{IsNotResourceError, files}
 use Rattle.imago_access.specs.Refusals.{unusable_fault}
 use Rattle.imago_access.specs.Running.{ChainRangeChange, below_ghosts}
 use Rattle.imago_access.specs.Stops.{GivesNone, Left}
 use Rattle.imago_access.proofs.Committing.{like_same}
 use Rattle.imago_access.proofs.CommitValues.{if_none}
-use Rattle.imago_access.proofs.FilePairs.{kept_all_same}
+use Rattle.imago_access.proofs.FilePairs.{is_later_same, kept_all_same}
 use Rattle.imago_access.proofs.Marking.{unusable_by_none}
 use Rattle.imago_access.proofs.Running.{ran_same, went_same}
 use Rattle.imago_access.proofs.Stopping.{passes_none}
@@ -52,23 +52,28 @@ pub no_next : (top : Layer) → commit_down_refusal top [] ≡ None → ⊥
 no_next top none = cc ((if_none (some_failed (top ∷ [])) Failed (Some MissingBelow) none).1)
 
 module _ {D St : Type 0} (g : Ghosts D St) where
-  pub commits_same : (e : Fault) (c : D × List D) → CommitsDown g (Err e) c c
-  commits_same e c = record {
+  pub moments_same : (c : D × List D) → CommitMoments g c c c.0 c
+  moments_same c = record {
+    flush = passes_none (Left (map g.layer c.1) (g.layer c.0) (g.image c.0).bytes g.sound (g.layer c.0).size (g.layer c.0).size GivesNone) (g.image c.0) (g.image c.0) refl (refl, refl, refl, refl);
+    top_kept = kept_all_same (files g c.0);
+    next = next_same (λ n m. UnrefusedCrashImages (IsPairBelow g c (g.image c.0).bytes n) (g.image n.0) (g.image m.0)) (λ z. passes_none (IsPairBelow g c (g.image c.0).bytes z) (g.image z.0) (g.image z.0) refl (refl, refl, refl, refl)) c.1;
+    below_kept = refl;
+    settled = inr (refl, refl, refl, refl);
+    top = passes_none (IsPairAbove g c c) (g.image c.0) (g.image c.0) refl (refl, refl, refl, refl);
+    counts_before = is_later_same (g.image c.0);
+    counts_after = is_later_same (g.image c.0);
+    order = record {
+      fills = inr refl;
+      empties = inr (refl, refl, refl, refl);
+      keeps_layer_state = next_same (λ n m. KeepsLayerState (g.layer n.0) (g.layer m.0)) (λ z. like_same (g.layer z.0)) c.1;
+    };
+  }
+
+  pub commits_same : (e : Fault) (c : D × List D) → (commit_down_refusal (g.layer c.0) (map g.layer c.1) ≡ None → IsNotResourceError e → ⊥) → CommitsDown g (Err e) c c
+  commits_same e c early = record {
     disk = λ i whole. record { size = refl; value = λ p lt. refl; hold = λ p lt. refl };
     below = λ i. tt;
-    moments = λ i. (
-      c.0,
-      c,
-      record {
-        flush = passes_none (Left (map g.layer c.1) (g.layer c.0) (g.image c.0).bytes g.sound (g.layer c.0).size (g.layer c.0).size GivesNone) (g.image c.0) (g.image c.0) refl (refl, refl, refl, refl);
-        top_kept = kept_all_same (files g c.0);
-        next = next_same (λ n m. UnrefusedCrashImages (IsPairBelow g c (g.image c.0).bytes n) (g.image n.0) (g.image m.0)) (λ z. passes_none (IsPairBelow g c (g.image c.0).bytes z) (g.image z.0) (g.image z.0) refl (refl, refl, refl, refl)) c.1;
-        below_kept = refl;
-        settled = inr (refl, refl, refl, refl);
-        top = passes_none (IsPairAbove g c c) (g.image c.0) (g.image c.0) refl (refl, refl, refl, refl);
-      },
-      tt,
-    );
+    moments = λ i. (c.0, c, moments_same c, tt, λ none whole. absurd (early none whole));
     top = like_same (g.layer c.0);
     mutating_call = went_same g (IsNotResourceError e) (IsNotResourceError e) c.0;
     next = next_same (ChainRangeChange g (IsNotResourceError e) (GivesOwn g c.0)) (λ z. ran_same g (below_ghosts g) (IsNotResourceError e) (GivesOwn g c.0) z.0 z.1) c.1;

@@ -54,8 +54,19 @@ module _ {D St : Type 0} (g : Ghosts D St) where
                 below_kept = m.2.below_kept;
                 settled = elim m.2.settled [ inl settled ↦ inl settled | inr none ↦ inr (subst (MakesNone (g.image m.1.0)) (sym mark.unasked.0) none) ];
                 top = subst (UnrefusedCrashImages (IsPairAbove g old m.1) (g.image m.1.0)) (sym mark.unasked.0) m.2.top;
+                counts_before = m.2.counts_before;
+                counts_after = subst (IsLater (g.image m.1.0)) (sym mark.unasked.0) m.2.counts_after;
+                order = record {
+                  fills = m.2.order.fills;
+                  empties = elim m.2.order.empties [
+                    | inl filled ↦ inl filled
+                    | inr none ↦ inr (subst (MakesNone (g.image m.1.0)) (sym mark.unasked.0) none)
+                  ];
+                  keeps_layer_state = m.2.order.keeps_layer_state;
+                };
               },
               tt,
+              λ none whole. absurd (resource whole),
             );
         top = like_both (g.layer old.0) (g.layer b) (g.layer c) h.top like;
         mutating_call = record {

@@ -11,7 +11,7 @@ use Rattle.imago_access.specs.Layer.{Layer, Fixed, own, hold_of, loose, IsFree}
 use Rattle.imago_access.specs.Layers.{chain}
 use Rattle.imago_access.specs.Chain.{at}
 use Rattle.imago_access.specs.ChainCalls.{ChainStays, ChainFails}
-use Rattle.imago_access.specs.Committing.{GivesOwn, CopiesDown, MayCopyDown, TakesOwnTo, IsSettled, IsCommittable, BelowTakesDisk, IsPairBelow, IsPairAbove, CommitsDown, EmptiesTop, pair_refusal, CommitDownCause, EmptyCause, IsOwnRun, OwnReadCause, SparesMemory}
+use Rattle.imago_access.specs.Committing.{GivesOwn, CopiesDown, MayCopyDown, TakesOwnTo, IsSettled, IsCommittable, BelowTakesDisk, IsPairBelow, IsPairAbove, CommitsDown, EmptiesTop, IsFilled, IsFlushedFirst, pair_refusal, CommitDownCause, EmptyCause, IsOwnRun, OwnReadCause, SparesMemory}
 use Rattle.imago_access.specs.Failing.{Fails}
 use Rattle.imago_access.specs.Files.{IsNotResourceError, HadNoResourceError, files, files_of}
 use Rattle.imago_access.specs.Going.{MarksFailed}
@@ -19,10 +19,11 @@ use Rattle.imago_access.specs.Refusals.{unusable_fault}
 use Rattle.imago_access.specs.Running.{IsIntactChain, ChainRangeChange, below_ghosts}
 use Rattle.imago_access.specs.Stops.{GivesBelow, IsMeant, Left, shown}
 use Rattle.imago_access.proofs.Committing.{like_same, went_both, went_looked, chains_later, over_stays, over_taken, at_past}
+use Rattle.imago_access.proofs.CommitEnds.{commit_allowed}
 use Rattle.imago_access.proofs.CommitValues.{allowed_writable, allowed_size, allowed_top, allowed_usable, pair_shows, above_shows}
 use Rattle.imago_access.proofs.Discarding.{like_both}
 use Rattle.imago_access.proofs.Emptying.{Flushes, flush_same, ran_flush, flush_resource}
-use Rattle.imago_access.proofs.FilePairs.{kept_all_same, later_all_same, later_all_both}
+use Rattle.imago_access.proofs.FilePairs.{is_later_same, kept_all_same, later_all_same, later_all_both}
 use Rattle.imago_access.proofs.ImageCauses.{failed_after, failed_left}
 use Rattle.imago_access.proofs.Running.{holds_loose, ran_same, ran_gives, ran_weaker}
 use Rattle.imago_access.proofs.Stopping.{passes_none, passes_weaker}
@@ -62,8 +63,16 @@ module _ {D St : Type 0} (g : Ghosts D St) (free_loose : (d : D) → IsFree (g.l
         below_kept = refl;
         settled = inr (refl, refl, refl, refl);
         top = passes_none (IsPairAbove g (a, chain x) (a1, chain x)) (g.image a1) (g.image a1) refl (refl, refl, refl, refl);
+        counts_before = f.mutating_call.counts_not_fallen.0;
+        counts_after = is_later_same (g.image a1);
+        order = record {
+          fills = inr refl;
+          empties = inr (refl, refl, refl, refl);
+          keeps_layer_state = like_same (g.layer x.0);
+        };
       },
       tt,
+      λ none whole. absurd (flush_resource (g.layer a) (files g a) (files g a1) e (allowed_top (g.layer a) (g.layer x.0) (commit_allowed (g.layer a) (g.layer x.0) (map g.layer x.1) none)) (f.cause i.chain.is_well_formed) whole),
     );
     top = f.keeps_layer_state;
     mutating_call = f.mutating_call;
@@ -182,8 +191,20 @@ module _ {D St : Type 0} (g : Ghosts D St) (free_loose : (d : D) → IsFree (g.l
           below_kept = refl;
           settled = inr (refl, refl, refl, refl);
           top = passes_none (IsPairAbove g (a, chain x) (a2, chain y)) (g.image a2) (g.image a2) refl (refl, refl, refl, refl);
+          counts_before = f.mutating_call.counts_not_fallen.0;
+          counts_after = is_later_same (g.image a2);
+          order = record {
+            fills = inl (record { meant = first_meant i; faults = (f.mutating_call.faults tt).0 });
+            empties = inr (refl, refl, refl, refl);
+            keeps_layer_state = fill.keeps_layer_state;
+          };
         },
         tt,
+        λ none whole. record {
+          meant = first_meant i;
+          same = filled_same (Err e) a2 y fill whole i;
+          reads = λ p inside. ap (λ (l : Layer). at (l ∷ map g.layer (chain y)) p) (filled_same (Err e) a2 y fill whole i) ∙ filled_disk (Err e) a2 y fill whole i p inside;
+        },
       );
       top = like_both (g.layer a) (g.layer a1) (g.layer a2) f.keeps_layer_state fill.top.keeps_layer_state;
       mutating_call = went_both g (IsNotResourceError e) a a1 a2 f.mutating_call (went_looked g (IsNotResourceError e) a1 a2 fill.top);
@@ -242,8 +263,20 @@ module _ {D St : Type 0} (g : Ghosts D St) (free_loose : (d : D) → IsFree (g.l
             below_kept = refl;
             settled = inl (settled i.next.0 (allowed_usable (g.layer a) (g.layer x.0) allowed));
             top = emptied_pairs i;
+            counts_before = f.mutating_call.counts_not_fallen.0;
+            counts_after = empty.mutating_call.counts_not_fallen.0;
+            order =
+                let flushed : IsFlushedFirst g a a1 = record { meant = first_meant i; faults = (f.mutating_call.faults tt).0 } in
+                let filled : IsFilled g (a, chain x) (a2, chain y) =
+                record { same = filled_same (Ok u) a2 y fill tt i; deeper = filled_rest (Ok u) a2 y fill tt i } in
+                record { fills = inl flushed; empties = inl (flushed, filled); keeps_layer_state = fill.keeps_layer_state };
           },
           empty.vacates (filled_intact (Ok u) a2 y fill tt i).is_well_formed (chain y),
+          λ none whole. record {
+            meant = first_meant i;
+            same = filled_same (Ok u) a2 y fill tt i;
+            reads = over_disk i;
+          },
         );
         top = like_both (g.layer a) (g.layer a2) (g.layer a3) (like_both (g.layer a) (g.layer a1) (g.layer a2) f.keeps_layer_state fill.top.keeps_layer_state) empty.keeps_layer_state;
         mutating_call = went_both g (HadNoResourceError result) a a2 a3 (went_both g ⊤ a a1 a2 f.mutating_call (went_looked g ⊤ a1 a2 fill.top)) empty.mutating_call;

@@ -1,9 +1,9 @@
 -- Consecutive reads and lookups, in one layer and in a chain.
 use Rattle.std.proofs.Common.{◌≡◌, refl, ℕ, List, [], ◌∷◌, arith, ◌∙◌, ap, subst, inl, inr}
-use Rattle.std.specs.Prelude.{⊤, map, ◌⊎◌}
+use Rattle.std.specs.Prelude.{⊤, drop, map, ◌⊎◌}
 use Rattle.imago_storage.specs.Calls.{IsFaultless}
 use Rattle.imago_access.specs.Layer.{Layer}
-use Rattle.imago_access.specs.Chain.{at, Each, KeepLayerStates}
+use Rattle.imago_access.specs.Chain.{at, Each, OfFirst, KeepLayerStates}
 use Rattle.imago_access.specs.Files.{Pairs, UnchangedButMoreFaults, IsLater, files_of, files}
 use Rattle.imago_access.specs.Going.{LookupCall, LookupCallBelow, IsKnownUnder}
 use Rattle.imago_access.specs.Refusals.{SomeFailed}
@@ -134,11 +134,11 @@ module _ {D St : Type 0} (g : Ghosts D St) where
   chain_sees whole [] (y ∷ ys) good see h = absurd h
   chain_sees whole (x ∷ xs) [] good see h = absurd h
 
-  pub chain_safe : (whole : Type 0) (xs ys : List D) → whole → Each g.well_formed xs → Pairs (LookupCall g whole) xs ys → Each g.well_formed ys
-  chain_safe whole [] [] good sound_all h = tt
-  chain_safe whole (x ∷ xs) (y ∷ ys) good sound_all h = (h.0.safely good sound_all.0, chain_safe whole xs ys good sound_all.1 h.1)
-  chain_safe whole [] (y ∷ ys) good sound_all h = absurd h
-  chain_safe whole (x ∷ xs) [] good sound_all h = absurd h
+  pub chain_safe : (whole : Type 0) (xs ys : List D) → whole → OfFirst g.well_formed xs → Pairs (LookupCall g whole) xs ys → OfFirst g.well_formed ys
+  chain_safe whole [] [] good sound_first h = tt
+  chain_safe whole (x ∷ xs) (y ∷ ys) good sound_first h = h.0.safely good sound_first
+  chain_safe whole [] (y ∷ ys) good sound_first h = absurd h
+  chain_safe whole (x ∷ xs) [] good sound_first h = absurd h
 
   pub chain_lasts : (whole : Type 0) (xs ys : List D) → Each g.stable xs → Pairs (LookupCall g whole) xs ys → Each g.stable ys
   chain_lasts whole [] [] l h = tt
@@ -166,12 +166,19 @@ module _ {D St : Type 0} (g : Ghosts D St) where
             let one = top.seen see.0 in
             let two = rest.seen see.1 in
             (rw (one.0, two.0) refl, (one.1, two.1));
-        safely = λ s. (top.safely s.0, rest.safely s.1);
+        safely = λ s. top.safely s;
       })
     ]
   ]
   chain_cut whole [] (y ∷ ys) h = absurd h
   chain_cut whole (x ∷ xs) [] h = absurd h
+
+  -- The layers below the highest one.
+  pub chain_deeper : (whole : Type 0) (xs ys : List D) → Each g.has_no_dirty_data (drop 1 xs) → Pairs (LookupCall g whole) xs ys → Pairs UnchangedButMoreFaults (files_of g (drop 1 xs)) (files_of g (drop 1 ys)) × Each g.has_no_dirty_data (drop 1 ys)
+  chain_deeper whole [] [] clean h = (tt, tt)
+  chain_deeper whole (x ∷ xs) (y ∷ ys) clean h = chain_kept whole xs ys clean h.1
+  chain_deeper whole [] (y ∷ ys) clean h = absurd h
+  chain_deeper whole (x ∷ xs) [] clean h = absurd h
 
 -- The layers below, through a function to another type.
 abbrev pub seen_by : {B C : Type 0} → (B → C) → GhostsBelow C → GhostsBelow B
@@ -181,6 +188,8 @@ seen_by f u = record {
   coherent_below = λ b. u.coherent_below (f b);
   well_formed_below = λ b. u.well_formed_below (f b);
   have_no_dirty_data_below = λ b. u.have_no_dirty_data_below (f b);
+  deeper_files = λ b. u.deeper_files (f b);
+  deeper_have_no_dirty_data = λ b. u.deeper_have_no_dirty_data (f b);
   stable_below = λ b. u.stable_below (f b);
 }
 
@@ -196,6 +205,7 @@ module _ {B : Type 0} (u : GhostsBelow B) where
     cut = inr (record { seen = λ see. (refl, see); safely = λ s. s });
     stays_stable = λ l. l;
     unchanged_but_faults = λ s. (kept_all_same (u.files_of_layers_below b), s);
+    deeper = λ s. (kept_all_same (u.deeper_files b), s);
   }
 
   pub looked_under_weaker : (whole whole' : Type 0) (a b : B) → (whole' → whole) → LookupCallBelow u whole a b → LookupCallBelow u whole' a b
@@ -208,6 +218,7 @@ module _ {B : Type 0} (u : GhostsBelow B) where
     cut = h.cut;
     stays_stable = h.stays_stable;
     unchanged_but_faults = h.unchanged_but_faults;
+    deeper = h.deeper;
   }
 
   pub looked_under_both : (whole : Type 0) (a b c : B) → LookupCallBelow u ⊤ a b → LookupCallBelow u whole b c → LookupCallBelow u whole a c
@@ -235,4 +246,8 @@ module _ {B : Type 0} (u : GhostsBelow B) where
         let one = first.unchanged_but_faults s in
         let two = second.unchanged_but_faults one.1 in
         (kept_all_both (u.files_of_layers_below a) (u.files_of_layers_below b) (u.files_of_layers_below c) one.0 two.0, two.1);
+    deeper = λ s.
+        let one = first.deeper s in
+        let two = second.deeper one.1 in
+        (kept_all_both (u.deeper_files a) (u.deeper_files b) (u.deeper_files c) one.0 two.0, two.1);
   }

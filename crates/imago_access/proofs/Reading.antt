@@ -15,7 +15,7 @@ use Rattle.imago_access.specs.Layers.{chain}
 use Rattle.imago_access.specs.Going.{LookupCall, LookupCallBelow}
 use Rattle.imago_access.specs.Refusals.{ReadCause}
 use Rattle.imago_access.specs.Running.{below_ghosts}
-use Rattle.imago_access.proofs.Looking.{seen_by, chain_cut, chain_like, chain_later, chain_faults, chain_kept, chain_same, chain_sees, chain_safe, chain_lasts}
+use Rattle.imago_access.proofs.Looking.{seen_by, chain_cut, chain_like, chain_later, chain_faults, chain_kept, chain_deeper, chain_same, chain_sees, chain_safe, chain_lasts}
 use Rattle.imago_access.proofs.ReadCauses.{part_overflows, read_cause_part}
 use Rattle.imago_access.proofs.Units.{likes_unit, unit_aligned, overflows_late}
 use Rattle.imago_access.specs.declared.driver_model.DriverModel.{Ghosts}
@@ -130,6 +130,7 @@ module _ {D St B : Type 0} (view : B → List D) (g : Ghosts D St) where
     cut = elim (chain_cut g whole (view x) (view y) looked) [ inl failed ↦ inl failed | inr known ↦ inr (record { seen = known.seen; safely = known.safely }) ];
     stays_stable = λ l. chain_lasts g whole (view x) (view y) l looked;
     unchanged_but_faults = λ guest_unchanged. chain_kept g whole (view x) (view y) guest_unchanged looked;
+    deeper = λ clean. chain_deeper g whole (view x) (view y) clean looked;
   }
 
 pub read_near : {T : Type 0} (r : Result T Fault) (layers : List Layer) (value : ℕ → Value) (unit offset n : ℕ) (olds news : List StorageState) → IsAlignment unit → offset + n ≤ 2 ^ 63 + 2 ^ 22

@@ -185,7 +185,7 @@ module _ {D St B C : Type 0} (f : B → C) (g : Ghosts D St) (u : GhostsBelow C)
   ran_seen whole gives a b x y h = record {
     size = h.size;
     mutating_call = h.mutating_call;
-    lookup_call = record { keeps_layer_state = h.lookup_call.keeps_layer_state; counts_not_fallen = h.lookup_call.counts_not_fallen; faults = h.lookup_call.faults; stays = h.lookup_call.stays; safely = h.lookup_call.safely; cut = elim h.lookup_call.cut [ inl failed ↦ inl failed | inr known ↦ inr (record { seen = known.seen; safely = known.safely }) ]; stays_stable = h.lookup_call.stays_stable; unchanged_but_faults = h.lookup_call.unchanged_but_faults };
+    lookup_call = record { keeps_layer_state = h.lookup_call.keeps_layer_state; counts_not_fallen = h.lookup_call.counts_not_fallen; faults = h.lookup_call.faults; stays = h.lookup_call.stays; safely = h.lookup_call.safely; cut = elim h.lookup_call.cut [ inl failed ↦ inl failed | inr known ↦ inr (record { seen = known.seen; safely = known.safely }) ]; stays_stable = h.lookup_call.stays_stable; unchanged_but_faults = h.lookup_call.unchanged_but_faults; deeper = h.lookup_call.deeper };
     intact = λ w i. intact_seen b y (h.intact w (intact_by a x i));
     values = λ w i. h.values w (intact_by a x i);
     crash_images = λ i. h.crash_images (intact_by a x i);

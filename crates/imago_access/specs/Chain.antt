@@ -39,6 +39,11 @@ abbrev pub Each : {D : Type 0} → (D → Type 0) → List D → Type 0
 Each P [] = ⊤
 Each P (d ∷ ds) = P d × Each P ds
 
+-- The first driver of a list that isn't empty has P.
+abbrev pub OfFirst : {D : Type 0} → (D → Type 0) → List D → Type 0
+OfFirst P [] = ⊤
+OfFirst P (d ∷ ds) = P d
+
 -- A call that goes through the layers from the top down has ended at one layer. Each layer above has P. Q holds of the old and new state of
 -- the layer where the call ended. The layers below are unchanged.
 abbrev pub EndsAt : {D : Type 0} → (D → Type 0) → (D → D → Type 0) → List D → List D → Type 0

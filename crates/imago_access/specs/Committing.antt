@@ -1,7 +1,8 @@
 -- Specifies `commit_down`: the data of the top image goes to the layer below it (its backing file), and the top is emptied. The layer below
 -- the top is called the next layer here.
-use Rattle.std.specs.Prelude.{◌≡◌, ◌⊎◌, ⊤, ℕ, ◌+◌, ◌<◌, ◌≤◌, not, ◌||◌, Bool, true, false, List, [], ◌∷◌, length, map, slice_index, Option, Some, None, if◌then◌else◌, ltb, Result, Err, OnOk, IfOk, IfErr, IsTrue}
+use Rattle.std.specs.Prelude.{◌≡◌, ◌⊎◌, ⊤, ℕ, ◌+◌, ◌<◌, ◌≤◌, not, ◌||◌, Bool, true, false, List, [], ◌∷◌, drop, length, map, slice_index, Option, Some, None, if◌then◌else◌, ltb, Result, Err, OnOk, IfOk, IfErr, IsTrue}
 use Rattle.imago_storage.specs.Disk.{Value, byte, barred, damaged_place}
+use Rattle.imago_storage.specs.Calls.{IsFaultless}
 use Rattle.imago_storage.specs.Passing.{UnrefusedCrashImages}
 use Rattle.imago_storage.specs.Steps.{write, discard_to_backing}
 use Rattle.imago_storage.specs.Through.{Overflows}
@@ -13,13 +14,13 @@ use Rattle.imago_access.specs.Layers.{chain}
 use Rattle.imago_access.specs.Chain.{at, Each}
 use Rattle.imago_access.specs.ChainCalls.{ChainFails, ChainStays, OwnCause}
 use Rattle.imago_access.specs.Failing.{Fails}
-use Rattle.imago_access.specs.Files.{Pairs, UnchangedButMoreFaults, IsNotResourceError, HadNoResourceError, files}
+use Rattle.imago_access.specs.Files.{IsLater, Pairs, UnchangedButMoreFaults, IsNotResourceError, HadNoResourceError, files}
 use Rattle.imago_access.specs.Going.{IsMarkedFailed, LookupCall, MutatingCall}
 use Rattle.imago_access.specs.Mappings.{EachIs}
 use Rattle.imago_access.specs.Refusals.{unusable_fault}
 use Rattle.imago_access.specs.Room.{IsGivenUp, IsUndeclined}
 use Rattle.imago_access.specs.Running.{IsIntactChain, ChainRangeChange}
-use Rattle.imago_access.specs.Stops.{Left, KeepsCrashImages, MakesNone, GivesNone, GivesBelow, IsWritten, IsCounted, shown}
+use Rattle.imago_access.specs.Stops.{Left, KeepsCrashImages, MakesNone, GivesNone, GivesBelow, IsMeant, IsWritten, IsCounted, shown}
 
 -- If there is a next layer, P holds of it and the layers below it. `NextPair` relates the next layers before and after a call.
 abbrev pub OfNext : {D : Type 0} → (D × List D → Type 0) → List D → Type 0
@@ -182,9 +183,26 @@ pub record IsPairAbove {D St : Type 0} (g : Ghosts D St) (old mid : D × List D)
   pub shows : (p : ℕ) → p < (g.layer old.0).size
       → shown (map g.layer mid.1) (g.layer old.0).fixed.means f p ≡ at (map g.layer (chain old)) p
 
+-- The first flush of a commit has succeeded: the top's file says what its disk was, and none of its requests failed.
+pub record IsFlushedFirst {D St : Type 0} (g : Ghosts D St) (old flushed : D) : Type 0 where
+  pub meant : IsMeant (g.layer old) (g.image flushed).bytes
+  pub faults : IsFaultless (g.image old) (g.image flushed)
+
+-- The next layer has all data of the top: the top is the same, and so are the layers from the third on.
+pub record IsFilled {D St : Type 0} (g : Ghosts D St) (old mid : D × List D) : Type 0 where
+  pub same : g.layer mid.0 ≡ g.layer old.0
+  pub deeper : map g.layer (drop 1 mid.1) ≡ map g.layer (drop 1 old.1)
+
+-- The order of a commit, also of one that ends with a resource error. The layers below are unchanged unless the first flush has succeeded.
+-- The top's file gets no request that changes it after `mid` unless the next layer has all data of the top.
+pub record CommitOrder {D St : Type 0} (g : Ghosts D St) (old new : D × List D) (flushed : D) (mid : D × List D) : Type 0 where
+  pub fills : IsFlushedFirst g old.0 flushed ⊎ (mid.1 ≡ old.1)
+  pub empties : (IsFlushedFirst g old.0 flushed × IsFilled g old mid) ⊎ MakesNone (g.image mid.0) (g.image new.0)
+  pub keeps_layer_state : NextPair (λ n m. KeepsLayerState (g.layer n.0) (g.layer m.0)) old.1 mid.1
+
 -- The pairs of files that a crash may leave. First the top is flushed. From then on to `mid` its files are unchanged, and each crash image
 -- of the next layer's file is good below them. From `mid` on the layers below are unchanged, the next layer's file says what its disk is,
--- and each crash image of the top's file is good above it. Or the call ended at `mid`.
+-- and each crash image of the top's file is good above it. Or the call ended at `mid`. The counts of the top's file don't fall.
 pub record CommitMoments {D St : Type 0} (g : Ghosts D St) (old new : D × List D) (flushed : D) (mid : D × List D) : Type 0 where
   pub flush : KeepsCrashImages g (map g.layer old.1) GivesNone old.0 flushed
   pub top_kept : Pairs UnchangedButMoreFaults (files g flushed) (files g mid.0)
@@ -192,6 +210,16 @@ pub record CommitMoments {D St : Type 0} (g : Ghosts D St) (old new : D × List 
   pub below_kept : new.1 ≡ mid.1
   pub settled : OfNext (λ n. IsSettled g n.0) mid.1 ⊎ MakesNone (g.image mid.0) (g.image new.0)
   pub top : UnrefusedCrashImages (IsPairAbove g old mid) (g.image mid.0) (g.image new.0)
+  pub counts_before : IsLater (g.image old.0) (g.image flushed)
+  pub counts_after : IsLater (g.image mid.0) (g.image new.0)
+  pub order : CommitOrder g old new flushed mid
+
+-- A commit that wasn't refused early and had no resource error began with a flush of the top: the top's file says what its disk was. At
+-- `mid` the top is still the same, and the chain reads as the disk did.
+pub record FlushesFirst {D St : Type 0} (g : Ghosts D St) (old : D × List D) (flushed : D) (mid : D × List D) : Type 0 where
+  pub meant : IsMeant (g.layer old.0) (g.image flushed).bytes
+  pub same : g.layer mid.0 ≡ g.layer old.0
+  pub reads : (p : ℕ) → p < (g.layer old.0).size → at (map g.layer (chain mid)) p ≡ at (map g.layer (chain old)) p
 
 -- The effect of `commit_down`.
 pub record CommitsDown {D St : Type 0} (g : Ghosts D St) (result : Result Unit Fault) (old new : D × List D) : Type 0 where
@@ -199,6 +227,7 @@ pub record CommitsDown {D St : Type 0} (g : Ghosts D St) (result : Result Unit F
   pub below : IsCommittable g old → OnOk result (BelowTakesDisk g old new)
   pub moments : IsCommittable g old
       → (flushed : D) × (mid : D × List D) × CommitMoments g old new flushed mid × OnOk result (Vacates g mid new.0)
+      × (commit_down_refusal (g.layer old.0) (map g.layer old.1) ≡ None → HadNoResourceError result → FlushesFirst g old flushed mid)
   pub top : KeepsLayerState (g.layer old.0) (g.layer new.0)
   pub mutating_call : MutatingCall g (HadNoResourceError result) (HadNoResourceError result) old.0 new.0
   pub next : NextPair (ChainRangeChange g (HadNoResourceError result) (GivesOwn g old.0)) old.1 new.1

@@ -143,3 +143,5 @@ pub record LookupCallBelow {B : Type 0} (u : GhostsBelow B) (whole : Type 0) (ol
   pub cut : SomeFailed (u.layers_below new) ⊎ IsKnownUnder u old new
   pub stays_stable : u.stable_below old → u.stable_below new
   pub unchanged_but_faults : u.have_no_dirty_data_below old → Pairs UnchangedButMoreFaults (u.files_of_layers_below old) (u.files_of_layers_below new) × u.have_no_dirty_data_below new
+  pub deeper : u.deeper_have_no_dirty_data old
+      → Pairs UnchangedButMoreFaults (u.deeper_files old) (u.deeper_files new) × u.deeper_have_no_dirty_data new

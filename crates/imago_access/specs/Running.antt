@@ -1,11 +1,11 @@
 -- The invariant of a chain of images (it is well-formed), and the effect of a call that changes a range run by run. `RangeChange` holds of
 -- one run, and also of consecutive runs together.
-use Rattle.std.specs.Prelude.{◌≡◌, ◌⊎◌, ⊤, ℕ, ◌<◌, [], ◌∷◌, Some, None, List, map}
+use Rattle.std.specs.Prelude.{◌≡◌, ◌⊎◌, ⊤, ℕ, ◌<◌, [], ◌∷◌, Some, None, List, drop, map}
 use Rattle.imago_access.specs.declared.driver_model.DriverModel.{Ghosts}
 use Rattle.imago_access.specs.declared.driver_model.LayersBelowModel.{Ghosts as GhostsBelow}
 use Rattle.imago_storage.specs.Disk.{Value, Disk}
 use Rattle.imago_access.specs.Layer.{Layer, Held, loose, beside, inside}
-use Rattle.imago_access.specs.Chain.{at, disk_of, Each, IsBacked}
+use Rattle.imago_access.specs.Chain.{at, disk_of, Each, OfFirst, IsBacked}
 use Rattle.imago_access.specs.Changes.{IsCopied}
 use Rattle.imago_access.specs.Files.{files_of}
 use Rattle.imago_access.specs.Going.{MutatingCall, LookupCallBelow}
@@ -28,8 +28,10 @@ below_ghosts g = record {
   layers_below = map g.layer;
   files_of_layers_below = files_of g;
   coherent_below = Each g.coherent;
-  well_formed_below = Each g.well_formed;
+  well_formed_below = OfFirst g.well_formed;
   have_no_dirty_data_below = Each g.has_no_dirty_data;
+  deeper_files = λ ds. files_of g (drop 1 ds);
+  deeper_have_no_dirty_data = λ ds. Each g.has_no_dirty_data (drop 1 ds);
   stable_below = Each g.stable;
 }
 
@@ -41,6 +43,8 @@ alone_ghosts = record {
   coherent_below = λ x. ⊤;
   well_formed_below = λ x. ⊤;
   have_no_dirty_data_below = λ x. ⊤;
+  deeper_files = λ x. [];
+  deeper_have_no_dirty_data = λ x. ⊤;
   stable_below = λ x. ⊤;
 }
 

@@ -53,6 +53,10 @@ impl LayersBelowModel for NoBelow {
 
     ghost have_no_dirty_data_below = { λ _. ⊤ };
 
+    ghost deeper_files = { λ _. [] };
+
+    ghost deeper_have_no_dirty_data = { λ _. ⊤ };
+
     ghost stable_below = { λ _. ⊤ };
 }
 

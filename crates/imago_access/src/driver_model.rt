@@ -85,11 +85,17 @@ pub trait LayersBelowModel {
     /// The metadata in memory agrees with the files of each layer.
     ghost coherent_below: { Self → Type 0 };
 
-    /// Each layer's driver is well-formed.
+    /// The driver of the highest of these layers, if any, is well-formed.
     ghost well_formed_below: { Self → Type 0 };
 
     /// Nothing in memory is dirty, so lookups change no file.
     ghost have_no_dirty_data_below: { Self → Type 0 };
+
+    /// The states of the storages of the layers below the highest one.
+    ghost deeper_files: { Self → List StorageState };
+
+    /// Nothing in memory is dirty in the layers below the highest one.
+    ghost deeper_have_no_dirty_data: { Self → Type 0 };
 
     /// A property that every call preserves.
     ghost stable_below: { Self → Type 0 };

@@ -1,9 +1,9 @@
 // Reads of the disk, from the top layer downward. A byte that a layer has no data for comes from the layer below it (its backing file).
-ghost use Rattle.std.specs.Prelude.{◌≡◌, ◌∷◌, ◌<◌, ◌≤◌, length, map, IsOk, IfOk, IfErr, OnOk, IsErrOf, Some, None};
+ghost use Rattle.std.specs.Prelude.{◌≡◌, ◌∷◌, ◌<◌, ◌≤◌, drop, length, map, IsOk, IfOk, IfErr, OnOk, IsErrOf, Some, None};
 ghost use Rattle.imago_storage.specs.Disk.{Shows};
 ghost use Rattle.imago_storage.specs.Through.{Overflows};
 ghost use Rattle.imago_storage.specs.declared.fault.Fault.{Fault};
-ghost use Rattle.imago_access.specs.Chain.{at, Each, unit_of_chain};
+ghost use Rattle.imago_access.specs.Chain.{at, Each, OfFirst, unit_of_chain};
 ghost use Rattle.imago_access.specs.Layers.{chain, layers};
 ghost use Rattle.imago_access.specs.Files.{Pairs, HadNoResourceError, ImageCause, files_of};
 ghost use Rattle.imago_access.specs.Going.{LookupCall, MarksSomeFailed};
@@ -174,9 +174,13 @@ impl<D: FormatDriverInstance> LayersBelowModel for Option<Box<FormatAccess<D>>> 
 
     ghost coherent_below = { λ b. Each D.coherent (layers b) };
 
-    ghost well_formed_below = { λ b. Each D.well_formed (layers b) };
+    ghost well_formed_below = { λ b. OfFirst D.well_formed (layers b) };
 
     ghost have_no_dirty_data_below = { λ b. Each D.has_no_dirty_data (layers b) };
+
+    ghost deeper_files = { λ b. files_of D.DriverModel (drop 1 (layers b)) };
+
+    ghost deeper_have_no_dirty_data = { λ b. Each D.has_no_dirty_data (drop 1 (layers b)) };
 
     ghost stable_below = { λ b. Each D.stable (layers b) };
 }

@@ -10,10 +10,10 @@ use Rattle.imago_access.proofs.CommitEnds.{commit_allowed, commits_same, no_next
 use Rattle.imago_access.proofs.access.FormatAccess.commit_down.Goals as goal
 
 pub returns-in_err-check_commit_down-clause-does : goal.returns-in_err-check_commit_down-clause-does
-returns-in_err-check_commit_down-clause-does g c = rw (handed_on _ _ c.from_residual.ensures.1) (commits_same g.D.DriverModel c.in_err-check_commit_down.field-0.0 c.args.self.now)
+returns-in_err-check_commit_down-clause-does g c = rw (handed_on _ _ c.from_residual.ensures.1) (commits_same g.D.DriverModel c.in_err-check_commit_down.field-0.0 c.args.self.now (λ none whole. cc (none, c.in_err-check_commit_down.ensures.err)))
 
 pub returns-in-Err-clause-does : goal.returns-in-Err-clause-does
-returns-in-Err-clause-does g c = commits_same g.D.DriverModel Memory c.args.self.now
+returns-in-Err-clause-does g c = commits_same g.D.DriverModel Memory c.args.self.now (λ none whole. whole)
 
 pub returns-in-None-clause-does : goal.returns-in-None-clause-does
 returns-in-None-clause-does g c = let d = g.D.DriverModel in let now = c.args.self.now in
