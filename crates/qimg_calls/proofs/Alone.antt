@@ -13,7 +13,7 @@ use Rattle.qimg_calls.specs.Calls.{Fits, is_of_mapping, is_out_of_place}
 use Rattle.qimg_calls.specs.Since.{Since}
 use Rattle.qimg_calls.specs.Held.{ChainWithMapping, chain_with_mapping, IsReady}
 use Rattle.qimg_calls.specs.Making.{CallOutcome, Answers, AnswersAll, AnswersAlone, CancelsKept, MadeAll}
-use Rattle.qimg_calls.specs.Runs.{CutShort, Driven, HoldsSince}
+use Rattle.qimg_calls.specs.Runs.{CutShort, Driven, HoldsSince, MayCommit}
 use Rattle.qimg_calls.proofs.Driven.{driven-made}
 use Rattle.qimg_calls.proofs.Lists.{either-cases}
 
@@ -53,9 +53,9 @@ module _ {D St : Type 0} (g : Ghosts D St) where
 
   -- The effect of such a list on a chain.
   pub driven-alone : (well_formed_is_coherent : (d : D) → g.well_formed d → g.coherent d) (well_formed_is_sound : (d : D) → g.well_formed d → IsCovered (g.layer d) g.sound (g.image d).bytes)
-      (list : List Call) (answers : List Answer) (old new : D × List D) (since : Since) → AnswersAlone g list answers old new → IsFree (g.layer old.0) → IsReady g old → HoldsSince g since old
+      (list : List Call) (answers : List Answer) (old new : D × List D) (since : Since) → AnswersAlone g list answers old new → IsFree (g.layer old.0) → IsReady g old → MayCommit g list old → HoldsSince g since old
       → Driven g since list answers old new
-  driven-alone well_formed_is_coherent well_formed_is_sound list answers old new since all none ready stands = driven-made g well_formed_is_coherent well_formed_is_sound list answers old new since (chain_with_mapping new None, all, refl) none ready stands
+  driven-alone well_formed_is_coherent well_formed_is_sound list answers old new since all none ready may stands = driven-made g well_formed_is_coherent well_formed_is_sound list answers old new since (chain_with_mapping new None, all, refl) none ready may stands
 
   -- The answer fits the call.
   pub alone-fits : (call : Call) (answer : Answer) (old new : D × List D) → AnswersAlone g (call ∷ []) (answer ∷ []) old new → Fits call answer

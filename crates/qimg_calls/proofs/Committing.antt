@@ -1,6 +1,6 @@
 -- A commit or a cancel of the kept mapping.
 use Rattle.std.proofs.Common.{◌≡◌, ◌⊎◌, ◌<◌, ◌≤◌, List, ◌∷◌, arith, refl, sym, subst, ap, false}
-use Rattle.std.specs.Prelude.{Option, Some, None, Result, Ok, Err, map, ⊤}
+use Rattle.std.specs.Prelude.{Option, Some, None, Result, Ok, Err, drop, map, ⊤}
 use Rattle.imago_storage.specs.Steps.{Call}
 use Rattle.imago_storage.specs.declared.fault.Fault.{Fault}
 use Rattle.imago_access.specs.declared.driver_model.DriverModel.{Ghosts}
@@ -23,7 +23,7 @@ use Rattle.qimg_calls.specs.Held.{chain_with_mapping, MappingIsPrepared, IsReady
 use Rattle.qimg_calls.specs.Leading.{LeavesForNext}
 use Rattle.qimg_calls.specs.Making.{CallOutcome}
 use Rattle.qimg_calls.proofs.EarlyEnds.{top-stays-failed, value-of}
-use Rattle.qimg_calls.proofs.Leading.{ValuesBetween, fewer-stops, step-leads, usable-by}
+use Rattle.qimg_calls.proofs.Leading.{ValuesBetween, fewer-stops, stays-committable, step-leads, usable-by}
 use Rattle.qimg_calls.proofs.Moving.{layer-stays, top-failed}
 use Rattle.qimg_calls.proofs.Resizing.{stays-between}
 use Rattle.qimg_calls.proofs.Spending.{committed-between, held-gives, not-given-back, not-spending, not-spent, spent-free}
@@ -113,6 +113,8 @@ module _ {D St : Type 0} (g : Ghosts D St) (well_formed_is_usable : (d : D) → 
         faults = λ w ready. rw (same) (refl, refl);
         excess_refcount = λ w ready. cancels.excess_refcount kept.mine ready.intact.is_well_formed;
         layers_below = λ has_no_dirty_data. rw (below) (kept_all_same (files_of g old.1), has_no_dirty_data);
+        deeper = λ clean. rw (below) (kept_all_same (files_of g (drop 1 old.1)), clean);
+        committable = λ w ready i. stays-committable g old new (intact ready) (rw (below) refl) (rw (below) (kept_all_same (files_of g old.1))) (rw (below) (λ f. f)) i;
         below = λ w ready. rw (below) refl;
         ready = λ w ready.
             let now = intact ready in

@@ -1,6 +1,6 @@
 -- The effect of a list of calls on a chain, with the cancel of a mapping that is left at the end.
-use Rattle.std.proofs.Common.{◌≡◌, ℕ, List, refl, sym, subst, true, false}
-use Rattle.std.specs.Prelude.{Bool, Some, None, Option, map}
+use Rattle.std.proofs.Common.{◌≡◌, ℕ, zero, suc, List, [], ◌∷◌, refl, sym, subst, true, false}
+use Rattle.std.specs.Prelude.{Bool, IsFalse, Some, None, Option, map, take}
 use Rattle.imago_storage.specs.Disk.{Disk, Value}
 use Rattle.imago_storage.specs.State.{StorageState}
 use Rattle.imago_storage.specs.Calls.{IsFaultless}
@@ -16,13 +16,13 @@ use Rattle.qimg_calls.specs.declared.call.Call.{Call}
 use Rattle.qimg_calls.specs.declared.call.Call.TheVariants as calls
 use Rattle.qimg_calls.specs.declared.call.Answer.{Answer}
 use Rattle.qimg_calls.specs.declared.call.Answer.TheVariants as told
-use Rattle.qimg_calls.specs.Calls.{any_repair}
+use Rattle.qimg_calls.specs.Calls.{any_commit, any_commit_down, any_repair, commits_down}
 use Rattle.qimg_calls.specs.Since.{Since, IsSince}
 use Rattle.qimg_calls.specs.Held.{chain_with_mapping, MappingIsPrepared, IsReady, disk_call}
 use Rattle.qimg_calls.specs.Making.{CallOutcome, AnswersAll, CancelsKept, MadeAll}
-use Rattle.qimg_calls.specs.Runs.{reading_of, IfTelling, HoldsSince, Driven}
-use Rattle.qimg_calls.proofs.Lists.{WritesBackCached, going-all, going-both, going-made, going-same, ran-all, same-made}
-use Rattle.qimg_calls.proofs.SameChains.{same-chain-then}
+use Rattle.qimg_calls.specs.Runs.{reading_of, IfTelling, HoldsSince, MayCommit, Driven}
+use Rattle.qimg_calls.proofs.Lists.{WritesBackCached, goes-made, going-all, going-made, going-same, going-with, ran-all}
+use Rattle.qimg_calls.proofs.SameChains.{first-none, same-chain-then, second-none}
 use Rattle.qimg_calls.proofs.Stops.{reading, reading_as, same-disk}
 
 -- A cancel gives no byte a new value.
@@ -51,9 +51,9 @@ module _ {D St : Type 0} (g : Ghosts D St) (well_formed_is_coherent : (d : D) �
       (stood.0, subst (λ (ls : List Layer). IsSince (reading ls g.sound (g.layer new.0) bytes) bytes disk since) (sym (makes.leads.below tt ready)) two))
 
   pub driven-free : (list : List Call) (answers : List Answer) (old d : D × List D) (since : Since) → AnswersAll g list answers (chain_with_mapping old None) (chain_with_mapping d None) → MappingIsPrepared g (chain_with_mapping old None) → IsReady g old
-      → HoldsSince g since old → Driven g since list answers old d
-  driven-free list answers old d since all is_kept ready stands =
-      let ran = ran-all g well_formed_is_coherent well_formed_is_sound list answers (chain_with_mapping old None) (chain_with_mapping d None) since all is_kept ready stands in
+      → MayCommit g list old → HoldsSince g since old → Driven g since list answers old d
+  driven-free list answers old d since all is_kept ready may stands =
+      let ran = ran-all g well_formed_is_coherent well_formed_is_sound list answers (chain_with_mapping old None) (chain_with_mapping d None) since all is_kept ready may stands in
       record {
         last = ran.last;
         run = ran.run;
@@ -61,48 +61,56 @@ module _ {D St : Type 0} (g : Ghosts D St) (well_formed_is_coherent : (d : D) �
         counts_not_fallen = ran.counts_not_fallen;
         faults = ran.no_change_refused;
         same_chain = ran.same_chain;
+        committable = ran.committable;
         ready = λ every. (ran.ends every).1;
         stands = λ every. (ran.ends every).2;
       }
 
   driven-kept : (list : List Call) (answers : List Answer) (old d new : D × List D) (m : PreparedDataMapping St) (since : Since) → AnswersAll g list answers (chain_with_mapping old None) (chain_with_mapping d (Some m))
-      → CallOutcome g calls.Cancel told.Done (chain_with_mapping d (Some m)) (chain_with_mapping new None) → g.image new.0 ≡ g.image d.0 → MappingIsPrepared g (chain_with_mapping old None) → IsReady g old → HoldsSince g since old
+      → CallOutcome g calls.Cancel told.Done (chain_with_mapping d (Some m)) (chain_with_mapping new None) → g.image new.0 ≡ g.image d.0 → MappingIsPrepared g (chain_with_mapping old None) → IsReady g old → MayCommit g list old → HoldsSince g since old
       → Driven g since list answers old new
-  driven-kept list answers old d new m since all makes same is_kept ready stands =
-      let ran = ran-all g well_formed_is_coherent well_formed_is_sound list answers (chain_with_mapping old None) (chain_with_mapping d (Some m)) since all is_kept ready stands in
+  driven-kept list answers old d new m since all makes same is_kept ready may stands =
+      let ran = ran-all g well_formed_is_coherent well_formed_is_sound list answers (chain_with_mapping old None) (chain_with_mapping d (Some m)) since all is_kept ready may stands in
       record {
         last = ran.last;
         run = ran.run;
         ends = λ every. rw ((ran.ends every).0) (cancelled d new m makes (ran.ends every).1, same);
         counts_not_fallen = subst (IsLater (g.image ran.last.now.drivers.0)) (sym same) ran.counts_not_fallen;
         faults = λ every. subst (IsFaultless (g.image old.0)) (sym same) (ran.no_change_refused every);
-        same_chain = λ every. same-chain-then g (any_repair list answers) old d new (ran.same_chain every) (same-made g calls.Cancel told.Done (chain_with_mapping d (Some m)) (chain_with_mapping new None) makes (ran.ends every).1 tt);
+        same_chain = λ every. same-chain-then g (any_repair list answers) (any_commit list answers) old d new (ran.same_chain every) (goes-made g calls.Cancel told.Done (chain_with_mapping d (Some m)) (chain_with_mapping new None) makes (ran.ends every).1 (λ is. absurd (cc is)) tt).same_chain;
+        committable = λ every i. makes.leads.committable tt (ran.ends every).1 (ran.committable every i);
         ready = λ every. makes.leads.ready tt (ran.ends every).1;
         stands = λ every. stands-cancelled d new m ran.last.since makes same (ran.ends every).1 (ran.ends every).2;
       }
 
   -- The list's effect, whether or not a mapping is kept at the end.
   driven : (list : List Call) (answers : List Answer) (old d : D × List D) (kept : Option (PreparedDataMapping St)) (new : D × List D) (since : Since) → AnswersAll g list answers (chain_with_mapping old None) (chain_with_mapping d kept)
-      → CancelsKept g (chain_with_mapping d kept) new → MappingIsPrepared g (chain_with_mapping old None) → IsReady g old → HoldsSince g since old → Driven g since list answers old new
-  driven list answers old d None new since all same is_kept ready stands = rw (same) (driven-free list answers old d since all is_kept ready stands)
-  driven list answers old d (Some m) new since all up is_kept ready stands = driven-kept list answers old d new m since all up.0 up.1 is_kept ready stands
+      → CancelsKept g (chain_with_mapping d kept) new → MappingIsPrepared g (chain_with_mapping old None) → IsReady g old → MayCommit g list old → HoldsSince g since old → Driven g since list answers old new
+  driven list answers old d None new since all same is_kept ready may stands = rw (same) (driven-free list answers old d since all is_kept ready may stands)
+  driven list answers old d (Some m) new since all up is_kept ready may stands = driven-kept list answers old d new m since all up.0 up.1 is_kept ready may stands
 
   -- The list's effect, from the outcome of each call.
-  pub driven-made : (list : List Call) (answers : List Answer) (old new : D × List D) (since : Since) → MadeAll g list answers old new → IsFree (g.layer old.0) → IsReady g old → HoldsSince g since old
+  pub driven-made : (list : List Call) (answers : List Answer) (old new : D × List D) (since : Since) → MadeAll g list answers old new → IsFree (g.layer old.0) → IsReady g old → MayCommit g list old → HoldsSince g since old
       → Driven g since list answers old new
-  driven-made list answers old new since made none ready stands =
-      driven list answers old made.0.drivers made.0.kept_mapping new since made.1 made.2 (record { mine = tt; free = λ _. none }) ready stands
+  driven-made list answers old new since made none ready may stands =
+      driven list answers old made.0.drivers made.0.kept_mapping new since made.1 made.2 (record { mine = tt; free = λ _. none }) ready may stands
 
 -- The state after a cancel.
-pub given-up : {D St : Type 0} (g : Ghosts D St) (d : D × List D) (kept : Option (PreparedDataMapping St)) (new : D × List D) → CancelsKept g (chain_with_mapping d kept) new → WritesBackCached g (chain_with_mapping d kept) (chain_with_mapping new None)
-given-up g d None new same = rw (same) (going-same g (chain_with_mapping d None))
+pub given-up : {D St : Type 0} (g : Ghosts D St) (d : D × List D) (kept : Option (PreparedDataMapping St)) (new : D × List D) → CancelsKept g (chain_with_mapping d kept) new → WritesBackCached g false (chain_with_mapping d kept) (chain_with_mapping new None)
+given-up g d None new same = rw (same) (going-same g false (chain_with_mapping d None))
 given-up g d (Some m) new up = going-made g calls.Cancel told.Done (chain_with_mapping d (Some m)) (chain_with_mapping new None) up.0
 
 -- The properties that a list of calls preserves, with the cancel at its end.
-pub going-made-all : {D St : Type 0} (g : Ghosts D St) (list : List Call) (answers : List Answer) (old new : D × List D) → MadeAll g list answers old new → WritesBackCached g (chain_with_mapping old None) (chain_with_mapping new None)
+pub going-made-all : {D St : Type 0} (g : Ghosts D St) (list : List Call) (answers : List Answer) (old new : D × List D) → MadeAll g list answers old new → WritesBackCached g (any_commit_down list) (chain_with_mapping old None) (chain_with_mapping new None)
 going-made-all g list answers old new made = let last = made.0 in
-    going-both g (chain_with_mapping old None) last (chain_with_mapping new None) (going-all g list answers (chain_with_mapping old None) last made.1) (given-up g last.drivers last.kept_mapping new made.2)
+    going-with g (any_commit_down list) false (any_commit_down list) (chain_with_mapping old None) last (chain_with_mapping new None) (λ none. (none, refl)) (going-all g list answers (chain_with_mapping old None) last made.1) (given-up g last.drivers last.kept_mapping new made.2)
+
+-- The first calls of a list without a commit to the layer below are one, too.
+pub none-taken : (n : ℕ) (list : List Call) → IsFalse (any_commit_down list) → IsFalse (any_commit_down (take n list))
+none-taken zero list none = refl
+none-taken (suc n) [] none = refl
+none-taken (suc n) (call ∷ list) none = rw (first-none (commits_down call) (any_commit_down list) none) (none-taken n list (second-none (commits_down call) (any_commit_down list) none))
 
 -- If no mapping is kept, none is prepared.
-pub none-kept : {D St : Type 0} (g : Ghosts D St) (old new : D × List D) → IsFree (g.layer old.0) → WritesBackCached g (chain_with_mapping old None) (chain_with_mapping new None) → IsFree (g.layer new.0)
+pub none-kept : {D St : Type 0} {committed : Bool} (g : Ghosts D St) (old new : D × List D) → IsFree (g.layer old.0) → WritesBackCached g committed (chain_with_mapping old None) (chain_with_mapping new None) → IsFree (g.layer new.0)
 none-kept g old new none going = (going.kept (record { mine = tt; free = λ _. none })).free refl

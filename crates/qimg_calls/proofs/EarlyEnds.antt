@@ -19,7 +19,7 @@ value-of None some = absurd (cc some)
 value-of (Some a) some = (a, refl)
 
 -- Layers that keep their state stay failed.
-states-stay-failed : (olds news : List Layer) → KeepLayerStates olds news → StayFailed olds news
+pub states-stay-failed : (olds news : List Layer) → KeepLayerStates olds news → StayFailed olds news
 states-stay-failed [] [] like = tt
 states-stay-failed (old ∷ olds) (new ∷ news) like = (like.0.failed, states-stay-failed olds news like.1)
 states-stay-failed [] (new ∷ news) like = absurd like

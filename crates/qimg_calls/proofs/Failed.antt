@@ -69,6 +69,7 @@ module _ {D St : Type 0} (g : Ghosts D St) where
   failed-first (calls.PrepareDataMapping offset n overwrite) old failed placed none = rw failed refl
   failed-first (calls.EnsureDataMapping offset n overwrite) old failed placed none = rw failed refl
   failed-first (calls.WriteMapped guest place bytes) old failed placed none = absurd (cc placed)
+  failed-first calls.CommitDown old failed placed none = rw failed refl
   failed-first calls.CommitDataMapping old failed placed none = absurd (cc placed)
   failed-first calls.Cancel old failed placed none = absurd (cc placed)
   failed-first (calls.GetMapping offset n) old failed placed none = rw failed refl

@@ -1,6 +1,6 @@
 -- The state that calls of a chain leave to the next call, and their crash images.
-use Rattle.std.proofs.Common.{◌≡◌, ◌⊎◌, inl, inr, ℕ, ◌<◌, ◌≤◌, ◌+◌, ◌^◌, ◌∷◌, List, length, arith, sym, ap, subst, refl, false}
-use Rattle.std.specs.Prelude.{map, Option, Some, None, Result, Ok, Err, IsOk, IfErr}
+use Rattle.std.proofs.Common.{◌≡◌, ◌⊎◌, inl, inr, ℕ, ◌<◌, ◌≤◌, ◌+◌, ◌^◌, [], ◌∷◌, List, length, arith, sym, ap, subst, refl, false}
+use Rattle.std.specs.Prelude.{map, Option, Some, None, Result, Ok, Err, IsOk, IsTrue, IfErr}
 use Rattle.std.proofs.lemmas.List.{length-map}
 use Rattle.imago_storage.specs.Disk.{Value, Disk}
 use Rattle.imago_storage.specs.State.{StorageState}
@@ -13,15 +13,18 @@ use Rattle.imago_access.specs.ChainCalls.{ChainStays}
 use Rattle.imago_access.specs.Layer.{Layer, KeepsLayerState}
 use Rattle.imago_access.specs.Spending.{IsMine}
 use Rattle.imago_access.specs.Layers.{chain}
-use Rattle.imago_access.specs.Chain.{at, Each}
-use Rattle.imago_access.specs.Files.{Pairs, HadNoResourceError}
+use Rattle.imago_access.specs.Chain.{at, Each, OfFirst}
+use Rattle.imago_access.specs.Committing.{IsCommittable, OfNext}
+use Rattle.imago_access.specs.Files.{Pairs, HadNoResourceError, UnchangedButMoreFaults as IsKeptFile, files_of}
 use Rattle.imago_access.specs.Going.{LookupCall, LookupCallBelow, MutatingCall, KeepsExcessRefcounts}
 use Rattle.imago_access.specs.Parts.{PlainCause}
 use Rattle.imago_access.specs.Refusals.{unusable_fault}
 use Rattle.imago_access.specs.Running.{ChainRangeChange, IsBetween, IsIntactChain, below_ghosts, below_of, chain_disk}
-use Rattle.imago_access.specs.Stops.{Left, KeepsCrashImagesTo, GivesNone}
-use Rattle.imago_access.proofs.Looking.{chain_same, chain_sees, chain_kept}
+use Rattle.imago_access.specs.Stops.{IsWritten, Left, KeepsCrashImagesTo, GivesNone}
+use Rattle.imago_access.proofs.Looking.{chain_same, chain_sees, chain_safe, chain_kept, chain_deeper}
 use Rattle.imago_access.proofs.Stopping.{passes_weaker}
+use Rattle.qimg_calls.specs.Calls.{commits_down}
+use Rattle.qimg_calls.specs.CommittingDown.{MayBegin}
 use Rattle.qimg_calls.specs.Since.{Begun, least_size, most_size}
 use Rattle.qimg_calls.specs.Held.{MappingIsPrepared, IsReady, chain_with_mapping, state_of}
 use Rattle.qimg_calls.specs.Leading.{LeavesForNext, ShowsBetween}
@@ -68,6 +71,29 @@ fewer-stops g below least least' most most' gives more old new low high weaker s
     })
     stops
 
+module _ {D St : Type 0} (g : Ghosts D St) where
+  -- The next layer after a call that reads it: its chain is still well-formed, and its file says what its disk is.
+  next-committable : (olds news : List D) → map g.layer news ≡ map g.layer olds → Pairs IsKeptFile (files_of g olds) (files_of g news) → (OfFirst g.well_formed olds → OfFirst g.well_formed news) → Each g.coherent news
+      → OfNext (λ n. IsIntactChain g n × IsWritten g n.0) olds → OfNext (λ n. IsIntactChain g n × IsWritten g n.0) news
+  next-committable [] [] same kept first coherent next = tt
+  next-committable (x ∷ xs) (y ∷ ys) same kept first coherent next =
+      let layer : g.layer y ≡ g.layer x = cc same in
+      let rest : map g.layer ys ≡ map g.layer xs = cc same in (
+        record {
+          is_well_formed = first next.0.is_well_formed;
+          is_coherent = coherent.1;
+          backed = rw (layer, rest) next.0.backed;
+          held = rw (layer, rest) next.0.held;
+        },
+        rw (layer, kept.0.0.bytes) next.1,
+      )
+  next-committable [] (y ∷ ys) same kept first coherent next = absurd (cc same)
+  next-committable (x ∷ xs) [] same kept first coherent next = absurd (cc same)
+
+  pub stays-committable : (old new : D × List D) → IsIntactChain g new → map g.layer new.1 ≡ map g.layer old.1 → Pairs IsKeptFile (files_of g old.1) (files_of g new.1) → (OfFirst g.well_formed old.1 → OfFirst g.well_formed new.1)
+      → IsCommittable g old → IsCommittable g new
+  stays-committable old new intact same kept first i = record { chain = intact; next = next-committable old.1 new.1 same kept first intact.is_coherent i.next }
+
 module _ {D St : Type 0} (g : Ghosts D St) (old new : D × List D) (whole ok : Type 0) (call : Call) where
   -- A change of a range.
   pub ran-leads : (well_formed_is_usable : (d : D) → g.well_formed d → (g.layer d).failed ≡ false) (gives : ℕ → Value → Type 0) → ChainRangeChange g ok gives old new
@@ -83,6 +109,8 @@ module _ {D St : Type 0} (g : Ghosts D St) (old new : D × List D) (whole ok : T
         faults = λ w ready. (ran.mutating_call.faults (done w ready)).0;
         excess_refcount = λ w ready. ran.mutating_call.excess_refcount (done w ready, ready.intact.is_coherent) ready.intact.is_well_formed;
         layers_below = λ has_no_dirty_data. ran.lookup_call.unchanged_but_faults has_no_dirty_data;
+        deeper = λ clean. ran.lookup_call.deeper clean;
+        committable = λ w ready i. stays-committable g old new (ran.intact (done w ready) ready.intact) (same w ready) (ran.lookup_call.unchanged_but_faults ready.has_no_dirty_data).0 (λ f. ran.lookup_call.safely (done w ready) f) i;
         below = same;
         ready = λ w ready.
             let intact = ran.intact (done w ready) ready.intact in
@@ -103,20 +131,23 @@ module _ {D St : Type 0} (g : Ghosts D St) (old new : D × List D) (whole ok : T
   look-leads well_formed_is_coherent looked done low high =
       let top : whole → IsReady g old → g.layer new.0 ≡ g.layer old.0 = λ w ready. (looked.0.stays (done w) (well_formed_is_coherent old.0 ready.intact.is_well_formed)).0 in
       let same : whole → IsReady g old → map g.layer new.1 ≡ map g.layer old.1 = λ w ready. chain_same g ok old.1 new.1 (done w) ready.intact.is_coherent looked.1 in
+      let intact : whole → IsReady g old → IsIntactChain g new = λ w ready. record {
+        is_well_formed = looked.0.safely (done w) ready.intact.is_well_formed;
+        is_coherent = chain_sees g ok old.1 new.1 (done w) ready.intact.is_coherent looked.1;
+        backed = rw (top w ready) (rw (same w ready) ready.intact.backed);
+        held = rw (top w ready) (rw (same w ready) ready.intact.held);
+      } in
       record {
         fixed = looked.0.keeps_layer_state.fixed;
         counts_not_fallen = looked.0.counts_not_fallen.0;
         faults = λ w ready. (looked.0.faults (done w)).0;
         excess_refcount = λ w ready. looked.0.excess_refcount (done w) ready.intact.is_well_formed;
         layers_below = λ has_no_dirty_data. chain_kept g ok old.1 new.1 has_no_dirty_data looked.1;
+        deeper = λ clean. chain_deeper g ok old.1 new.1 clean looked.1;
+        committable = λ w ready i. stays-committable g old new (intact w ready) (same w ready) (chain_kept g ok old.1 new.1 ready.has_no_dirty_data looked.1).0 (λ f. chain_safe g ok old.1 new.1 (done w) f looked.1) i;
         below = same;
         ready = λ w ready. record {
-          intact = record {
-            is_well_formed = looked.0.safely (done w) ready.intact.is_well_formed;
-            is_coherent = chain_sees g ok old.1 new.1 (done w) ready.intact.is_coherent looked.1;
-            backed = rw (top w ready) (rw (same w ready) ready.intact.backed);
-            held = rw (top w ready) (rw (same w ready) ready.intact.held);
-          };
+          intact = intact w ready;
           usable = rw (top w ready) (rw (same w ready) ready.usable);
           has_no_dirty_data = (chain_kept g ok old.1 new.1 ready.has_no_dirty_data looked.1).1;
           layers_bounded = rw (same w ready) ready.layers_bounded;
@@ -143,6 +174,8 @@ module _ {D St : Type 0} (g : Ghosts D St) (old new : D × List D) (whole ok : T
         faults = λ w ready. (mutating_call.faults (done w ready)).0;
         excess_refcount = excess_refcount;
         layers_below = λ has_no_dirty_data. looked.unchanged_but_faults has_no_dirty_data;
+        deeper = λ clean. looked.deeper clean;
+        committable = λ w ready i. stays-committable g old new (intact w ready) (same w ready) (looked.unchanged_but_faults ready.has_no_dirty_data).0 (λ f. looked.safely (done w ready) f) i;
         below = same;
         ready = λ w ready.
             let now = intact w ready in
@@ -177,12 +210,13 @@ module _ {D St : Type 0} (g : Ghosts D St) where
       mine-on None mine = tt
       mine-on (Some s) mine = (rw (like.fixed) mine.0, rw (like.unspent) mine.1)
 
-  -- A ready chain meets the condition of each call.
-  pub ready-rests : (well_formed_is_coherent : (d : D) → g.well_formed d → g.coherent d) (call : CallMade) (c : D × List D) → IsReady g c → RestsOn g call c
-  ready-rests well_formed_is_coherent (calls.Read offset n) c ready = all-see well_formed_is_coherent c ready
-  ready-rests well_formed_is_coherent (calls.GetMapping offset n) c ready = (all-see well_formed_is_coherent c ready, fewer c ready)
-  ready-rests well_formed_is_coherent (calls.GetShallowMapping offset n) c ready = all-see well_formed_is_coherent c ready
-  ready-rests well_formed_is_coherent call c ready = ready.intact
+  -- A ready chain meets the condition of each call. A commit to the layer below has a further one.
+  pub ready-rests : (well_formed_is_coherent : (d : D) → g.well_formed d → g.coherent d) (call : CallMade) (c : D × List D) → IsReady g c → (IsTrue (commits_down call) → MayBegin g c) → RestsOn g call c
+  ready-rests well_formed_is_coherent (calls.Read offset n) c ready may = all-see well_formed_is_coherent c ready
+  ready-rests well_formed_is_coherent (calls.GetMapping offset n) c ready may = (all-see well_formed_is_coherent c ready, fewer c ready)
+  ready-rests well_formed_is_coherent (calls.GetShallowMapping offset n) c ready may = all-see well_formed_is_coherent c ready
+  ready-rests well_formed_is_coherent calls.CommitDown c ready may = may refl
+  ready-rests well_formed_is_coherent call c ready may = ready.intact
 
   -- A read or lookup leaves the disk unchanged.
   pub looked-stays : (old new : D × List D) (whole : Type 0) → whole → Pairs (LookupCall g whole) (chain old) (chain new) → Each g.coherent (chain old) → ChainStays g old new

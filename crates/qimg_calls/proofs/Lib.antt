@@ -3,6 +3,7 @@ mod EarlyEnds
 mod Leading
 mod Moving
 mod Repaired
+mod CommittedDown
 mod Resizing
 mod Spending
 mod Committing

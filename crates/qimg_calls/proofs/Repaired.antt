@@ -1,6 +1,6 @@
 -- A repair of leaks as a call of a list.
 use Rattle.std.proofs.Common.{◌≡◌, ℕ, ◌<◌, List, ◌∷◌, arith, refl, sym, ap, subst, inl, inr}
-use Rattle.std.specs.Prelude.{Bool, true, false, Some, Vec, Result, Ok, Err, IsSome, map}
+use Rattle.std.specs.Prelude.{Bool, true, false, Some, Vec, Result, Ok, Err, IsSome, drop, map}
 use Rattle.std.specs.Global.{Global}
 use Rattle.imago_storage.specs.State.{StorageState}
 use Rattle.imago_storage.specs.Steps.{flush, done}
@@ -11,7 +11,7 @@ use Rattle.imago_access.specs.Chain.{at}
 use Rattle.imago_access.specs.Files.{HadNoResourceError, IsNotResourceError, files, files_of}
 use Rattle.imago_access.specs.Going.{IsUnchanged}
 use Rattle.imago_access.specs.Layer.{Layer}
-use Rattle.imago_access.specs.Running.{below_of, chain_disk}
+use Rattle.imago_access.specs.Running.{IsIntactChain, below_of, chain_disk}
 use Rattle.imago_access.specs.Stops.{GivesNone}
 use Rattle.imago_access.proofs.FilePairs.{kept_all_same}
 use Rattle.qimg_calls.specs.declared.call.Call.TheVariants as calls
@@ -22,7 +22,7 @@ use Rattle.qimg_calls.specs.Making.{MakesAlone}
 use Rattle.qimg_calls.specs.Repairing.{RepairCause, RepairsLeaksOf, repair_refusal}
 use Rattle.qimg_calls.specs.Since.{Begun}
 use Rattle.qimg_calls.proofs.EarlyEnds.{top-stays-failed}
-use Rattle.qimg_calls.proofs.Leading.{fewer-stops}
+use Rattle.qimg_calls.proofs.Leading.{fewer-stops, stays-committable}
 use Rattle.qimg_calls.proofs.Moving.{layer-stays, top-failed}
 
 -- An error of a repair other than a resource error comes before anything is done.
@@ -37,20 +37,23 @@ module _ {D St : Type 0} (g : Ghosts D St) (old new : D × List D) (below : new.
       → LeavesForNext g (HadNoResourceError result) flush repaired old new
   repair-leads result repaired repairs excess =
       let top : HadNoResourceError result → IsReady g old → g.layer new.0 ≡ g.layer old.0 = λ w ready. repairs.same ready.intact.is_well_formed w in
+      let intact : HadNoResourceError result → IsReady g old → IsIntactChain g new = λ w ready. record {
+        is_well_formed = repairs.reloading_call.safely w ready.intact.is_well_formed;
+        is_coherent = rw (below) ready.intact.is_coherent;
+        backed = rw (top w ready, below) ready.intact.backed;
+        held = rw (top w ready, below) ready.intact.held;
+      } in
       record {
         fixed = repairs.reloading_call.fixed;
         counts_not_fallen = repairs.reloading_call.counts_not_fallen.0;
         faults = λ w ready. (repairs.reloading_call.faults w).0;
         excess_refcount = excess;
         layers_below = λ has_no_dirty_data. rw (below) (kept_all_same (files_of g old.1), has_no_dirty_data);
+        deeper = λ clean. rw (below) (kept_all_same (files_of g (drop 1 old.1)), clean);
+        committable = λ w ready i. stays-committable g old new (intact w ready) (rw (below) refl) (rw (below) (kept_all_same (files_of g old.1))) (rw (below) (λ f. f)) i;
         below = λ w ready. rw (below) refl;
         ready = λ w ready. record {
-          intact = record {
-            is_well_formed = repairs.reloading_call.safely w ready.intact.is_well_formed;
-            is_coherent = rw (below) ready.intact.is_coherent;
-            backed = rw (top w ready, below) ready.intact.backed;
-            held = rw (top w ready, below) ready.intact.held;
-          };
+          intact = intact w ready;
           usable = rw (top w ready, below) ready.usable;
           has_no_dirty_data = rw (below) ready.has_no_dirty_data;
           layers_bounded = rw (below) ready.layers_bounded;

@@ -145,25 +145,30 @@ module _ (below : List Layer) (sound : ℕ → List ℕ → Type 0) (entry : Lay
     ];
   }
 
--- The state after a flush with no mapping prepared.
-through-same : (below : List Layer) (layer : Layer) (bytes : List ℕ) (p : ℕ) → IsMeant layer bytes → p < layer.size → shown below layer.fixed.means bytes p ≡ at (layer ∷ below) p
+-- The file of a flushed image reads as its disk.
+pub through-same : (below : List Layer) (layer : Layer) (bytes : List ℕ) (p : ℕ) → IsMeant layer bytes → p < layer.size → shown below layer.fixed.means bytes p ≡ at (layer ∷ below) p
 through-same below layer bytes p meant inside =
     let one : ltb p (layer.fixed.means bytes).size ≡ true = grind (arith, nat_tests, meant.size) in
     let two : ltb p layer.size ≡ true = grind (arith, nat_tests) in
     rw one (rw two (ap (λ c. through c (at below p)) (meant.cell p inside)))
 
-pub since-flushed : (below : List Layer) (sound : ℕ → List ℕ → Type 0) (layer : Layer) (bytes : List ℕ) → IsMeant layer bytes → IsSince (reading below sound layer bytes) bytes (disk_of below layer) (flushed (disk_of below layer))
-since-flushed below sound layer bytes meant = record {
+-- The state after a flush whose file reads as the disk.
+pub since-read : (below : List Layer) (sound : ℕ → List ℕ → Type 0) (layer : Layer) (bytes : List ℕ) → layer.size ≤ (layer.fixed.means bytes).size → (IsTrue layer.fixed.exact → (layer.fixed.means bytes).size ≤ layer.size)
+    → ((p : ℕ) → p < layer.size → shown below layer.fixed.means bytes p ≡ at (layer ∷ below) p) → IsSince (reading below sound layer bytes) bytes (disk_of below layer) (flushed (disk_of below layer))
+since-read below sound layer bytes long short shows = record {
   smallest = omega arith;
   bounded = omega arith;
   file = record {
     backed = refl;
-    long = meant.size;
-    short = λ exact. omega (arith, meant.exactly exact);
-    shows = λ p inside known. inl (through-same below layer bytes p meant (known-size layer.fixed.exact layer.size layer.size p (omega arith) known));
+    long = long;
+    short = short;
+    shows = λ p inside known. inl (shows p (known-size layer.fixed.exact layer.size layer.size p (omega arith) known));
   };
   disk = λ p inside known. inl refl;
 }
+
+pub since-flushed : (below : List Layer) (sound : ℕ → List ℕ → Type 0) (layer : Layer) (bytes : List ℕ) → IsMeant layer bytes → IsSince (reading below sound layer bytes) bytes (disk_of below layer) (flushed (disk_of below layer))
+since-flushed below sound layer bytes meant = since-read below sound layer bytes meant.size (λ exact. omega (arith, meant.exactly exact)) (λ p inside. through-same below layer bytes p meant inside)
 
 -- A file that reads as it may, as the file of a chain with the same properties and the same layers below.
 pub reads-before : (sound : ℕ → List ℕ → Type 0) (below below' : List Layer) (x y : Fixed) (file file' : List ℕ) (since : Since) → below ≡ below' → x ≡ y

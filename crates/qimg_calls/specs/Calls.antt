@@ -1,7 +1,8 @@
 -- Specifies which answers a call of a list can have, and when it is allowed. A mapping is kept from its preparation to its commit or
 -- cancel.
-use Rattle.std.specs.Prelude.{⊤, Bool, false, true, not, ◌&&◌, ◌||◌, List, ◌∷◌, IsFalse, Option, Some, None}
+use Rattle.std.specs.Prelude.{⊤, Bool, false, true, not, ◌&&◌, ◌||◌, List, [], ◌∷◌, IsFalse, Option, Some, None}
 use Rattle.imago_storage.specs.declared.fault.Fault.{Fault}
+use Rattle.imago_storage.specs.declared.fault.Fault.TheVariants.{BadArgument, MissingBelow}
 use Rattle.imago_storage.specs.Steps.{Answer as DiskAnswer, done, bytes_read, run, found, prepared}
 use Rattle.imago_access.specs.Files.{IsNotResourceError}
 use Rattle.imago_access.specs.Kinds.{kind_of, deep_kind_of}
@@ -89,6 +90,26 @@ repairs call answer = false
 abbrev pub any_repair : List Call → List Answer → Bool
 any_repair (call ∷ calls) (answer ∷ answers) = repairs call answer || any_repair calls answers
 any_repair _ _ = false
+
+-- The call is a commit of the top's data to the layer below it. `any_commit_down` says that one of a list of calls is.
+abbrev pub commits_down : Call → Bool
+commits_down calls.CommitDown = true
+commits_down call = false
+
+abbrev pub any_commit_down : List Call → Bool
+any_commit_down [] = false
+any_commit_down (call ∷ calls) = commits_down call || any_commit_down calls
+
+-- The call is such a commit, and its answer doesn't show that it failed before it began. `any_commit` says that one of a list of calls is.
+abbrev pub commits : Call → Answer → Bool
+commits calls.CommitDown (told.Refused MissingBelow) = false
+commits calls.CommitDown (told.Refused BadArgument) = false
+commits calls.CommitDown answer = true
+commits call answer = false
+
+abbrev pub any_commit : List Call → List Answer → Bool
+any_commit (call ∷ calls) (answer ∷ answers) = commits call answer || any_commit calls answers
+any_commit _ _ = false
 
 -- If the call failed, `P` holds for its fault.
 abbrev pub IfRefused : Answer → (Fault → Type 0) → Type 0

@@ -39,8 +39,8 @@ pub record IsReady {D St : Type 0} (g : Ghosts D St) (c : D × List D) : Type 0 
   pub has_no_dirty_data : Each g.has_no_dirty_data c.1
   pub layers_bounded : length (map g.layer c.1) + 1 < 2 ^ 64
 
--- The call as a call of the disk. A repair of leaks is a flush. `prepared` says if the kept mapping has something to commit, and `own` if
--- it was prepared under this chain's number.
+-- The call as a call of the disk. A repair of leaks and a commit to the layer below are flushes. `prepared` says if the kept mapping has
+-- something to commit, and `own` if it was prepared under this chain's number.
 abbrev pub call_as : (prepared own : Bool) → Call → DiskCall
 call_as prepared own (calls.Read offset n) = read offset n
 call_as prepared own (calls.Write offset bytes) = write offset bytes.items
@@ -60,6 +60,7 @@ call_as prepared own calls.Sync = sync
 call_as prepared own (calls.ResizeGrow size mode) = grow size (fill_of mode)
 call_as prepared own (calls.ResizeShrink size) = shrink size
 call_as prepared own calls.RepairLeaks = flush
+call_as prepared own calls.CommitDown = flush
 
 abbrev pub disk_call : {D St : Type 0} → Ghosts D St → ChainWithMapping D St → Call → DiskCall
 disk_call g h = call_as (is_some (state_of h.kept_mapping)) (is_own g.tag (state_of h.kept_mapping) (g.layer h.drivers.0))

@@ -3,6 +3,7 @@ pub mod Since
 pub mod Calls
 pub mod Held
 pub mod Repairing
+pub mod CommittingDown
 pub mod Leading
 pub mod Moves
 pub mod RoomTaken

@@ -1,5 +1,5 @@
 -- Specifies one call of a list: its effect on a chain (an image and its backing files), and its errors. Earlier flushes don't matter here.
-use Rattle.std.specs.Prelude.{◌≡◌, List, [], ◌∷◌, is_some, IsFalse, IsSome, Option, Some, None, MatchOption, Result, Ok, Err}
+use Rattle.std.specs.Prelude.{◌≡◌, ◌⊎◌, List, [], ◌∷◌, is_some, IsFalse, IsSome, Option, Some, None, MatchOption, Result, Ok, Err}
 use Rattle.imago_storage.specs.declared.fault.Fault.{Fault}
 use Rattle.imago_storage.specs.declared.fault.Fault.TheVariants.{BadArgument}
 use Rattle.imago_access.specs.declared.driver_model.DriverModel.{Ghosts}
@@ -11,12 +11,18 @@ use Rattle.qimg_calls.specs.declared.call.Call.{Call}
 use Rattle.qimg_calls.specs.declared.call.Call.TheVariants as calls
 use Rattle.qimg_calls.specs.declared.call.Answer.{Answer}
 use Rattle.qimg_calls.specs.declared.call.Answer.TheVariants as told
-use Rattle.qimg_calls.specs.Calls.{Either, Fits, GoesOn, IfRefused, WasDone, is_of_mapping, is_out_of_place, repairs}
+use Rattle.qimg_calls.specs.Calls.{Either, Fits, GoesOn, IfRefused, WasDone, is_of_mapping, is_out_of_place}
 use Rattle.qimg_calls.specs.Held.{ChainWithMapping, chain_with_mapping, MappingIsPrepared, disk_call}
-use Rattle.qimg_calls.specs.Leading.{LeavesForNext}
+use Rattle.qimg_calls.specs.Leading.{CallLeaves}
 use Rattle.qimg_calls.specs.Marking.{MarksRefusedFailed, StaysFailed}
 use Rattle.qimg_calls.specs.Moves.{IsIdle, CallEffect, EndsEarly, RestsOn, refusal_at_once}
 use Rattle.qimg_calls.specs.RoomTaken.{LeavesRoomFor, SettlesUnits}
+
+-- The errors of a call on any chain. A commit to the layer below may also have an early error.
+abbrev pub CallFails : {D St : Type 0} → Ghosts D St → Call → ChainWithMapping D St → ChainWithMapping D St → Fault → Type 0
+CallFails g calls.CommitDown old new fault =
+    (refusal_at_once g calls.CommitDown old ≡ Some fault) ⊎ ChainFails g old.drivers new.drivers fault
+CallFails g call old new fault = ChainFails g old.drivers new.drivers fault
 
 -- The outcome of one call. If a cause is known before anything is done, the answer is that error. A call with nothing to do succeeds. Such a
 -- call makes no request and changes nothing. The call has its specified effect on the disk, allocates and deallocates within its limits,
@@ -34,9 +40,9 @@ pub record CallOutcome {D St : Type 0} (g : Ghosts D St) (call : Call) (answer :
       → SettlesUnits g call old.drivers.0 new.drivers.0
   pub marks_failed : IfRefused answer (MarksRefusedFailed g call old.drivers new.drivers)
   pub stays_failed : StaysFailed g old.drivers new.drivers
-  pub failed : IfRefused answer (ChainFails g old.drivers new.drivers)
+  pub failed : IfRefused answer (CallFails g call old new)
   pub cancels : call ≡ calls.Cancel → WasDone answer × (new.kept_mapping ≡ None)
-  pub leads : LeavesForNext g (GoesOn answer) (disk_call g old call) (repairs call answer) old.drivers new.drivers
+  pub leads : CallLeaves g call answer old new
   pub mapping_prepared : MappingIsPrepared g old → MappingIsPrepared g new
   pub same : IsFalse (is_of_mapping call) → new.kept_mapping ≡ old.kept_mapping
 

@@ -3,6 +3,7 @@ use Rattle.std.specs.Prelude.{⊤, false, List, [], ◌∷◌, map, IsTrue, if�
 use Rattle.imago_storage.specs.declared.fault.Fault.{Fault}
 use Rattle.imago_storage.specs.declared.fault.Fault.TheVariants.{BadArgument, Failed}
 use Rattle.imago_access.specs.declared.driver_model.DriverModel.{Ghosts}
+use Rattle.imago_access.specs.Committing.{MarksCommitFailed}
 use Rattle.imago_access.specs.Layer.{Layer}
 use Rattle.imago_access.specs.Going.{MarksFailed, MarksFailedOver, MarksSomeFailed}
 use Rattle.imago_access.specs.Layers.{chain}
@@ -29,6 +30,7 @@ MarksRefusedFailed g (calls.DiscardToBacking offset n) old new fault = DriverMar
 MarksRefusedFailed g calls.RepairLeaks old new fault = DriverMarksFailed g old.0 new.0 fault
 MarksRefusedFailed g (calls.PrepareDataMapping offset n overwrite) old new fault = MarksFailedOver g old.0 new.0 fault
 MarksRefusedFailed g (calls.ResizeGrow size mode) old new fault = MarksFailedOver g old.0 new.0 fault
+MarksRefusedFailed g calls.CommitDown old new fault = MarksCommitFailed g old new fault
 MarksRefusedFailed g calls.CommitDataMapping old new fault = IsSpending fault → IsTrue (g.layer new.0).failed
 MarksRefusedFailed g call old new fault = MarksFailed g old.0 new.0 fault
 

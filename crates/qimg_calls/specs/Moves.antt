@@ -25,6 +25,7 @@ use Rattle.qimg_calls.specs.declared.call.Call.TheVariants as calls
 use Rattle.qimg_calls.specs.declared.call.Answer.{Answer}
 use Rattle.qimg_calls.specs.declared.call.Answer.TheVariants as told
 use Rattle.qimg_calls.specs.Calls.{said}
+use Rattle.qimg_calls.specs.CommittingDown.{CommitCallCause, FillsNext, MayBegin, commit_call_refusal}
 use Rattle.qimg_calls.specs.Held.{ChainWithMapping, disk_call, state_of}
 use Rattle.qimg_calls.specs.Repairing.{ListsExcess, RepairCause, repair_refusal}
 
@@ -41,8 +42,8 @@ pub record NamesOneThere {D St : Type 0} (g : Ghosts D St) (offset asked : ℕ) 
 -- The storage locations in an answer. They are in storages that exist, have the bytes of the run, and are reported as writable if the run
 -- is. A shallow lookup only returns locations that the top layer has allocated. A zero is explicit exactly if the top layer itself maps the
 -- byte as 0. Reads, lookups, flush and sync leave the top unchanged. After a flush with no mapping prepared, the top's file describes the
--- disk without data from memory, and leaks exactly the excess refcounts (refcounts above the references). A sync writes nothing. An empty
--- range that is ensured has length 0, at the start of storage 0.
+-- disk without data from memory, and leaks exactly the excess refcounts (refcounts above the references). A sync writes nothing. After a
+-- commit the layers below read as the disk. An empty range that is ensured has length 0, at the start of storage 0.
 abbrev pub Names : {D St : Type 0} → Ghosts D St → Call → Answer → D × List D → D × List D → Type 0
 Names g (calls.Read offset n) answer old new = TopStays g old new
 Names g (calls.GetMapping offset asked) (told.Mapped mapping n) old new =
@@ -65,6 +66,7 @@ Names g calls.CommitDataMapping told.Done old new = KeepsWritableLocations (g.la
 Names g calls.Flush told.Done old new = TopStays g old new × (IsFree (g.layer old.0) → IsWritten g new.0 × IsCounted g new.0)
 Names g calls.RepairLeaks (told.Leaks pairs) old new =
     TopStays g old new × IsWritten g new.0 × IsCounted g new.0 × ListsExcess (g.excess_refcount old.0) pairs.items
+Names g calls.CommitDown told.Done old new = FillsNext g old new
 Names g calls.Sync told.Done old new = TopStays g old new × Pairs UnchangedButMoreFaults (files g old.0) (files g new.0)
 Names g call answer old new = ⊤
 
@@ -106,6 +108,7 @@ Refuses g calls.CommitDataMapping fault old new =
     ChainCause g (disk_call g old calls.CommitDataMapping) (λ _. ⊥) old.drivers new.drivers fault
 Refuses g calls.RepairLeaks fault old new =
     RepairCause (g.layer old.drivers.0) (files g old.drivers.0) (files g new.drivers.0) fault
+Refuses g calls.CommitDown fault old new = CommitCallCause g old.drivers new.drivers fault
 Refuses g calls.Cancel fault old new = ⊥
 Refuses g (calls.WriteMapped guest place bytes) fault old new = ChainMappedCause g guest place bytes.items old.drivers new.drivers fault
 Refuses g (calls.ResizeGrow size mode) fault old new = let below = map g.layer old.drivers.1 in
@@ -141,11 +144,13 @@ CallEffect g call (told.Refused fault) old new =
 CallEffect g call answer old new = Does g call answer old new × KeepsMapping g call answer old new
 
 -- The condition under which a call has its specified effect. A read or a lookup needs layers that have in memory what their files say, any
--- other call needs a well-formed chain.
+-- other call needs a well-formed chain. A commit that doesn't fail early also needs a well-formed next layer, whose
+-- file says what its disk is.
 abbrev pub RestsOn : {D St : Type 0} → Ghosts D St → Call → D × List D → Type 0
 RestsOn g (calls.Read offset n) c = Each g.coherent (chain c)
 RestsOn g (calls.GetMapping offset n) c = Each g.coherent (chain c) × (length (chain c) < 2 ^ 64)
 RestsOn g (calls.GetShallowMapping offset n) c = Each g.coherent (chain c)
+RestsOn g calls.CommitDown c = MayBegin g c
 RestsOn g call c = IsIntactChain g c
 
 -- The call has nothing to do: its range is empty, its size doesn't change the disk in its direction, or its mapping has no state.
@@ -187,6 +192,7 @@ refusal_at_once g (calls.EnsureDataMapping offset n overwrite) h = chain_refusal
 refusal_at_once g (calls.WriteMapped guest place bytes) h = chain_refusal g h.drivers guest (length bytes.items)
 refusal_at_once g calls.CommitDataMapping h = commit_refusal g (state_of h.kept_mapping) (g.layer h.drivers.0)
 refusal_at_once g calls.RepairLeaks h = repair_refusal (g.layer h.drivers.0)
+refusal_at_once g calls.CommitDown h = commit_call_refusal (g.layer h.drivers.0) (map g.layer h.drivers.1)
 refusal_at_once g calls.Cancel h = None
 refusal_at_once g (calls.ResizeGrow size mode) h = let top = g.layer h.drivers.0 in resize_refusal top (ltb top.size size)
 refusal_at_once g (calls.ResizeShrink size) h = let top = g.layer h.drivers.0 in resize_refusal top (ltb size top.size)

@@ -1,6 +1,6 @@
 -- Specifies `drive`, a list of calls on a chain (an image and its backing files). Each call reads or changes the guest disk. A crash image
 -- (the top's file after a crash between two requests) reads as flushed data, or as data of calls begun since the flush.
-use Rattle.std.specs.Prelude.{◌≡◌, ⊤, ℕ, ◌+◌, ◌<◌, ◌^◌, Bool, List, [], ◌∷◌, length, map, take, Some, None, MatchOption, is_some, IsSome, IsTrue}
+use Rattle.std.specs.Prelude.{◌≡◌, ⊤, ℕ, ◌+◌, ◌<◌, ◌^◌, Bool, List, [], ◌∷◌, length, map, drop, take, Some, None, MatchOption, if◌then◌else◌, is_some, IsFalse, IsSome, IsTrue}
 use Rattle.imago_storage.specs.Calls.{IsFaultless}
 use Rattle.imago_storage.specs.Passing.{UnrefusedCrashImages}
 use Rattle.imago_storage.specs.State.{StorageState}
@@ -9,12 +9,15 @@ use Rattle.imago_storage.specs.declared.fault.Fault.TheVariants.{BadArgument}
 use Rattle.imago_access.specs.declared.driver_model.DriverModel.{Ghosts}
 use Rattle.imago_access.specs.Files.{Pairs, UnchangedButMoreFaults as IsKeptFile, IsLater, files_of}
 use Rattle.imago_access.specs.ChainCalls.{AllUnchanged, ChainCancels, WontDecline}
+use Rattle.imago_access.specs.Committing.{IsCommittable}
+use Rattle.imago_access.specs.Layers.{chain}
 use Rattle.imago_access.specs.Running.{below_of, chain_disk}
 use Rattle.qimg_calls.specs.declared.call.Call.{Call}
 use Rattle.qimg_calls.specs.declared.call.Call.TheVariants as calls
 use Rattle.qimg_calls.specs.declared.call.Answer.{Answer}
 use Rattle.qimg_calls.specs.declared.call.Answer.TheVariants as told
-use Rattle.qimg_calls.specs.Calls.{Either, Fits, any_repair, is_out_of_place, GoesOn, IfRefused, repairs, WasDone}
+use Rattle.qimg_calls.specs.Calls.{Either, Fits, any_commit, any_commit_down, any_repair, commits_down, is_out_of_place, GoesOn, IfRefused, repairs, WasDone}
+use Rattle.qimg_calls.specs.CommittingDown.{CommitCourse, takes_commits}
 use Rattle.qimg_calls.specs.Since.{Since, Reading, begun, since_next, LeftSince, IsSince}
 use Rattle.qimg_calls.specs.Held.{ChainWithMapping, chain_with_mapping, MappingIsPrepared, IsReady, disk_call, state_of}
 use Rattle.qimg_calls.specs.Leading.{LeavesExcess}
@@ -31,10 +34,10 @@ pub record Moment (D St : Type 0) : Type 0 where
 abbrev pub moment : {D St : Type 0} → ChainWithMapping D St → Since → Moment D St
 moment now since = record { now = now; since = since }
 
--- The values that the chain may show after one more call. A successful flush or repair of leaks starts again from the disk, unless a
--- mapping with something to commit is prepared.
+-- The values that the chain may show after one more call. A successful flush, repair of leaks or commit to the layer below starts again
+-- from the disk, unless a mapping with something to commit is prepared.
 abbrev pub since_after : {D St : Type 0} → Ghosts D St → Call → Answer → Moment D St → ChainWithMapping D St → Since
-since_after g call answer old new = since_next call answer (is_some (state_of old.now.kept_mapping)) old.since
+since_after g call answer old new = since_next call answer (is_some (state_of old.now.kept_mapping)) (is_some (refusal_at_once g call old.now)) old.since
     (chain_disk g.layer old.now.drivers) (disk_call g old.now call) (chain_disk g.layer new.drivers)
 
 -- A file read as the top's file, over the layers below.
@@ -61,6 +64,21 @@ abbrev pub IsLeftNow : {D St : Type 0} → Ghosts D St → D × List D → Momen
 IsLeftNow g c m = let top = g.image m.now.drivers.0 in
     IfTelling top ((top.crash_image ≡ top.bytes) × LeftSince (reading_of g c) m.since top.bytes)
 
+-- The crash images of a commit to the layer below. Until its first flush has ended, those of the top's file are such as any call leaves.
+-- The later ones are of the top's file and the next layer's file as a pair, which reads as the disk (`CommitMoments`).
+pub record CommitCrashImages {D St : Type 0} (g : Ghosts D St) (answer : Answer) (old new : Moment D St) : Type 0 where
+  pub course : CommitCourse g answer old.now.drivers new.now.drivers
+  pub flush : UnrefusedCrashImages (IsLeftBy g calls.CommitDown old) (g.image old.now.drivers.0) (g.image course.flushed)
+
+abbrev pub CallCrashImages : {D St : Type 0} → Ghosts D St → Call → Answer → Moment D St → Moment D St → Type 0
+CallCrashImages g call answer old new = Either (commits_down call) (CommitCrashImages g answer old new)
+    (UnrefusedCrashImages (IsLeftBy g call old) (g.image old.now.drivers.0) (g.image new.now.drivers.0))
+
+-- The chain as whose file the top's file is read after a call: the old one. After a commit to the layer below, the layers below are the new
+-- ones.
+abbrev pub read_over : {D : Type 0} → Call → (old new : D × List D) → D × List D
+read_over call old new = if commits_down call then (old.0, new.1) else old
+
 -- One call that is made, from one moment to the next.
 pub record Made {D St : Type 0} (g : Ghosts D St) (call : Call) (answer : Answer) (old new : Moment D St) : Type 0 where
   -- The effect on the disk, or the cause of the error.
@@ -81,13 +99,15 @@ pub record Made {D St : Type 0} (g : Ghosts D St) (call : Call) (answer : Answer
   pub stays_failed : StaysFailed g old.now.drivers new.now.drivers
   -- The crash images of the call, and the one right after it. They only have a meaning if the storage of the top's file exposes its crash
   -- images and keeps what is written, and not for a `MemStorage`.
-  pub crash_images : UnrefusedCrashImages (IsLeftBy g call old) (g.image old.now.drivers.0) (g.image new.now.drivers.0)
-  pub file_now : GoesOn answer → IsLeftNow g old.now.drivers new
+  pub crash_images : CallCrashImages g call answer old new
+  pub file_now : GoesOn answer → IsLeftNow g (read_over call old.now.drivers new.now.drivers) new
   pub counts_not_fallen : IsLater (g.image old.now.drivers.0) (g.image new.now.drivers.0)
   pub since : new.since ≡ since_after g call answer old new.now
-  -- No file below the top changes, and the layers below read as before.
-  pub files : Pairs IsKeptFile (files_of g old.now.drivers.1) (files_of g new.now.drivers.1)
-  pub below : GoesOn answer → map g.layer new.now.drivers.1 ≡ map g.layer old.now.drivers.1
+  -- Only a commit changes a file below the top, and only that of the next layer. The other layers below read as before.
+  pub files : IsFalse (commits_down call) → Pairs IsKeptFile (files_of g old.now.drivers.1) (files_of g new.now.drivers.1)
+  pub below : IsFalse (commits_down call) → GoesOn answer → map g.layer new.now.drivers.1 ≡ map g.layer old.now.drivers.1
+  pub deeper_files : Pairs IsKeptFile (files_of g (drop 1 old.now.drivers.1)) (files_of g (drop 1 new.now.drivers.1))
+  pub deeper_layers : GoesOn answer → map g.layer (drop 1 new.now.drivers.1) ≡ map g.layer (drop 1 old.now.drivers.1)
   -- The conditions for the next call.
   pub fixed : (g.layer new.now.drivers.0).fixed ≡ (g.layer old.now.drivers.0).fixed
   pub mapping_prepared : MappingIsPrepared g new.now
@@ -95,6 +115,7 @@ pub record Made {D St : Type 0} (g : Ghosts D St) (call : Call) (answer : Answer
   -- No new cluster leaks. After a repair of leaks none does.
   pub excess_refcount : GoesOn answer → LeavesExcess g (repairs call answer) old.now.drivers.0 new.now.drivers.0
   pub ready : GoesOn answer → IsReady g new.now.drivers
+  pub committable : GoesOn answer → IsCommittable g old.now.drivers → IsCommittable g new.now.drivers
 
 -- One call of a list. A call with `is_out_of_place` isn't made, and nothing changes.
 abbrev pub ListStep : {D St : Type 0} → Ghosts D St → Call → Answer → Moment D St → Moment D St → Type 0
@@ -124,12 +145,20 @@ abbrev pub HoldsSince : {D St : Type 0} → Ghosts D St → Since → D × List 
 HoldsSince g since c = IfTelling (g.image c.0) (((g.image c.0).crash_image ≡ (g.image c.0).bytes)
     × IsSince (reading_of g c) (g.image c.0).bytes (chain_disk g.layer c) since)
 
+-- A list with a commit to the layer below needs a chain for which `IsCommittable` holds, unless the top or that layer is read-only. Each
+-- call keeps it.
+abbrev pub MayCommit : {D St : Type 0} → Ghosts D St → List Call → D × List D → Type 0
+MayCommit g list c = IsTrue (any_commit_down list) → IsTrue (takes_commits (map g.layer (chain c))) → IsCommittable g c
+
 -- The chain after calls without a resource error. They keep the fixed properties of the top, and the layers below and their files.
 -- `repaired` says that one of them was a repair of leaks: then no cluster has an excess refcount. Otherwise the excess refcounts are kept.
-pub record IsSameChain {D St : Type 0} (g : Ghosts D St) (repaired : Bool) (old new : D × List D) : Type 0 where
+-- `committed` says that one was a commit to the layer below: then only the layers from the third on and their files are kept.
+pub record IsSameChain {D St : Type 0} (g : Ghosts D St) (repaired committed : Bool) (old new : D × List D) : Type 0 where
   pub fixed : (g.layer new.0).fixed ≡ (g.layer old.0).fixed
-  pub files : Pairs IsKeptFile (files_of g old.1) (files_of g new.1)
-  pub below : map g.layer new.1 ≡ map g.layer old.1
+  pub files : IsFalse committed → Pairs IsKeptFile (files_of g old.1) (files_of g new.1)
+  pub below : IsFalse committed → map g.layer new.1 ≡ map g.layer old.1
+  pub deeper_files : Pairs IsKeptFile (files_of g (drop 1 old.1)) (files_of g (drop 1 new.1))
+  pub deeper_layers : map g.layer (drop 1 new.1) ≡ map g.layer (drop 1 old.1)
   pub excess_refcount : LeavesExcess g repaired old.0 new.0
 
 -- The effect of a list of calls, from a disk that was flushed and calls begun since. `Run` states each call and its crash images, in order.
@@ -141,8 +170,9 @@ pub record Driven {D St : Type 0} (g : Ghosts D St) (since : Since) (list : List
   pub counts_not_fallen : IsLater (g.image last.now.drivers.0) (g.image new.0)
   -- The conditions for the next list.
   pub faults : AllGoOn answers → IsFaultless (g.image old.0) (g.image new.0)
-  pub same_chain : AllGoOn answers → IsSameChain g (any_repair list answers) old new
+  pub same_chain : AllGoOn answers → IsSameChain g (any_repair list answers) (any_commit list answers) old new
   pub ready : AllGoOn answers → IsReady g new
+  pub committable : AllGoOn answers → IsCommittable g old → IsCommittable g new
   pub stands : AllGoOn answers → HoldsSince g last.since new
 
 -- A list of calls that ended early because memory for an answer ran out. The first `count` calls were made, and no later one.
@@ -151,4 +181,5 @@ pub record CutShort {D St : Type 0} (g : Ghosts D St) (list : List Call) (old ne
   pub fewer : count < length list
   pub answers : List Answer
   pub made : MadeAll g (take count list) answers old new
-  pub driven : (since : Since) → IsReady g old → HoldsSince g since old → Driven g since (take count list) answers old new
+  pub driven : (since : Since) → IsReady g old → MayCommit g (take count list) old → HoldsSince g since old
+      → Driven g since (take count list) answers old new

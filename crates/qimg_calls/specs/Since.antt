@@ -1,6 +1,7 @@
 -- The values that a byte of a disk or of its crash image may have: the one at the last flush, and those of calls begun since.
 use Rattle.std.specs.Prelude.{◌≡◌, ◌⊎◌, ℕ, ◌<◌, ◌≤◌, Bool, min, max, true, false, Some, None, List, [], ◌∷◌, if◌then◌else◌, ltb, IsTrue}
 use Rattle.imago_storage.specs.Disk.{Value, byte, Hold, held, Disk}
+use Rattle.imago_storage.specs.declared.fault.Fault.TheVariants.{Memory, Storage}
 use Rattle.imago_storage.specs.Steps.{Call, write, write_zeroes, discard_to_zero, discard_to_any, discard_to_backing, commit, ensure, write_mapped, grow, shrink, IsByte, IsIn}
 use Rattle.imago_access.specs.Layer.{Meaning, through}
 use Rattle.imago_access.specs.Stops.{GivesBytes, GivesZero, GivesAny, GivesPast}
@@ -94,11 +95,15 @@ abbrev pub at_size : Since → ℕ → Since
 at_size since n = record since { smallest = min since.smallest n }
 
 -- The state after a call, from the disk before it to the one after it. A successful flush starts again from the disk, unless a mapping with
--- something to commit is prepared. So does a repair of leaks, which ends with a flush.
-abbrev pub since_next : CallMade → Answer → (prepared : Bool) → Since → Disk → Call → Disk → Since
-since_next calls.Flush told.Done false since old does new = flushed new
-since_next calls.RepairLeaks (told.Leaks pairs) false since old does new = flushed new
-since_next call answer prepared since old does new = at_size (begun since old does) new.size
+-- something to commit is prepared. So does a repair of leaks, which ends with a flush. So does a commit to the layer below, which begins
+-- with a flush, unless it fails early or with a resource error. `early` says that the call fails before anything is done.
+abbrev pub since_next : CallMade → Answer → (prepared early : Bool) → Since → Disk → Call → Disk → Since
+since_next calls.Flush told.Done false early since old does new = flushed new
+since_next calls.RepairLeaks (told.Leaks pairs) false early since old does new = flushed new
+since_next calls.CommitDown (told.Refused Memory) prepared early since old does new = at_size (begun since old does) new.size
+since_next calls.CommitDown (told.Refused Storage) prepared early since old does new = at_size (begun since old does) new.size
+since_next calls.CommitDown answer prepared false since old does new = flushed new
+since_next call answer prepared early since old does new = at_size (begun since old does) new.size
 
 -- A crash image is known below this offset, the size at the last flush. If a file doesn't state the size of its disk, its bytes past the end of
 -- the disk are unspecified, so it is known only below the smallest size since.

@@ -89,6 +89,8 @@ pub enum Call {
     },
     /// Repairs the leaks of the top image: lowers each refcount by its excess over the references.
     RepairLeaks,
+    /// Commits the data of the top image to the layer below it (its backing file), and empties the top image.
+    CommitDown,
 }
 
 impl Call {

@@ -1,13 +1,13 @@
 // `drive`: makes a list of calls on a chain, one after another. Definitions: specs/Runs.antt and specs/Since.antt.
-ghost use Rattle.std.specs.Prelude.{◌≡◌, ◌≤◌, ◌<◌, [], None, length, map, IsTrue, IfOk, IfErr, OnOk, OnErr, IsOkUnless, take, vec_capacity};
+ghost use Rattle.std.specs.Prelude.{◌≡◌, ◌≤◌, ◌<◌, [], None, length, map, IsTrue, IsFalse, IfOk, IfErr, OnOk, OnErr, IsOkUnless, drop, take, vec_capacity};
 ghost use Rattle.imago_access.specs.Layer.{IsFree};
-ghost use Rattle.imago_access.specs.Chain.{Each};
-ghost use Rattle.imago_access.specs.Files.{Pairs, UnchangedButMoreFaults as IsKeptFile, files_of};
+ghost use Rattle.qimg_calls.specs.Calls.{any_commit_down};
+ghost use Rattle.qimg_calls.specs.CommittingDown.{StayClean};
 ghost use Rattle.qimg_calls.specs.Since.{Since};
 ghost use Rattle.qimg_calls.specs.Held.{chain_with_mapping, MappingIsPrepared, IsReady};
 ghost use Rattle.qimg_calls.specs.Marking.{StaysFailed, answer_of_failed};
 ghost use Rattle.qimg_calls.specs.Making.{Answers, AnswersAll, CancelsKept, MadeAll};
-ghost use Rattle.qimg_calls.specs.Runs.{CutShort, Driven, HoldsSince};
+ghost use Rattle.qimg_calls.specs.Runs.{CutShort, Driven, HoldsSince, MayCommit};
 
 use crate::call::{Answer, Call};
 use crate::making::{Kept, cancel, make};
@@ -31,7 +31,8 @@ use std::alloc::{AllocError, Global};
 /// - A discard deallocates each unit (cluster of qcow2) that its range covers completely and that the format can deallocate. A zeroing
 ///   zeroes each unit that its range covers completely.
 /// - A repair of leaks changes no byte of the disk. After it no cluster of the top's file leaks. Other calls keep what leaks.
-/// - No file below the top changes.
+/// - A commit to the layer below changes no byte of the disk. After it that layer reads as the disk, below the disk's size.
+/// - No other call changes a file below the top, and a commit changes only that of the layer below the top.
 ///
 /// On any chain, ready or not, each answer fits its call, and is one that the call can have, given what lookups report of the disk. A call
 /// that fails before anything is done, or has nothing to do, makes no request and changes nothing. An image that has failed stays failed. If
@@ -41,29 +42,34 @@ use std::alloc::{AllocError, Global};
 ///
 /// No mapping is prepared in the chain.
 ///
+/// For a list with a commit to the layer below, that layer must be read-only, or well-formed with a file that says what its disk is
+/// (`MayCommit`). Otherwise nothing is known of the disk and of crash images.
+///
 /// # Errors
 ///
 /// - `Fault::Memory` if memory for an answer runs out. That call and all later ones aren't made.
 ///
 /// # On error
 ///
-/// After the first answer `Fault::Memory` or `Fault::Storage` on a ready chain, only this holds: no file below the top changes, and a qcow2
-/// top has failed if its own storage has.
+/// After the first answer `Fault::Memory` or `Fault::Storage` on a ready chain, only this holds: no file below the top changes but by a
+/// commit, and a qcow2 top has failed if its own storage has.
 ///
 /// # Crash safety
 ///
 /// On a ready chain each crash image (the top's file after a crash between two requests) is consistent. At each offset below the size of the
 /// disk at the last flush, it reads as at that flush, or as a call that has begun since then writes it. Right after a flush the file reads as
-/// the disk. A flush counts if no mapping with something to commit was prepared, and so does a repair of leaks. A raw file doesn't store
-/// the size of its disk, so after a crash its disk has the size of the file, and only bytes below the smallest size since the flush are
-/// specified.
+/// the disk. A flush counts if no mapping with something to commit was prepared, and so does a repair of leaks. So does a commit to the
+/// layer below, also if it fails after its first flush, with another fault than `Memory` and `Storage`. After that flush each pair of crash
+/// images of the top's file and of the file below it reads as the disk. A raw file doesn't store the size of its disk, so after a crash its
+/// disk has the size of the file, and only bytes below the smallest size since the flush are specified.
 pub fn drive<D: RepairsLeaks>(
     alloc: Global,
     chain: &mut FormatAccess<D>,
     calls: &[Call],
 ) -> Result<Vec<Answer>, Fault>
     requires free { IsFree (D.layer chain.old.0) }
-    ensures headline { (since : Since) → IsReady D.DriverModel chain.old → HoldsSince D.DriverModel since chain.old
+    ensures headline { (since : Since) → IsReady D.DriverModel chain.old → MayCommit D.DriverModel calls.now chain.old
+        → HoldsSince D.DriverModel since chain.old
         → IfOk result (λ answers. Driven D.DriverModel since calls.now answers.items chain.old chain.new) }
     ensures made { IfOk result (λ answers. MadeAll D.DriverModel calls.now answers.items chain.old chain.new) }
     ensures cut_short { IfErr result (λ _. CutShort D.DriverModel calls.now chain.old chain.new) }
@@ -73,8 +79,8 @@ pub fn drive<D: RepairsLeaks>(
     ensures stays_failed { StaysFailed D.DriverModel chain.old chain.new }
     ensures all_fail { IsTrue (D.layer chain.old.0).failed → IfOk result (λ answers. answers.items ≡ map answer_of_failed calls.now) }
     ensures fixed { (D.layer chain.new.0).fixed ≡ (D.layer chain.old.0).fixed }
-    ensures below { Each D.has_no_dirty_data chain.old.1
-        → Pairs IsKeptFile (files_of D.DriverModel chain.old.1) (files_of D.DriverModel chain.new.1) × Each D.has_no_dirty_data chain.new.1 }
+    ensures below { IsFalse (any_commit_down calls.now) → StayClean D.DriverModel chain.old.1 chain.new.1 }
+    ensures deeper { StayClean D.DriverModel (drop 1 chain.old.1) (drop 1 chain.new.1) }
 {
     let mut answers = match Vec::with_capacity(alloc, calls.len()) {
         Ok(answers) => answers,

@@ -1,7 +1,8 @@
 // Calls that change the disk while no mapping is kept.
-ghost use Rattle.std.specs.Prelude.{IsTrue};
+ghost use Rattle.std.specs.Prelude.{◌≡◌, IsTrue, map};
 ghost use Rattle.imago_access.specs.Layer.{IsFree};
 ghost use Rattle.qimg_calls.specs.Calls.{is_lone_change};
+ghost use Rattle.qimg_calls.specs.CommittingDown.{next_is_prepared};
 ghost use Rattle.qimg_calls.specs.declared.call.Call.TheVariants as calls;
 ghost use Rattle.qimg_calls.specs.Making.{MakesAlone};
 
@@ -9,6 +10,7 @@ use super::looking::told;
 use crate::call::{Answer, Call};
 use crate::repairing::{self, RepairsLeaks};
 use imago_access::{FormatAccess, FormatDriverInstance, PreallocateMode};
+use imago_storage::Fault;
 use std::alloc::Global;
 
 /// Writes bytes from an offset on.
@@ -165,11 +167,39 @@ pub fn repair_leaks<D: RepairsLeaks>(alloc: Global, chain: &mut FormatAccess<D>)
     }
 }
 
-/// Makes a call that changes the disk or repairs leaks, and keeps no mapping.
+/// Commits the data of the top image to the layer below it. If a mapping is prepared in that layer, the answer is `Fault::BadArgument`.
 ///
 /// # Preconditions
 ///
-/// No mapping is prepared in the top image. The call changes the disk or repairs leaks, and neither prepares nor uses a mapping.
+/// No mapping is prepared in the top image.
+pub fn commit_down<D: FormatDriverInstance>(alloc: Global, chain: &mut FormatAccess<D>) -> Answer
+    requires free { IsFree (D.layer chain.old.0) }
+    ensures { MakesAlone D.DriverModel calls.CommitDown result chain.old chain.new }
+{
+    if chain.inner().failed() {
+        return Answer::Refused(Fault::Failed);
+    }
+    if next_is_prepared(chain) {
+        return Answer::Refused(Fault::BadArgument);
+    }
+    told(chain.commit_down(alloc))
+}
+
+/// Returns true if a mapping with something to commit is prepared in the layer below the top.
+fn next_is_prepared<D: FormatDriverInstance>(chain: &FormatAccess<D>) -> bool
+    ensures { result ≡ next_is_prepared (map D.layer chain.now.1) }
+{
+    match chain.below() {
+        None => false,
+        Some(next) => next.inner().prepared(),
+    }
+}
+
+/// Makes a call that changes the disk, repairs leaks or commits to the layer below, and keeps no mapping.
+///
+/// # Preconditions
+///
+/// No mapping is prepared in the top image. The call is none for a mapping, and does more than look.
 pub fn change<D: RepairsLeaks>(alloc: Global, chain: &mut FormatAccess<D>, call: &Call) -> Answer
     requires free { IsFree (D.layer chain.old.0) }
     requires changes { IsTrue (is_lone_change call.now) }
@@ -191,6 +221,7 @@ pub fn change<D: RepairsLeaks>(alloc: Global, chain: &mut FormatAccess<D>, call:
         Call::ResizeGrow { size, mode } => resize_grow(alloc, chain, *size, *mode),
         Call::ResizeShrink { size } => resize_shrink(alloc, chain, *size),
         Call::RepairLeaks => repair_leaks(alloc, chain),
+        Call::CommitDown => commit_down(alloc, chain),
         _ => unreachable!(),
     }
 }
