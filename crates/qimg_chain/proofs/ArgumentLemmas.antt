@@ -1,18 +1,20 @@
 -- The program's arguments have at most one meaning.
-use Rattle.std.proofs.Common.{◌≡◌, ◌∙◌, refl, ap, sym, arith, ℕ, List, [], ◌∷◌, ◌++◌, append_assoc, append-nil, get_or, drop, map, length, length-drop, subst, String, Global, ◌+◌, ◌*◌, ◌-◌, ◌<◌, ◌≤◌, inl, inr}
+use Rattle.std.proofs.Common.{◌≡◌, ◌∙◌, refl, ap, sym, arith, ℕ, List, [], ◌∷◌, ◌++◌, append_assoc, append-nil, get_or, drop, map, length, length-drop, subst, String, Global, ◌+◌, ◌*◌, ◌-◌, ◌<◌, ◌≤◌}
 use Rattle.std.proofs.lemmas.List.{flat_map_more, drop_more, drop_all, length-map, length_push, map_push}
-use Rattle.std.specs.Prelude.{◌≢◌, ◌⊎◌, flat_map, codes, true, false, Bool, string_bytes}
+use Rattle.std.specs.Prelude.{◌≢◌, flat_map, codes, string_bytes}
 use Rattle.imago_storage.specs.declared.fault.Fault.{Fault}
 use Rattle.imago_storage.specs.declared.fault.Fault.TheVariants.{BadArgument, Memory}
 use Rattle.imago_access.specs.declared.format.Format.{Format}
 use Rattle.imago_access.specs.declared.format.Format.TheVariants.{Raw, Qcow2, Vmdk}
 use Rattle.qimg_chain.specs.declared.arguments.LayerArgument.{LayerArgument}
-use Rattle.qimg_chain.specs.Arguments.{AskedLayer, Asked, extra_words, format_word, layer_words, asked_words, AskFor, AreNoFile, IsExtras, IsLayer, WhyNotRead, AskForNone, extra_of, layer_of}
+use Rattle.qimg_chain.specs.declared.arguments.Opening.{Opening}
+use Rattle.qimg_chain.specs.declared.arguments.Opening.TheVariants.{Writable, ReadOnly, ForCommit}
+use Rattle.qimg_chain.specs.Arguments.{AskedLayer, Asked, extra_words, format_word, layer_words, asked_words, AskFor, AreNoFile, IsExtras, IsLayer, WhyNotRead, AskForNone, IsOpening, extra_of, layer_of, opening_words}
 
 heads : (a b : ℕ) (more others : List ℕ) → a ∷ more ≡ b ∷ others → a ≡ b
 heads a b more others same = cc
 
--- No format is written as `file` or as `-r`.
+-- No format is written as `file`, `-r` or `-c`.
 pub format-is-no-file : (f : Format) → format_word f ≡ codes "file" → ⊥
 format-is-no-file Raw same = omega (arith, heads 114 102 _ _ same)
 format-is-no-file Qcow2 same = omega (arith, heads 113 102 _ _ same)
@@ -34,8 +36,21 @@ format-by-word Qcow2 Vmdk same = absurd (omega (arith, heads 113 118 _ _ same))
 format-by-word Vmdk Raw same = absurd (omega (arith, heads 118 114 _ _ same))
 format-by-word Vmdk Qcow2 same = absurd (omega (arith, heads 118 113 _ _ same))
 
-abbrev asking : Bool → List AskedLayer → Asked
-asking read_only layers = record { read_only = read_only; layers = layers }
+pub format-is-no-commit : (f : Format) → format_word f ≡ codes "-c" → ⊥
+format-is-no-commit Raw same = omega (arith, heads 114 45 _ _ same)
+format-is-no-commit Qcow2 same = omega (arith, heads 113 45 _ _ same)
+format-is-no-commit Vmdk same = omega (arith, heads 118 45 _ _ same)
+
+choices-differ : codes "-r" ≡ codes "-c" → ⊥
+choices-differ same = let second : 114 ∷ [] ≡ 99 ∷ [] = cc in let letter : 114 ≡ 99 = heads 114 99 [] [] second in omega (arith, letter)
+
+abbrev asking : Opening → List AskedLayer → Asked
+asking opening layers = record { opening = opening; layers = layers }
+
+-- The arguments after the first one, if it says how the images are opened, or all.
+abbrev after-first : Opening → List ℕ → List (List ℕ) → List (List ℕ)
+after-first Writable word words = word ∷ words
+after-first opening word words = words
 
 -- The arguments of layers begin with a format.
 pub layers-are-no-file : (layers : List AskedLayer) (rest : List (List ℕ)) → flat_map layer_words layers ≡ codes "file" ∷ rest → ⊥
@@ -45,6 +60,10 @@ layers-are-no-file (layer ∷ layers) rest same = let first : format_word layer.
 pub layers-are-no-choice : (layers : List AskedLayer) (rest : List (List ℕ)) → flat_map layer_words layers ≡ codes "-r" ∷ rest → ⊥
 layers-are-no-choice [] rest same = cc
 layers-are-no-choice (layer ∷ layers) rest same = let first : format_word layer.format ≡ codes "-r" = cc in format-is-no-choice layer.format first
+
+pub layers-are-no-commit : (layers : List AskedLayer) (rest : List (List ℕ)) → flat_map layer_words layers ≡ codes "-c" ∷ rest → ⊥
+layers-are-no-commit [] rest same = cc
+layers-are-no-commit (layer ∷ layers) rest same = let first : format_word layer.format ≡ codes "-c" = cc in format-is-no-commit layer.format first
 
 -- Some further files are parsed. For each meaning as further files and then layers, the rest is further files and these layers.
 pub record FilesTaken (words rest : List (List ℕ)) (taken : List (List ℕ × List ℕ)) : Type 0 where
@@ -165,29 +184,46 @@ layer-more now xs at n old new layer words before is count items =
 pub none-left : {A : Type 0} (now : A → List ℕ) (xs : List A) (at : ℕ) → length xs ≤ at → map now (drop at xs) ≡ []
 none-left now xs at past = ap (map now) (drop_all at xs past)
 
--- If the first argument is `-r`, the layers are after it. Otherwise they begin with the first argument.
-pub not-read : {A : Type 0} (now : A → List ℕ) (xs : List A) (d : A) (from : ℕ) (fault : Fault) → 0 < length xs
-    → ((now (get_or xs 0 d) ≡ codes "-r") × (from ≡ 1)) ⊎ ((now (get_or xs 0 d) ≡ codes "-r" → ⊥) × (from ≡ 0))
-    → AskForNone (map now (drop from xs)) fault → WhyNotRead (map now xs) fault
-not-read now [] d from fault some how none = absurd (omega arith)
-not-read now (x ∷ xs) d from Memory some how none = tt
-not-read now (x ∷ xs) d from BadArgument some (inl how) none = ((λ is. cc), λ asked for. fails asked.read_only asked.layers for.0 for.1)
-  where
-    all : (layers : List AskedLayer) → layers ≢ [] → map now xs ≡ flat_map layer_words layers → ⊥
-    all = subst (λ k. AskForNone (map now (drop k (x ∷ xs))) BadArgument) how.1 none
+pub no-layers-left : (layers : List LayerArgument) → 0 < length layers → map layer_of layers ≡ [] → ⊥
+no-layers-left [] some none = omega (arith, some)
+no-layers-left (layer ∷ layers) some none = cc
 
-    fails : (read_only : Bool) (layers : List AskedLayer) → now x ∷ map now xs ≡ asked_words (asking read_only layers) → layers ≢ [] → ⊥
-    fails true layers is more = all layers more (cc)
-    fails false layers is more = layers-are-no-choice layers (map now xs) (sym is ∙ ap (λ w. w ∷ map now xs) how.0)
-not-read now (x ∷ xs) d from BadArgument some (inr how) none = ((λ is. cc), λ asked for. fails asked.read_only asked.layers for.0 for.1)
-  where
-    all : (layers : List AskedLayer) → layers ≢ [] → now x ∷ map now xs ≡ flat_map layer_words layers → ⊥
-    all = subst (λ k. AskForNone (map now (drop k (x ∷ xs))) BadArgument) how.1 none
+-- The layers are after the first argument if it says how the images are opened. Otherwise they begin with it.
+pub is-read : {A : Type 0} (now : A → List ℕ) (xs : List A) (d : A) (o : Opening) (layers : List AskedLayer) → 0 < length xs
+    → IsOpening (now (get_or xs 0 d)) o → map now (drop (length (opening_words o)) xs) ≡ flat_map layer_words layers
+    → map now xs ≡ opening_words o ++ flat_map layer_words layers
+is-read now [] d o layers some is are = absurd (omega arith)
+is-read now (x ∷ xs) d Writable layers some is are = are
+is-read now (x ∷ xs) d ReadOnly layers some is are = ap (λ w. w ∷ map now xs) is ∙ ap (λ ws. codes "-r" ∷ ws) are
+is-read now (x ∷ xs) d ForCommit layers some is are = ap (λ w. w ∷ map now xs) is ∙ ap (λ ws. codes "-c" ∷ ws) are
 
-    fails : (read_only : Bool) (layers : List AskedLayer) → now x ∷ map now xs ≡ asked_words (asking read_only layers) → layers ≢ [] → ⊥
-    fails true layers is more = let first : now x ≡ codes "-r" = cc in how.0 first
-    fails false layers is more = all layers more is
-not-read now (x ∷ xs) d from fault some how none = absurd none
+-- If no layers follow the first argument, which says how the images are opened, the list asks for no chain.
+no-opening : (o : Opening) (word : List ℕ) (words : List (List ℕ)) → IsOpening word o
+    → ((layers : List AskedLayer) → layers ≢ [] → after-first o word words ≡ flat_map layer_words layers → ⊥)
+    → (other : Opening) (layers : List AskedLayer) → word ∷ words ≡ asked_words (asking other layers) → layers ≢ [] → ⊥
+no-opening Writable word words is none Writable layers are some = none layers some are
+no-opening Writable word words is none ReadOnly layers are some = let first : word ≡ codes "-r" = cc in is.0 first
+no-opening Writable word words is none ForCommit layers are some = let first : word ≡ codes "-c" = cc in is.1 first
+no-opening ReadOnly word words is none ReadOnly layers are some = none layers some (cc)
+no-opening ReadOnly word words is none Writable layers are some =
+    layers-are-no-choice layers words (sym are ∙ ap (λ w. w ∷ words) is)
+no-opening ReadOnly word words is none ForCommit layers are some = let first : word ≡ codes "-c" = cc in choices-differ (sym is ∙ first)
+no-opening ForCommit word words is none ForCommit layers are some = none layers some (cc)
+no-opening ForCommit word words is none Writable layers are some =
+    layers-are-no-commit layers words (sym are ∙ ap (λ w. w ∷ words) is)
+no-opening ForCommit word words is none ReadOnly layers are some = let first : word ≡ codes "-r" = cc in choices-differ (sym first ∙ is)
+
+pub not-read : {A : Type 0} (now : A → List ℕ) (xs : List A) (d : A) (o : Opening) (fault : Fault) → 0 < length xs
+    → IsOpening (now (get_or xs 0 d)) o → AskForNone (map now (drop (length (opening_words o)) xs)) fault → WhyNotRead (map now xs) fault
+not-read now [] d o fault some is none = absurd (omega arith)
+not-read now (x ∷ xs) d o Memory some is none = tt
+not-read now (x ∷ xs) d Writable BadArgument some is none =
+    ((λ is. cc), λ asked for. no-opening Writable (now x) (map now xs) is none asked.opening asked.layers for.0 for.1)
+not-read now (x ∷ xs) d ReadOnly BadArgument some is none =
+    ((λ is. cc), λ asked for. no-opening ReadOnly (now x) (map now xs) is none asked.opening asked.layers for.0 for.1)
+not-read now (x ∷ xs) d ForCommit BadArgument some is none =
+    ((λ is. cc), λ asked for. no-opening ForCommit (now x) (map now xs) is none asked.opening asked.layers for.0 for.1)
+not-read now (x ∷ xs) d o fault some is none = absurd none
 
 -- Two parses as further files and then layers have the same files, and two parses as layers are the same.
 files-once : (es fs : List (List ℕ × List ℕ)) (xs ys : List AskedLayer) → flat_map extra_words es ++ flat_map layer_words xs ≡ flat_map extra_words fs ++ flat_map layer_words ys
@@ -224,10 +260,15 @@ layers-once (x ∷ xs) (y ∷ ys) same =
         ∙ (ap (λ e. record { format = y.format; path = y.path; extras = e } ∷ xs) extras ∙ ap (λ l. y ∷ l) rest))
 
 pub asked-once : (words : List (List ℕ)) (a b : Asked) → AskFor words a → AskFor words b → a ≡ b
-asked-once words a b one other = once a.read_only b.read_only a.layers b.layers (sym one.0 ∙ other.0)
+asked-once words a b one other = once a.opening b.opening a.layers b.layers (sym one.0 ∙ other.0)
   where
-    once : (r s : Bool) (xs ys : List AskedLayer) → asked_words (asking r xs) ≡ asked_words (asking s ys) → asking r xs ≡ asking s ys
-    once true true xs ys same = ap (asking true) (layers-once xs ys (cc))
-    once false false xs ys same = ap (asking false) (layers-once xs ys same)
-    once true false xs ys same = absurd (layers-are-no-choice ys _ (sym same))
-    once false true xs ys same = absurd (layers-are-no-choice xs _ same)
+    once : (r s : Opening) (xs ys : List AskedLayer) → asked_words (asking r xs) ≡ asked_words (asking s ys) → asking r xs ≡ asking s ys
+    once Writable Writable xs ys same = ap (asking Writable) (layers-once xs ys same)
+    once ReadOnly ReadOnly xs ys same = ap (asking ReadOnly) (layers-once xs ys (cc))
+    once ForCommit ForCommit xs ys same = ap (asking ForCommit) (layers-once xs ys (cc))
+    once ReadOnly Writable xs ys same = absurd (layers-are-no-choice ys _ (sym same))
+    once Writable ReadOnly xs ys same = absurd (layers-are-no-choice xs _ same)
+    once ForCommit Writable xs ys same = absurd (layers-are-no-commit ys _ (sym same))
+    once Writable ForCommit xs ys same = absurd (layers-are-no-commit xs _ same)
+    once ReadOnly ForCommit xs ys same = let first : codes "-r" ≡ codes "-c" = cc in absurd (choices-differ first)
+    once ForCommit ReadOnly xs ys same = let first : codes "-c" ≡ codes "-r" = cc in absurd (choices-differ (sym first))

@@ -25,7 +25,7 @@ use Rattle.qimg_chain.specs.FileLayers.{asked_of, said_of}
 use Rattle.qimg_chain.specs.FileMeanings.{FileBytes, files_bytes}
 use Rattle.qimg_chain.specs.FurtherFiles.{WhyNotFurther}
 use Rattle.qimg_chain.specs.PlainReads.{NoFileFails, NotPlainlyRead, RefusesRange, SomeFileMayFail}
-use Rattle.qimg_chain.specs.Refusals.{FirstCause, HadResourceError, WhyNotLayers, misplaced}
+use Rattle.qimg_chain.specs.Refusals.{CommitCauseOf, FirstCause, FirstCommitCause, HadResourceError, WhyNotCommitLayers, WhyNotLayers, misplaced}
 use Rattle.qimg_chain.proofs.Narrowing.{not_of_value}
 use Rattle.qimg_chain.specs.contracts.chain.image_driver.ImageDriverDriverModel.TheImpl as image_seen
 use Rattle.qimg_chain.specs.declared.chain.image_driver.ImageDriver.TheVariants as variant
@@ -115,6 +115,24 @@ module _ {S : Type 0} (state : S → StorageState) where
   first_never writable (file ∷ below) (inl many) = cc many.1
   first_never writable (file ∷ below) (inr why) = layers_never writable (file ∷ below) why.1
 
+  commit_layers_never : (files : List (ChainFile S)) → WhyNotCommitLayers state files Storage → ⊥
+  commit_layers_never [] why = why
+  commit_layers_never (top ∷ below) (inl (inl said)) = said_never top.format true (state top.image).bytes said
+  commit_layers_never (top ∷ below) (inl (inr why)) = further_never top.format (state top.image) top.extras.items why.1
+  commit_layers_never (top ∷ below) (inr (inl out)) = misplaced_never out.0 below out.3
+  commit_layers_never (top ∷ below) (inr (inr why)) = layers_never true below why.1
+
+  commit_cause_never : (files : List (ChainFile S)) → CommitCauseOf state files Storage → ⊥
+  commit_cause_never [] why = cc why
+  commit_cause_never (top ∷ []) why = cc why
+  commit_cause_never (top ∷ (next ∷ below)) (inl of_vmdk) = cc of_vmdk.1
+  commit_cause_never (top ∷ (next ∷ below)) (inr (other, inl many)) = cc many.1
+  commit_cause_never (top ∷ (next ∷ below)) (inr (other, inr why)) = commit_layers_never (top ∷ (next ∷ below)) why.1
+
+  first_commit_never : (number below_number : ℕ) (files : List (ChainFile S)) → FirstCommitCause state number below_number files Storage → ⊥
+  first_commit_never number below_number files (inl same) = cc same.1
+  first_commit_never number below_number files (inr why) = commit_cause_never files why.1
+
   -- ---- Files that never fail.
 
   module _ (never : NeverFails state) where
@@ -122,11 +140,23 @@ module _ {S : Type 0} (state : S → StorageState) where
     by_memory fault (inl memory) = memory
     by_memory fault (inr failed) = absurd (failed.1 never)
 
+    -- Memory ran out, or there is a cause, which is no failed storage.
+    not_for_failing : (Why : Fault → Type 0) → (Why Storage → ⊥) → (fault : Fault) → HadResourceError state fault ⊎ Why fault
+        → (fault ≢ Storage) × ((fault ≡ Memory) ⊎ Why fault)
+    not_for_failing Why never_why fault (inl cut) = let memory = by_memory fault cut in (λ is. absurd (not_memory (sym is ∙ memory)), inl memory)
+    not_for_failing Why never_why fault (inr first) = (λ is. never_why (subst Why is first), inr first)
+
     -- They aren't opened because memory runs out or for a cause that they give.
     pub unopened : (writable : Bool) (files : List (ChainFile S)) (fault : Fault) → HadResourceError state fault ⊎ FirstCause state writable files fault
         → (fault ≢ Storage) × ((fault ≡ Memory) ⊎ FirstCause state writable files fault)
-    unopened writable files fault (inl cut) = let memory = by_memory fault cut in (λ is. absurd (not_memory (sym is ∙ memory)), inl memory)
-    unopened writable files fault (inr first) = (λ is. first_never writable files (subst (FirstCause state writable files) is first), inr first)
+    unopened writable files = not_for_failing (FirstCause state writable files) (first_never writable files)
+
+    -- Like `unopened`, for commits to the layer below.
+    pub unopened_for_commit : (number below_number : ℕ) (files : List (ChainFile S)) (fault : Fault)
+        → HadResourceError state fault ⊎ FirstCommitCause state number below_number files fault
+        → (fault ≢ Storage) × ((fault ≡ Memory) ⊎ FirstCommitCause state number below_number files fault)
+    unopened_for_commit number below_number files =
+        not_for_failing (FirstCommitCause state number below_number files) (first_commit_never number below_number files)
 
     unread_never : (files : List (ChainFile S)) (offset n : ℕ) → NotPlainlyRead state files offset n Storage → ⊥
     unread_never files offset n (inl cut) = not_memory (by_memory Storage cut)

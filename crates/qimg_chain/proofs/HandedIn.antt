@@ -22,12 +22,12 @@ use Rattle.qcow2_image.specs.ImageLayer.{qcow2_meaning}
 use Rattle.qcow2_types.specs.Bytes.{bytes_of}
 use Rattle.qcow2_types.specs.Header.{header_of}
 use Rattle.qimg_core.specs.declared.plain.ChainFile.{ChainFile}
-use Rattle.qimg_chain.specs.Chains.{AreInPlace, AreLayers, number_for}
+use Rattle.qimg_chain.specs.Chains.{AreInPlace, AreLayers, OpenMode, mode_below, number_for}
 use Rattle.qimg_chain.specs.Extras.{TakesEach}
 use Rattle.qimg_chain.specs.FileMeanings.{FileBytes, ShowsFile, byte_at, driver_bytes, extra_bytes, file_bytes}
 use Rattle.qimg_chain.specs.FileMeanings.{file_meaning, files_bytes, meaning_as, names_said, size_of, taken_for, value_of}
 use Rattle.qimg_chain.specs.FilesByName.{qcow2_through, same_extents, same_size, sized}
-use Rattle.qimg_chain.specs.FlushedFiles.{HandedMeanToo, ShowDisk, with_image}
+use Rattle.qimg_chain.specs.FlushedFiles.{HandedMeanToo, ShowDisk, files_now, with_image}
 use Rattle.qimg_chain.specs.FurtherFiles.{HasFurther}
 use Rattle.qimg_chain.specs.contracts.chain.image_driver.ImageDriverDriverModel.TheImpl as image_seen
 use Rattle.qimg_chain.specs.declared.chain.image_driver.ImageDriver.{ImageDriver}
@@ -133,23 +133,23 @@ module _ (R : RattleType) (st : Ghosts R.Denot) (sd : mir.Syntax.Dict) (dd : mir
   image-shown format.Vmdk writable number before handed (variant.Qcow2 d) opened has = absurd (cc opened.format_is)
 
   -- Like `image-shown`, for all images of a chain.
-  pub images-shown : (writable : Bool) (number : ℕ) (files : List (ChainFile R.Denot)) (ds : List (ImageDriver R.Denot st))
-      → AreLayers (image_seen.ghosts R st sd dd) st.state writable number files ds
+  pub images-shown : (m : OpenMode) (files : List (ChainFile R.Denot)) (ds : List (ImageDriver R.Denot st))
+      → AreLayers (image_seen.ghosts R st sd dd) st.state m files ds
       → AreInPlace (map (image_seen.ghosts R st sd dd).layer ds)
       → (p : ℕ) → at (map (image_seen.ghosts R st sd dd).layer ds) p ≡ value_of (files_bytes st.state files) p
-  images-shown writable number [] [] are places p = refl
-  images-shown writable number [] (d ∷ ds) are places p = absurd are
-  images-shown writable number (file ∷ files) [] are places p = absurd are
-  images-shown writable number (file ∷ files) (d ∷ ds) are places p =
+  images-shown m [] [] are places p = refl
+  images-shown m [] (d ∷ ds) are places p = absurd are
+  images-shown m (file ∷ files) [] are places p = absurd are
+  images-shown m (file ∷ files) (d ∷ ds) are places p =
       let layer = (image_seen.ghosts R st sd dd).layer in
-      let shows = image-shown file.format writable (number_for file.format number) (st.state file.image) file.extras.items d
+      let shows = image-shown file.format m.writable (number_for file.format m.number) (st.state file.image) file.extras.items d
       are.0.opened are.0.layer.has in
       (over (layer d) (map layer ds) (file_bytes st.state file) (files_bytes st.state files) shows
-      (images-shown false 0 files ds are.1 places.1) (shows-below (map layer ds) (layer d) (layer d) places.0 refl)).value p
+      (images-shown (mode_below m) files ds are.1 places.1) (shows-below (map layer ds) (layer d) (layer d) places.0 refl)).value p
 
   -- If a chain's files mean its disk, the supplied files do.
   pub handed-mean : (names : ImageDriver R.Denot st → ℕ → List ℕ) → HandedMeanToo (image_seen.ghosts R st sd dd) names st.state
-  handed-mean names writable number file below opened now is means =
+  handed-mean names m file below opened now is none means =
       let d = image_seen.ghosts R st sd dd in
       let exact = (d.layer now.0).fixed.exact in
       let disk = chain_disk d.layer now in
@@ -157,9 +157,11 @@ module _ (R : RattleType) (st : Ghosts R.Denot) (sd : mir.Syntax.Dict) (dd : mir
       let handed = with_image (file_bytes st.state file) (d.image now.0).bytes in
       let drivers = opened.drivers in
       let same : (p : ℕ) → value_of (map (driver_bytes d names) drivers.1) p ≡ value_of (files_bytes st.state below) p =
-      λ p. sym (below-shown d names st.state writable number (file ∷ below) drivers is p) ∙ images-shown false 0 below drivers.1 is.layers.1
+      λ p. sym (below-shown d names st.state m (file ∷ below) drivers is p) ∙ images-shown (mode_below m) below drivers.1 is.layers.1
       is.places.1 p in
-      let over_handed = below-as exact disk top (map (driver_bytes d names) drivers.1) (files_bytes st.state below) same means.means in
+      let mean : ShowDisk exact disk (files_now d names false drivers now) =
+      subst (λ (b : Bool). ShowDisk exact disk (files_now d names b drivers now)) none (means.means (λ is. absurd (cc (sym is ∙ none)))) in
+      let over_handed = below-as exact disk top (map (driver_bytes d names) drivers.1) (files_bytes st.state below) same mean in
       let format_is : top.format ≡ file.format = ap (λ (x : Fixed). x.format) means.fixed ∙ is.layers.0.opened.format_is in record {
         named = over_handed;
         alone = λ differs. first-as exact disk top handed (files_bytes st.state below)

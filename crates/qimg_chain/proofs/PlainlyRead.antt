@@ -11,21 +11,21 @@ use Rattle.imago_access.specs.Refusals.{SomeUnusable}
 use Rattle.imago_access.specs.declared.driver_model.DriverModel.{Ghosts}
 use Rattle.qimg_core.specs.Plain.{IsFirstFault, value_fault}
 use Rattle.qimg_core.specs.declared.plain.ChainFile.{ChainFile}
-use Rattle.qimg_chain.specs.Chains.{AreLayers}
+use Rattle.qimg_chain.specs.Chains.{AreLayers, mode}
 use Rattle.qimg_chain.specs.FileMeanings.{FileBytes, IsDiskOf, files_bytes, size_of, value_of}
 use Rattle.qimg_chain.specs.PlainReads.{IsOutOfReach, IsPlainlyRead, NotPlainlyRead, NotReadInOrder, SomeFileMayFail}
 use Rattle.qimg_chain.specs.Refusals.{FormChain, HadResourceError}
 
 module _ {S D St : Type 0} (g : Ghosts D St) (state : S → StorageState) where
   -- Each layer that was just opened is coherent.
-  pub seen : (writable : Bool) (number : ℕ) (files : List (ChainFile S)) (ds : List D) → AreLayers g state writable number files ds → Each g.coherent ds
+  pub seen : (writable : Bool) (number : ℕ) (files : List (ChainFile S)) (ds : List D) → AreLayers g state (mode writable number) files ds → Each g.coherent ds
   seen writable number [] [] are = tt
   seen writable number (file ∷ files) (d ∷ ds) are = (are.0.opened.coherent, seen false 0 files ds are.1)
   seen writable number [] (d ∷ ds) are = absurd are
   seen writable number (file ∷ files) [] are = absurd are
 
   -- Each layer can be used.
-  pub usable : (writable : Bool) (number : ℕ) (files : List (ChainFile S)) (ds : List D) → AreLayers g state writable number files ds
+  pub usable : (writable : Bool) (number : ℕ) (files : List (ChainFile S)) (ds : List D) → AreLayers g state (mode writable number) files ds
       → (f : Fault) → SomeUnusable (map g.layer ds) f → ⊥
   usable writable number [] [] are f bad = bad
   usable writable number (file ∷ files) (d ∷ ds) are f (inl bad) = cc (sym are.0.opened.usable ∙ bad)

@@ -1,11 +1,11 @@
 -- The reasons why files aren't opened as layers.
-use Rattle.std.proofs.Common.{◌≡◌, ◌≤◌, ◌⊎◌, ◌∷◌, ℕ, List, ap, inl, inr, length, refl, sym}
-use Rattle.std.specs.Prelude.{◌↔◌, Bool, Err, IfErr, IsTrue, is_some, None, Ok, Result, Some, false, true}
+use Rattle.std.proofs.Common.{◌≡◌, ◌<◌, ◌≤◌, ◌⊎◌, ◌∷◌, [], ℕ, List, ap, arith, get_or, inl, inr, length, refl, subst, sym}
+use Rattle.std.specs.Prelude.{◌↔◌, ◌≢◌, Bool, Err, IfErr, IsTrue, is_some, None, Ok, Result, Some, false, true}
 use Rattle.std.specs.declared.string.String.{String}
 use Rattle.std.specs.declared.alloc.Global.{Global}
 use Rattle.imago_storage.specs.State.{StorageState}
 use Rattle.imago_storage.specs.declared.fault.Fault.{Fault}
-use Rattle.imago_storage.specs.declared.fault.Fault.TheVariants.{ExtraLayer, Memory, Storage}
+use Rattle.imago_storage.specs.declared.fault.Fault.TheVariants.{ExtraLayer, Limit, Memory, MissingBelow, Storage, Unsupported}
 use Rattle.imago_access.specs.Layer.{Cell, own, unmapped}
 use Rattle.imago_access.specs.declared.format.Format.TheVariants.{Qcow2, Vmdk}
 use Rattle.imago_formats.specs.Descriptor.{descriptor_of}
@@ -14,8 +14,9 @@ use Rattle.imago_formats.specs.declared.vmdk.descriptor.Extent.{Extent}
 use Rattle.qcow2_types.specs.Bytes.{bytes_of}
 use Rattle.qcow2_image.specs.Opening.{WhyNotOpened}
 use Rattle.qimg_core.specs.declared.plain.ChainFile.{ChainFile}
+use Rattle.qimg_chain.specs.Chains.{OfSecond}
 use Rattle.qimg_chain.specs.FileLayers.{IsLayer, WhyNotAs, asked_of, is_unmapped, said_of}
-use Rattle.qimg_chain.specs.Refusals.{FirstCause, HadResourceError, WhyNotLayers, misplaced}
+use Rattle.qimg_chain.specs.Refusals.{FirstCause, FirstCommitCause, HadResourceError, WhyNotCommitLayers, WhyNotLayers, misplaced}
 use Rattle.qimg_chain.specs.declared.chain.extras.Extras.{Extras}
 use Rattle.qimg_chain.proofs.FurtherTaken.{Answers, lacks_files}
 
@@ -69,6 +70,51 @@ module _ {S : Type 0} (state : S → StorageState) (writable : Bool) (file : Cha
       → HadResourceError state e ⊎ FirstCause state writable (file ∷ below) e
   first_of few e (inl cut) = inl cut
   first_of few e (inr why) = inr (inr (few, why))
+
+-- ---- The files of a chain that takes commits.
+
+module _ {S : Type 0} (state : S → StorageState) (top : ChainFile S) (below : List (ChainFile S)) where
+  -- The position of the first file isn't valid, or a file below it isn't opened.
+  pub at_commit_place : (e : Fault) (named : Bool) (further : List StorageState) → IsLayer state true top named further
+      → misplaced named below ≡ Some e → HadResourceError state e ⊎ WhyNotCommitLayers state (top ∷ below) e
+  at_commit_place e named further is out = inr (inr (inl (named, further, is, out)))
+
+  pub at_commit_below : (e : Fault) (named : Bool) (further : List StorageState) → IsLayer state true top named further
+      → misplaced named below ≡ None → HadResourceError state e ⊎ WhyNotLayers state true below e
+      → HadResourceError state e ⊎ WhyNotCommitLayers state (top ∷ below) e
+  at_commit_below e named further is here (inl cut) = inl cut
+  at_commit_below e named further is here (inr why) = inr (inr (inr ((named, further, is, here), why)))
+
+module _ {S : Type 0} (state : S → StorageState) (number below_number : ℕ) (apart : number ≢ below_number) where
+  -- The numbers differ, and there are fewer than two files.
+  pub alone : (files : List (ChainFile S)) → length files < 2 → FirstCommitCause state number below_number files MissingBelow
+  alone [] few = inr (apart, refl)
+  alone (top ∷ []) few = inr (apart, refl)
+  alone (top ∷ (next ∷ below)) few = absurd (omega (arith, few))
+
+  -- The second file is a VMDK image.
+  pub unsupported : (files : List (ChainFile S)) (next : ChainFile S) → 1 < length files → next ≡ get_or files 1 next → next.format ≡ Vmdk
+      → FirstCommitCause state number below_number files Unsupported
+  unsupported [] next two is vmdk = absurd (omega (arith, two))
+  unsupported (top ∷ []) next two is vmdk = absurd (omega (arith, two))
+  unsupported (top ∷ (file ∷ below)) next two is vmdk =
+      inr (apart, inl (subst (λ (f : ChainFile S). f.format ≡ Vmdk) is vmdk, refl))
+
+  -- There are too many files, or the first cause from the top down.
+  pub too_many : (files : List (ChainFile S)) → 1 < length files → OfSecond (λ (file : ChainFile S). file.format ≢ Vmdk) files
+      → 64 < length files
+      → FirstCommitCause state number below_number files (Limit (length files))
+  too_many [] two other many = absurd (omega (arith, two))
+  too_many (top ∷ []) two other many = absurd (omega (arith, two))
+  too_many (top ∷ (next ∷ below)) two other many = inr (apart, inr (other, inl (many, refl)))
+
+  pub first_commit_of : (files : List (ChainFile S)) → 1 < length files → OfSecond (λ (file : ChainFile S). file.format ≢ Vmdk) files
+      → length files ≤ 64 → (e : Fault) → HadResourceError state e ⊎ WhyNotCommitLayers state files e
+      → HadResourceError state e ⊎ FirstCommitCause state number below_number files e
+  first_commit_of files two other few e (inl cut) = inl cut
+  first_commit_of [] two other few e (inr why) = absurd why
+  first_commit_of (top ∷ []) two other few e (inr why) = absurd (omega (arith, two))
+  first_commit_of (top ∷ (next ∷ below)) two other few e (inr why) = inr (inr (apart, inr (other, inr (few, why))))
 
 -- If a file above another one refers to no layer below, its fault is `ExtraLayer`.
 pub upper_misplaced : {F : Type 0} (named : Bool) (next : F) (below : List F) → named ≡ false → misplaced named (next ∷ below) ≡ Some ExtraLayer

@@ -5,6 +5,7 @@ use Rattle.std.specs.Prelude.{⊤, Option, Some, None, option_map, IfSome, Resul
 use Rattle.std.specs.Io.BufRead.{take_through, drop_through, DropsThrough}
 use Rattle.std.specs.Str.Lines.{lines}
 use Rattle.imago_storage.specs.declared.fault.Fault.{Fault}
+use Rattle.qimg_chain.specs.Saving.{SavedFiles}
 use Rattle.qimg_chain.specs.declared.run.fault.RunFault.{RunFault}
 use Rattle.qimg_chain.specs.declared.run.fault.RunFault.TheVariants as run_fault
 use Rattle.qimg_chain.specs.declared.script.line.Line.{Line}
@@ -62,7 +63,7 @@ none-taken room [] is = refl
 none-taken room (b ∷ rest) is = cc (rw (add-one) at is)
 
 -- The script has no more lines.
-pub read-all : (input left rest : Option (List ℕ)) (room less : ℕ) (texts : List (List ℕ)) (saved : Option (List ℕ)) → ReadSoFar input left room texts
+pub read-all : (input left rest : Option (List ℕ)) (room less : ℕ) (texts : List (List ℕ)) (saved : Option SavedFiles) → ReadSoFar input left room texts
     → ReadsNext left rest room less None → IfSome input (λ bytes. AreAnswered (Ok saved) bytes texts)
 read-all None left rest room less texts saved so_far read = tt
 read-all (Some bytes) left rest room less texts saved r read =

@@ -14,7 +14,7 @@ use Rattle.qimg_chain.specs.ScriptParts.{lone_line, shrink_line, range_line, mod
 use Rattle.qimg_chain.specs.Script.{IsNumber, HasTwo, IsWritten, IsLine, NotLine}
 use Rattle.qimg_chain.proofs.ScriptSpelling.{last_word, words_again}
 use Rattle.qimg_chain.specs.declared.script.line.Line.{Line}
-use Rattle.qimg_chain.specs.declared.script.line.Line.TheVariants.{Size, Read, Write, Zero, Discard, DiscardAny, DiscardBacking, Grow, Shrink, Flush, Check, Plain, Save, Repair}
+use Rattle.qimg_chain.specs.declared.script.line.Line.TheVariants.{Size, Read, Write, Zero, Discard, DiscardAny, DiscardBacking, Grow, Shrink, Flush, Check, Plain, Save, Repair, Commit}
 
 -- One step in a chain of comparisons with names, and its result.
 by_word : {A : Type 0} (P : A → Type 0) (name word : List ℕ) (chosen rest : Option A) (y : A) →
@@ -60,7 +60,8 @@ lone_written name line e =
     by_name P name (codes "flush") Flush line _ e (λ n. ap (λ w. w ∷ []) n) (λ e.
     by_name P name (codes "check") Check line _ e (λ n. ap (λ w. w ∷ []) n) (λ e.
     by_name P name (codes "save") Save line _ e (λ n. ap (λ w. w ∷ []) n) (λ e.
-    by_name P name (codes "repair") Repair line _ e (λ n. ap (λ w. w ∷ []) n) (λ e. none P line e)))))
+    by_name P name (codes "repair") Repair line _ e (λ n. ap (λ w. w ∷ []) n) (λ e.
+    by_name P name (codes "commit") Commit line _ e (λ n. ap (λ w. w ∷ []) n) (λ e. none P line e))))))
 
 made : {A B : Type 0} (f : A → Option B) (o : Option A) (y : B) → option_and_then f o ≡ Some y → (x : A) × (o ≡ Some x) × (f x ≡ Some y)
 made f None y e = absurd cc
@@ -162,6 +163,7 @@ written_line Check words h = rw h refl
 written_line (Plain offset count) words h = rw (h.words_are, h.is_first, h.is_second) refl
 written_line Save words h = rw h refl
 written_line Repair words h = rw h refl
+written_line Commit words h = rw h refl
 
 line_again : (text : List ℕ) (line : Line) → IsLine text line → line_of (words_of text) ≡ Some line
 line_again text line i =

@@ -2,7 +2,7 @@
 use Rattle.std.proofs.Common.{◌≡◌, ℕ, ◌+◌, ◌∙◌, List, [], ◌∷◌, ◌++◌, length, refl, ap, subst, sym, arith, inl, inr, length-append}
 use Rattle.std.proofs.lemmas.List.{append-nil}
 use mathlib.Core.List.{append_assoc}
-use Rattle.std.specs.Prelude.{map, Option, Some, None, IfSome, OnOk, Result, Ok, Err}
+use Rattle.std.specs.Prelude.{map, Option, Some, None, IfOk, IfSome, IsErrAnd, IsOkUnless, OnOk, Result, Ok, Err}
 use Rattle.std.specs.Io.KnownBytes.{Appends}
 use Rattle.imago_storage.specs.declared.fault.Fault.{Fault}
 use Rattle.imago_access.specs.declared.driver_model.DriverModel.{Ghosts}
@@ -10,9 +10,10 @@ use Rattle.imago_access.specs.Layer.{IsFree}
 use Rattle.imago_access.specs.Stops.{IsCovered}
 use Rattle.qimg_calls.specs.Held.{IsReady}
 use Rattle.qimg_calls.specs.Making.{AnswersAlone}
-use Rattle.qimg_calls.specs.Runs.{Driven, HoldsSince}
+use Rattle.qimg_calls.specs.Runs.{Driven, HoldsSince, MayCommit}
 use Rattle.qimg_calls.specs.Since.{Since}
 use Rattle.qimg_calls.proofs.Alone.{alone-both, driven-alone}
+use Rattle.qimg_chain.specs.Saving.{SavedFiles}
 use Rattle.qimg_chain.specs.declared.run.fault.RunFault.{RunFault}
 use Rattle.qimg_chain.specs.declared.run.fault.RunFault.TheVariants as run_fault
 use Rattle.qimg_chain.specs.ScriptAnswers.{answer_text}
@@ -21,7 +22,7 @@ use Rattle.qimg_chain.specs.declared.script.line.Line.{Line}
 use Rattle.qimg_chain.specs.RunCalls.{Turn}
 use Rattle.qimg_chain.specs.ScriptLimits.{AreAnswered, IsAnswerCount, most_bytes}
 use Rattle.qimg_chain.specs.ScriptReads.{IsTakenAs, ReadsNext}
-use Rattle.qimg_chain.specs.ScriptRuns.{AreWritten, IsTellingFault, Reply, Standing, reply, standing, Replies, RunsAll, Scripted, calls_of, answers_of, text_of}
+use Rattle.qimg_chain.specs.ScriptRuns.{AreWritten, IsTellingFault, Reply, Standing, reply, standing, Replies, RunsAll, Scripted, calls_of, answers_of, ending, text_of}
 use Rattle.qimg_chain.proofs.ScriptBytes.{EndsEarly, ReadSoFar, read-cut, read-then}
 
 abbrev pub text : Reply → List ℕ
@@ -54,8 +55,13 @@ pub record RanSoFar {D St : Type 0} (g : Ghosts D St) (names : D → ℕ → Lis
   pub made : MadeSoFar g names io.input io.left io.room count old now
   pub written : Appends io.before io.after (text_of made.replies)
 
+-- The returned fault is the one that occurred.
+pub handed-on : {T : Type 0} (result : Result T RunFault) (fault : RunFault) → IsErrAnd result (λ e. e ≡ fault) → result ≡ Err fault
+handed-on (Ok x) fault is = absurd is
+handed-on (Err e) fault is = ap Err is
+
 -- All answers are written.
-pub all-written : (result : Result (Option (List ℕ)) RunFault) (before after : Option (List ℕ)) (replies : List Reply) →
+pub all-written : (result : Result (Option SavedFiles) RunFault) (before after : Option (List ℕ)) (replies : List Reply) →
     Appends before after (text_of replies) → AreWritten result before after replies
 all-written (Ok kept) before after replies all = all
 all-written (Err run_fault.Write) before after replies all = tt
@@ -64,7 +70,7 @@ all-written (Err run_fault.Read) before after replies all = all
 all-written (Err run_fault.Lines) before after replies all = all
 
 -- The last answer isn't written, because of this fault. If memory ran out, nothing of it is written.
-pub last-untold : (result : Result (Option (List ℕ)) RunFault) (fault : RunFault) (before mid after : Option (List ℕ)) (told : List Reply) (last : Reply) →
+pub last-untold : (result : Result (Option SavedFiles) RunFault) (fault : RunFault) (before mid after : Option (List ℕ)) (told : List Reply) (last : Reply) →
     IsTellingFault fault → result ≡ Err fault → (fault ≡ run_fault.Memory → after ≡ mid) → Appends before mid (text_of told) → AreWritten result before after (told ++ last ∷ [])
 last-untold result fault before mid after told last telling is guest_unchanged all = rw (is) (at fault telling guest_unchanged)
   where
@@ -112,10 +118,10 @@ module _ {D St : Type 0} (g : Ghosts D St) (names : D → ℕ → List ℕ) wher
       alone-both g r.turn.list (calls_of replies) r.turn.answers (answers_of replies) old.drivers all.0.drivers new.drivers all.1.made (alone-all replies all.0 new all.2)
 
   -- The calls of all lines together.
-  driven-all : (replies : List Reply) (old new : D × List D) (saved : Option (List ℕ)) (since : Since) → MayBegin g old
-      → RunsAll g names replies (standing old None) (standing new saved) → IsReady g old → HoldsSince g since old → Driven g since (calls_of replies) (answers_of replies) old new
-  driven-all replies old new saved since rests runs ready stands =
-      driven-alone g rests.well_formed_is_coherent rests.well_formed_is_sound (calls_of replies) (answers_of replies) old new since (alone-all replies (standing old None) (standing new saved) runs) rests.free ready stands
+  driven-all : (replies : List Reply) (old new : D × List D) (saved : Option SavedFiles) (since : Since) → MayBegin g old
+      → RunsAll g names replies (standing old None) (standing new saved) → IsReady g old → MayCommit g (calls_of replies) old → HoldsSince g since old → Driven g since (calls_of replies) (answers_of replies) old new
+  driven-all replies old new saved since rests runs ready may stands =
+      driven-alone g rests.well_formed_is_coherent rests.well_formed_is_sound (calls_of replies) (answers_of replies) old new since (alone-all replies (standing old None) (standing new saved) runs) rests.free ready may stands
 
   pub ran-none : (input left before : Option (List ℕ)) (old : D × List D) → MayBegin g old → ReadSoFar input left most_bytes []
       → RanSoFar g names (record { input = input; left = left; room = most_bytes; before = before; after = before }) 0 old (standing old None)
@@ -159,7 +165,7 @@ ran-then {io = io} next last less new taken answer ran read answers tells = reco
 }
 
 -- The result of a script that ends in this state.
-pub scripted : {D St : Type 0} {g : Ghosts D St} {names : D → ℕ → List ℕ} {io : Streams} {count : ℕ} {old new : D × List D} {saved : Option (List ℕ)} {result : Result (Option (List ℕ)) RunFault}
+pub scripted : {D St : Type 0} {g : Ghosts D St} {names : D → ℕ → List ℕ} {io : Streams} {count : ℕ} {old new : D × List D} {saved : Option SavedFiles} {result : Result (Option SavedFiles) RunFault}
     → RanSoFar g names io count old (standing new saved) → IsAnswerCount result count
     → ((texts : List (List ℕ)) → ReadSoFar io.input io.left io.room texts → IfSome io.input (λ bytes. AreAnswered result bytes texts)) → OnOk result (result ≡ Ok saved)
     → Scripted g names io.input io.before io.after result old new
@@ -167,7 +173,7 @@ scripted {g = g} {names = names} {io = io} {old = old} {new = new} {saved = save
   replies = ran.made.replies;
   saved = saved;
   runs = ran.made.runs;
-  driven = λ since ready stands. driven-all g names ran.made.replies old new saved since ran.made.rests ran.made.runs ready stands;
+  driven = λ since ready may stands. driven-all g names ran.made.replies old new saved since ran.made.rests ran.made.runs ready may stands;
   count = subst (IsAnswerCount result) (sym ran.made.counted) counts;
   lines = all (map text ran.made.replies) ran.made.read;
   written = all-written result io.before io.after ran.made.replies ran.written;
@@ -175,27 +181,27 @@ scripted {g = g} {names = names} {io = io} {old = old} {new = new} {saved = save
 }
 
 -- Like `scripted`, for an early end that isn't for the limit of lines.
-pub scripted-cut : {D St : Type 0} {g : Ghosts D St} {names : D → ℕ → List ℕ} {input left : Option (List ℕ)} {room count : ℕ} {old new : D × List D} {saved : Option (List ℕ)}
-    → (before after : Option (List ℕ)) (result : Result (Option (List ℕ)) RunFault) (fault : RunFault) (made : MadeSoFar g names input left room count old (standing new saved)) → EndsEarly fault count
+pub scripted-cut : {D St : Type 0} {g : Ghosts D St} {names : D → ℕ → List ℕ} {input left : Option (List ℕ)} {room count : ℕ} {old new : D × List D} {saved : Option SavedFiles}
+    → (before after : Option (List ℕ)) (result : Result (Option SavedFiles) RunFault) (fault : RunFault) (made : MadeSoFar g names input left room count old (standing new saved)) → EndsEarly fault count
     → result ≡ Err fault → AreWritten result before after made.replies → Scripted g names input before after result old new
 scripted-cut {g = g} {names = names} {input = input} {left = left} {room = room} {count = count} {old = old} {new = new} {saved = saved} before after result fault made cut is written = record {
   replies = made.replies;
   saved = saved;
   runs = made.runs;
-  driven = λ since ready stands. driven-all g names made.replies old new saved since made.rests made.runs ready stands;
+  driven = λ since ready may stands. driven-all g names made.replies old new saved since made.rests made.runs ready may stands;
   count = rw (is) (subst (IsAnswerCount (Err fault)) (sym made.counted) cut.count);
   lines = rw (is) (read-cut input left room count (map text made.replies) fault made.read cut);
   written = written;
   saved_returned = rw (is) tt;
 }
 
-within-limits : (saved : Option (List ℕ)) (input : Option (List ℕ)) (texts : List (List ℕ)) → IfSome input (λ bytes. AreAnswered (Ok saved) bytes texts)
+within-limits : (saved : Option SavedFiles) (input : Option (List ℕ)) (texts : List (List ℕ)) → IfSome input (λ bytes. AreAnswered (Ok saved) bytes texts)
     → IfSome input (λ bytes. AreAnswered (Err run_fault.Memory) bytes texts)
 within-limits saved None texts all = tt
 within-limits saved (Some bytes) texts all = record { before = all.before; remainder = all.remainder; parts = all.parts; first = all.first; short = all.short; ends = tt }
 
 -- The result of a script that ended, if memory runs out for the copy of the kept bytes.
-pub scripted-uncopied : {D St : Type 0} {g : Ghosts D St} {names : D → ℕ → List ℕ} {input before after : Option (List ℕ)} {old new : D × List D} {saved : Option (List ℕ)}
+pub scripted-uncopied : {D St : Type 0} {g : Ghosts D St} {names : D → ℕ → List ℕ} {input before after : Option (List ℕ)} {old new : D × List D} {saved : Option SavedFiles}
     → Scripted g names input before after (Ok saved) old new → Scripted g names input before after (Err run_fault.Memory) old new
 scripted-uncopied {input = input} {saved = saved} ran = record {
   replies = ran.replies;
@@ -207,3 +213,11 @@ scripted-uncopied {input = input} {saved = saved} ran = record {
   written = inl ran.written;
   saved_returned = tt;
 }
+
+-- The result of a script that ended, with the bytes that are returned, unless memory runs out for their copy.
+pub scripted-taken : {D St T : Type 0} {g : Ghosts D St} {names : D → ℕ → List ℕ} {input before after : Option (List ℕ)} {old new : D × List D}
+    {saved : Option SavedFiles} → (kept : T → Option SavedFiles) (result : Result T RunFault) → IfOk result (λ t. kept t ≡ saved)
+    → IsOkUnless result run_fault.Memory → Scripted g names input before after (Ok saved) old new
+    → Scripted g names input before after (ending kept result) old new
+scripted-taken kept (Ok t) same memory ran = rw (same) ran
+scripted-taken kept (Err fault) same memory ran = rw (memory) (scripted-uncopied ran)

@@ -18,7 +18,7 @@ use Rattle.imago_access.specs.declared.format.PreallocateMode.TheVariants as mod
 use Rattle.qimg_chain.specs.ScriptWords.{words_of, is_number, number_of, bytes_of, mode_word}
 use Rattle.qimg_chain.specs.Script.{IsNumber, IsBytes, HasOne, HasTwo, IsWritten}
 use Rattle.qimg_chain.specs.declared.script.line.Line.{Line}
-use Rattle.qimg_chain.specs.declared.script.line.Line.TheVariants.{Size, Read, Write, Zero, Discard, DiscardAny, DiscardBacking, Grow, Shrink, Flush, Check, Plain, Save, Repair}
+use Rattle.qimg_chain.specs.declared.script.line.Line.TheVariants.{Size, Read, Write, Zero, Discard, DiscardAny, DiscardBacking, Grow, Shrink, Flush, Check, Plain, Save, Repair, Commit}
 use lib.Dec.{eqb, ltb}
 
 abbrev is_space : ℕ → Bool
@@ -124,6 +124,7 @@ last_word name first second Check h = absurd cc
 last_word name first second (Plain offset count) h = last_ranged (codes "plain") name first second offset count h
 last_word name first second Save h = absurd cc
 last_word name first second Repair h = absurd cc
+last_word name first second Commit h = absurd cc
 
 -- The text of a line is split into the parts that it was written from.
 pub words_again : (line : Line) (words : List (List ℕ)) → IsWritten line words → words_of (join_with_byte 32 words) ≡ words
@@ -143,3 +144,4 @@ words_again Check words h = lone (codes "check") words refl h
 words_again (Plain offset count) words h = ranged (codes "plain") words offset count refl h
 words_again Save words h = lone (codes "save") words refl h
 words_again Repair words h = lone (codes "repair") words refl h
+words_again Commit words h = lone (codes "commit") words refl h

@@ -1,5 +1,5 @@
 -- Defines what the arguments of the program `qimg` mean: the images of a chain (an image and its backing chain). Texts are lists of bytes.
-use Rattle.std.specs.Prelude.{◌≡◌, ◌≢◌, ⊤, ℕ, List, [], ◌∷◌, ◌++◌, map, drop, flat_map, Bool, if◌then◌else◌, Option, Some, None, String, string_bytes, codes}
+use Rattle.std.specs.Prelude.{◌≡◌, ◌≢◌, ⊤, ℕ, List, [], ◌∷◌, ◌++◌, map, drop, flat_map, Option, Some, None, String, string_bytes, codes}
 use Rattle.std.specs.Borrow.{Bor}
 use Rattle.std.specs.Global.{Global}
 use Rattle.imago_access.specs.declared.format.Format.{Format}
@@ -8,6 +8,8 @@ use Rattle.imago_storage.specs.declared.fault.Fault.{Fault}
 use Rattle.imago_storage.specs.declared.fault.Fault.TheVariants.{BadArgument, Memory}
 use Rattle.qimg_chain.specs.declared.arguments.LayerArgument.{LayerArgument}
 use Rattle.qimg_chain.specs.declared.arguments.Arguments.{Arguments}
+use Rattle.qimg_chain.specs.declared.arguments.Opening.{Opening}
+use Rattle.qimg_chain.specs.declared.arguments.Opening.TheVariants.{Writable, ReadOnly, ForCommit}
 
 -- The arguments from index `at` on.
 abbrev pub words_from : ℕ → List (Bor (List ℕ)) → List (List ℕ)
@@ -19,9 +21,9 @@ pub record AskedLayer : Type 0 where
   pub path : List ℕ
   pub extras : List (List ℕ × List ℕ)
 
--- The meaning of the arguments: whether the top image is opened read-only, and the images, the top first.
+-- The meaning of the arguments: how the images are opened, and the images, the top first.
 pub record Asked : Type 0 where
-  pub read_only : Bool
+  pub opening : Opening
   pub layers : List AskedLayer
 
 abbrev pub extra_of : String Global × String Global → List ℕ × List ℕ
@@ -31,7 +33,7 @@ abbrev pub layer_of : LayerArgument → AskedLayer
 layer_of layer = record { format = layer.format; path = string_bytes layer.path; extras = map extra_of layer.extras.items }
 
 abbrev pub asked_of : Arguments → Asked
-asked_of arguments = record { read_only = arguments.read_only; layers = map layer_of arguments.layers.items }
+asked_of arguments = record { opening = arguments.opening; layers = map layer_of arguments.layers.items }
 
 -- The arguments for a further file, for a layer, and for everything.
 abbrev pub extra_words : List ℕ × List ℕ → List (List ℕ)
@@ -45,8 +47,19 @@ format_word Vmdk = codes "vmdk"
 abbrev pub layer_words : AskedLayer → List (List ℕ)
 layer_words layer = format_word layer.format ∷ layer.path ∷ flat_map extra_words layer.extras
 
+abbrev pub opening_words : Opening → List (List ℕ)
+opening_words Writable = []
+opening_words ReadOnly = codes "-r" ∷ []
+opening_words ForCommit = codes "-c" ∷ []
+
+-- The first argument says how the images are opened.
+abbrev pub IsOpening : List ℕ → Opening → Type 0
+IsOpening word Writable = (word ≢ codes "-r") × (word ≢ codes "-c")
+IsOpening word ReadOnly = word ≡ codes "-r"
+IsOpening word ForCommit = word ≡ codes "-c"
+
 abbrev pub asked_words : Asked → List (List ℕ)
-asked_words asked = (if asked.read_only then codes "-r" ∷ [] else []) ++ flat_map layer_words asked.layers
+asked_words asked = opening_words asked.opening ++ flat_map layer_words asked.layers
 
 -- The arguments have this meaning, with at least one layer.
 abbrev pub AskFor : List (List ℕ) → Asked → Type 0

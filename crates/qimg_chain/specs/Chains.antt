@@ -1,5 +1,5 @@
 -- Defines chains (an image and its backing chain) over image files: when drivers are the layers (images) of these files.
-use Rattle.std.specs.Prelude.{◌≡◌, ◌≢◌, ⊤, ℕ, Bool, false, List, [], ◌∷◌, All, IsTrue}
+use Rattle.std.specs.Prelude.{◌≡◌, ◌≢◌, ⊤, ℕ, Bool, true, false, List, [], ◌∷◌, All, IsTrue, Option, Some, None}
 use Rattle.imago_storage.specs.State.{StorageState}
 use Rattle.imago_access.specs.Building.{IsOpened}
 use Rattle.imago_access.specs.Layer.{Layer, unmapped}
@@ -23,11 +23,32 @@ pub record IsLayerOf {S D St : Type 0} (g : Ghosts D St) (state : S → StorageS
   pub opened : IsOpened g file.format writable (number_for file.format number) (state file.image) d
   pub layer : IsLayer state writable file (shows_below (g.layer d)) (g.extras d)
 
--- The layers are those of the files, in their order. Only the top can be opened for writing, and gets the number.
-abbrev pub AreLayers : {S D St : Type 0} → Ghosts D St → (S → StorageState) → Bool → ℕ → List (ChainFile S) → List D → Type 0
-AreLayers g state writable number [] [] = ⊤
-AreLayers g state writable number (file ∷ files) (d ∷ ds) = IsLayerOf g state writable number file d × AreLayers g state false 0 files ds
-AreLayers g state writable number files ds = ⊥
+-- The arguments of an opening: whether the top is writable, the number of the top, and the number of the next layer (the layer below the top)
+-- if that is writable, too. All other layers are read-only and have the number 0.
+pub record OpenMode : Type 0 where
+  pub writable : Bool
+  pub number : ℕ
+  pub next : Option ℕ
+
+abbrev pub mode : Bool → ℕ → OpenMode
+mode writable number = record { writable = writable; number = number; next = None }
+
+abbrev pub for_commit : ℕ → ℕ → OpenMode
+for_commit number below_number = record { writable = true; number = number; next = Some below_number }
+
+-- The same for the layers below the top.
+abbrev pub mode_of_next : Option ℕ → OpenMode
+mode_of_next None = mode false 0
+mode_of_next (Some number) = mode true number
+
+abbrev pub mode_below : OpenMode → OpenMode
+mode_below m = mode_of_next m.next
+
+-- The layers are those of the files, in their order, opened in this mode.
+abbrev pub AreLayers : {S D St : Type 0} → Ghosts D St → (S → StorageState) → OpenMode → List (ChainFile S) → List D → Type 0
+AreLayers g state m [] [] = ⊤
+AreLayers g state m (file ∷ files) (d ∷ ds) = IsLayerOf g state m.writable m.number file d × AreLayers g state (mode_below m) files ds
+AreLayers g state m files ds = ⊥
 
 -- A layer above another reads its unallocated bytes from the layers below it, and the last layer doesn't.
 abbrev pub IsInPlace : List Layer → Layer → Type 0
@@ -54,6 +75,11 @@ pub record IsFit {S : Type 0} (state : S → StorageState) (file : ChainFile S) 
 abbrev pub OfTop : {S : Type 0} → (ChainFile S → Type 0) → List (ChainFile S) → Type 0
 OfTop P [] = ⊥
 OfTop P (file ∷ below) = P file
+
+-- `P` holds for the second of the files, that of the next layer.
+abbrev pub OfSecond : {S : Type 0} → (ChainFile S → Type 0) → List (ChainFile S) → Type 0
+OfSecond P [] = ⊥
+OfSecond P (file ∷ below) = OfTop P below
 
 -- `P` holds for the top, or the list of files is empty.
 abbrev pub AllOfTop : {S : Type 0} → (ChainFile S → Type 0) → List (ChainFile S) → Type 0

@@ -17,6 +17,7 @@ pub mod Refusals
 pub mod Repairing
 pub mod RunAnswers
 pub mod RunCalls
+pub mod Saving
 pub mod Script
 pub mod ScriptAnswers
 pub mod ScriptLimits

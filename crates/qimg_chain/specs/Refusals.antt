@@ -1,9 +1,11 @@
 -- Defines when files form a chain (an image and its backing chain), and otherwise the first cause why they don't.
-use Rattle.std.specs.Prelude.{◌≡◌, ◌⊎◌, ◌<◌, ◌≤◌, ⊤, Bool, true, false, List, [], ◌∷◌, length, Option, Some, None}
+use Rattle.std.specs.Prelude.{◌≡◌, ◌≢◌, ◌⊎◌, ◌<◌, ◌≤◌, ⊤, ℕ, Bool, true, false, List, [], ◌∷◌, length, MatchOption, Option, Some, None}
 use Rattle.imago_storage.specs.State.{MayFail, StorageState}
 use Rattle.imago_storage.specs.declared.fault.Fault.{Fault}
-use Rattle.imago_storage.specs.declared.fault.Fault.TheVariants.{ExtraLayer, Limit, Memory, MissingBelow, Storage}
+use Rattle.imago_storage.specs.declared.fault.Fault.TheVariants.{BadArgument, ExtraLayer, Limit, Memory, MissingBelow, Storage, Unsupported}
+use Rattle.imago_access.specs.declared.format.Format.TheVariants.{Vmdk}
 use Rattle.qimg_core.specs.declared.plain.ChainFile.{ChainFile}
+use Rattle.qimg_chain.specs.Chains.{OpenMode, mode_below}
 use Rattle.qimg_chain.specs.FileLayers.{IsLayer, WhyNotLayer}
 
 -- Memory ran out, or a storage failed, of a kind that may fail.
@@ -42,3 +44,41 @@ abbrev pub FirstCause : {S : Type 0} → (S → StorageState) → Bool → List 
 FirstCause state writable [] fault = fault ≡ MissingBelow
 FirstCause state writable files fault = ((64 < length files) × (fault ≡ Limit (length files)))
     ⊎ ((length files ≤ 64) × WhyNotLayers state writable files fault)
+
+-- ---- Files that are opened for commits to the layer below.
+
+-- There are 2 to 64 files, and each is a layer at a valid position. The first two are opened for writing. The second isn't a VMDK image.
+abbrev pub FormCommitChain : {S : Type 0} → (S → StorageState) → List (ChainFile S) → Type 0
+FormCommitChain state [] = ⊥
+FormCommitChain state (top ∷ []) = ⊥
+FormCommitChain state (top ∷ (next ∷ below)) = (length (top ∷ (next ∷ below)) ≤ 64) × (next.format ≢ Vmdk)
+    × IsPlacedLayer state true top (next ∷ below) None × ArePlaced state true (next ∷ below)
+
+-- The first cause, from the top down, why two files or more aren't layers at valid positions.
+abbrev pub WhyNotCommitLayers : {S : Type 0} → (S → StorageState) → List (ChainFile S) → Fault → Type 0
+WhyNotCommitLayers state [] fault = ⊥
+WhyNotCommitLayers state (top ∷ below) fault = WhyNotLayer state true top fault
+    ⊎ (IsPlacedLayer state true top below (Some fault)
+    ⊎ (IsPlacedLayer state true top below None × WhyNotLayers state true below fault))
+
+-- The first cause why the files aren't opened for commits: the numbers are equal, the files are fewer than two, the second is a VMDK image, the
+-- files are more than 64, or the first cause from the top down.
+abbrev pub CommitCauseOf : {S : Type 0} → (S → StorageState) → List (ChainFile S) → Fault → Type 0
+CommitCauseOf state [] fault = fault ≡ MissingBelow
+CommitCauseOf state (top ∷ []) fault = fault ≡ MissingBelow
+CommitCauseOf state (top ∷ (next ∷ below)) fault = ((next.format ≡ Vmdk) × (fault ≡ Unsupported))
+    ⊎ ((next.format ≢ Vmdk)
+    × (((64 < length (top ∷ (next ∷ below))) × (fault ≡ Limit (length (top ∷ (next ∷ below)))))
+    ⊎ ((length (top ∷ (next ∷ below)) ≤ 64) × WhyNotCommitLayers state (top ∷ (next ∷ below)) fault)))
+
+abbrev pub FirstCommitCause : {S : Type 0} → (S → StorageState) → (number below_number : ℕ) → List (ChainFile S) → Fault → Type 0
+FirstCommitCause state number below_number files fault = ((number ≡ below_number) × (fault ≡ BadArgument))
+    ⊎ ((number ≢ below_number) × CommitCauseOf state files fault)
+
+-- The files form a chain, as they are opened in this mode, or the first cause why they don't.
+abbrev pub AreFormed : {S : Type 0} → (S → StorageState) → OpenMode → List (ChainFile S) → Type 0
+AreFormed state m files = MatchOption m.next (FormChain state m.writable files) (λ _. FormCommitChain state files)
+
+abbrev pub WhyNotFormed : {S : Type 0} → (S → StorageState) → OpenMode → List (ChainFile S) → Fault → Type 0
+WhyNotFormed state m files fault =
+    MatchOption m.next (FirstCause state m.writable files fault) (λ below_number. FirstCommitCause state m.number below_number files fault)

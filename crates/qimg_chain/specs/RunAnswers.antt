@@ -19,6 +19,7 @@ use Rattle.qimg_core.specs.declared.check.CheckFault.{CheckFault}
 use Rattle.qimg_core.specs.declared.check.CheckFault.TheVariants as check_fault
 use Rattle.qimg_chain.specs.FileMeanings.{driver_bytes, files_bytes}
 use Rattle.qimg_chain.specs.PlainReads.{IsPlainlyRead, NotPlainlyRead}
+use Rattle.qimg_chain.specs.Saving.{SavedFiles}
 use Rattle.qimg_chain.specs.RunCalls.{Turn, unmade, TellsCall}
 use Rattle.qimg_chain.specs.declared.script.answer.Answer.{Answer}
 use Rattle.qimg_chain.specs.declared.script.answer.Answer.TheVariants as told
@@ -96,10 +97,10 @@ pub record Answered {D St : Type 0} (g : Ghosts D St) (names : D → ℕ → Lis
   pub made : AnswersAlone g turn.list turn.answers old new
   pub tells : TellsLine g names line turn answer old
 
--- After a `save` that succeeded, the bytes of the top file are kept. Otherwise the kept bytes are unchanged.
-abbrev pub KeepsSaved : Line → Answer → List ℕ → Option (List ℕ) → Option (List ℕ) → Type 0
-KeepsSaved Save told.Done bytes old new = new ≡ Some bytes
-KeepsSaved line answer bytes old new = new ≡ old
+-- After a `save` that succeeded, the bytes of the files are kept, as they are now. Otherwise the kept bytes are unchanged.
+abbrev pub KeepsSaved : Line → Answer → SavedFiles → Option SavedFiles → Option SavedFiles → Type 0
+KeepsSaved Save told.Done files old new = new ≡ Some files
+KeepsSaved line answer files old new = new ≡ old
 
 -- The line doesn't read more bytes than it may.
 abbrev pub IsShort : Line → Type 0

@@ -14,7 +14,7 @@ use Rattle.qimg_calls.specs.declared.call.Answer.TheVariants as answers
 use Rattle.qimg_chain.specs.declared.script.answer.Answer.{Answer}
 use Rattle.qimg_chain.specs.declared.script.answer.Answer.TheVariants as told
 use Rattle.qimg_chain.specs.declared.script.line.Line.{Line}
-use Rattle.qimg_chain.specs.declared.script.line.Line.TheVariants.{Size, Read, Write, Zero, Discard, DiscardAny, DiscardBacking, Grow, Shrink, Flush, Check, Plain, Save, Repair}
+use Rattle.qimg_chain.specs.declared.script.line.Line.TheVariants.{Size, Read, Write, Zero, Discard, DiscardAny, DiscardBacking, Grow, Shrink, Flush, Check, Plain, Save, Repair, Commit}
 
 -- The line makes a call of the chain.
 abbrev pub asks_for_call : Line → Bool
@@ -36,6 +36,7 @@ IsCallOf (Shrink size) call = call ≡ calls.ResizeShrink size
 IsCallOf Flush call = call ≡ calls.Flush
 IsCallOf Save call = call ≡ calls.Flush
 IsCallOf Repair call = call ≡ calls.RepairLeaks
+IsCallOf Commit call = call ≡ calls.CommitDown
 IsCallOf line call = ⊥
 
 abbrev pub IsNoCall : Line → Type 0

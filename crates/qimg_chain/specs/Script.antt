@@ -7,7 +7,7 @@ use Rattle.imago_storage.specs.declared.fault.Fault.TheVariants.{Memory, BadComm
 use Rattle.imago_access.specs.declared.format.PreallocateMode.{PreallocateMode}
 use Rattle.qimg_chain.specs.ScriptWords.{ArePairs, words_of, number_of, bytes_of, mode_word}
 use Rattle.qimg_chain.specs.declared.script.line.Line.{Line}
-use Rattle.qimg_chain.specs.declared.script.line.Line.TheVariants.{Size, Read, Write, Zero, Discard, DiscardAny, DiscardBacking, Grow, Shrink, Flush, Check, Plain, Save, Repair}
+use Rattle.qimg_chain.specs.declared.script.line.Line.TheVariants.{Size, Read, Write, Zero, Discard, DiscardAny, DiscardBacking, Grow, Shrink, Flush, Check, Plain, Save, Repair, Commit}
 
 -- The argument writes a number, which may have leading zeroes.
 abbrev pub IsNumber : ℕ → List ℕ → Type 0
@@ -51,6 +51,7 @@ IsWritten Check words = words ≡ codes "check" ∷ []
 IsWritten (Plain offset count) words = HasTwo (codes "plain") (IsNumber offset) (IsNumber count) words
 IsWritten Save words = words ≡ codes "save" ∷ []
 IsWritten Repair words = words ≡ codes "repair" ∷ []
+IsWritten Commit words = words ≡ codes "commit" ∷ []
 
 -- A text of at most 65,536 bytes is the line: its parts with one space between two of them.
 pub record IsLine (text : List ℕ) (line : Line) : Type 0 where

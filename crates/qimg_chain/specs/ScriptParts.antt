@@ -6,7 +6,7 @@ use Rattle.imago_storage.specs.declared.fault.Fault.TheVariants.{Memory, BadComm
 use Rattle.qimg_chain.specs.ScriptWords.{number_of, bytes_of, mode_of}
 use Rattle.qimg_chain.specs.Script.{IsWrite}
 use Rattle.qimg_chain.specs.declared.script.line.Line.{Line}
-use Rattle.qimg_chain.specs.declared.script.line.Line.TheVariants.{Size, Read, Write, Zero, Discard, DiscardAny, DiscardBacking, Grow, Shrink, Flush, Check, Plain, Save, Repair}
+use Rattle.qimg_chain.specs.declared.script.line.Line.TheVariants.{Size, Read, Write, Zero, Discard, DiscardAny, DiscardBacking, Grow, Shrink, Flush, Check, Plain, Save, Repair, Commit}
 
 -- The line of a command without arguments.
 unfoldable pub lone_line : List ℕ → Option Line
@@ -14,7 +14,8 @@ lone_line name = if bytes_eq name (codes "size") then Some Size
     else (if bytes_eq name (codes "flush") then Some Flush
     else (if bytes_eq name (codes "check") then Some Check
     else (if bytes_eq name (codes "save") then Some Save
-    else (if bytes_eq name (codes "repair") then Some Repair else None))))
+    else (if bytes_eq name (codes "repair") then Some Repair
+    else (if bytes_eq name (codes "commit") then Some Commit else None)))))
 
 -- The line of a command with one argument.
 unfoldable pub shrink_line : List ℕ → List ℕ → Option Line

@@ -6,10 +6,11 @@ use Rattle.imago_storage.specs.declared.fault.Fault.{Fault}
 use Rattle.imago_access.specs.declared.driver_model.DriverModel.{Ghosts}
 use Rattle.qimg_calls.specs.Held.{IsReady}
 use Rattle.qimg_calls.specs.Making.{AnswersAlone}
-use Rattle.qimg_calls.specs.Runs.{Driven, HoldsSince}
+use Rattle.qimg_calls.specs.Runs.{Driven, HoldsSince, MayCommit}
 use Rattle.qimg_calls.specs.Since.{Since}
 use Rattle.qimg_calls.specs.declared.call.Call.{Call}
 use Rattle.qimg_calls.specs.declared.call.Answer.{Answer as CallAnswer}
+use Rattle.qimg_chain.specs.Saving.{SavedFiles, files_to_save}
 use Rattle.qimg_chain.specs.RunAnswers.{KeepsSaved, TellsLine}
 use Rattle.qimg_chain.specs.RunCalls.{Turn, unmade}
 use Rattle.qimg_chain.specs.Script.{IsLine, NotLine}
@@ -18,7 +19,8 @@ use Rattle.qimg_chain.specs.ScriptLimits.{AreAnswered, IsAnswerCount}
 use Rattle.qimg_chain.specs.declared.run.fault.RunFault.{RunFault}
 use Rattle.qimg_chain.specs.declared.run.fault.RunFault.TheVariants as run_fault
 use Rattle.qimg_chain.specs.declared.run.saved.Saved.{Saved}
-use Rattle.qimg_chain.specs.declared.run.saved.Saved.TheVariants as saved
+use Rattle.qimg_chain.specs.declared.run.saved.Kept.{Kept}
+use Rattle.qimg_chain.specs.declared.run.saved.Kept.TheVariants as kept
 use Rattle.qimg_chain.specs.declared.script.answer.Answer.{Answer}
 use Rattle.qimg_chain.specs.declared.script.answer.Answer.TheVariants as told
 use Rattle.qimg_chain.specs.declared.script.line.Line.{Line}
@@ -26,9 +28,9 @@ use Rattle.qimg_chain.specs.declared.script.line.Line.{Line}
 -- The state of a script: the drivers of the chain, the top first, and the bytes that the last `save` kept.
 pub record Standing (D : Type 0) : Type 0 where
   pub drivers : D × List D
-  pub saved : Option (List ℕ)
+  pub saved : Option SavedFiles
 
-abbrev pub standing : {D : Type 0} → D × List D → Option (List ℕ) → Standing D
+abbrev pub standing : {D : Type 0} → D × List D → Option SavedFiles → Standing D
 standing drivers saved = record { drivers = drivers; saved = saved }
 
 -- A line that was run: its text, the calls that it made, and its answer.
@@ -45,7 +47,7 @@ pub record RunsLine {D St : Type 0} (g : Ghosts D St) (names : D → ℕ → Lis
   pub line : Line
   pub is_line : IsLine r.text line
   pub tells : TellsLine g names line r.turn r.answer old.drivers
-  pub keeps : KeepsSaved line r.answer (g.image new.drivers.0).bytes old.saved new.saved
+  pub keeps : KeepsSaved line r.answer (files_to_save g new.drivers) old.saved new.saved
 
 -- The text isn't parsed as a line, and nothing is done.
 pub record RunsNothing {D St : Type 0} (g : Ghosts D St) (r : Reply) (old new : Standing D) : Type 0 where
@@ -97,37 +99,46 @@ pub record IsLastUntold (before after : Option (List ℕ)) (replies : List Reply
 
 -- The answers that are written. If the script ended, the reader failed or there are too many lines, all answers are written. If memory ran
 -- out, all answers or all except the last are. If the writer failed, this is unspecified.
-abbrev pub AreWritten : Result (Option (List ℕ)) RunFault → (before after : Option (List ℕ)) → List Reply → Type 0
+abbrev pub AreWritten : Result (Option SavedFiles) RunFault → (before after : Option (List ℕ)) → List Reply → Type 0
 AreWritten (Err run_fault.Write) before after replies = ⊤
 AreWritten (Err run_fault.Memory) before after replies = Appends before after (text_of replies) ⊎ IsLastUntold before after replies
 AreWritten result before after replies = Appends before after (text_of replies)
 
--- The bytes of a vector, if any.
-abbrev pub items_of : Option (Vec ℕ Global) → Option (List ℕ)
-items_of = option_map (λ bytes. bytes.items)
+-- The bytes that a script returns.
+abbrev pub saved_of : Saved → SavedFiles
+saved_of s = record { top = s.top.items; below = option_map (λ bytes. bytes.items) s.below }
 
--- The bytes that the last `save` kept, if `file` are the bytes of the top file.
-abbrev pub kept_of : List ℕ → Saved → Option (List ℕ)
-kept_of file saved.Nothing = None
-kept_of file saved.InFile = Some file
-kept_of file (saved.Apart bytes) = Some bytes.items
+abbrev pub items_of : Option Saved → Option SavedFiles
+items_of = option_map saved_of
+
+-- The bytes that the last `save` kept, if `files` are those of the files now.
+abbrev pub kept_of : SavedFiles → Kept → Option SavedFiles
+kept_of files kept.Nothing = None
+kept_of files kept.InFiles = Some files
+kept_of files (kept.Apart s) = Some (saved_of s)
 
 -- The end of a script, with the bytes that it returns.
-abbrev pub ending : {T : Type 0} → (T → Option (List ℕ)) → Result T RunFault → Result (Option (List ℕ)) RunFault
+abbrev pub ending : {T : Type 0} → (T → Option SavedFiles) → Result T RunFault → Result (Option SavedFiles) RunFault
 ending kept (Ok saved) = Ok (kept saved)
 ending kept (Err fault) = Err fault
 
 -- A script that runs over a chain, from the bytes of its reader and its writer, if they are known. Each line makes its call, and all lines
 -- together do what the list of these calls does.
 pub record Scripted {D St : Type 0} (g : Ghosts D St) (names : D → ℕ → List ℕ) (input before after : Option (List ℕ))
-    (result : Result (Option (List ℕ)) RunFault) (old new : D × List D) : Type 0 where
+    (result : Result (Option SavedFiles) RunFault) (old new : D × List D) : Type 0 where
   pub replies : List Reply
-  pub saved : Option (List ℕ)
+  pub saved : Option SavedFiles
   pub runs : RunsAll g names replies (standing old None) (standing new saved)
-  pub driven : (since : Since) → IsReady g old → HoldsSince g since old → Driven g since (calls_of replies) (answers_of replies) old new
+  pub driven : (since : Since) → IsReady g old → MayCommit g (calls_of replies) old → HoldsSince g since old
+      → Driven g since (calls_of replies) (answers_of replies) old new
   -- The lines are the first of the reader, within the limit, and all of them if the script ends. The text written is their answers.
   pub count : IsAnswerCount result (length replies)
   pub lines : IfSome input (λ bytes. AreAnswered result bytes (map (λ (r : Reply). r.text) replies))
   pub written : AreWritten result before after replies
   -- If the script runs to its end, it returns the bytes that the last successful `save` kept, if any.
   pub saved_returned : OnOk result (result ≡ Ok saved)
+
+-- Like `Scripted`, for a chain that is dropped at the end.
+abbrev pub ScriptedFrom : {D St : Type 0} → Ghosts D St → (D → ℕ → List ℕ) → (input before after : Option (List ℕ))
+    → Result (Option SavedFiles) RunFault → D × List D → Type 0
+ScriptedFrom {D} g names input before after result old = (last : D × List D) × Scripted g names input before after result old last

@@ -1,8 +1,8 @@
 //! Parses the arguments of the program `qimg`: the images of a chain (an image and its backing chain), and their further files (VMDK
 //! extents).
-ghost use Rattle.std.specs.Prelude.{◌≡◌, ◌↔◌, ◌+◌, ◌*◌, ◌<◌, ◌≤◌, ◌∷◌, length, map, flat_map, codes, MatchOption, IsTrue, IfSome, IfOk, IfErr, IsOkUnless};
+ghost use Rattle.std.specs.Prelude.{◌≡◌, ◌+◌, ◌*◌, ◌<◌, ◌≤◌, ◌∷◌, length, map, flat_map, codes, MatchOption, IfSome, IfOk, IfErr, IsOkUnless};
 ghost use Rattle.imago_access.specs.declared.format.Format.{Format};
-ghost use Rattle.qimg_chain.specs.Arguments.{words_from, extra_of, layer_of, format_word, layer_words, Says, WhyNotRead, SayNoLayers, AskForNone, AreNoFile, IsExtras, IsLayer};
+ghost use Rattle.qimg_chain.specs.Arguments.{words_from, extra_of, layer_of, format_word, layer_words, opening_words, Says, WhyNotRead, SayNoLayers, AskForNone, AreNoFile, IsExtras, IsLayer, IsOpening};
 
 use imago_access::Format;
 use imago_storage::Fault;
@@ -19,20 +19,45 @@ pub struct LayerArgument {
     pub extras: Vec<(String, String)>,
 }
 
+/// The images of a chain that are opened for writing. All others are opened read-only.
+#[derive(Clone, Copy, Debug, PartialEq, Eq)]
+pub enum Opening {
+    /// The top image.
+    Writable,
+    /// No image: the argument `-r`.
+    ReadOnly,
+    /// The top image and the one below it: the argument `-c`.
+    ForCommit,
+}
+
 /// The parsed arguments.
 #[derive(Debug, Drop)]
 pub struct Arguments {
-    /// True if the top image is opened read-only.
-    pub read_only: bool,
+    /// The images that are opened for writing.
+    pub opening: Opening,
     /// The images of the chain, the top first. The list isn't empty.
     pub layers: Vec<LayerArgument>,
 }
 
-/// Returns true if an argument is `-r`.
-fn is_choice(word: &str) -> bool
-    ensures { IsTrue result ↔ (word.now ≡ codes "-r") }
+/// Returns the images that are opened for writing, from the first argument.
+fn opening_of(word: &str) -> Opening
+    ensures { IsOpening word.now result }
 {
-    word == "-r"
+    match word {
+        "-r" => Opening::ReadOnly,
+        "-c" => Opening::ForCommit,
+        _ => Opening::Writable,
+    }
+}
+
+/// Returns the number of arguments for an opening.
+fn word_count(opening: Opening) -> usize
+    ensures { result ≡ length (opening_words opening) }
+{
+    match opening {
+        Opening::Writable => 0,
+        Opening::ReadOnly | Opening::ForCommit => 1,
+    }
 }
 
 /// Returns the format for an argument, or `None` if it isn't one of a format.
@@ -125,8 +150,8 @@ fn parse_layers(alloc: Global, words: &[&str], from: usize) -> Result<Vec<LayerA
 
 /// Parses the arguments of the program, without the program's name. Returns `None` if the list is empty.
 ///
-/// The arguments are `[-r] LAYER ..`, the top first. A LAYER is `raw PATH`, `qcow2 PATH` or `vmdk PATH`, followed by any number of
-/// `file NAME PATH`. With `-r` the top is opened read-only.
+/// The arguments are `[-r | -c] LAYER ..`, the top first. A LAYER is `raw PATH`, `qcow2 PATH` or `vmdk PATH`, followed by any number of
+/// `file NAME PATH`. With `-r` the top is opened read-only. With `-c` the image below it is opened for writing, too.
 ///
 /// # Errors
 ///
@@ -139,8 +164,7 @@ pub fn parse(alloc: Global, words: &[&str]) -> Result<Option<Arguments>, Fault>
     if words.is_empty() {
         return Ok(None);
     }
-    let read_only = is_choice(words[0]);
-    let from = if read_only { 1 } else { 0 };
-    let layers = parse_layers(alloc, words, from)?;
-    Ok(Some(Arguments { read_only, layers }))
+    let opening = opening_of(words[0]);
+    let layers = parse_layers(alloc, words, word_count(opening))?;
+    Ok(Some(Arguments { opening, layers }))
 }

@@ -14,6 +14,6 @@ mod stateless;
 pub use image_driver::ImageDriver;
 pub(crate) use lending::lend;
 pub use naming::NamesFiles;
-pub use opening::open_chain;
+pub use opening::{open_chain, open_for_commit};
 pub use plain_reads::plain_read;
 pub use snapshots::snapshot;

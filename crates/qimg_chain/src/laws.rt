@@ -19,18 +19,19 @@ ghost use Rattle.qcow2_types.specs.Consistency.{IsConsistent};
 ghost use Rattle.qcow2_types.specs.Header.{Header};
 ghost use Rattle.qcow2_image.specs.Writing.{IsClearing, NeedsZeroFlag};
 ghost use Rattle.qimg_calls.specs.Held.{chain_with_mapping};
-ghost use Rattle.qimg_calls.specs.Runs.{Driven, IsSameChain, moment};
+ghost use Rattle.qimg_calls.specs.Runs.{Driven, IsSameChain, MayCommit, moment};
 ghost use Rattle.qimg_calls.specs.Since.{Since, flushed};
 ghost use Rattle.qimg_calls.specs.declared.call.Answer.{Answer};
 ghost use Rattle.qimg_calls.specs.declared.call.Call.{Call};
 ghost use Rattle.qimg_core.specs.declared.plain.ChainFile.{ChainFile};
 ghost use Rattle.qimg_chain.specs.Arguments.{Asked, AskFor};
-ghost use Rattle.qimg_chain.specs.Chains.{IsFit, OfTop};
+ghost use Rattle.qimg_chain.specs.Chains.{IsFit, OfSecond, OfTop, OpenMode};
 ghost use Rattle.qimg_chain.specs.FileMeanings.{IsDiskOf, files_bytes};
-ghost use Rattle.qimg_chain.specs.FlushedFiles.{EachFlushMeans, HandedMeanToo, IsChainOf, LeaksWhatItDid, opened_as};
+ghost use Rattle.qimg_chain.specs.FlushedFiles.{EachFlushMeans, HandedMeanToo, IsChainOf, IsOpenedSince, LeaksWhatItDid, Opened, opened_as};
 ghost use Rattle.qimg_chain.specs.Headline.{RunFrom, ToOpen};
 ghost use Rattle.qimg_chain.specs.PlainReads.{IsPlainlyRead};
 ghost use Rattle.qimg_chain.specs.Refusals.{ArePlaced, FirstCause, FormChain};
+ghost use Rattle.qimg_chain.specs.Saving.{SavedFiles};
 ghost use Rattle.qimg_chain.specs.Script.{IsLine};
 ghost use Rattle.qimg_chain.specs.OpenedAgain.{IsDiskSince, IsLeftOf, ReadsAsFiles};
 ghost use Rattle.qimg_chain.specs.TopChecks.{IsAccepted};
@@ -107,36 +108,43 @@ pub fn a_plain_read_and_a_read_agree<S: Storage, T: Storage, D: FormatDriverInst
         → IsDiskOf (chain_disk D.layer new) (files_bytes T.state files) }
 {}
 
-/// Law: if a flush in a list of calls succeeds, the files of the chain by themselves mean its disk afterwards. These are the current file
-/// of the top, and the files below, which haven't changed since opening.
+/// Law: if a flush in a list of calls succeeds, or a commit to the layer below, the files of the chain by themselves mean its disk
+/// afterwards. These are the current file of the top, and the files below, which haven't changed since opening. After a commit, the file of
+/// the layer below is the current one, too.
+///
+/// For a list with a commit, `MayCommit` must hold, as in `qimg_calls::drive`.
 ///
 /// No mapping may be prepared before the flush (no run may wait for its commit), and no earlier call may have ended with a resource error
 /// (`Fault::Memory`, `Fault::Storage`). Each cluster of the top's file leaks what it leaked when the chain was opened, or nothing if a
-/// repair of leaks has succeeded since. The law applies to a chain that `open_chain` opens and `qimg_calls::drive` drives, also if earlier
-/// lists have driven it (`IsSameChain`), and to each flush in a script, as `run_files` runs it.
+/// repair of leaks has succeeded since. The law applies to a chain that `open_chain` or `open_for_commit` opens and `drive` drives, also if
+/// earlier lists have driven it (`IsOpenedSince`), and to each flush in a script, as `run_files` or `run_for_commit` runs it.
 pub fn files_mean_the_disk_after_a_flush<S: Storage, D: NamesFiles>()
-    ensures list { (writable : Bool) (number : ℕ) (files : List (ChainFile S)) (since : Since) (list : List Call) (answers : List Answer)
-        (opened old new : D × List D) (repaired : Bool) (driven : Driven D.DriverModel since list answers old new)
-        → IsChainOf D.DriverModel D.names S.state writable number files opened → IsSameChain D.DriverModel repaired opened old
-        → EachFlushMeans D.DriverModel D.names (opened_as opened repaired) list answers (moment (chain_with_mapping old None) since) driven.last }
-    ensures script { (what : ToOpen) (input before after : Option (List ℕ)) (result : Result (Option (List ℕ)) RunFault)
+    ensures list { (m : OpenMode) (files : List (ChainFile S)) (since : Since) (list : List Call) (answers : List Answer)
+        (opened : Opened D) (old new : D × List D) (driven : Driven D.DriverModel since list answers old new)
+        → IsChainOf D.DriverModel D.names S.state m files opened.drivers → IsOpenedSince D.DriverModel opened old
+        → MayCommit D.DriverModel list old
+        → EachFlushMeans D.DriverModel D.names opened list answers (moment (chain_with_mapping old None) since) driven.last }
+    ensures script { (what : ToOpen) (input before after : Option (List ℕ)) (result : Result (Option SavedFiles) RunFault)
         (ran : RunFrom D.DriverModel D.names what input before after result) (fit : OfTop (IsFit mem_state) what.files)
+        (next_fit : IsSome what.mode.next → OfSecond (IsFit mem_state) what.files)
         → let replies = ran.scripted.replies in let start = moment (chain_with_mapping ran.opened None) (flushed (chain_disk D.layer ran.opened)) in
-        let opened = opened_as ran.opened false in
-        EachFlushMeans D.DriverModel D.names opened (calls_of replies) (answers_of replies) start (ran.headline fit).last }
+        let opened = opened_as ran.opened false false in
+        EachFlushMeans D.DriverModel D.names opened (calls_of replies) (answers_of replies) start (ran.headline fit next_fit).last }
 {}
 
 /// Law: a chain is the same chain as itself, and stays the same through a second list of calls if it does through a first one. So it does
 /// through all lists of calls that end without a resource error, as `qimg_calls::drive` says of each (`Driven`: `same_chain`). Its leaks have
-/// been repaired if one of the lists has done so.
+/// been repaired if one of the lists has done so, and data was committed to the layer below if one of them has done that.
 pub fn a_chain_stays_the_same<D: FormatDriverInstance>()
-    ensures same { (c : D × List D) → IsSameChain D.DriverModel false c c }
-    ensures again { (a b c : D × List D) (first second : Bool) → IsSameChain D.DriverModel first a b → IsSameChain D.DriverModel second b c
-        → IsSameChain D.DriverModel (first || second) a c }
+    ensures same { (c : D × List D) → IsSameChain D.DriverModel false false c c }
+    ensures again { (a b c : D × List D) (repairs commits repairs_too commits_too : Bool)
+        → IsSameChain D.DriverModel repairs commits a b → IsSameChain D.DriverModel repairs_too commits_too b c
+        → IsSameChain D.DriverModel (repairs || repairs_too) (commits || commits_too) a c }
 {}
 
 /// Law: if the files of a chain of images mean its disk, so do the files that were supplied at opening, with the current bytes of the top's
-/// file. For a VMDK top, its further files (extents) are found by the names in the image.
+/// file. For a VMDK top, its further files (extents) are found by the names in the image. No data may have been committed to the layer
+/// below.
 pub fn files_handed_in_mean_the_disk_too<S: Storage>()
     ensures { HandedMeanToo ⟦<ImageDriver<S> as DriverModel>⟧ ⟦<ImageDriver<S> as NamesFiles>⟧.names S.state }
 {}
@@ -168,14 +176,14 @@ pub fn crash_images_of_a_list_are_those_of_its_calls<D: FormatDriverInstance>()
 fn an_image_opens_reporting_crash_images<S: Storage>()
     ensures formed { (writable : Bool) (file : ChainFile S) → IsLoggedAlone S.state file
         → FormChain S.state writable (file ∷ []) × OfTop (IsFit S.state) (file ∷ []) × OfTop (λ f. CrashImageIsBytes (S.state f.image)) (file ∷ []) }
-    ensures telling { let d = ⟦<ImageDriver<S> as DriverModel>⟧ in (writable : Bool) (number : ℕ) (files : List (ChainFile S))
-        → AreLoggedFiles S.state writable files → OpensTelling d S.state writable number files }
-    ensures crash_images { let d = ⟦<ImageDriver<S> as DriverModel>⟧ in (writable : Bool) (number : ℕ) (files : List (ChainFile S))
-        → AreLoggedFiles S.state writable files → CrashImagesConsistent d S.state writable number files }
+    ensures telling { let d = ⟦<ImageDriver<S> as DriverModel>⟧ in (m : OpenMode) (files : List (ChainFile S))
+        → AreLoggedFiles S.state m files → OpensTelling d S.state m files }
+    ensures crash_images { let d = ⟦<ImageDriver<S> as DriverModel>⟧ in (m : OpenMode) (files : List (ChainFile S))
+        → AreLoggedFiles S.state m files → CrashImagesConsistent d S.state m files }
 {}
 
 /// Law: if files form a chain with a consistent qcow2 image on top, they open as a chain that exposes its crash images. The top must be in
-/// a new `LogStorage` over new memory, and `open_chain` opens the files.
+/// a new `LogStorage` over new memory, and `open_chain` or `open_for_commit` opens the files.
 ///
 /// A crash image is the bytes of the top's file after a crash between two requests. So each crash image during a list of calls over the
 /// chain is a consistent image, if no call ends with a resource error (`Fault::Memory`, `Fault::Storage`). A consistent image without a
@@ -185,11 +193,11 @@ pub fn an_image_on_a_log_opens_reporting_crash_images()
         → FormChain (log_state mem_state) writable (file ∷ []) × OfTop (IsFit (log_state mem_state)) (file ∷ [])
         × OfTop (λ f. CrashImageIsBytes (log_state mem_state f.image)) (file ∷ []) }
     ensures telling { let d = ⟦<ImageDriver<LogStorage<MemStorage>> as DriverModel>⟧ in
-        (writable : Bool) (number : ℕ) (files : List (ChainFile (LogStorage MemStorage)))
-        → AreLoggedFiles (log_state mem_state) writable files → OpensTelling d (log_state mem_state) writable number files }
+        (m : OpenMode) (files : List (ChainFile (LogStorage MemStorage)))
+        → AreLoggedFiles (log_state mem_state) m files → OpensTelling d (log_state mem_state) m files }
     ensures crash_images { let d = ⟦<ImageDriver<LogStorage<MemStorage>> as DriverModel>⟧ in
-        (writable : Bool) (number : ℕ) (files : List (ChainFile (LogStorage MemStorage)))
-        → AreLoggedFiles (log_state mem_state) writable files → CrashImagesConsistent d (log_state mem_state) writable number files }
+        (m : OpenMode) (files : List (ChainFile (LogStorage MemStorage)))
+        → AreLoggedFiles (log_state mem_state) m files → CrashImagesConsistent d (log_state mem_state) m files }
 {
     an_image_opens_reporting_crash_images::<LogStorage<MemStorage>>()
 }
@@ -201,7 +209,7 @@ pub fn an_image_on_a_log_opens_reporting_crash_images()
 /// values at the last flush, and the calls begun since. By `formed`, `chain::open_chain` opens the files, resource errors aside, if those
 /// below are layers by themselves (`ArePlaced`). Its disk is the one that the files mean. By `reads`, each byte of it reads as at that flush,
 /// or as such a call gives it. By `accepted`, the checker accepts the crash image. By `read_so`, all this holds of the crash images that
-/// `qimg_calls::drive` describes, also in later lists of calls.
+/// `qimg_calls::drive` describes, also in later lists of calls, as long as no data is committed to the layer below.
 pub fn a_crash_image_opens_again<S: Storage, T: Storage>()
     ensures formed { (writable : Bool) (top : ChainFile S) (below : List (ChainFile S)) (since : Since) (again : ChainFile T)
         (others : List (ChainFile T)) → FormChain S.state writable (top ∷ below) → ArePlaced T.state false others

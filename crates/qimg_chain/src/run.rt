@@ -4,6 +4,7 @@ ghost use Rattle.std.specs.Io.KnownBytes.{Appends};
 ghost use Rattle.imago_access.specs.Layer.{IsFree};
 ghost use Rattle.qimg_chain.specs.RunCalls.{Turn};
 ghost use Rattle.qimg_chain.specs.ScriptAnswers.{answer_text};
+ghost use Rattle.qimg_chain.specs.Saving.{files_to_save};
 ghost use Rattle.qimg_chain.specs.ScriptReads.{IsTakenAs};
 ghost use Rattle.qimg_chain.specs.ScriptRuns.{ending, items_of, kept_of, reply, standing, IsTellingFault, Replies, Scripted};
 
@@ -21,9 +22,10 @@ pub use answers::answer_line;
 pub use fault::RunFault;
 use imago_access::{FormatAccess, FormatDriverInstance};
 use imago_storage::{Fault, MemStorage};
-pub use opened::{ScriptFault, run_files};
+pub use opened::{ScriptFault, run_files, run_for_commit};
 use qimg_calls::RepairsLeaks;
 use reading::next_line;
+use saved::Kept;
 pub use saved::Saved;
 use std::alloc::Global;
 use std::io::{BufRead, Write};
@@ -39,13 +41,13 @@ fn answer_to<D: FormatDriverInstance<Storage = MemStorage> + NamesFiles + Repair
     alloc: Global,
     chain: &mut FormatAccess<D>,
     taken: Result<Line, Fault>,
-    saved: &mut Saved,
+    saved: &mut Kept,
 ) -> Answer
     requires free { IsFree (D.layer chain.old.0) }
     ensures free { IsFree (D.layer chain.new.0) }
     ensures replied { (text : List ℕ) → IsTakenAs text taken → (turn : Turn)
-        × Replies D.DriverModel D.names (reply text turn result) (standing chain.old (kept_of (D.image chain.old.0).bytes saved.old))
-        (standing chain.new (kept_of (D.image chain.new.0).bytes saved.new)) }
+        × Replies D.DriverModel D.names (reply text turn result) (standing chain.old (kept_of (files_to_save D.DriverModel chain.old) saved.old))
+        (standing chain.new (kept_of (files_to_save D.DriverModel chain.new) saved.new)) }
 {
     match taken {
         Ok(line) => answer_line(alloc, chain, line, saved),
@@ -72,16 +74,16 @@ fn run_lines<
     R: BufRead + Drop,
     W: Write,
     D: FormatDriverInstance<Storage = MemStorage> + NamesFiles + RepairsLeaks,
->(alloc: Global, reader: R, writer: &mut W, chain: &mut FormatAccess<D>) -> Result<Saved, RunFault>
+>(alloc: Global, reader: R, writer: &mut W, chain: &mut FormatAccess<D>) -> Result<Kept, RunFault>
     requires free { IsFree (D.layer chain.old.0) }
     ensures free { IsFree (D.layer chain.new.0) }
-    ensures scripted { let ended = ending (kept_of (D.image chain.new.0).bytes) result in
+    ensures scripted { let ended = ending (kept_of (files_to_save D.DriverModel chain.new)) result in
         Scripted D.DriverModel D.names (R.remaining reader) (W.contents writer.old) (W.contents writer.new) ended chain.old chain.new }
 {
     let mut input = reader.take(MOST_BYTES + 1);
     let mut line = Vec::new(alloc);
     let mut room = MOST_BYTES;
-    let mut saved = Saved::Nothing;
+    let mut saved = Kept::Nothing;
     for _ in 0..MOST_LINES {
         let Some(taken) = next_line(alloc, &mut input, &mut line, &mut room)? else {
             return Ok(saved);
@@ -97,7 +99,7 @@ fn run_lines<
 
 /// Runs a script over a chain (an image and its backing chain), and writes one line as the answer to each line of the script.
 ///
-/// The module `script` defines the lines. The result is the bytes that the last successful `save` kept of the top file, if any.
+/// The module `script` defines the lines. The result is what the last successful `save` kept of the files, if any.
 ///
 /// # Preconditions
 ///
@@ -123,12 +125,12 @@ pub fn run<
     reader: R,
     writer: &mut W,
     chain: &mut FormatAccess<D>,
-) -> Result<Option<Vec<u8>>, RunFault>
+) -> Result<Option<Saved>, RunFault>
     requires free { IsFree (D.layer chain.old.0) }
     ensures free { IsFree (D.layer chain.new.0) }
     ensures scripted { Scripted D.DriverModel D.names (R.remaining reader) (W.contents writer.old) (W.contents writer.new)
         (ending items_of result) chain.old chain.new }
 {
     let saved = run_lines(alloc, reader, writer, chain)?;
-    saved.into_bytes(chain)
+    saved.into_saved(chain)
 }

@@ -10,7 +10,7 @@
 //! | `write OFFSET BYTES`, `zero OFFSET LENGTH` | `ok` |
 //! | `discard OFFSET LENGTH`, `discard-any OFFSET LENGTH`, `discard-backing OFFSET LENGTH` | `ok` |
 //! | `grow SIZE MODE`, `shrink SIZE` | `ok` |
-//! | `flush`, `save` | `ok` |
+//! | `flush`, `save`, `commit` | `ok` |
 //! | `check`, `repair` | a number |
 //!
 //! If a line fails, the answer is `error N`, with the number of its fault.

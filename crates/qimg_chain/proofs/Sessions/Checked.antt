@@ -1,6 +1,7 @@
--- The check of the top file, and what it doesn't change: whether the files form a chain, and the first cause why they don't.
-use Rattle.std.proofs.Common.{◌≡◌, ◌∙◌, ◌∷◌, ◌<◌, [], ℕ, List, ap, arith, get_or, inl, inr, length, refl, subst, sym}
-use Rattle.std.specs.Prelude.{◌≢◌, ◌⊎◌, Bool, Err, IfErr, IsErrAnd, None, Ok, Option, Result, Some, slice_set}
+-- The check of the first file or the first two, and what it doesn't change: whether the files form a chain, and the first cause why they
+-- don't.
+use Rattle.std.proofs.Common.{◌≡◌, ◌∙◌, ◌∷◌, ◌<◌, ◌≤◌, [], ℕ, List, ap, arith, get_or, inl, inr, length, refl, subst, sym}
+use Rattle.std.specs.Prelude.{◌≢◌, ◌⊎◌, Bool, Err, IfErr, IsErrAnd, None, Ok, OnOk, Option, Result, Some, false, slice_set, true}
 use Rattle.std.specs.declared.string.String.{String}
 use Rattle.std.specs.declared.alloc.Global.{Global}
 use Rattle.imago_storage.specs.Calls.{UnchangedButFaults}
@@ -9,10 +10,11 @@ use Rattle.imago_storage.specs.declared.fault.Fault.{Fault}
 use Rattle.imago_access.specs.declared.format.Format.{Format}
 use Rattle.imago_access.specs.declared.format.Format.TheVariants.{Qcow2, Raw, Vmdk}
 use Rattle.qimg_core.specs.declared.plain.ChainFile.{ChainFile}
-use Rattle.qimg_chain.specs.Chains.{AllOfTop, IsSoundAs, OfTop}
+use Rattle.qimg_chain.specs.Chains.{AllOfTop, IsSoundAs, OfSecond, OfTop, OpenMode}
 use Rattle.qimg_chain.specs.FileLayers.{IsLayer, IsLayerAs, WhyNotAs, WhyNotLayer, said_of}
-use Rattle.qimg_chain.specs.Refusals.{FirstCause, FormChain, HadResourceError, IsPlacedLayer, WhyNotLayers}
-use Rattle.qimg_chain.specs.TopChecks.{AreChecked, IsAccepted, IsChecked, WhyNotDriven}
+use Rattle.qimg_chain.specs.Refusals.{CommitCauseOf, FirstCause, FirstCommitCause, FormChain, FormCommitChain, HadResourceError}
+use Rattle.qimg_chain.specs.Refusals.{IsPlacedLayer, WhyNotCommitLayers, WhyNotFormed, WhyNotLayers, misplaced}
+use Rattle.qimg_chain.specs.TopChecks.{AreChecked, AreCheckedBelow, IsChecked, WhyNotDriven}
 use Rattle.qimg_chain.specs.declared.session.NotDriven.{NotDriven}
 use Rattle.qimg_chain.specs.declared.session.NotDriven.TheVariants.{Opening}
 
@@ -94,16 +96,118 @@ module _ {S : Type 0} (state : S → StorageState) where
   cause-of writable fault old new below checked (inr few) = inr (few.0, layers-before writable fault old new below checked few.1)
 
   -- A first cause why checked files don't form a chain is one why the files don't.
-  cause-before : (writable : Bool) (olds news : List (ChainFile S)) (fault : Fault) → AreChecked state olds news
+  pub cause-before : (writable : Bool) (fault : Fault) (olds news : List (ChainFile S)) → AreChecked state olds news
       → FirstCause state writable news fault → FirstCause state writable olds fault
-  cause-before writable [] news fault checked why = subst (λ files. FirstCause state writable files fault) checked why
-  cause-before writable (old ∷ olds) news fault checked why =
+  cause-before writable fault [] news checked why = subst (λ files. FirstCause state writable files fault) checked why
+  cause-before writable fault (old ∷ olds) news checked why =
       cause-of writable fault old checked.0 olds checked.2 (subst (λ files. FirstCause state writable files fault) checked.1 why)
 
--- ---- The check of the top.
+  -- ---- The files of a chain that takes commits.
+
+  -- The position of the top is the same over another next file.
+  same-place : (named : Bool) (a b : ChainFile S) (below : List (ChainFile S)) → misplaced named (a ∷ below) ≡ misplaced named (b ∷ below)
+  same-place true a b below = refl
+  same-place false a b below = refl
+
+  placed-over : (top old new : ChainFile S) (below : List (ChainFile S)) (why : Option Fault)
+      → IsPlacedLayer state true top (new ∷ below) why → IsPlacedLayer state true top (old ∷ below) why
+  placed-over top old new below why placed = (placed.0, placed.1, placed.2, same-place placed.0 old new below ∙ placed.3)
+
+  commit-formed-top : (olds news : List (ChainFile S)) → AreChecked state olds news → FormCommitChain state news
+      → FormCommitChain state olds
+  commit-formed-top [] news checked formed = subst (λ files. FormCommitChain state files) checked formed
+  commit-formed-top (old ∷ []) news checked formed = subst (λ files. FormCommitChain state files) checked.1 formed
+  commit-formed-top (old ∷ (next ∷ below)) news checked formed =
+      let now = subst (λ files. FormCommitChain state files) checked.1 formed in
+      (now.0, now.1, checked-placed true None old checked.0 (next ∷ below) checked.2 now.2, now.3)
+
+  commit-formed-pair : (top old new : ChainFile S) (below : List (ChainFile S)) → IsChecked state old new
+      → FormCommitChain state (top ∷ (new ∷ below)) → FormCommitChain state (top ∷ (old ∷ below))
+  commit-formed-pair top old new below checked formed = (
+    formed.0,
+    subst (λ (f : Format). f ≢ Vmdk) checked.format formed.1,
+    placed-over top old new below None formed.2,
+    (checked-placed true None old new below checked formed.3.0, formed.3.1),
+  )
+
+  commit-formed-next : (olds news : List (ChainFile S)) → AreCheckedBelow state olds news → FormCommitChain state news
+      → FormCommitChain state olds
+  commit-formed-next [] news checked formed = subst (λ files. FormCommitChain state files) checked formed
+  commit-formed-next (top ∷ []) news checked formed =
+      subst (λ below. FormCommitChain state (top ∷ below)) checked.2 (subst (λ files. FormCommitChain state files) checked.1 formed)
+  commit-formed-next (top ∷ (next ∷ below)) news checked formed =
+      let now = subst (λ files. FormCommitChain state files) checked.1 formed in
+      let pair = checked.2 in
+      commit-formed-pair top next pair.0 below pair.2 (subst (λ files. FormCommitChain state (top ∷ files)) pair.1 now)
+
+  -- Files whose first two were checked form a chain that takes commits only if the files did.
+  pub commit-formed-before : (olds mids news : List (ChainFile S)) → AreChecked state olds mids → AreCheckedBelow state mids news
+      → FormCommitChain state news → FormCommitChain state olds
+  commit-formed-before olds mids news top next formed = commit-formed-top olds mids top (commit-formed-next mids news next formed)
+
+  commit-layers-top : (fault : Fault) (old new : ChainFile S) (below : List (ChainFile S)) → IsChecked state old new
+      → WhyNotCommitLayers state (new ∷ below) fault → WhyNotCommitLayers state (old ∷ below) fault
+  commit-layers-top fault old new below checked (inl why) = inl (checked-refused true fault old new checked why)
+  commit-layers-top fault old new below checked (inr (inl placed)) =
+      inr (inl (checked-placed true (Some fault) old new below checked placed))
+  commit-layers-top fault old new below checked (inr (inr later)) =
+      inr (inr (checked-placed true None old new below checked later.0, later.1))
+
+  commit-layers-next : (fault : Fault) (top old new : ChainFile S) (below : List (ChainFile S)) → IsChecked state old new
+      → WhyNotCommitLayers state (top ∷ (new ∷ below)) fault → WhyNotCommitLayers state (top ∷ (old ∷ below)) fault
+  commit-layers-next fault top old new below checked (inl why) = inl why
+  commit-layers-next fault top old new below checked (inr (inl placed)) = inr (inl (placed-over top old new below (Some fault) placed))
+  commit-layers-next fault top old new below checked (inr (inr later)) =
+      inr (inr (placed-over top old new below None later.0, layers-before true fault old new below checked later.1))
+
+  commit-pair-top : (fault : Fault) (old new next : ChainFile S) (below : List (ChainFile S)) → IsChecked state old new
+      → CommitCauseOf state (new ∷ (next ∷ below)) fault → CommitCauseOf state (old ∷ (next ∷ below)) fault
+  commit-pair-top fault old new next below checked (inl vmdk) = inl vmdk
+  commit-pair-top fault old new next below checked (inr (other, inl many)) = inr (other, inl many)
+  commit-pair-top fault old new next below checked (inr (other, inr few)) =
+      inr (other, inr (few.0, commit-layers-top fault old new (next ∷ below) checked few.1))
+
+  commit-pair-next : (fault : Fault) (top old new : ChainFile S) (below : List (ChainFile S)) → IsChecked state old new
+      → CommitCauseOf state (top ∷ (new ∷ below)) fault → CommitCauseOf state (top ∷ (old ∷ below)) fault
+  commit-pair-next fault top old new below checked (inl vmdk) = inl (sym checked.format ∙ vmdk.0, vmdk.1)
+  commit-pair-next fault top old new below checked (inr (other, inl many)) =
+      inr (subst (λ (f : Format). f ≢ Vmdk) checked.format other, inl many)
+  commit-pair-next fault top old new below checked (inr (other, inr few)) =
+      inr (subst (λ (f : Format). f ≢ Vmdk) checked.format other, inr (few.0, commit-layers-next fault top old new below checked few.1))
+
+  commit-cause-top : (fault : Fault) (olds news : List (ChainFile S)) → AreChecked state olds news → CommitCauseOf state news fault
+      → CommitCauseOf state olds fault
+  commit-cause-top fault [] news checked why = subst (λ files. CommitCauseOf state files fault) checked why
+  commit-cause-top fault (old ∷ []) news checked why = subst (λ files. CommitCauseOf state files fault) checked.1 why
+  commit-cause-top fault (old ∷ (next ∷ below)) news checked why =
+      commit-pair-top fault old checked.0 next below checked.2 (subst (λ files. CommitCauseOf state files fault) checked.1 why)
+
+  commit-cause-next : (fault : Fault) (olds news : List (ChainFile S)) → AreCheckedBelow state olds news → CommitCauseOf state news fault
+      → CommitCauseOf state olds fault
+  commit-cause-next fault [] news checked why = subst (λ files. CommitCauseOf state files fault) checked why
+  commit-cause-next fault (top ∷ []) news checked why =
+      subst (λ below. CommitCauseOf state (top ∷ below) fault) checked.2 (subst (λ files. CommitCauseOf state files fault) checked.1 why)
+  commit-cause-next fault (top ∷ (next ∷ below)) news checked why =
+      let now = subst (λ files. CommitCauseOf state files fault) checked.1 why in
+      let pair = checked.2 in
+      commit-pair-next fault top next pair.0 below pair.2 (subst (λ files. CommitCauseOf state (top ∷ files) fault) pair.1 now)
+
+  -- A first cause why files whose first two were checked aren't opened for commits is one why the files aren't.
+  pub commit-cause-before : (number below_number : ℕ) (fault : Fault) (olds mids news : List (ChainFile S)) → AreChecked state olds mids
+      → AreCheckedBelow state mids news → FirstCommitCause state number below_number news fault
+      → FirstCommitCause state number below_number olds fault
+  commit-cause-before number below_number fault olds mids news top next (inl same) = inl same
+  commit-cause-before number below_number fault olds mids news top next (inr apart) =
+      inr (apart.0, commit-cause-top fault olds mids top (commit-cause-next fault mids news next apart.1))
+
+-- ---- The check of a file.
+
+pub on-done : {T E P Q : Type 0} (result : Result T E) → (P → Q) → OnOk result P → OnOk result Q
+on-done (Ok x) follows p = follows p
+on-done (Err e) follows p = tt
 
 -- A file of another format than qcow2 is accepted.
-accepted-other : (f : Format) → f ≢ Qcow2 → (bytes : List ℕ) → IsSoundAs f bytes
+pub accepted-other : (f : Format) → f ≢ Qcow2 → (bytes : List ℕ) → IsSoundAs f bytes
 accepted-other Raw other bytes = tt
 accepted-other Qcow2 other bytes = absurd (other refl)
 accepted-other Vmdk other bytes = tt
@@ -119,53 +223,79 @@ same-state a b same faults = λ i. record {
   past_crash_images = same.past_crash_images i;
 }
 
-module _ {S : Type 0} (state : S → StorageState) (top : ChainFile S) where
-  -- The top with its storage after the check.
-  pub top-checked : (files : List (ChainFile S)) (image : S) → 0 < length files → top ≡ get_or files 0 top
-      → top.format ≡ Qcow2 → state image ≡ state top.image
-      → AreChecked state files (slice_set files 0 (record { format = top.format; image = image; extras = top.extras }))
-  top-checked [] image some is qcow2 kept = absurd (omega (arith, some))
-  top-checked (old ∷ olds) image some is qcow2 kept = (
-    _,
-    refl,
-    record {
-      format = ap (λ (file : ChainFile S). file.format) is;
-      extras = ap (λ (file : ChainFile S). file.extras) is;
-      image = subst (λ (file : ChainFile S). state image ≡ state file.image) is kept;
-      others = λ other. absurd (other (ap (λ (file : ChainFile S). file.format) (sym is) ∙ qcow2));
-    },
-  )
+module _ {S : Type 0} (state : S → StorageState) where
+  -- The file with its storage after the check.
+  pub file-checked : (file : ChainFile S) (image : S) → file.format ≡ Qcow2 → state image ≡ state file.image
+      → IsChecked state file (record { format = file.format; image = image; extras = file.extras })
+  file-checked file image qcow2 kept = record {
+    format = refl;
+    extras = refl;
+    image = kept;
+    others = λ other. absurd (other qcow2);
+  }
 
-  -- A top of another format is accepted, and isn't read.
-  pub top-accepted : (files : List (ChainFile S)) → 0 < length files → top ≡ get_or files 0 top → top.format ≢ Qcow2
-      → AllOfTop (IsAccepted state) files
-  top-accepted [] some is other = absurd (omega (arith, some))
-  top-accepted (old ∷ olds) some is other = accepted-other old.format (subst (λ (file : ChainFile S). file.format ≢ Qcow2) is other) (state old.image).bytes
+  pub file-unread : (file : ChainFile S) → IsChecked state file file
+  file-unread file = record { format = refl; extras = refl; image = refl; others = λ other. refl }
 
-  pub top-unread : (files : List (ChainFile S)) → 0 < length files → top ≡ get_or files 0 top → AreChecked state files (slice_set files 0 top)
-  top-unread [] some is = absurd (omega (arith, some))
-  top-unread (old ∷ olds) some is = (
-    top,
-    refl,
-    record {
-      format = ap (λ (file : ChainFile S). file.format) is;
-      extras = ap (λ (file : ChainFile S). file.extras) is;
-      image = ap (λ (file : ChainFile S). state file.image) is;
-      others = λ other. is;
-    },
-  )
+  -- ---- The check of the top and of the next file.
+
+  pub top-checked : (files : List (ChainFile S)) (old new : ChainFile S) → 0 < length files → old ≡ get_or files 0 old
+      → IsChecked state old new → AreChecked state files (slice_set files 0 new)
+  top-checked [] old new some is checked = absurd (omega (arith, some))
+  top-checked (top ∷ below) old new some is checked =
+      (new, refl, subst (λ (file : ChainFile S). IsChecked state file new) is checked)
+
+  pub next-checked : (files : List (ChainFile S)) (old new : ChainFile S) → 1 < length files → old ≡ get_or files 1 old
+      → IsChecked state old new → AreCheckedBelow state files (slice_set files 1 new)
+  next-checked [] old new two is checked = absurd (omega (arith, two))
+  next-checked (top ∷ []) old new two is checked = absurd (omega (arith, two))
+  next-checked (top ∷ (next ∷ below)) old new two is checked =
+      (new ∷ below, refl, (new, refl, subst (λ (file : ChainFile S). IsChecked state file new) is checked))
+
+  -- Without a second file there is nothing to check.
+  pub none-checked : (files : List (ChainFile S)) → length files < 2 → AreCheckedBelow state files files
+  none-checked [] few = refl
+  none-checked (top ∷ []) few = ([], refl, refl)
+  none-checked (top ∷ (next ∷ below)) few = absurd (omega (arith, few))
+
+module _ {S : Type 0} (P : ChainFile S → Type 0) where
+  pub top-has : (files : List (ChainFile S)) (file : ChainFile S) → 0 < length files → file ≡ get_or files 0 file → P file → OfTop P files
+  top-has [] file some is has = absurd (omega (arith, some))
+  top-has (top ∷ below) file some is has = subst P is has
+
+  pub all-top-has : (files : List (ChainFile S)) (file : ChainFile S) → file ≡ get_or files 0 file → P file → AllOfTop P files
+  all-top-has [] file is has = tt
+  all-top-has (top ∷ below) file is has = subst P is has
+
+  pub second-has : (files : List (ChainFile S)) (file : ChainFile S) → 1 < length files → file ≡ get_or files 1 file → P file
+      → OfSecond P files
+  second-has [] file two is has = absurd (omega (arith, two))
+  second-has (top ∷ []) file two is has = absurd (omega (arith, two))
+  second-has (top ∷ (next ∷ below)) file two is has = subst P is has
+
+  -- Files that form a chain have a top.
+  pub has-top : (files : List (ChainFile S)) → 0 < length files → AllOfTop P files → OfTop P files
+  has-top [] some all = absurd (omega (arith, some))
+  has-top (file ∷ below) some all = all
+
+  -- Files that form a chain for commits have a top and a second file. The check of the top doesn't change the second one.
+  pub has-both : (state : S → StorageState) (olds news : List (ChainFile S)) → FormCommitChain state olds → AllOfTop P olds
+      → AreChecked state olds news → (2 ≤ length news → OfSecond P news) → OfTop P olds × OfSecond P olds
+  has-both state [] news formed all checked second = absurd formed
+  has-both state (top ∷ []) news formed all checked second = absurd formed
+  has-both state (top ∷ (next ∷ below)) news formed all checked second =
+      (all, subst (λ files. 2 ≤ length files → OfSecond P files) checked.1 second (omega arith))
+
+  pub second-before : (state : S → StorageState) (olds news : List (ChainFile S)) → AreChecked state olds news → OfSecond P news
+      → OfSecond P olds
+  second-before state [] news checked has = subst (λ files. OfSecond P files) checked has
+  second-before state (old ∷ olds) news checked has = subst (λ files. OfSecond P files) checked.1 has
 
 -- The reason why the checked files aren't opened.
-pub refused-before : {S T : Type 0} (state : S → StorageState) (writable : Bool) (olds news : List (ChainFile S)) (result : Result T NotDriven)
-    (fault : Fault) → AreChecked state olds news → IsErrAnd result (λ e. e ≡ Opening fault)
-    → HadResourceError state fault ⊎ FirstCause state writable news fault → IfErr result (WhyNotDriven state writable olds)
-refused-before state writable olds news (Ok x) fault checked gives why = tt
-refused-before state writable olds news (Err e) fault checked gives (inl resource) =
-    subst (WhyNotDriven state writable olds) (sym gives) (inl resource)
-refused-before state writable olds news (Err e) fault checked gives (inr cause) =
-    subst (WhyNotDriven state writable olds) (sym gives) (inr (cause-before state writable olds news fault checked cause))
-
--- Files that form a chain have a top.
-pub has-top : {S : Type 0} (P : ChainFile S → Type 0) (files : List (ChainFile S)) → 0 < length files → AllOfTop P files → OfTop P files
-has-top P [] some all = absurd (omega (arith, some))
-has-top P (file ∷ below) some all = all
+pub refused-before : {S T : Type 0} (state : S → StorageState) (m : OpenMode) (olds news : List (ChainFile S)) (result : Result T NotDriven)
+    (fault : Fault) → (WhyNotFormed state m news fault → WhyNotFormed state m olds fault) → IsErrAnd result (λ e. e ≡ Opening fault)
+    → HadResourceError state fault ⊎ WhyNotFormed state m news fault → IfErr result (WhyNotDriven state m olds)
+refused-before state m olds news (Ok x) fault before gives why = tt
+refused-before state m olds news (Err e) fault before gives (inl resource) = subst (WhyNotDriven state m olds) (sym gives) (inl resource)
+refused-before state m olds news (Err e) fault before gives (inr cause) =
+    subst (WhyNotDriven state m olds) (sym gives) (inr (before cause))

@@ -1,12 +1,12 @@
 -- The files of the layers below keep their bytes.
-use Rattle.std.proofs.Common.{◌≡◌, ◌∙◌, ℕ, List, [], ◌∷◌, ◌++◌, ap, refl, subst, sym}
-use Rattle.std.specs.Prelude.{Bool, false, map}
+use Rattle.std.proofs.Common.{◌≡◌, ◌∙◌, List, [], ◌∷◌, ◌++◌, ap, refl, subst, sym}
+use Rattle.std.specs.Prelude.{map}
 use Rattle.std.proofs.lemmas.List.{map-append}
 use Rattle.imago_storage.specs.State.{StorageState}
 use Rattle.imago_access.specs.Files.{Pairs, UnchangedButMoreFaults, files_of}
 use Rattle.imago_access.specs.declared.driver_model.DriverModel.{Ghosts}
 use Rattle.qimg_core.specs.declared.plain.ChainFile.{ChainFile}
-use Rattle.qimg_chain.specs.Chains.{AreLayers}
+use Rattle.qimg_chain.specs.Chains.{AreLayers, OpenMode, mode_below}
 use Rattle.qimg_chain.specs.FileLayers.{shows_below}
 use Rattle.qimg_chain.specs.Sessions.{AreBytesBelow, HaveBytesOf, bytes_of_state}
 
@@ -18,23 +18,23 @@ same-bytes [] (new ∷ news) pairs = absurd pairs
 same-bytes (old ∷ olds) [] pairs = absurd pairs
 
 module _ {S D St : Type 0} (g : Ghosts D St) (state : S → StorageState) where
-  opened-bytes : (files : List (ChainFile S)) (ds : List D) → AreLayers g state false 0 files ds
-      → AreBytesBelow state files (map bytes_of_state (files_of g ds))
-  opened-bytes [] [] are = refl
-  opened-bytes (file ∷ files) (d ∷ ds) are = (
+  opened-bytes : (m : OpenMode) (files : List (ChainFile S)) (ds : List D) → AreLayers g state m files ds
+      → AreBytesBelow state m files (map bytes_of_state (files_of g ds))
+  opened-bytes m [] [] are = refl
+  opened-bytes m (file ∷ files) (d ∷ ds) are = (
     shows_below (g.layer d),
     g.extras d,
     map bytes_of_state (files_of g ds),
     are.0.layer,
     ap (λ b. b ∷ map bytes_of_state (g.extras d ++ files_of g ds)) are.0.opened.unchanged_but_faults.0.bytes
         ∙ ap (λ bs. (state file.image).bytes ∷ bs) (map-append bytes_of_state (g.extras d) (files_of g ds)),
-    opened-bytes files ds are.1,
+    opened-bytes (mode_below m) files ds are.1,
   )
-  opened-bytes [] (d ∷ ds) are = absurd are
-  opened-bytes (file ∷ files) [] are = absurd are
+  opened-bytes m [] (d ∷ ds) are = absurd are
+  opened-bytes m (file ∷ files) [] are = absurd are
 
   -- The layers were opened over these files, and their files have kept their bytes since.
-  pub below-kept : (files : List (ChainFile S)) (opened ds : List D) → AreLayers g state false 0 files opened
-      → Pairs UnchangedButMoreFaults (files_of g opened) (files_of g ds) → HaveBytesOf g state files ds
-  below-kept files opened ds are pairs =
-      subst (AreBytesBelow state files) (sym (same-bytes (files_of g opened) (files_of g ds) pairs)) (opened-bytes files opened are)
+  pub below-kept : (m : OpenMode) (files : List (ChainFile S)) (opened ds : List D) → AreLayers g state m files opened
+      → Pairs UnchangedButMoreFaults (files_of g opened) (files_of g ds) → HaveBytesOf g state m files ds
+  below-kept m files opened ds are pairs =
+      subst (AreBytesBelow state m files) (sym (same-bytes (files_of g opened) (files_of g ds) pairs)) (opened-bytes m files opened are)

@@ -1,8 +1,9 @@
 // Opens image files as a chain (an image and its backing chain).
-ghost use Rattle.std.specs.Prelude.{◌≡◌, ◌⊎◌, ◌<◌, ◌∷◌, length, map, reverse, IfOk, IfErr, IsErrOf};
+ghost use Rattle.std.specs.Prelude.{◌≡◌, ◌≢◌, ◌⊎◌, ◌<◌, ◌∷◌, length, map, reverse, IfOk, IfErr, IsErrOf};
 ghost use Rattle.imago_storage.specs.State.{CrashImageIsBytes};
 ghost use Rattle.imago_access.specs.Building.{IsOpened};
 ghost use Rattle.imago_access.specs.Chain.{Each};
+ghost use Rattle.imago_access.specs.Committing.{IsCommittable};
 ghost use Rattle.imago_access.specs.Layer.{IsFree};
 ghost use Rattle.imago_access.specs.Layers.{chain};
 ghost use Rattle.imago_access.specs.Running.{chain_disk};
@@ -10,10 +11,10 @@ ghost use Rattle.imago_access.specs.declared.format.Format.TheVariants as format
 ghost use Rattle.qimg_calls.specs.Held.{IsReady};
 ghost use Rattle.qimg_calls.specs.Runs.{HoldsSince};
 ghost use Rattle.qimg_calls.specs.Since.{flushed};
-ghost use Rattle.qimg_chain.specs.Chains.{AreInPlace, AreLayers, IsFit, OfTop, number_for};
+ghost use Rattle.qimg_chain.specs.Chains.{AreInPlace, AreLayers, IsFit, OfSecond, OfTop, for_commit, mode, number_for};
 ghost use Rattle.qimg_chain.specs.FileMeanings.{FindsByNames, IsDiskOf, ShowsFile, extra_bytes, file_bytes, files_bytes};
 ghost use Rattle.qimg_chain.specs.FileLayers.{IsLayer, IsLayerAs, WhyNotAs, WhyNotLayer, shows_below};
-ghost use Rattle.qimg_chain.specs.Refusals.{FirstCause, FormChain, HadResourceError, WhyNotLayers};
+ghost use Rattle.qimg_chain.specs.Refusals.{FirstCause, FirstCommitCause, FormChain, FormCommitChain, HadResourceError, WhyNotCommitLayers, WhyNotLayers};
 
 use crate::chain::extras::Extras;
 use crate::chain::image_driver::ImageDriver;
@@ -68,7 +69,7 @@ pub fn open_chain<S: Storage>(
     writable: bool,
     number: u64,
 ) -> Result<FormatAccess<ImageDriver<S>>, Fault>
-    ensures layers { IfOk result (λ c. AreLayers ⟦<ImageDriver<S> as DriverModel>⟧ S.state writable number files.items (chain c)) }
+    ensures layers { IfOk result (λ c. AreLayers ⟦<ImageDriver<S> as DriverModel>⟧ S.state (mode writable number) files.items (chain c)) }
     ensures places { let d = ⟦<ImageDriver<S> as DriverModel>⟧ in IfOk result (λ c. AreInPlace (map d.layer (chain c))) }
     ensures means { let d = ⟦<ImageDriver<S> as DriverModel>⟧ in
         IfOk result (λ c. IsDiskOf (chain_disk d.layer c) (files_bytes S.state files.items)) }
@@ -100,6 +101,110 @@ pub fn open_chain<S: Storage>(
     }
 }
 
+/// Opens image files as a chain (an image and its backing chain) for commits to the layer below the top, the top first.
+///
+/// Like `open_chain`, but the second file is opened for writing, too. The first two images need different numbers.
+///
+/// Nothing is written. The new chain is ready for the calls of `qimg_calls::drive`, `Call::CommitDown` among them, if the first two files are
+/// consistent and their storages keep what is written.
+///
+/// # Errors
+///
+/// The call fails with the first of these.
+///
+/// - `Fault::BadArgument` if the numbers are equal.
+/// - `Fault::MissingBelow` for fewer than two files.
+/// - `Fault::Unsupported` if the second file is a VMDK image.
+/// - The errors of `open_chain`, where the second file is opened for writing.
+///
+/// # On error
+///
+/// The files are dropped.
+///
+/// # Crash safety
+///
+/// As for `open_chain`.
+pub fn open_for_commit<S: Storage>(
+    alloc: Global,
+    files: Vec<ChainFile<S>>,
+    number: u64,
+    below_number: u64,
+) -> Result<FormatAccess<ImageDriver<S>>, Fault>
+    ensures layers { let d = ⟦<ImageDriver<S> as DriverModel>⟧ in
+        IfOk result (λ c. AreLayers d S.state (for_commit number below_number) files.items (chain c)) }
+    ensures places { let d = ⟦<ImageDriver<S> as DriverModel>⟧ in IfOk result (λ c. AreInPlace (map d.layer (chain c))) }
+    ensures means { let d = ⟦<ImageDriver<S> as DriverModel>⟧ in
+        IfOk result (λ c. IsDiskOf (chain_disk d.layer c) (files_bytes S.state files.items)) }
+    // For each layer, its file means the same disk with the further files found by the layer's names.
+    ensures named { let d = ⟦<ImageDriver<S> as DriverModel>⟧ in
+        IfOk result (λ c. Each (FindsByNames d ⟦<ImageDriver<S> as NamesFiles>⟧.names) (chain c)) }
+    // No mapping is prepared in the top, and the layers below have no dirty data.
+    ensures free { let d = ⟦<ImageDriver<S> as DriverModel>⟧ in IfOk result (λ c. IsFree (d.layer c.0)) }
+    ensures has_no_dirty_data { let d = ⟦<ImageDriver<S> as DriverModel>⟧ in IfOk result (λ c. Each d.has_no_dirty_data c.1) }
+    // The preconditions of calls, commits to the layer below among them.
+    ensures ready { IfOk result (λ c. OfTop (IsFit S.state) files.items → IsReady ⟦<ImageDriver<S> as DriverModel>⟧ c) }
+    ensures committable { IfOk result (λ c. OfTop (IsFit S.state) files.items → OfSecond (IsFit S.state) files.items
+        → IsCommittable ⟦<ImageDriver<S> as DriverModel>⟧ c) }
+    ensures stands { let d = ⟦<ImageDriver<S> as DriverModel>⟧ in
+        IfOk result (λ c. OfTop (λ file. CrashImageIsBytes (S.state file.image)) files.items → HoldsSince d (flushed (chain_disk d.layer c)) c) }
+    // The call fails exactly with the first cause, or with a resource error. Files that form a chain have no cause.
+    ensures formed { IfOk result (λ _. FormCommitChain S.state files.items) }
+    ensures distinct { IfOk result (λ _. number ≢ below_number) }
+    ensures err { IfErr result (λ e. HadResourceError S.state e ⊎ FirstCommitCause S.state number below_number files.items e) }
+{
+    if number == below_number {
+        return Err(Fault::BadArgument);
+    }
+    if files.len() < 2 {
+        return Err(Fault::MissingBelow);
+    }
+    if let Format::Vmdk = files[1].format {
+        return Err(Fault::Unsupported);
+    }
+    if files.len() > MOST_LAYERS {
+        return Err(Fault::Limit(files.len() as u64));
+    }
+    let mut files = files;
+    files.reverse();
+    let Some(top) = files.pop() else {
+        return Err(Fault::MissingBelow);
+    };
+    let Some(next) = files.pop() else {
+        return Err(Fault::MissingBelow);
+    };
+    open_over_next(alloc, top, next, &mut files, number, below_number)
+}
+
+// Opens two files for writing, the first over the second, and the second over the files in `below`.
+fn open_over_next<S: Storage>(
+    alloc: Global,
+    top: ChainFile<S>,
+    next: ChainFile<S>,
+    below: &mut Vec<ChainFile<S>>,
+    number: u64,
+    below_number: u64,
+) -> Result<FormatAccess<ImageDriver<S>>, Fault>
+    ensures layers { let d = ⟦<ImageDriver<S> as DriverModel>⟧ in
+        IfOk result (λ c. AreLayers d S.state (for_commit number below_number) (top ∷ (next ∷ reverse below.old.items)) (chain c)) }
+    ensures places { let d = ⟦<ImageDriver<S> as DriverModel>⟧ in IfOk result (λ c. AreInPlace (map d.layer (chain c))) }
+    ensures means { let d = ⟦<ImageDriver<S> as DriverModel>⟧ in
+        IfOk result (λ c. IsDiskOf (chain_disk d.layer c) (files_bytes S.state (top ∷ (next ∷ reverse below.old.items)))) }
+    ensures named { let d = ⟦<ImageDriver<S> as DriverModel>⟧ in
+        IfOk result (λ c. Each (FindsByNames d ⟦<ImageDriver<S> as NamesFiles>⟧.names) (chain c)) }
+    ensures err { IfErr result (λ e. HadResourceError S.state e
+        ⊎ WhyNotCommitLayers S.state (top ∷ (next ∷ reverse below.old.items)) e) }
+{
+    let driver = open_layer(alloc, top, true, number)?;
+    if !driver.shows_below() {
+        return Err(Fault::ExtraLayer);
+    }
+    let rest = open_over(alloc, next, below, true, below_number)?;
+    match FormatAccess::with_below(alloc, driver, rest) {
+        Ok(access) => Ok(access),
+        Err((fault, _)) => Err(fault),
+    }
+}
+
 // Opens a file over the files in `below`. The last of those is directly below it.
 fn open_over<S: Storage>(
     alloc: Global,
@@ -109,7 +214,7 @@ fn open_over<S: Storage>(
     number: u64,
 ) -> Result<FormatAccess<ImageDriver<S>>, Fault>
     ensures layers { let d = ⟦<ImageDriver<S> as DriverModel>⟧ in
-        IfOk result (λ c. AreLayers d S.state writable number (top ∷ reverse below.old.items) (chain c)) }
+        IfOk result (λ c. AreLayers d S.state (mode writable number) (top ∷ reverse below.old.items) (chain c)) }
     ensures places { let d = ⟦<ImageDriver<S> as DriverModel>⟧ in IfOk result (λ c. AreInPlace (map d.layer (chain c))) }
     ensures means { let d = ⟦<ImageDriver<S> as DriverModel>⟧ in
         IfOk result (λ c. IsDiskOf (chain_disk d.layer c) (files_bytes S.state (top ∷ reverse below.old.items))) }

@@ -3,11 +3,12 @@ ghost use Rattle.std.specs.Prelude.{◌≡◌, IsTrue};
 ghost use Rattle.imago_access.specs.Layer.{IsFree};
 ghost use Rattle.qimg_chain.specs.RunAnswers.{bytes_told_of, Answered, IsShort, KeepsSaved};
 ghost use Rattle.qimg_chain.specs.RunCalls.{asks_for_call};
+ghost use Rattle.qimg_chain.specs.Saving.{files_to_save};
 ghost use Rattle.qimg_chain.specs.ScriptRuns.{kept_of};
 
 use super::calls::{MOST_READ, call_of, make, told};
 use super::files::{check_top, read_plainly};
-use super::saved::Saved;
+use super::saved::Kept;
 use crate::chain::NamesFiles;
 use crate::script::{Answer, Bytes, Line};
 use imago_access::{FormatAccess, FormatDriverInstance};
@@ -46,21 +47,21 @@ fn answer_call<D: FormatDriverInstance<Storage = MemStorage> + NamesFiles + Repa
     }
 }
 
-/// Makes the call of a line, and returns its answer. Bytes that a `save` kept in the file are copied first. If the line is a `save` that
-/// succeeds, the bytes of the top file are kept.
+/// Makes the call of a line, and returns its answer. Bytes that a `save` kept in the files are copied first. If the line is a `save` that
+/// succeeds, the bytes of the files are kept.
 fn answer_apart<D: FormatDriverInstance<Storage = MemStorage> + NamesFiles + RepairsLeaks>(
     alloc: Global,
     chain: &mut FormatAccess<D>,
     line: Line,
-    saved: &mut Saved,
+    saved: &mut Kept,
 ) -> Answer
     requires free { IsFree (D.layer chain.old.0) }
     requires asks { IsTrue (asks_for_call line) }
     requires short { IsShort line }
     ensures free { IsFree (D.layer chain.new.0) }
     ensures answered { Answered D.DriverModel D.names line result chain.old chain.new }
-    ensures keeps_saved { let was = kept_of (D.image chain.old.0).bytes saved.old in
-        KeepsSaved line result (D.image chain.new.0).bytes was (kept_of (D.image chain.new.0).bytes saved.new) }
+    ensures keeps_saved { let was = kept_of (files_to_save D.DriverModel chain.old) saved.old in
+        let files = files_to_save D.DriverModel chain.new in KeepsSaved line result files was (kept_of files saved.new) }
 {
     if let Err(fault) = saved.set_apart(chain) {
         return Answer::Refused(fault);
@@ -68,7 +69,7 @@ fn answer_apart<D: FormatDriverInstance<Storage = MemStorage> + NamesFiles + Rep
     let saves = matches!(line, Line::Save);
     let answer = answer_call(alloc, chain, line);
     if saves && matches!(answer, Answer::Done) {
-        *saved = Saved::InFile;
+        *saved = Kept::InFiles;
     }
     answer
 }
@@ -81,13 +82,13 @@ pub fn answer_line<D: FormatDriverInstance<Storage = MemStorage> + NamesFiles + 
     alloc: Global,
     chain: &mut FormatAccess<D>,
     line: Line,
-    saved: &mut Saved,
+    saved: &mut Kept,
 ) -> Answer
     requires free { IsFree (D.layer chain.old.0) }
     ensures free { IsFree (D.layer chain.new.0) }
     ensures answered { Answered D.DriverModel D.names line result chain.old chain.new }
-    ensures keeps_saved { let was = kept_of (D.image chain.old.0).bytes saved.old in
-        KeepsSaved line result (D.image chain.new.0).bytes was (kept_of (D.image chain.new.0).bytes saved.new) }
+    ensures keeps_saved { let was = kept_of (files_to_save D.DriverModel chain.old) saved.old in
+        let files = files_to_save D.DriverModel chain.new in KeepsSaved line result files was (kept_of files saved.new) }
 {
     match line {
         Line::Size => Answer::Number(chain.size()),

@@ -35,6 +35,7 @@ pub fn call_of(line: Line) -> Option<Call>
         Line::Flush => Call::Flush,
         Line::Save => Call::Flush,
         Line::Repair => Call::RepairLeaks,
+        Line::Commit => Call::CommitDown,
         Line::Size | Line::Check | Line::Plain { .. } => return None,
     };
     Some(call)

@@ -41,10 +41,12 @@ pub enum Line {
     Check,
     /// `plain OFFSET LENGTH`: reads a range from the files themselves.
     Plain { offset: u64, length: u64 },
-    /// `save`: flushes, and keeps the bytes of the top file.
+    /// `save`: flushes, and keeps the bytes of the top file. If the second layer is writable, it keeps those of its file, too.
     Save,
     /// `repair`: repairs the leaks of the top image, and returns how many clusters leaked.
     Repair,
+    /// `commit`: commits the data of the top image to the layer below it.
+    Commit,
 }
 
 /// Parses a line, without its end.
@@ -142,6 +144,9 @@ fn lone_line(name: &[u8]) -> Option<Line>
     }
     if name == b"repair".as_slice() {
         return Some(Line::Repair);
+    }
+    if name == b"commit".as_slice() {
+        return Some(Line::Commit);
     }
     None
 }

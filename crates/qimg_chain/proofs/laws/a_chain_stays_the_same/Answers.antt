@@ -5,4 +5,5 @@ pub returns-clause-same : goal.returns-clause-same
 returns-clause-same g c = same-chain g.D.DriverModel
 
 pub returns-clause-again : goal.returns-clause-again
-returns-clause-again g c a b d first second = same-chain-both g.D.DriverModel first second a b d
+returns-clause-again g c a b d repairs commits repairs_too commits_too =
+    same-chain-both g.D.DriverModel repairs commits repairs_too commits_too a b d

@@ -1,17 +1,11 @@
-use Rattle.std.proofs.Common.{◌≡◌, ap, refl, subst, arith}
-use Rattle.std.specs.Prelude.{Result, Ok, Err, IsErrAnd}
+use Rattle.std.proofs.Common.{ap, refl, subst, arith}
 use Rattle.std.specs.Io.Take.{take_remaining}
-use Rattle.qimg_chain.specs.declared.run.fault.RunFault.{RunFault}
+use Rattle.qimg_chain.specs.Saving.{files_to_save}
 use Rattle.qimg_chain.specs.ScriptReads.{ReadsNext}
 use Rattle.qimg_chain.specs.ScriptRuns.{ending, kept_of, standing}
 use Rattle.qimg_chain.proofs.ScriptBytes.{cut-reading, cut-telling, read-all, read-more, read-none}
-use Rattle.qimg_chain.proofs.ScriptRunLemmas.{all-written, last-untold, made-then, ran-none, ran-then, scripted, scripted-cut}
+use Rattle.qimg_chain.proofs.ScriptRunLemmas.{all-written, handed-on, last-untold, made-then, ran-none, ran-then, scripted, scripted-cut}
 use Rattle.qimg_chain.proofs.run.run_lines.Goals as goal
-
--- The returned fault is the one that occurred.
-handed-on : {T : Type 0} (result : Result T RunFault) (fault : RunFault) → IsErrAnd result (λ e. e ≡ fault) → result ≡ Err fault
-handed-on (Ok x) fault is = absurd is
-handed-on (Err e) fault is = ap Err is
 
 pub loop-init : goal.loop-init
 loop-init g c =
@@ -28,33 +22,33 @@ pub loop-preserved : goal.loop-preserved
 loop-preserved g c = (
   c.answer_to-answer.ensures.free,
   ran-then (take_remaining g.R.Read.remaining c.next_line.new.input) (g.W.Write.contents c.tell.new.writer) c.next_line.new.room
-      (standing c.answer_to-answer.new.chain (kept_of (g.D.DriverModel.image c.answer_to-answer.new.chain.0).bytes c.answer_to-answer.new.saved))
+      (standing c.answer_to-answer.new.chain (kept_of (files_to_save g.D.DriverModel c.answer_to-answer.new.chain) c.answer_to-answer.new.saved))
       c.in-Some.taken c.answer_to-answer.result c.loop.invariant.1 (subst (ReadsNext _ _ _ _) c.in-Some.is c.in_ok-taken.ensures.ok) c.answer_to-answer.ensures.replied c.in_ok-tell.ensures.ok,
 )
 
 pub returns-in_err-taken-clause-scripted : goal.returns-in_err-taken-clause-scripted
 returns-in_err-taken-clause-scripted g c =
-    scripted-cut (g.W.Write.contents c.args.writer.now) (g.W.Write.contents c.loop.writer) (ending (kept_of (g.D.DriverModel.image c.loop.chain.0).bytes) c.from_residual.result) _ c.loop.invariant.1.made (cut-reading _ _ c.in_err-taken.ensures.err (omega arith))
-    (ap (ending (kept_of (g.D.DriverModel.image c.loop.chain.0).bytes)) (handed-on c.from_residual.result _ c.from_residual.ensures.1)) (all-written _ _ _ _ c.loop.invariant.1.written)
+    scripted-cut (g.W.Write.contents c.args.writer.now) (g.W.Write.contents c.loop.writer) (ending (kept_of (files_to_save g.D.DriverModel c.loop.chain)) c.from_residual.result) _ c.loop.invariant.1.made (cut-reading _ _ c.in_err-taken.ensures.err (omega arith))
+    (ap (ending (kept_of (files_to_save g.D.DriverModel c.loop.chain))) (handed-on c.from_residual.result _ c.from_residual.ensures.1)) (all-written _ _ _ _ c.loop.invariant.1.written)
 
 pub returns-in_err-next_line-clause-scripted : goal.returns-in_err-next_line-clause-scripted
 returns-in_err-next_line-clause-scripted g c =
-    scripted-cut (g.W.Write.contents c.args.writer.now) (g.W.Write.contents c.loop.writer) (ending (kept_of (g.D.DriverModel.image c.loop.chain.0).bytes) c.from_residual-in_err-next_line.result) _ c.loop.invariant.1.made (cut-reading _ _ c.in_err-next_line.ensures.err (omega arith))
-    (ap (ending (kept_of (g.D.DriverModel.image c.loop.chain.0).bytes)) (handed-on c.from_residual-in_err-next_line.result _ c.from_residual-in_err-next_line.ensures.1)) (all-written _ _ _ _ c.loop.invariant.1.written)
+    scripted-cut (g.W.Write.contents c.args.writer.now) (g.W.Write.contents c.loop.writer) (ending (kept_of (files_to_save g.D.DriverModel c.loop.chain)) c.from_residual-in_err-next_line.result) _ c.loop.invariant.1.made (cut-reading _ _ c.in_err-next_line.ensures.err (omega arith))
+    (ap (ending (kept_of (files_to_save g.D.DriverModel c.loop.chain))) (handed-on c.from_residual-in_err-next_line.result _ c.from_residual-in_err-next_line.ensures.1)) (all-written _ _ _ _ c.loop.invariant.1.written)
 
 pub returns-in_default-clause-scripted : goal.returns-in_default-clause-scripted
 returns-in_default-clause-scripted g c = scripted c.loop.invariant.1 (omega arith)
     (λ texts read. read-all (g.R.Read.remaining c.args.reader) (take_remaining g.R.Read.remaining c.loop.input) (take_remaining g.R.Read.remaining c.next_line.new.input) c.loop.room c.next_line.new.room texts
-    (kept_of (g.D.DriverModel.image c.loop.chain.0).bytes c.loop.saved) read (subst (ReadsNext _ _ _ _) c.in_default.is c.in_ok-taken.ensures.ok)) refl
+    (kept_of (files_to_save g.D.DriverModel c.loop.chain) c.loop.saved) read (subst (ReadsNext _ _ _ _) c.in_default.is c.in_ok-taken.ensures.ok)) refl
 
 pub returns-in_err-tell-clause-scripted : goal.returns-in_err-tell-clause-scripted
 unfolding made-then
 returns-in_err-tell-clause-scripted g c =
-    let kept = kept_of (g.D.DriverModel.image c.answer_to-answer.new.chain.0).bytes in
+    let kept = kept_of (files_to_save g.D.DriverModel c.answer_to-answer.new.chain) in
     let result = ending kept c.from_residual-in_err-tell.result in
     let failed = ap (ending kept) (handed-on c.from_residual-in_err-tell.result c.in_err-tell.field-0.0 c.from_residual-in_err-tell.ensures.1) in
     scripted-cut (g.W.Write.contents c.args.writer.now) (g.W.Write.contents c.tell.new.writer) result c.in_err-tell.field-0.0
-    (made-then (take_remaining g.R.Read.remaining c.next_line.new.input) c.next_line.new.room (standing c.answer_to-answer.new.chain (kept_of (g.D.DriverModel.image c.answer_to-answer.new.chain.0).bytes c.answer_to-answer.new.saved))
+    (made-then (take_remaining g.R.Read.remaining c.next_line.new.input) c.next_line.new.room (standing c.answer_to-answer.new.chain (kept_of (files_to_save g.D.DriverModel c.answer_to-answer.new.chain) c.answer_to-answer.new.saved))
     c.in-Some.taken c.answer_to-answer.result c.loop.invariant.1.made (subst (ReadsNext _ _ _ _) c.in-Some.is c.in_ok-taken.ensures.ok) c.answer_to-answer.ensures.replied)
     (cut-telling c.in_err-tell.field-0.0 _ c.in_err-tell.ensures.err (omega arith) (omega arith)) failed
     (last-untold result c.in_err-tell.field-0.0 _ (g.W.Write.contents c.loop.writer) _ _ _ c.in_err-tell.ensures.err failed c.in_err-tell.ensures.guest_unchanged c.loop.invariant.1.written)
@@ -67,4 +61,4 @@ returns-in-Some-2-clause-scripted g c = scripted c.loop.invariant.1 (omega arith
 pub returns-clause-scripted : goal.returns-clause-scripted
 returns-clause-scripted g c = scripted c.loop.invariant.1 (omega arith)
     (λ texts read. read-all (g.R.Read.remaining c.args.reader) (take_remaining g.R.Read.remaining c.loop.input) (take_remaining g.R.Read.remaining c.next_line-2.new.input) c.loop.room c.next_line-2.new.room texts
-    (kept_of (g.D.DriverModel.image c.loop.chain.0).bytes c.loop.saved) read (subst (ReadsNext _ _ _ _) c.in-None.is c.in_ok-next_line.ensures.ok)) refl
+    (kept_of (files_to_save g.D.DriverModel c.loop.chain) c.loop.saved) read (subst (ReadsNext _ _ _ _) c.in-None.is c.in_ok-next_line.ensures.ok)) refl

@@ -1,5 +1,6 @@
 use Rattle.std.specs.Io.Take.{take_remaining}
 use Rattle.imago_access.specs.Layer.{IsFree}
+use Rattle.qimg_chain.specs.Saving.{files_to_save}
 use Rattle.qimg_chain.specs.ScriptRuns.{kept_of, standing}
 use Rattle.qimg_chain.proofs.ScriptRunLemmas.{RanSoFar}
 use Rattle.qimg_chain.proofs.run.run_lines.Given as goal
@@ -13,4 +14,4 @@ invariant-loop g l = IsFree (g.D.DriverModel.layer l.chain.0)
       room = l.room;
       before = g.W.Write.contents l.fn.writer;
       after = g.W.Write.contents l.writer;
-    }) l.counter l.fn.chain (standing l.chain (kept_of (g.D.DriverModel.image l.chain.0).bytes l.saved))
+    }) l.counter l.fn.chain (standing l.chain (kept_of (files_to_save g.D.DriverModel l.chain) l.saved))

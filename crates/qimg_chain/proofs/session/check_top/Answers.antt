@@ -1,18 +1,22 @@
 use Rattle.std.proofs.Common.{rules, ◌<◌, length}
-use Rattle.qimg_chain.proofs.Sessions.Checked.{same-state, top-accepted, top-checked, top-unread}
+use Rattle.qimg_chain.proofs.Refusing.{on_err}
+use Rattle.qimg_chain.proofs.Sessions.Checked.{all-top-has, on-done, top-checked, top-has}
+use Rattle.qimg_chain.specs.TopChecks.{IsRejected}
 use Rattle.qimg_chain.proofs.session.check_top.Goals as goal
 
-pub returns-in_ok-check-clause-checked : goal.returns-in_ok-check-clause-checked
-returns-in_ok-check-clause-checked g c =
-    let some : 0 < length c.args.files.now.items = search rules in
-    top-checked g.S.Storage.state c.index_mut-top.result.now c.args.files.now.items c.check.new.image some c.index_mut-top.ensures.value c.in-Qcow2.is
-    (same-state _ _ c.check.ensures.unchanged_but_faults c.in_ok-check.ensures.faults)
+pub returns-clause-accepted : goal.returns-clause-accepted
+returns-clause-accepted g c =
+    on-done c.check_file.result (all-top-has _ c.args.files.now.items c.index_mut.result.now c.index_mut.ensures.value)
+    c.check_file.ensures.accepted
 
-pub returns-in_default : goal.returns-in_default
-returns-in_default g c =
+pub returns-clause-checked : goal.returns-clause-checked
+returns-clause-checked g c =
     let some : 0 < length c.args.files.now.items = search rules in
-    record {
-      accepted = top-accepted g.S.Storage.state c.index_mut-top.result.now c.args.files.now.items some c.index_mut-top.ensures.value c.in_default.not-Qcow2;
-      checked = top-unread g.S.Storage.state c.index_mut-top.result.now c.args.files.now.items some c.index_mut-top.ensures.value;
-      err = tt;
-    }
+    on-done c.check_file.result (top-checked g.S.Storage.state c.args.files.now.items c.index_mut.result.now c.check_file.new.file some
+    c.index_mut.ensures.value) c.check_file.ensures.checked
+
+pub returns-clause-err : goal.returns-clause-err
+returns-clause-err g c =
+    let some : 0 < length c.args.files.now.items = search rules in
+    on_err (λ fault. top-has (IsRejected g.S.Storage.state fault) c.args.files.now.items c.index_mut.result.now some
+    c.index_mut.ensures.value) c.check_file.result c.check_file.ensures.err

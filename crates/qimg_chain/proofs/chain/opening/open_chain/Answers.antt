@@ -2,6 +2,7 @@ use Rattle.std.proofs.lemmas.Bool.Decides.{nat_tests}
 use Rattle.std.proofs.Common.{◌≡◌, ◌≤◌, ◌∷◌, ◌++◌, ◌∙◌, [], List, ap, arith, length, sym}
 use Rattle.std.specs.Prelude.{reverse}
 use Rattle.std.proofs.lemmas.List.{reverse-append, reverse-reverse}
+use Rattle.qimg_chain.specs.Chains.{mode}
 use Rattle.qimg_chain.proofs.ImageKinds.{keeps_so, none_held, sound_so}
 use Rattle.qimg_chain.proofs.Opened.{formed, free, on_ok, on_ok_both, ready, stands, has_no_dirty_data}
 use Rattle.qimg_chain.proofs.Refusing.{first_of, on_err}
@@ -16,11 +17,13 @@ returns-in-Some-clause-layers g c =
 
 pub returns-in-Some-clause-free : goal.returns-in-Some-clause-free
 returns-in-Some-clause-free g c =
-    on_ok (free _ g.S.Storage.state c.args.writable c.args.number c.in-Some.top (reverse c.pop.new.self.items)) c.open_over.result c.open_over.ensures.layers
+    on_ok (free _ g.S.Storage.state (mode c.args.writable c.args.number) c.in-Some.top (reverse c.pop.new.self.items))
+    c.open_over.result c.open_over.ensures.layers
 
 pub returns-in-Some-clause-has_no_dirty_data : goal.returns-in-Some-clause-has_no_dirty_data
 returns-in-Some-clause-has_no_dirty_data g c =
-    on_ok (has_no_dirty_data _ g.S.Storage.state c.args.writable c.args.number c.in-Some.top (reverse c.pop.new.self.items)) c.open_over.result c.open_over.ensures.layers
+    on_ok (has_no_dirty_data _ g.S.Storage.state (mode c.args.writable c.args.number) c.in-Some.top (reverse c.pop.new.self.items))
+    c.open_over.result c.open_over.ensures.layers
 
 pub returns-in-Some-clause-ready : goal.returns-in-Some-clause-ready
 returns-in-Some-clause-ready g c =
@@ -28,13 +31,13 @@ returns-in-Some-clause-ready g c =
     let few : length c.args.files.items ≤ 64 = grind (arith, nat_tests, c.if-len-gt-MOST_LAYERS.false, c.len.ensures) in
     rw same (on_ok_both (ready _ g.S.Storage.state (none_held g.row.S g.S.Storage g.S.Storage-dict g.S.Destruct-dict)
     (keeps_so g.row.S g.S.Storage g.S.Storage-dict g.S.Destruct-dict) (sound_so g.row.S g.S.Storage g.S.Storage-dict g.S.Destruct-dict)
-    c.args.writable c.args.number c.in-Some.top (reverse c.pop.new.self.items) (rw same at few))
+    (mode c.args.writable c.args.number) c.in-Some.top (reverse c.pop.new.self.items) (rw same at few))
     c.open_over.result c.open_over.ensures.layers c.open_over.ensures.places)
 
 pub returns-in-Some-clause-stands : goal.returns-in-Some-clause-stands
 returns-in-Some-clause-stands g c =
     rw (begins c.args.files.items c.reverse.new.self.items c.pop.new.self.items c.in-Some.top c.reverse.ensures.items c.in-Some.ensures.items)
-    (on_ok (stands _ g.S.Storage.state c.args.writable c.args.number c.in-Some.top (reverse c.pop.new.self.items))
+    (on_ok (stands _ g.S.Storage.state (mode c.args.writable c.args.number) c.in-Some.top (reverse c.pop.new.self.items))
     c.open_over.result c.open_over.ensures.layers)
 
 pub returns-in-Some-clause-formed : goal.returns-in-Some-clause-formed

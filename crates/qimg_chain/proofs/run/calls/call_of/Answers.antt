@@ -1,6 +1,6 @@
 use Rattle.std.proofs.Common.{refl}
 use Rattle.qimg_chain.proofs.run.calls.call_of.Goals as goal
-use Rattle.qimg_chain.proofs.run.calls.call_of.Goals.{in-Read, in-Write, in-Zero, in-Discard, in-DiscardAny, in-DiscardBacking, in-Grow, in-Shrink, in-Flush, in-Save, in-Repair}
+use Rattle.qimg_chain.proofs.run.calls.call_of.Goals.{in-Read, in-Write, in-Zero, in-Discard, in-DiscardAny, in-DiscardBacking, in-Grow, in-Shrink, in-Flush, in-Save, in-Repair, in-Commit}
 
 pub returns : goal.returns
 returns c = elim c.match-line.branch [
@@ -15,4 +15,5 @@ returns c = elim c.match-line.branch [
   | in-Flush w ↦ rw (w.in-Flush.is, w.call-is) refl
   | in-Save w ↦ rw (w.in-Save.is, w.call-is) refl
   | in-Repair w ↦ rw (w.in-Repair.is, w.call-is) refl
+  | in-Commit w ↦ rw (w.in-Commit.is, w.call-is) refl
 ]

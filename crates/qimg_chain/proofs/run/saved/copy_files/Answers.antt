@@ -1,0 +1,9 @@
+use Rattle.std.proofs.Common.{◌∙◌, ap}
+use Rattle.imago_storage.specs.State.{StorageState}
+use Rattle.qimg_chain.proofs.Sessions.Saved.{saved-files}
+use Rattle.qimg_chain.proofs.run.saved.copy_files.Goals as goal
+
+pub returns-clause-ok : goal.returns-clause-ok
+returns-clause-ok g c =
+    let held = ap (λ (s : StorageState). s.bytes) c.image_file.ensures ∙ ap (λ d. (g.D.DriverModel.image d).bytes) c.inner-driver.ensures in
+    saved-files c.in_ok-top.top c.in_ok-below.below _ _ (c.in_ok-top.ensures.ok ∙ held) c.in_ok-below.ensures.ok
