@@ -5,6 +5,8 @@ ghost use Rattle.imago_storage.specs.declared.fault.Fault.{Fault};
 ghost use Rattle.qimg_core.specs.declared.check.CheckFault.{CheckFault};
 ghost use Rattle.qimg.specs.declared.failure.Failure.TheVariants as failures;
 ghost use Rattle.qimg.specs.declared.failure.Finding.TheVariants as findings;
+ghost use Rattle.qimg.specs.declared.failure.Uncommitted.{Uncommitted};
+ghost use Rattle.qimg.specs.declared.failure.Uncommitted.TheVariants as uncommitted;
 ghost use Rattle.qimg_chain.specs.declared.run.opened.ScriptFault.TheVariants as script_faults;
 
 use imago_storage::Fault;
@@ -32,6 +34,110 @@ pub enum Failure {
     LeftOver(String),
     /// The command `check` didn't end with an image without errors.
     Check(Finding),
+    /// The command `commit` failed.
+    Commit(Uncommitted),
+}
+
+/// A reason why the command `commit` fails.
+#[derive(Debug, Drop)]
+pub enum Uncommitted {
+    /// The arguments of `commit` aren't valid.
+    Usage,
+    /// The file at this path has no backing file.
+    NoBackingFile(String),
+    /// The header of the file at this path doesn't state the format of its backing file.
+    NoFormat(String),
+    /// A header states this format of the backing file, which is neither `raw` nor `qcow2`.
+    UnknownFormat(String),
+    /// The backing files form a loop. Holds the path of a file that occurs twice.
+    Loop(String),
+    /// The checker doesn't accept the file.
+    Unaccepted(CheckFault),
+    /// The checker doesn't accept the backing file.
+    UnacceptedBelow(CheckFault),
+    /// The chain doesn't open, or the commit fails.
+    Refused(Fault),
+    /// A file can't be read or replaced, memory ran out, or the output can't be written.
+    Failed,
+    /// The path of the new file of a save is taken. Holds that path.
+    LeftOver(String),
+}
+
+impl fmt::Display for Uncommitted {
+    fn fmt<W: fmt::Write>(&self, f: &mut fmt::Formatter<W>) -> fmt::Result {
+        match self {
+            Uncommitted::Usage => write!(f, "bad arguments"),
+            Uncommitted::NoBackingFile(path) => write!(f, "{path} has no backing file"),
+            Uncommitted::NoFormat(path) => {
+                write!(
+                    f,
+                    "the header of {path} states no format of the backing file"
+                )
+            }
+            Uncommitted::UnknownFormat(format) => {
+                write!(f, "a backing file of format {format} isn't supported")
+            }
+            Uncommitted::Loop(path) => write!(f, "{path} is its own backing file, or below it"),
+            Uncommitted::Unaccepted(fault) => write_fault(f, fault),
+            Uncommitted::UnacceptedBelow(fault) => {
+                write!(f, "the backing file: ")?;
+                write_fault(f, fault)
+            }
+            Uncommitted::Refused(fault) => write!(f, "{fault}"),
+            Uncommitted::Failed | Uncommitted::LeftOver(_) => write!(f, "input or output failed"),
+        }
+    }
+}
+
+impl From<Failure> for Uncommitted {
+    ghost from_gives = { λ _ _. ⊤ };
+
+    fn from(failure: Failure) -> Self {
+        match failure {
+            Failure::LeftOver(path) => Uncommitted::LeftOver(path),
+            _ => Uncommitted::Failed,
+        }
+    }
+}
+
+impl From<Fault> for Uncommitted {
+    ghost from_gives = { λ fault failure. failure ≡ uncommitted.Refused fault };
+
+    fn from(fault: Fault) -> Self {
+        Uncommitted::Refused(fault)
+    }
+}
+
+impl From<io::Error> for Uncommitted {
+    ghost from_gives = { λ _ failure. failure ≡ uncommitted.Failed };
+
+    fn from(_: io::Error) -> Self {
+        Uncommitted::Failed
+    }
+}
+
+impl From<AllocError> for Uncommitted {
+    ghost from_gives = { λ _ failure. failure ≡ uncommitted.Failed };
+
+    fn from(_: AllocError) -> Self {
+        Uncommitted::Failed
+    }
+}
+
+impl<T: Drop> From<AllocFailed<T>> for Uncommitted {
+    ghost from_gives = { λ _ failure. failure ≡ uncommitted.Failed };
+
+    fn from(_: AllocFailed<T>) -> Self {
+        Uncommitted::Failed
+    }
+}
+
+impl From<Uncommitted> for Failure {
+    ghost from_gives = { λ why failure. failure ≡ failures.Commit why };
+
+    fn from(why: Uncommitted) -> Self {
+        Failure::Commit(why)
+    }
 }
 
 /// The result of the command `check`, unless the image has no errors.
@@ -130,6 +236,7 @@ impl fmt::Display for Failure {
             Failure::Taken(path) => write!(f, "{path} exists"),
             Failure::InputOutput | Failure::LeftOver(_) => write!(f, "input or output failed"),
             Failure::Check(finding) => write!(f, "{finding}"),
+            Failure::Commit(why) => write!(f, "{why}"),
         }
     }
 }
@@ -189,10 +296,12 @@ pub fn status(outcome: &Result<(), Failure>) -> u8
     ensures check_usage { outcome.now ≡ Err (Failure.Check findings.Usage) → result ≡ 1 }
     ensures check_failed { outcome.now ≡ Err (Failure.Check findings.Failed) → result ≡ 1 }
     ensures check_left_over { (path : String Global) → outcome.now ≡ Err (Failure.Check (findings.LeftOver path)) → result ≡ 1 }
+    ensures commit { (why : Uncommitted) → outcome.now ≡ Err (Failure.Commit why) → result ≡ 1 }
 {
     match outcome {
         Ok(()) => 0,
         Err(Failure::Opening(_) | Failure::Creating(_) | Failure::Taken(_)) => 1,
+        Err(Failure::Commit(_)) => 1,
         Err(Failure::Arguments | Failure::Usage) => 2,
         Err(Failure::InputOutput) => 3,
         Err(Failure::LeftOver(_)) => 3,
@@ -208,7 +317,7 @@ pub fn status(outcome: &Result<(), Failure>) -> u8
     }
 }
 
-/// Returns what the user can do about a failure of `create` or `check`, if that isn't in its first line.
+/// Returns what the user can do about a failure of `create`, `check` or `commit`, if that isn't in its first line.
 pub fn advice(failure: &Failure) -> Option<&'static str> {
     match failure {
         Failure::Usage => Some(
@@ -216,6 +325,13 @@ pub fn advice(failure: &Failure) -> Option<&'static str> {
             [-p none|zero|format|full|data] FILE SIZE",
         ),
         Failure::Check(Finding::Usage) => Some("usage: qimg check [--repair leaks] FILE"),
+        Failure::Commit(Uncommitted::Usage) => Some("usage: qimg commit FILE"),
+        Failure::Commit(Uncommitted::NoFormat(_)) => Some(
+            "`qemu-img rebase -u -F FORMAT -b BACKING_FILE FILE` writes it to the header; a guessed format may be wrong",
+        ),
+        Failure::Commit(Uncommitted::Refused(Fault::BadArgument)) => {
+            Some("the backing file is smaller than the disk; it must be grown first")
+        }
         Failure::Check(Finding::Leaks(_)) => {
             Some("they waste space and harm no data; `qimg check --repair leaks FILE` frees them")
         }

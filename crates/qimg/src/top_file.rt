@@ -1,4 +1,4 @@
-// The file of a chain's top image, and its replacement by a save.
+// The files of a chain's top image and of the one below it, and their replacement by a save.
 
 use crate::failure::Failure;
 use std::alloc::Global;
@@ -88,11 +88,11 @@ impl TopFile {
         Ok(())
     }
 
-    /// Fills the new file at the path `beside` with bytes, and renames it to the path of this file.
+    /// Fills the new file at the path `beside` with bytes, and syncs it.
     ///
     /// Before any byte is written, the new file gets the owner and the group of this one, as far as the system allows. Then it gets its
     /// permissions. See `hand_over`.
-    fn take_place<R: Files + AllocGlobal>(
+    fn fill<R: Files + AllocGlobal>(
         &self,
         rt: &R,
         mut file: R::File,
@@ -104,9 +104,51 @@ impl TopFile {
         file.set_permissions(Permissions::from_mode(mode))?;
         file.write_all(bytes)?;
         file.sync_all()?;
-        self.check_unchanged(rt)?;
-        fs::rename(rt, beside, self.path.as_str())?;
-        Ok(())
+        self.check_unchanged(rt)
+    }
+
+    /// Writes bytes to a new file next to this one, `PATH.qimg-new`, and returns its path. If that fails, the new file is removed.
+    fn write_beside<R: Files + AllocGlobal>(
+        &self,
+        rt: &R,
+        bytes: &[u8],
+    ) -> Result<String, Failure> {
+        let beside = format!(in rt.alloc(); "{}.qimg-new", self.path.as_str())?;
+        let file = match create_private(rt, beside.as_str()) {
+            Ok(file) => file,
+            Err(error) if error.kind() == ErrorKind::AlreadyExists => {
+                return Err(Failure::LeftOver(beside));
+            }
+            Err(error) => return Err(Failure::from(error)),
+        };
+        match self.fill(rt, file, beside.as_str(), bytes) {
+            Ok(()) => Ok(beside),
+            Err(failure) => {
+                let _ = fs::remove_file(rt, beside.as_str());
+                Err(failure)
+            }
+        }
+    }
+
+    /// Renames the new file at the path `beside` to the path of this file, and syncs the folder. If this file has changed, or the renaming
+    /// fails, the new file is removed.
+    fn rename<R: Files + AllocGlobal>(&self, rt: &R, beside: &str) -> Result<(), Failure> {
+        let folder = match self.folder(rt) {
+            Ok(folder) => folder,
+            Err(failure) => {
+                let _ = fs::remove_file(rt, beside);
+                return Err(failure);
+            }
+        };
+        let renamed = match self.check_unchanged(rt) {
+            Ok(()) => Ok(fs::rename(rt, beside, self.path.as_str())?),
+            Err(failure) => Err(failure),
+        };
+        if renamed.is_err() {
+            let _ = fs::remove_file(rt, beside);
+            return renamed;
+        }
+        Ok(folder.sync_all()?)
     }
 
     /// Opens the folder of the file.
@@ -136,20 +178,50 @@ impl TopFile {
     ///
     /// If the program is stopped during the call, the new file may be left. Until it gets its permissions, it has mode 0600 and no bytes.
     pub fn replace<R: Files + AllocGlobal>(&self, rt: &R, bytes: &[u8]) -> Result<(), Failure> {
-        let beside = format!(in rt.alloc(); "{}.qimg-new", self.path.as_str())?;
-        let folder = self.folder(rt)?;
-        let file = match create_private(rt, beside.as_str()) {
-            Ok(file) => file,
-            Err(error) if error.kind() == ErrorKind::AlreadyExists => {
-                return Err(Failure::LeftOver(beside));
+        let beside = self.write_beside(rt, bytes)?;
+        self.rename(rt, beside.as_str())
+    }
+
+    /// Returns true if both are the same file.
+    pub fn is_same(&self, other: &TopFile) -> bool {
+        self.version.device == other.version.device && self.version.inode == other.version.inode
+    }
+
+    /// Replaces the bytes of this file and of the one below it. Both new files are written first. Then the one below is renamed, and after it
+    /// the new file of this one.
+    ///
+    /// # Errors
+    ///
+    /// The errors of `replace`.
+    ///
+    /// # On error
+    ///
+    /// Both files are unchanged, and new files that this call created are removed. If only the last renaming fails, or a sync of a folder,
+    /// the file below has its new bytes.
+    ///
+    /// # Crash safety
+    ///
+    /// As for `replace`, of each file by itself. Between the two renamings the file below is the new one, and this one is the old one.
+    pub fn replace_with_below<R: Files + AllocGlobal>(
+        &self,
+        rt: &R,
+        bytes: &[u8],
+        below: &TopFile,
+        below_bytes: &[u8],
+    ) -> Result<(), Failure> {
+        let new_below = below.write_beside(rt, below_bytes)?;
+        let new_top = match self.write_beside(rt, bytes) {
+            Ok(beside) => beside,
+            Err(failure) => {
+                let _ = fs::remove_file(rt, new_below.as_str());
+                return Err(failure);
             }
-            Err(error) => return Err(Failure::from(error)),
         };
-        let taken = self.take_place(rt, file, beside.as_str(), bytes);
-        if taken.is_err() {
-            let _ = fs::remove_file(rt, beside.as_str());
-            return taken;
+        let replaced = below.rename(rt, new_below.as_str());
+        if replaced.is_err() {
+            let _ = fs::remove_file(rt, new_top.as_str());
+            return replaced;
         }
-        Ok(folder.sync_all()?)
+        self.rename(rt, new_top.as_str())
     }
 }
