@@ -88,6 +88,7 @@ fn call_of(alloc: Global, words: &[&str]) -> Result<Call, Trouble> {
         ["flush"] => Ok(Call::Flush),
         ["sync"] => Ok(Call::Sync),
         ["repair"] => Ok(Call::RepairLeaks),
+        ["commit_down"] => Ok(Call::CommitDown),
         [word, first, rest @ ..] => call_at(alloc, word, number(first)?, rest),
         _ => Err(Trouble::NoCall),
     }

@@ -195,7 +195,7 @@ fn named<D: FormatDriverInstance + Display>(
 /// - `grow` and `resize SIZE MODE`, `shrink SIZE`, with `none`, `zero`, `format`, `full` or `data` as a mode; `flush`, `sync`,
 ///   `invalidate`, `commit_down`; `repair`, which answers the leaks that it repaired as `leaks CLUSTER:EXCESS ..`, or `no leaks`.
 /// - `list CALL ; CALL ; ..`: several calls by one call of `drive`, which keeps a prepared mapping between them. A list can have the calls
-///   of the two items above except `resize`, `invalidate` and `commit_down`, and also `prepare OFFSET N [overwrite]`, `commit` and
+///   of the two items above except `resize` and `invalidate`, and also `prepare OFFSET N [overwrite]`, `commit` and
 ///   `cancel`. The answers have `/` between them. An empty list answers `none`.
 /// - `sizes`: the sizes of the layers, the top first; `ready`: whether each layer can be used; `aligns`: the alignments of requests and of
 ///   memory; `named`: the disk's `Display` text; `prepared`: whether a mapping is prepared in the top layer.

@@ -1,7 +1,7 @@
 // Parses command lines of the program `qimg`, and answers the layers (images of a chain) that they give.
 use crate::copies::word_of;
 use cases::{Trouble, joined};
-use qimg_chain::arguments::{Arguments, LayerArgument, parse};
+use qimg_chain::arguments::{Arguments, LayerArgument, Opening, parse};
 use std::alloc::Global;
 
 // Appends a layer: its format and path, and the names and paths of its extra files.
@@ -15,13 +15,13 @@ fn tell_layer(alloc: Global, text: &mut String, layer: &LayerArgument) -> Result
     Ok(joined(text, "/")?)
 }
 
-// Returns how the top is opened, and the layers, each followed by `/`.
+// Returns how the images are opened, and the layers, each followed by `/`.
 fn told(alloc: Global, arguments: &Arguments) -> Result<String, Trouble> {
     let mut text = String::new(alloc);
-    let access = if arguments.read_only {
-        "reading /"
-    } else {
-        "writing /"
+    let access = match arguments.opening {
+        Opening::ReadOnly => "reading /",
+        Opening::Writable => "writing /",
+        Opening::ForCommit => "committing /",
     };
     joined(&mut text, access)?;
     for layer in &arguments.layers {

@@ -203,7 +203,8 @@ impl<'a> Layer for Chains<'a> {
                 | "script_in"
                 | "script_read"
                 | "script_write"
-                | "saved",
+                | "saved"
+                | "saved_below",
                 ..
             ] => { self.scripted(alloc, words) }
             ["run_fault", name] => run_fault_told(alloc, name),

@@ -29,9 +29,11 @@
 //!   extents. `open_extents` opens those extents of a descriptor on top that aren't open yet.
 //! - `close`: drops the disk.
 //! - `chain [writing] [number N] [LAYER [over LAYER] ..]`: opens files as a chain by one call, the top first. The chain replaces the disk.
-//!   A LAYER is `FORMAT FILE [with NAME FILE] ..`, where NAME is the name by which the image opens the extra file.
+//!   A LAYER is `FORMAT FILE [with NAME FILE] ..`, where NAME is the name by which the image opens the extra file. `chain committing [number
+//!   N] [below_number N] [LAYER [over LAYER] ..]` opens the image below the top for writing, too. Its number is 1 by default.
 //! - `checked_chain [writing] [number N] LAYER [over LAYER] .. [; CALL] ..`: like `chain`, but the checker must accept the top file, and a list
-//!   of calls is made by the same call. It answers like `list`, or with the finding.
+//!   of calls is made by the same call. It answers like `list`, or with the finding. With `committing`, as for `chain`, it must accept the
+//!   second file, too.
 //!
 //! # Calls
 //!
@@ -86,10 +88,11 @@
 //! - `script_read CAUSE N LINE [; LINE] ..`: like `script`, but the reader fails after N bytes. `script_write CAUSE N LINE [; LINE] ..`:
 //!   the writer fails after N bytes. The cause is `broken` or `memory`, which are permanent, or `interrupted`, which happens once. If the
 //!   script ended early, the reason follows the lines.
-//! - `saved`: how many bytes the last script saved that didn't end early, or `none`. `saved OFFSET N`: a range of these bytes.
+//! - `saved`: how many bytes of the top file the last script saved that didn't end early, or `none`. `saved OFFSET N`: a range of these
+//!   bytes. `saved_below [OFFSET N]`: likewise for the file below the top, which is saved if that image is writable.
 //! - `answer_text BYTES`: the text of an answer that consists of these bytes, followed by `/`.
-//! - `arguments [WORD] ..`: parses arguments of the program. It answers `reading /` or `writing /`, and the layers, the top first, each
-//!   followed by `/`, or `none` if the list is empty. The text of a layer is `FORMAT PATH [with NAME at PATH] ..`.
+//! - `arguments [WORD] ..`: parses arguments of the program. It answers `reading /`, `writing /` or `committing /`, and the layers, the top
+//!   first, each followed by `/`, or `none` if the list is empty. The text of a layer is `FORMAT PATH [with NAME at PATH] ..`.
 #![tactic(auto)]
 
 mod arguments;

@@ -1,12 +1,12 @@
-// Opens files of a case as a chain with one call of `open_chain`, and parses the layers that the script gives.
+// Opens files of a case as a chain with one call of `open_chain` or `open_for_commit`, and parses the layers that the script gives.
 use crate::files::NamedStorages;
 use crate::images::{Split, access_of};
 use cases::{Trouble, number};
 use imago_access::{Format, FormatAccess};
 use imago_storage::{Fault, Storage};
 use qimg_calls::{Answer, Call};
-use qimg_chain::chain::{ImageDriver, open_chain};
-use qimg_chain::session::{NotDriven, drive_files};
+use qimg_chain::chain::{ImageDriver, open_chain, open_for_commit};
+use qimg_chain::session::{NotDriven, drive_files, drive_for_commit};
 use qimg_core::check::CheckFault;
 use qimg_core::plain::ChainFile;
 use std::alloc::Global;
@@ -16,6 +16,14 @@ fn number_of<'x, 'y>(words: &'y [&'x str]) -> Result<Split<'x, 'y, u64>, Trouble
     match words {
         ["number", n, rest @ ..] => Ok((number(n)?, rest)),
         _ => Ok((0, words)),
+    }
+}
+
+// Parses `[below_number N]`, the number of the image below the top. The default is 1.
+fn below_number_of<'x, 'y>(words: &'y [&'x str]) -> Result<Split<'x, 'y, u64>, Trouble> {
+    match words {
+        ["below_number", n, rest @ ..] => Ok((number(n)?, rest)),
+        _ => Ok((1, words)),
     }
 }
 
@@ -89,7 +97,8 @@ pub fn layers_of<S: Storage, F: NamedStorages<S>>(
     Ok(layers)
 }
 
-/// Opens files of the case as a chain: `[writing] [number N] [LAYER [over LAYER] ..]`, where a layer is `FORMAT FILE [with NAME FILE] ..`.
+/// Opens files of the case as a chain: `[writing] [number N] [LAYER [over LAYER] ..]`, where a layer is `FORMAT FILE [with NAME FILE] ..`. With
+/// `committing [number N] [below_number N] [LAYER ..]` the two top images are opened for writing.
 ///
 /// # Errors
 ///
@@ -100,6 +109,12 @@ pub fn open<S: Storage, F: NamedStorages<S>>(
     words: &[&str],
     files: &mut F,
 ) -> Result<FormatAccess<ImageDriver<S>>, Trouble> {
+    if let ["committing", rest @ ..] = words {
+        let (number, rest) = number_of(rest)?;
+        let (below_number, rest) = below_number_of(rest)?;
+        let layers = layers_of(alloc, rest, files)?;
+        return Ok(open_for_commit(alloc, layers, number, below_number)?);
+    }
     let (is_writing, rest) = access_of(words);
     let (number, rest) = number_of(rest)?;
     let layers = layers_of(alloc, rest, files)?;
@@ -109,27 +124,46 @@ pub fn open<S: Storage, F: NamedStorages<S>>(
 /// A chain that a list of calls was made on, and the answers to the calls.
 pub type Driven<S> = (FormatAccess<ImageDriver<S>>, Result<Vec<Answer>, Fault>);
 
-/// Checks the top file, opens files of the case as a chain like [`open`], and makes a list of calls on it. If the checker doesn't accept the
-/// top file, its finding is returned.
+// Opens files as `checked_chain` says, and makes a list of calls on them.
+fn drive_words<S: Storage, F: NamedStorages<S>>(
+    alloc: Global,
+    words: &[&str],
+    calls: &[Call],
+    files: &mut F,
+) -> Result<Result<Driven<S>, NotDriven>, Trouble> {
+    if let ["committing", rest @ ..] = words {
+        let (number, rest) = number_of(rest)?;
+        let (below_number, rest) = below_number_of(rest)?;
+        let layers = layers_of(alloc, rest, files)?;
+        return Ok(drive_for_commit(alloc, layers, number, below_number, calls));
+    }
+    let (is_writing, rest) = access_of(words);
+    let (number, rest) = number_of(rest)?;
+    let layers = layers_of(alloc, rest, files)?;
+    Ok(drive_files(alloc, layers, is_writing, number, calls))
+}
+
+/// Checks the top file, opens files of the case as a chain like [`open`], and makes a list of calls on it. If the image below is opened for
+/// writing, its file is checked, too. If the checker doesn't accept a file, its finding is returned.
 ///
 /// # Errors
 ///
 /// - `Trouble::NoCall` if the layers don't have this form, or the case has no such file.
-/// - `Trouble::Refused` if the opening fails, or the top file can't be checked.
+/// - `Trouble::Refused` if the opening fails, or a file can't be checked.
 pub fn open_and_drive<S: Storage, F: NamedStorages<S>>(
     alloc: Global,
     words: &[&str],
     calls: &[Call],
     files: &mut F,
 ) -> Result<Result<Driven<S>, CheckFault>, Trouble> {
-    let (is_writing, rest) = access_of(words);
-    let (number, rest) = number_of(rest)?;
-    let layers = layers_of(alloc, rest, files)?;
-    match drive_files(alloc, layers, is_writing, number, calls) {
-        Ok(driven) => Ok(Ok(driven)),
-        Err(NotDriven::Opening(fault)) => Err(Trouble::Refused(fault)),
-        Err(NotDriven::Finding(CheckFault::Memory)) => Err(Trouble::Refused(Fault::Memory)),
-        Err(NotDriven::Finding(CheckFault::Storage)) => Err(Trouble::Refused(Fault::Storage)),
-        Err(NotDriven::Finding(finding)) => Ok(Err(finding)),
+    let finding = match drive_words(alloc, words, calls, files)? {
+        Ok(driven) => return Ok(Ok(driven)),
+        Err(NotDriven::Opening(fault)) => return Err(Trouble::Refused(fault)),
+        Err(NotDriven::Finding(finding) | NotDriven::FindingBelow(finding)) => finding,
+    };
+    match finding {
+        CheckFault::Memory => Err(Trouble::Refused(Fault::Memory)),
+        CheckFault::Storage => Err(Trouble::Refused(Fault::Storage)),
+        finding => Ok(Err(finding)),
     }
 }

@@ -10,7 +10,7 @@ use imago_access::{FormatAccess, FormatDriverInstance};
 use imago_storage::{Fault, MemStorage};
 use qimg_calls::RepairsLeaks;
 use qimg_chain::chain::{ImageDriver, NamesFiles};
-use qimg_chain::run::{RunFault, run};
+use qimg_chain::run::{RunFault, Saved, run};
 use qimg_chain::script::{Answer, Bytes};
 use std::alloc::Global;
 use std::io::{BufRead, Write};
@@ -18,11 +18,11 @@ use std::io::{BufRead, Write};
 /// The capacity in bytes for what a failing writer takes.
 const WRITTEN: usize = 4096;
 
-/// A chain over copies of the case's files, and the bytes that the last script on it saved. A script that ends early doesn't change them.
+/// A chain over copies of the case's files, and what the last script on it saved. A script that ends early doesn't change them.
 #[derive(Drop)]
 pub struct Scripted {
     chain: FormatAccess<ImageDriver<MemStorage>>,
-    saved: Option<Vec<u8>>,
+    saved: Option<Saved>,
 }
 
 // Returns true if no mapping is prepared in the top layer.
@@ -32,14 +32,14 @@ fn is_free<D: FormatDriverInstance>(chain: &FormatAccess<D>) -> bool
     !chain.inner().prepared()
 }
 
-// Runs a script on a chain. Returns the bytes that the script saves, or the fault that ended it early. Fails with `Trouble::NoCall` if a
+// Runs a script on a chain. Returns what the script saves, or the fault that ended it early. Fails with `Trouble::NoCall` if a
 // mapping is prepared.
 fn ended<R, W, D>(
     alloc: Global,
     chain: &mut FormatAccess<D>,
     reader: R,
     writer: &mut W,
-) -> Result<Result<Option<Vec<u8>>, RunFault>, Trouble>
+) -> Result<Result<Option<Saved>, RunFault>, Trouble>
 where
     R: BufRead + Drop,
     W: Write,
@@ -205,7 +205,7 @@ impl Scripted {
         &mut self,
         alloc: Global,
         text: &[u8],
-        ended: Result<Option<Vec<u8>>, RunFault>,
+        ended: Result<Option<Saved>, RunFault>,
     ) -> Result<String, Trouble> {
         let mut told = told_lines(alloc, text)?;
         match ended {
@@ -242,17 +242,32 @@ impl Scripted {
         self.told(alloc, &writer.text, ended)
     }
 
-    // Returns how many bytes the last script saved, or `none`.
-    fn saved_length(&self, alloc: Global) -> Result<String, Trouble> {
+    // Returns the bytes that the last script saved of the top file, if any, or those of the file below it.
+    fn saved_bytes(&self, is_below: bool) -> Option<&Vec<u8>> {
         match &self.saved {
+            None => None,
+            Some(saved) if is_below => saved.below.as_ref(),
+            Some(saved) => Some(&saved.top),
+        }
+    }
+
+    // Returns how many bytes the last script saved of the top file or of the one below it, or `none`.
+    fn saved_length(&self, alloc: Global, is_below: bool) -> Result<String, Trouble> {
+        match self.saved_bytes(is_below) {
             None => Ok("none".to_string(alloc)?),
             Some(saved) => Ok(saved.len().to_string(alloc)?),
         }
     }
 
     // Returns a range of the bytes that the last script saved, or `Trouble::NoCall` if the range isn't inside them.
-    fn saved_range(&self, alloc: Global, offset: u64, n: u64) -> Result<String, Trouble> {
-        let Some(saved) = &self.saved else {
+    fn saved_range(
+        &self,
+        alloc: Global,
+        is_below: bool,
+        offset: u64,
+        n: u64,
+    ) -> Result<String, Trouble> {
+        let Some(saved) = self.saved_bytes(is_below) else {
             return Err(Trouble::NoCall);
         };
         let end = offset.saturating_add(n);
@@ -296,8 +311,15 @@ impl Scripted {
                 let failing = Failing::by(cause, size(behind)?)?;
                 self.write_failing(alloc, failing, script.as_bytes())
             }
-            ["saved"] => self.saved_length(alloc),
-            ["saved", offset, n] => self.saved_range(alloc, number(offset)?, number(n)?),
+            ["saved"] => self.saved_length(alloc, false),
+            ["saved", offset, n] => self.saved_range(alloc, false, number(offset)?, number(n)?),
+            ["saved_below"] => self.saved_length(alloc, true),
+            ["saved_below", offset, n] => self.saved_range(
+                alloc,
+                true,
+                number(offset)?,
+                number(n)?,
+            ),
             _ => Err(Trouble::NoCall),
         }
     }
