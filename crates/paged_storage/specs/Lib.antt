@@ -1,0 +1,4 @@
+pub mod Pages
+pub mod PagedFiles
+pub mod Replaying
+pub mod PagedStorage
