@@ -29,7 +29,7 @@ mod ScriptReading
 mod ScriptRunLemmas
 mod ScriptSpelling
 mod SeenThrough
-mod Sessions
+pub mod Sessions
 mod Snapshots
 mod StatelessDrivers
 mod TakingFiles
