@@ -1,0 +1,5 @@
+pub mod Layering
+pub mod Bases
+pub mod OnFiles
+pub mod Putting
+pub mod ListsDriven
