@@ -16,8 +16,11 @@
 //! `qimg commit FILE` commits the data of a qcow2 file to its backing file, and empties FILE. The backing files are those that the headers
 //! name, raw or qcow2. Both files are replaced like by a save, the backing file first. The status is 0 or 1, also for bad arguments.
 //!
+//! `qimg --in-place [--cache BYTES] [-r] FORMAT FILE ..` runs the script on the files themselves, without a copy of them. Each change is in the
+//! top's file before it is answered. See the module `in_place`.
+//!
 //! The script comes from standard input, and its answers go to standard output. The module `script` of `qimg_chain` lists the lines of a
-//! script. The files are read completely at the start. At the end, the bytes of the last successful `save`, if any, replace the top file.
+//! script. Without `--in-place` the files are read completely at the start. At the end, the bytes of the last successful `save`, if any, replace the top file.
 //! With `-c` the second file is replaced before it, and with `-r` no file is, as nothing has changed. Without arguments the program makes a
 //! writable qcow2 image of 65,536 bytes, and writes no file.
 //!
@@ -42,6 +45,7 @@ mod committing;
 mod creation;
 mod failure;
 mod files;
+mod in_place;
 mod streams;
 mod top_file;
 
@@ -193,8 +197,18 @@ fn serve<R: Env + Files + Input + Print + AllocGlobal>(rt: &R) -> Result<(), Fai
     Ok(())
 }
 
+/// Runs the program with its arguments, in place if they begin with `--in-place`.
+fn serve_host(rt: &HostRuntime) -> Result<(), Failure> {
+    let words = words(rt)?;
+    let texts: Vec<&str> = words.iter().map(|word| word.as_str()).collect(rt.alloc())?;
+    if let ["--in-place", asked @ ..] = texts.as_slice() {
+        return in_place::serve(rt, &in_place::parse(rt.alloc(), asked)?);
+    }
+    serve(rt)
+}
+
 fn main(rt: HostRuntime) -> ExitCode {
-    let outcome = serve(&rt);
+    let outcome = serve_host(&rt);
     if let Err(failure) = &outcome {
         let _ = eprintln!(rt; "qimg: {failure}");
         if let Some(advice) = advice(failure) {
